@@ -1,0 +1,90 @@
+#!/usr/bin/env python3
+"""How long `sagas check` takes, and how that is shared among reading the definition, the case and the answer, and judging.
+
+Each part is measured as the time of a run that ends after it, less that of the run that ends before it: a case that is no JSON
+ends after the definition, an answer that is no JSON after the case, an answer of no shape after the answer was read.
+Prints one line for each size: the whole time, and each part as a share of it.
+"""
+import json
+import os
+import random
+import statistics
+import subprocess
+import sys
+import tempfile
+import time
+
+HERE = os.path.dirname(os.path.abspath(__file__))
+SAGAS = os.path.join(HERE, "..", "sagas")
+PROGRAM = os.path.join(HERE, "..", "crates", "saga_tool", "out", "saga_tool")
+SIZES = [128, 256, 512, 1024]
+NEEDS = 8
+RUNS = 15
+
+
+def definition(steps, seed):
+    draw = random.Random(seed)
+    lines = ["format = 1", 'name = "greatest"']
+    needs = 0
+    for step in range(steps):
+        lines += ["", "[[step]]", f'name = "s{step}"', "undo = 1", "keep = 2"]
+        on = sorted(draw.sample(range(step), min(step, NEEDS)))
+        needs += len(on)
+        lines.append("needs = [" + ", ".join(f'"s{number}"' for number in on) + "]")
+    return "\n".join(lines) + "\n", needs
+
+
+def case(steps):
+    return json.dumps({"states": ["committed"] * (steps - 1) + ["failed"]}, separators=(",", ":"))
+
+
+def answer(steps, needs):
+    """Undoing costs 1 a step and keeping 2, so all committed steps are undone; each sends its 1 straight to the sink."""
+    ones = [1] * (steps - 1) + [0]
+    plan = {"cost": steps - 1, "kept": [], "kind": "plan", "leave": ones, "links": [0] * needs, "stand": ones}
+    return json.dumps(plan, separators=(",", ":"))
+
+
+def seconds(words):
+    times = []
+    for _ in range(RUNS):
+        start = time.perf_counter()
+        subprocess.run([PROGRAM, "check", *words], stdout=subprocess.DEVNULL, stderr=subprocess.DEVNULL, check=False)
+        times.append(time.perf_counter() - start)
+    return statistics.median(times)
+
+
+def main():
+    subprocess.run([SAGAS, "--help"], stdout=subprocess.DEVNULL, check=True)
+    with tempfile.TemporaryDirectory() as work:
+        def put(name, text):
+            path = os.path.join(work, name)
+            with open(path, "w", encoding="utf-8") as file:
+                file.write(text)
+            return path
+
+        none = put("none", "x")
+        start = seconds([none, none, none])
+        for steps in SIZES:
+            text, needs = definition(steps, steps)
+            paths = put("saga.toml", text), put("case.json", case(steps)), put("answer.json", answer(steps, needs))
+            shapeless = put("shapeless.json", answer(steps, needs).replace('"kept":[]', '"kept":[0]').replace('"links":[', '"links":[0,', 1))
+            said = subprocess.run([PROGRAM, "check", *paths], capture_output=True, text=True, check=False).stdout
+            if said != f"least {steps - 1}\n":
+                sys.exit(f"not least: {said!r}")
+            read = seconds([paths[0], none, none])
+            cased = seconds([paths[0], paths[1], none])
+            answered = seconds([paths[0], paths[1], shapeless])
+            whole = seconds(paths)
+            parts = {
+                "start": start,
+                "definition": read - start,
+                "case": cased - read,
+                "answer": answered - cased,
+                "judging": whole - answered,
+            }
+            shares = ", ".join(f"{name} {100 * part / whole:.0f}%" for name, part in parts.items())
+            print(f"{steps} steps, {needs} needs: {1000 * whole:.1f} ms: {shares}")
+
+
+main()

@@ -1,0 +1,6 @@
+-- Sums, weak duality of flows and closed sets, and chains.
+pub mod SumLemmas
+pub mod ClosedLemmas
+pub mod Duality
+pub mod ChainLemmas
+pub mod FreeLemmas

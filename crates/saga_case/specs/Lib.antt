@@ -1,0 +1,9 @@
+-- Cases, prices, sets of steps, and right answers.
+pub mod States
+pub mod Prices
+pub mod Situation
+pub mod Faults
+pub mod Terms
+pub mod Flow
+pub mod Right
+pub mod Free

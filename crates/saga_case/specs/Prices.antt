@@ -1,0 +1,40 @@
+-- What it costs that a step stands at the end, and that it does not.
+use Rattle.std.specs.Prelude.{ℕ, Bool, true, false, ◌+◌, ◌≤◌}
+use Rattle.saga_def.specs.declared.steps.Price.{Price}
+use Rattle.saga_def.specs.declared.steps.Price.TheVariants.{Of, Never}
+use Rattle.saga_def.specs.declared.steps.Step.{Step}
+use Rattle.saga_case.specs.declared.states.StepState.{StepState}
+use Rattle.saga_case.specs.declared.states.StepState.TheVariants.{Waiting, Running, Committed, Failed, Undoing, Undone, Fixed}
+use Rattle.saga_case.specs.declared.prices.TheConstants.{MAX_STEP_PRICE}
+
+-- a sum that has a never is never
+abbrev pub plus : Price → Price → Price
+plus (Of a) (Of b) = Of (a + b)
+plus (Of a) Never = Never
+plus Never q = Never
+
+-- the stand price of a step, by whether the saga was aborted and the step's state; a busy step has none
+abbrev pub stand_of : Bool → StepState → Step → Price
+stand_of false Waiting step = plus step.run step.keep
+stand_of true Waiting step = Never
+stand_of aborted Running step = Never
+stand_of aborted Committed step = step.keep
+stand_of aborted Failed step = Never
+stand_of aborted Undoing step = Never
+stand_of aborted Undone step = Never
+stand_of aborted Fixed step = step.keep
+
+-- the leave price of a step, by its state; a busy step has none
+abbrev pub leave_of : StepState → Step → Price
+leave_of Waiting step = step.skip
+leave_of Running step = Never
+leave_of Committed step = plus step.undo step.skip
+leave_of Failed step = step.skip
+leave_of Undoing step = Never
+leave_of Undone step = step.skip
+leave_of Fixed step = Never
+
+-- a price that is a number is at most MAX_STEP_PRICE
+abbrev pub IsBounded : Price → Type 0
+IsBounded (Of amount) = amount ≤ MAX_STEP_PRICE
+IsBounded Never = Unit {0}

@@ -1,0 +1,26 @@
+//! Laws of least sets, over the definitions alone.
+ghost use Rattle.std.specs.Prelude.{◌≡◌, ◌<◌, ℕ, length, slice_get, slice_index_or, IfSome, IsTrue, false};
+ghost use Rattle.saga_def.specs.declared.steps.Price.TheVariants.{Never};
+ghost use Rattle.saga_def.specs.Order.{Steps};
+ghost use Rattle.saga_case.specs.Free.{IsFree, none};
+ghost use Rattle.saga_case.specs.Terms.{terms_of, IsAllowed, IsLeast};
+ghost use Rattle.saga_case.specs.declared.states.StepState.TheVariants.{Committed, Waiting};
+
+use crate::cases::Case;
+
+/// Backward recovery: where no price is above 0 or never and no compensation failed for good, the empty set is least.
+pub fn leaves_all_out_for_free(case: &Case)
+    ensures { IsFree case.now → IsLeast (terms_of case.now) none }
+{
+    let _ = case.states();
+}
+
+/// A committed step whose compensation has the price never is in each allowed set.
+pub fn keeps_what_cannot_be_undone(case: &Case, step: u16)
+    requires { step < length case.now.definition.steps }
+    ensures { slice_index_or case.now.states step Waiting ≡ Committed
+        → IfSome (slice_get case.now.definition.steps step) (λ s. s.undo ≡ Never)
+        → (set : Steps) → IsAllowed (terms_of case.now) set → IsTrue (set step) }
+{
+    let _ = case.states();
+}

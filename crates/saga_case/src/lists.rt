@@ -1,0 +1,118 @@
+//! The lists of an answer, which contracts see as lists: two of the same items are equal.
+ghost use Rattle.std.specs.Prelude.{◌≡◌};
+
+use std::marker::Model;
+
+/// A set of steps: a mark for each step in order.
+#[derive(Debug, Drop)]
+pub struct Marks {
+    marks: Vec<bool>,
+}
+
+impl Model for Marks {
+    ghost use Rattle.std.specs.Prelude.{List, Bool};
+
+    ghost Value = { List Bool };
+
+    ghost view = { λ m. m.marks.items };
+}
+
+impl Marks {
+    /// The marks of a list, whose memory it takes over.
+    pub fn new(marks: Vec<bool>) -> Marks
+        ensures { result ≡ marks.items }
+    {
+        Marks { marks }
+    }
+
+    /// The marks, borrowed.
+    pub fn as_slice(&self) -> &[bool]
+        ensures { result.now ≡ self.now }
+    {
+        self.marks.as_slice()
+    }
+
+    /// The list that it was made of.
+    pub fn into_vec(self) -> Vec<bool>
+        ensures { result.items ≡ self }
+    {
+        let Marks { marks } = self;
+        marks
+    }
+}
+
+/// Amounts of a flow in order.
+#[derive(Debug, Drop)]
+pub struct Amounts {
+    amounts: Vec<u64>,
+}
+
+impl Model for Amounts {
+    ghost use Rattle.std.specs.Prelude.{List, ℕ};
+
+    ghost Value = { List ℕ };
+
+    ghost view = { λ a. a.amounts.items };
+}
+
+impl Amounts {
+    /// The amounts of a list, whose memory it takes over.
+    pub fn new(amounts: Vec<u64>) -> Amounts
+        ensures { result ≡ amounts.items }
+    {
+        Amounts { amounts }
+    }
+
+    /// The amounts, borrowed.
+    pub fn as_slice(&self) -> &[u64]
+        ensures { result.now ≡ self.now }
+    {
+        self.amounts.as_slice()
+    }
+
+    /// The list that they were made of.
+    pub fn into_vec(self) -> Vec<u64>
+        ensures { result.items ≡ self }
+    {
+        let Amounts { amounts } = self;
+        amounts
+    }
+}
+
+/// A chain of steps by their numbers.
+#[derive(Debug, Drop)]
+pub struct Chain {
+    steps: Vec<u16>,
+}
+
+impl Model for Chain {
+    ghost use Rattle.std.specs.Prelude.{List, ℕ};
+
+    ghost Value = { List ℕ };
+
+    ghost view = { λ c. c.steps.items };
+}
+
+impl Chain {
+    /// The chain of a list, whose memory it takes over.
+    pub fn new(steps: Vec<u16>) -> Chain
+        ensures { result ≡ steps.items }
+    {
+        Chain { steps }
+    }
+
+    /// The steps, borrowed.
+    pub fn as_slice(&self) -> &[u16]
+        ensures { result.now ≡ self.now }
+    {
+        self.steps.as_slice()
+    }
+
+    /// The list that it was made of.
+    pub fn into_vec(self) -> Vec<u16>
+        ensures { result.items ≡ self }
+    {
+        let Chain { steps } = self;
+        steps
+    }
+}

@@ -1,0 +1,47 @@
+//! What it costs that a step stands at the end, and that it does not.
+ghost use Rattle.std.specs.Prelude.{◌≡◌};
+ghost use Rattle.saga_def.specs.Rules.{HasSmallPrices, IsSmall};
+ghost use Rattle.saga_case.specs.Prices.{plus, stand_of, leave_of, IsBounded};
+
+use crate::states::StepState;
+use saga_def::{MAX_PRICE, Price, Step};
+
+/// The greatest stand or leave price of a step that is a number.
+pub const MAX_STEP_PRICE: u64 = 2 * MAX_PRICE;
+
+fn sum(a: Price, b: Price) -> Price
+    requires left { IsSmall a }
+    requires right { IsSmall b }
+    ensures exact { result ≡ plus a b }
+    ensures bounded { IsBounded result }
+{
+    match (a, b) {
+        (Price::Of(a), Price::Of(b)) => Price::Of(a + b),
+        _ => Price::Never,
+    }
+}
+
+pub fn stand_price_of(aborted: bool, state: StepState, step: &Step) -> Price
+    requires { HasSmallPrices step.now }
+    ensures exact { result ≡ stand_of aborted state step.now }
+    ensures bounded { IsBounded result }
+{
+    match state {
+        StepState::Waiting if aborted => Price::Never,
+        StepState::Waiting => sum(step.run, step.keep),
+        StepState::Committed | StepState::Fixed => step.keep,
+        _ => Price::Never,
+    }
+}
+
+pub fn leave_price_of(state: StepState, step: &Step) -> Price
+    requires { HasSmallPrices step.now }
+    ensures exact { result ≡ leave_of state step.now }
+    ensures bounded { IsBounded result }
+{
+    match state {
+        StepState::Waiting | StepState::Failed | StepState::Undone => step.skip,
+        StepState::Committed => sum(step.undo, step.skip),
+        _ => Price::Never,
+    }
+}

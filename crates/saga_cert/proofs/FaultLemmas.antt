@@ -1,0 +1,212 @@
+-- Which faults a value has, and what they make of a whole reading.
+use Rattle.std.proofs.Common.{◌≡◌, ℕ, ◌^◌, Bool, true, false, List, [], ◌∷◌, length, Option, Some, None, Result, Ok, Err, IfOk, IfErr, refl, nat_lt, cond, not, codes}
+use Rattle.std.specs.Str.{bytes_eq}
+use Rattle.serde_json.specs.Data.{Data, null, boolean, number, string, array, object, unsigned, negative, float}
+use Rattle.serde_json.specs.Find.{get}
+use Rattle.saga_def.specs.Contents.{Contents}
+use Rattle.saga_case.specs.declared.answers.Plan.{Plan as PlanParts}
+use Rattle.saga_case.specs.declared.answers.Answer.{Answer}
+use Rattle.saga_case.specs.declared.answers.Answer.TheVariants.{Plan, Blocked}
+use Rattle.saga_case.specs.declared.states.StepState.{StepState}
+use Rattle.saga_case.specs.declared.states.StepState.TheVariants.{Waiting, Running, Committed, Failed, Undoing, Undone, Fixed}
+use Rattle.saga_case.specs.Situation.{Situation, situation, HasStates}
+use Rattle.saga_cert.specs.declared.faults.CertFault.{CertFault}
+use Rattle.saga_cert.specs.declared.faults.CertFault.TheVariants.{NotJson, Kind, UnknownKey, MissingKey, BadType, Kept, WrongLength, Busy, OutOfMemory}
+use Rattle.saga_cert.specs.Outcomes.{◌>>=◌, each, Fails, Gives}
+use Rattle.saga_cert.specs.Trees.{IsTextOf, is_object}
+use Rattle.saga_cert.specs.Kinds.{has_key, has_only, text_at, amount_of, step_of, items_of, value_in, list_of_each, amount_at, amounts_at, steps_at}
+use Rattle.saga_cert.specs.Kept.{is_kept, marks_of, kept_of}
+use Rattle.saga_cert.specs.Answers.{is_plan_key, is_chain_key, has_plan_keys, plan_parts_of, plan_of, chain_of, answer_of_kind, answer_of}
+use Rattle.saga_cert.specs.Cases.{Written, is_case_key, state_named, state_of, flag_in, case_parts_of, written_of}
+use Rattle.saga_cert.specs.Reads.{ReadsAnswer, HoldsCase, ReadsCase, IsCaseFault}
+
+-- a fault of a value, and not of its text or of a case
+abbrev OfValue : CertFault → Type 0
+OfValue Kind = Unit {0}
+OfValue UnknownKey = Unit {0}
+OfValue MissingKey = Unit {0}
+OfValue BadType = Unit {0}
+OfValue Kept = Unit {0}
+OfValue _ = ⊥
+
+-- the reading has no other fault
+abbrev Stays : {A : Type 0} → Result A CertFault → Type 0
+Stays (Ok x) = Unit {0}
+Stays (Err fault) = OfValue fault
+
+then : {A B : Type 0} (first : Result A CertFault) (next : A → Result B CertFault) → Stays first → ((x : A) → Stays (next x)) → Stays (first >>= next)
+then (Ok x) next h more = more x
+then (Err fault) next h more = h
+
+each-stays : {A B : Type 0} (read : A → Result B CertFault) (xs : List A) → ((x : A) → Stays (read x)) → Stays (each read xs)
+each-stays read [] h = tt {0}
+each-stays read (x ∷ xs) h = then (read x) _ (h x) (λ y. then (each read xs) _ (each-stays read xs h) (λ ys. tt {0}))
+
+either : {A : Type 0} (test : Bool) (x y : Result A CertFault) → Stays x → Stays y → Stays (cond test x y)
+either true x y h k = h
+either false x y h k = k
+
+amount_of-stays : (value : Data) → Stays (amount_of value)
+amount_of-stays (number (unsigned n)) = tt {0}
+amount_of-stays (number (negative z)) = tt {0}
+amount_of-stays (number (float x)) = tt {0}
+amount_of-stays null = tt {0}
+amount_of-stays (boolean b) = tt {0}
+amount_of-stays (string text) = tt {0}
+amount_of-stays (array items) = tt {0}
+amount_of-stays (object entries) = tt {0}
+
+step_of-stays : (value : Data) → Stays (step_of value)
+step_of-stays (number (unsigned n)) = either {A = ℕ} (nat_lt n (2 ^ 16)) (Ok n) (Err BadType) (tt {0}) (tt {0})
+step_of-stays (number (negative z)) = tt {0}
+step_of-stays (number (float x)) = tt {0}
+step_of-stays null = tt {0}
+step_of-stays (boolean b) = tt {0}
+step_of-stays (string text) = tt {0}
+step_of-stays (array items) = tt {0}
+step_of-stays (object entries) = tt {0}
+
+items_of-stays : (value : Data) → Stays (items_of value)
+items_of-stays (number n) = tt {0}
+items_of-stays null = tt {0}
+items_of-stays (boolean b) = tt {0}
+items_of-stays (string text) = tt {0}
+items_of-stays (array items) = tt {0}
+items_of-stays (object entries) = tt {0}
+
+value_in-stays : (value : Option Data) → Stays (value_in value)
+value_in-stays None = tt {0}
+value_in-stays (Some value) = tt {0}
+
+list_of_each-stays : {A : Type 0} (read : Data → Result A CertFault) (value : Data) → ((d : Data) → Stays (read d)) → Stays (list_of_each read value)
+list_of_each-stays read value h = then (items_of value) _ (items_of-stays value) (λ items. each-stays read items h)
+
+amount_at-stays : (key : List ℕ) (value : Data) → Stays (amount_at key value)
+amount_at-stays key value = then (value_in (get key value)) _ (value_in-stays (get key value)) amount_of-stays
+
+amounts_at-stays : (key : List ℕ) (value : Data) → Stays (amounts_at key value)
+amounts_at-stays key value = then (value_in (get key value)) _ (value_in-stays (get key value)) (λ found. list_of_each-stays amount_of found amount_of-stays)
+
+steps_at-stays : (key : List ℕ) (value : Data) → Stays (steps_at key value)
+steps_at-stays key value = then (value_in (get key value)) _ (value_in-stays (get key value)) (λ found. list_of_each-stays step_of found step_of-stays)
+
+kept_of-stays : (count : ℕ) (kept : List ℕ) → Stays (kept_of count kept)
+kept_of-stays count kept = either {A = List Bool} (is_kept count kept) (Ok (marks_of count kept)) (Err Kept) (tt {0}) (tt {0})
+
+plan_parts_of-stays : (value : Data) → Stays (plan_parts_of value)
+unfolding plan_parts_of
+plan_parts_of-stays value =
+    then (amount_at (codes "cost") value) _ (amount_at-stays (codes "cost") value) (λ cost.
+    then (amounts_at (codes "kept") value) _ (amounts_at-stays (codes "kept") value) (λ numbers.
+    then (amounts_at (codes "leave") value) _ (amounts_at-stays (codes "leave") value) (λ leave.
+    then (amounts_at (codes "stand") value) _ (amounts_at-stays (codes "stand") value) (λ stand.
+    then (amounts_at (codes "links") value) _ (amounts_at-stays (codes "links") value) (λ links.
+    then (kept_of (length stand) numbers) _ (kept_of-stays (length stand) numbers) (λ kept. tt {0}))))))
+
+plan_of-stays : (value : Data) → Stays (plan_of value)
+unfolding plan_of
+plan_of-stays value =
+    either {A = PlanParts} (not (has_only is_plan_key value)) (Err UnknownKey) (cond (not (has_plan_keys value)) (Err MissingKey) (plan_parts_of value)) (tt {0})
+    (either {A = PlanParts} (not (has_plan_keys value)) (Err MissingKey) (plan_parts_of value) (tt {0}) (plan_parts_of-stays value))
+
+chain_of-stays : (value : Data) → Stays (chain_of value)
+unfolding chain_of
+chain_of-stays value =
+    either {A = List ℕ} (not (has_only is_chain_key value)) (Err UnknownKey) (cond (not (has_key (codes "chain") value)) (Err MissingKey) (steps_at (codes "chain") value)) (tt {0})
+    (either {A = List ℕ} (not (has_key (codes "chain") value)) (Err MissingKey) (steps_at (codes "chain") value) (tt {0}) (steps_at-stays (codes "chain") value))
+
+answer_of_kind-stays : (kind : Option (List ℕ)) (value : Data) → Stays (answer_of_kind kind value)
+answer_of_kind-stays None value = tt {0}
+answer_of_kind-stays (Some kind) value =
+    let plan = plan_of value >>= (λ plan. Ok (Plan plan)) in
+    let chain = chain_of value >>= (λ chain. Ok (Blocked chain)) in
+    either {A = Answer} (bytes_eq kind (codes "plan")) plan (cond (bytes_eq kind (codes "blocked")) chain (Err Kind)) (then (plan_of value) _ (plan_of-stays value) (λ p. tt {0}))
+    (either {A = Answer} (bytes_eq kind (codes "blocked")) chain (Err Kind) (then (chain_of value) _ (chain_of-stays value) (λ c. tt {0})) (tt {0}))
+
+answer_of-stays : (value : Data) → Stays (answer_of value)
+answer_of-stays value = answer_of_kind-stays (text_at (codes "kind") value) value
+
+-- what is read of a value is what is read of its text
+pub reads_answer : (text : List ℕ) (value : Data) (outcome : Result Answer CertFault) → IsTextOf value text → Gives (λ a. a) outcome (answer_of value) → ReadsAnswer text outcome
+reads_answer text value (Ok answer) is given = (value, is, given)
+reads_answer text value (Err OutOfMemory) is given = tt {0}
+reads_answer text value (Err NotJson) is given = absurd (rw given at (answer_of-stays value))
+reads_answer text value (Err WrongLength) is given = absurd (rw given at (answer_of-stays value))
+reads_answer text value (Err (Busy step)) is given = absurd (rw given at (answer_of-stays value))
+reads_answer text value (Err Kind) is given = (value, is, given)
+reads_answer text value (Err UnknownKey) is given = (value, is, given)
+reads_answer text value (Err MissingKey) is given = (value, is, given)
+reads_answer text value (Err BadType) is given = (value, is, given)
+reads_answer text value (Err Kept) is given = (value, is, given)
+
+known : (test : Bool) (state : StepState) (rest : Result StepState CertFault) → Stays rest → Stays (cond test (Ok state) rest)
+known test state rest h = either {A = StepState} test (Ok state) rest (tt {0}) h
+
+state_named-stays : (word : List ℕ) → Stays (state_named word)
+state_named-stays word =
+    known (bytes_eq word (codes "waiting")) Waiting (cond (bytes_eq word (codes "running")) (Ok Running) (cond (bytes_eq word (codes "committed")) (Ok Committed) (cond (bytes_eq word (codes "failed")) (Ok Failed) (cond (bytes_eq word (codes "undoing")) (Ok Undoing) (cond (bytes_eq word (codes "undone")) (Ok Undone) (cond (bytes_eq word (codes "fixed")) (Ok Fixed) (Err BadType)))))))
+    (known (bytes_eq word (codes "running")) Running (cond (bytes_eq word (codes "committed")) (Ok Committed) (cond (bytes_eq word (codes "failed")) (Ok Failed) (cond (bytes_eq word (codes "undoing")) (Ok Undoing) (cond (bytes_eq word (codes "undone")) (Ok Undone) (cond (bytes_eq word (codes "fixed")) (Ok Fixed) (Err BadType))))))
+    (known (bytes_eq word (codes "committed")) Committed (cond (bytes_eq word (codes "failed")) (Ok Failed) (cond (bytes_eq word (codes "undoing")) (Ok Undoing) (cond (bytes_eq word (codes "undone")) (Ok Undone) (cond (bytes_eq word (codes "fixed")) (Ok Fixed) (Err BadType)))))
+    (known (bytes_eq word (codes "failed")) Failed (cond (bytes_eq word (codes "undoing")) (Ok Undoing) (cond (bytes_eq word (codes "undone")) (Ok Undone) (cond (bytes_eq word (codes "fixed")) (Ok Fixed) (Err BadType))))
+    (known (bytes_eq word (codes "undoing")) Undoing (cond (bytes_eq word (codes "undone")) (Ok Undone) (cond (bytes_eq word (codes "fixed")) (Ok Fixed) (Err BadType)))
+    (known (bytes_eq word (codes "undone")) Undone (cond (bytes_eq word (codes "fixed")) (Ok Fixed) (Err BadType))
+    (known (bytes_eq word (codes "fixed")) Fixed (Err BadType)
+    (tt {0})))))))
+
+state_of-stays : (value : Data) → Stays (state_of value)
+state_of-stays (string word) = state_named-stays word
+state_of-stays (number n) = tt {0}
+state_of-stays null = tt {0}
+state_of-stays (boolean b) = tt {0}
+state_of-stays (array items) = tt {0}
+state_of-stays (object entries) = tt {0}
+
+flag_in-stays : (value : Option Data) → Stays (flag_in value)
+flag_in-stays None = tt {0}
+flag_in-stays (Some (boolean b)) = tt {0}
+flag_in-stays (Some (number n)) = tt {0}
+flag_in-stays (Some null) = tt {0}
+flag_in-stays (Some (string text)) = tt {0}
+flag_in-stays (Some (array items)) = tt {0}
+flag_in-stays (Some (object entries)) = tt {0}
+
+case_parts_of-stays : (value : Data) → Stays (case_parts_of value)
+unfolding case_parts_of
+case_parts_of-stays value =
+    then (value_in (get (codes "states") value)) _ (value_in-stays (get (codes "states") value)) (λ found.
+    then (list_of_each state_of found) _ (list_of_each-stays state_of found state_of-stays) (λ states.
+    then (flag_in (get (codes "aborted") value)) _ (flag_in-stays (get (codes "aborted") value)) (λ aborted. tt {0})))
+
+written_of-stays : (value : Data) → Stays (written_of value)
+written_of-stays value =
+    let parts = cond (not (has_key (codes "states") value)) (Err MissingKey) (case_parts_of value) in
+    let keys = cond (not (has_only is_case_key value)) (Err UnknownKey) parts in
+    either {A = Written} (not (is_object value)) (Err Kind) keys (tt {0})
+    (either {A = Written} (not (has_only is_case_key value)) (Err UnknownKey) parts (tt {0})
+    (either {A = Written} (not (has_key (codes "states") value)) (Err MissingKey) (case_parts_of value) (tt {0}) (case_parts_of-stays value)))
+
+-- a fault of what is written is the text's
+pub reads_case_fault : (definition : Contents) (text : List ℕ) (value : Data) (fault : CertFault) → IsTextOf value text → Fails fault (written_of value) → ReadsCase definition text (Err fault)
+reads_case_fault definition text value OutOfMemory is given = tt {0}
+reads_case_fault definition text value NotJson is given = absurd (rw given at (written_of-stays value))
+reads_case_fault definition text value WrongLength is given = absurd (rw given at (written_of-stays value))
+reads_case_fault definition text value (Busy step) is given = absurd (rw given at (written_of-stays value))
+reads_case_fault definition text value Kind is given = (value, is, given)
+reads_case_fault definition text value UnknownKey is given = (value, is, given)
+reads_case_fault definition text value MissingKey is given = (value, is, given)
+reads_case_fault definition text value BadType is given = (value, is, given)
+reads_case_fault definition text value Kept is given = (value, is, given)
+
+-- the case of what is written is the text's
+pub reads_case_made : (definition : Contents) (text : List ℕ) (w : Written) (made : Result Situation CertFault) → HoldsCase text (Ok w)
+    → IfOk made (λ c. (c ≡ situation definition w.states w.aborted) × HasStates definition w.states) → IfErr made (IsCaseFault definition w.states) → ReadsCase definition text made
+reads_case_made definition text w (Ok c) held made fault = rw made.0 (held, refl, made.1)
+reads_case_made definition text w (Err WrongLength) held made fault = (w, held, fault)
+reads_case_made definition text w (Err (Busy step)) held made fault = (w, held, fault.0, fault.1)
+reads_case_made definition text w (Err NotJson) held made fault = absurd fault
+reads_case_made definition text w (Err Kind) held made fault = absurd fault
+reads_case_made definition text w (Err UnknownKey) held made fault = absurd fault
+reads_case_made definition text w (Err MissingKey) held made fault = absurd fault
+reads_case_made definition text w (Err BadType) held made fault = absurd fault
+reads_case_made definition text w (Err Kept) held made fault = absurd fault
+reads_case_made definition text w (Err OutOfMemory) held made fault = absurd fault

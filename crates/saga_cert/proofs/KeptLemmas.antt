@@ -1,0 +1,83 @@
+-- The marks of a list of numbers, and the numbers of marks.
+use Rattle.std.proofs.Common.{◌≡◌, ℕ, ◌+◌, ◌<◌, ◌≤◌, ◌==◌, Bool, true, false, nat_lt, zero, suc, List, [], ◌∷◌, length, get_or, refl, sym, arith, zero-add, subst}
+use Rattle.std.proofs.lemmas.List.FromFn.{fill_by_all}
+use Rattle.std.proofs.lemmas.Bool.Decides.{nat_tests}
+use Rattle.std.specs.List.{list_all, list_any}
+use Rattle.saga_cert.specs.Kept.{ascends, is_kept, marks_of, places_from}
+
+-- one number ascends, and none does
+pub ascends-short : (ns : List ℕ) → length ns ≤ 1 → ascends ns ≡ true
+ascends-short [] h = refl
+ascends-short (a ∷ []) h = refl
+ascends-short (a ∷ b ∷ ns) h = absurd (omega arith)
+
+-- as many marks as the count, each true where the numbers have its place
+pub record Marked (count : ℕ) (numbers : List ℕ) (marks : List Bool) : Type 0 where
+  pub long : length marks ≡ count
+  pub each : (k : ℕ) → k < count → get_or marks k false ≡ list_any (λ n. n == k) numbers
+
+-- all numbers are looked at
+pub Marked-all : (count : ℕ) (numbers : List ℕ) (marks : List Bool) → Marked count numbers marks → marks ≡ marks_of count numbers
+Marked-all count numbers marks m = fill_by_all (λ k. list_any (λ n. n == k) numbers) marks count false m.long m.each
+
+below : (a b : ℕ) → a < b → nat_lt a b ≡ true
+below a b h = grind (arith, nat_tests)
+
+apart : (a b : ℕ) → a < b → (b == a) ≡ false
+apart a b h = grind (arith, nat_tests)
+
+apart_from_sum : (m k : ℕ) → (m == m + suc k) ≡ false
+apart_from_sum m k = grind (arith, nat_tests)
+
+same_sum : (m : ℕ) → (m == m + 0) ≡ true
+same_sum m = grind (arith, nat_tests)
+
+-- the numbers of marks ascend
+ascends-after : (marks : List Bool) (n m : ℕ) → n < m → ascends (n ∷ places_from m marks) ≡ true
+ascends-after [] n m h = refl
+ascends-after (true ∷ marks) n m h = rw (below n m h) (ascends-after marks m (m + 1) (omega arith))
+ascends-after (false ∷ marks) n m h = ascends-after marks n (m + 1) (omega arith)
+
+ascends-places : (marks : List Bool) (m : ℕ) → ascends (places_from m marks) ≡ true
+ascends-places [] m = refl
+ascends-places (true ∷ marks) m = ascends-after marks m (m + 1) (omega arith)
+ascends-places (false ∷ marks) m = ascends-places marks (m + 1)
+
+-- they are below the number of marks
+below-places : (marks : List Bool) (m count : ℕ) → m + length marks ≤ count → list_all (λ n. nat_lt n count) (places_from m marks) ≡ true
+below-places [] m count h = refl
+below-places (true ∷ marks) m count h = rw (below m count (omega arith)) (below-places marks (m + 1) count (omega arith))
+below-places (false ∷ marks) m count h = below-places marks (m + 1) count (omega arith)
+
+-- a number below the first one is none of them
+absent : (marks : List Bool) (m x : ℕ) → x < m → list_any (λ n. n == x) (places_from m marks) ≡ false
+absent [] m x h = refl
+absent (true ∷ marks) m x h = rw (apart x m h) (absent marks (m + 1) x (omega arith))
+absent (false ∷ marks) m x h = absent marks (m + 1) x (omega arith)
+
+mark_later : (marks : List Bool) (m k : ℕ) → get_or marks k false ≡ list_any (λ n. n == m + 1 + k) (places_from (m + 1) marks) → get_or marks k false ≡ list_any (λ n. n == m + suc k) (places_from (m + 1) marks)
+mark_later marks m k h =
+    let P : ℕ → Type 0 = λ x. get_or marks k false ≡ list_any (λ n. n == x) (places_from (m + 1) marks) in
+    let later : m + 1 + k ≡ m + suc k = omega arith in
+    subst P later h
+
+-- each mark is true where its number is one of them
+mark_at : (marks : List Bool) (m k : ℕ) → get_or marks k false ≡ list_any (λ n. n == m + k) (places_from m marks)
+mark_at [] m k = refl
+mark_at (true ∷ marks) m zero = rw (same_sum m)
+mark_at (false ∷ marks) m zero = sym (absent marks (m + 1) (m + 0) (omega arith))
+mark_at (true ∷ marks) m (suc k) = rw (apart_from_sum m k) (mark_later marks m k (mark_at marks (m + 1) k))
+mark_at (false ∷ marks) m (suc k) = mark_later marks m k (mark_at marks (m + 1) k)
+
+mark_first : (marks : List Bool) (k : ℕ) → get_or marks k false ≡ list_any (λ n. n == 0 + k) (places_from 0 marks) → get_or marks k false ≡ list_any (λ n. n == k) (places_from 0 marks)
+mark_first marks k h =
+    let P : ℕ → Type 0 = λ x. get_or marks k false ≡ list_any (λ n. n == x) (places_from 0 marks) in
+    subst P (zero-add k) h
+
+-- the numbers of marks are a list of kept steps, and stand for those marks
+pub is_kept-places : (marks : List Bool) → is_kept (length marks) (places_from 0 marks) ≡ true
+is_kept-places marks = rw (ascends-places marks 0, below-places marks 0 (length marks) (omega arith))
+
+pub marks_of-places : (marks : List Bool) → marks_of (length marks) (places_from 0 marks) ≡ marks
+marks_of-places marks =
+    sym (fill_by_all (λ k. list_any (λ n. n == k) (places_from 0 marks)) marks (length marks) false refl (λ k h. mark_first marks k (mark_at marks 0 k)))

@@ -1,0 +1,7 @@
+use Rattle.std.proofs.Common.{◌≡◌, map, take}
+use Rattle.serde_json.specs.Data.{number, unsigned}
+use Rattle.serde_json.specs.View.{view}
+use Rattle.saga_cert.proofs.written_answers.steps_value.Given as goal
+
+abbrev pub invariant-loop-step : goal.invariant-loop-step
+invariant-loop-step l = map view l.list.items ≡ map (λ n. number (unsigned n)) (take l.step-index l.steps)

@@ -1,0 +1,28 @@
+-- The list `kept` of a plan: the numbers of the steps that it keeps, which stand for a mark of each step.
+use Rattle.std.specs.Prelude.{ℕ, ◌+◌, List, [], ◌∷◌, Bool, true, false, ◌&&◌, ◌==◌, nat_lt, map, Result, Ok, Err, if◌then◌else◌}
+use Rattle.std.specs.List.{list_all, list_any, range_with_len}
+use Rattle.saga_cert.specs.declared.faults.CertFault.{CertFault}
+use Rattle.saga_cert.specs.declared.faults.CertFault.TheVariants.{Kept}
+
+-- each number is below the next
+abbrev pub ascends : List ℕ → Bool
+ascends [] = true
+ascends (a ∷ []) = true
+ascends (a ∷ b ∷ rest) = nat_lt a b && ascends (b ∷ rest)
+
+-- strictly ascending numbers, each below the count
+abbrev pub is_kept : ℕ → List ℕ → Bool
+is_kept count kept = ascends kept && list_all (λ n. nat_lt n count) kept
+
+-- a mark for each number below the count, true where the list has it
+abbrev pub marks_of : ℕ → List ℕ → List Bool
+marks_of count kept = map (λ step. list_any (λ n. n == step) kept) (range_with_len 0 count)
+
+abbrev pub kept_of : ℕ → List ℕ → Result (List Bool) CertFault
+kept_of count kept = if is_kept count kept then Ok (marks_of count kept) else Err Kept
+
+-- the numbers of the true marks, where the first mark has the number `first`
+abbrev pub places_from : ℕ → List Bool → List ℕ
+places_from first [] = []
+places_from first (true ∷ marks) = first ∷ places_from (first + 1) marks
+places_from first (false ∷ marks) = places_from (first + 1) marks

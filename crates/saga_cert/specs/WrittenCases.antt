@@ -1,0 +1,6 @@
+-- What a text says of a case, as contracts see it.
+use Rattle.saga_cert.specs.declared.states.Written.{Written as Parts}
+use Rattle.saga_cert.specs.Cases.{Written}
+
+abbrev pub written : Parts → Written
+written parts = record { states = parts.states.items; aborted = parts.aborted }

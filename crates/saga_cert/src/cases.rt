@@ -1,0 +1,27 @@
+//! The case of what a text says.
+ghost use Rattle.std.specs.Prelude.{◌≡◌, IfOk, IfErr};
+ghost use Rattle.saga_case.specs.Situation.{situation, HasStates};
+ghost use Rattle.saga_cert.specs.Reads.{IsCaseFault};
+
+use crate::faults::CertFault;
+use crate::states::Written;
+use saga_case::{Case, CaseFault};
+use saga_def::Definition;
+
+/// The case, which takes no memory.
+pub fn case_of<'d>(definition: &'d Definition, written: Written) -> Result<Case<'d>, CertFault>
+    ensures made { IfOk result (λ c. (c ≡ situation definition.entry.now written.states.items written.aborted) × HasStates definition.entry.now written.states.items) }
+    ensures fault { IfErr result (IsCaseFault definition.entry.now written.states.items) }
+{
+    let Written { states, aborted } = written;
+    let made = if aborted {
+        Case::aborted(definition, states)
+    } else {
+        Case::new(definition, states)
+    };
+    match made {
+        Ok(case) => Ok(case),
+        Err(CaseFault::WrongLength(_)) => Err(CertFault::WrongLength),
+        Err(CaseFault::Busy(step, _)) => Err(CertFault::Busy(step)),
+    }
+}

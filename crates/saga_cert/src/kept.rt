@@ -1,0 +1,49 @@
+//! The list `kept` of a plan, and the marks that it stands for.
+ghost use Rattle.std.specs.Prelude.{◌≡◌, nat_lt, IsTrue, IfOk};
+ghost use Rattle.std.specs.List.{list_all};
+ghost use Rattle.saga_cert.specs.Outcomes.{Gives};
+ghost use Rattle.saga_cert.specs.Kept.{ascends, is_kept, marks_of, kept_of};
+
+use crate::faults::CertFault;
+use std::alloc::{AllocError, Global};
+
+/// Whether each number is below the next.
+fn ascends(numbers: &[u64]) -> bool
+    ensures { result ≡ ascends numbers.now }
+{
+    for i in 1..numbers.len() {
+        if numbers[i - 1] >= numbers[i] {
+            return false;
+        }
+    }
+    true
+}
+
+/// Whether the numbers ascend, each below the count.
+fn is_kept(numbers: &[u64], count: usize) -> bool
+    ensures { result ≡ is_kept count numbers.now }
+{
+    ascends(numbers) && numbers.iter().all(|number| *number < count as u64)
+}
+
+/// A mark for each number below the count, true where the list has it.
+fn marks_of(alloc: Global, numbers: &[u64], count: usize) -> Result<Vec<bool>, AllocError>
+    requires { IsTrue (list_all (λ n. nat_lt n count) numbers.now) }
+    ensures { IfOk result (λ marks. marks.items ≡ marks_of count numbers.now) }
+{
+    let mut marks = vec![in alloc; false; count]?;
+    for number in numbers {
+        marks[*number as usize] = true;
+    }
+    Ok(marks)
+}
+
+/// The marks of a list that ascends below the count.
+pub fn kept_of(alloc: Global, numbers: &[u64], count: usize) -> Result<Vec<bool>, CertFault>
+    ensures { Gives (λ marks. marks.items) result (kept_of count numbers.now) }
+{
+    if !is_kept(numbers, count) {
+        return Err(CertFault::Kept);
+    }
+    Ok(marks_of(alloc, numbers, count)?)
+}

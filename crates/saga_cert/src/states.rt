@@ -1,0 +1,93 @@
+//! Reading the states of a case from a JSON value.
+ghost use Rattle.std.specs.Prelude.{◌≡◌, map, option_map};
+ghost use Rattle.serde_json.specs.View.{view};
+ghost use Rattle.saga_cert.specs.Outcomes.{Gives, each};
+ghost use Rattle.saga_cert.specs.Cases.{state_named, state_of, flag_in, case_parts_of, written_of};
+
+use crate::faults::CertFault;
+use crate::keys::has_only_case_keys;
+use crate::kinds::{has_key, items_of, value_at};
+use saga_case::StepState;
+use serde_json::Value;
+use std::alloc::Global;
+
+/// What a text says of a case.
+#[derive(Drop)]
+pub struct Written {
+    pub states: Vec<StepState>,
+    pub aborted: bool,
+}
+
+ghost use Rattle.saga_cert.specs.WrittenCases.{written};
+
+/// The state of a word.
+fn state_named(word: &str) -> Result<StepState, CertFault>
+    ensures { result ≡ state_named word.now }
+{
+    match word {
+        "waiting" => Ok(StepState::Waiting),
+        "running" => Ok(StepState::Running),
+        "committed" => Ok(StepState::Committed),
+        "failed" => Ok(StepState::Failed),
+        "undoing" => Ok(StepState::Undoing),
+        "undone" => Ok(StepState::Undone),
+        "fixed" => Ok(StepState::Fixed),
+        _ => Err(CertFault::BadType),
+    }
+}
+
+fn state_of(value: &Value) -> Result<StepState, CertFault>
+    ensures { result ≡ state_of (view value.now) }
+{
+    match value {
+        Value::String(word) => state_named(word.as_str()),
+        _ => Err(CertFault::BadType),
+    }
+}
+
+/// Each item as a state.
+fn states_of(alloc: Global, items: &[Value]) -> Result<Vec<StepState>, CertFault>
+    ensures { Gives (λ states. states.items) result (each state_of (map view items.now)) }
+{
+    let mut states = Vec::new(alloc);
+    for item in items {
+        states.push(state_of(item)?)?;
+    }
+    Ok(states)
+}
+
+/// A truth value: false where there is none.
+fn flag_in(value: Option<&Value>) -> Result<bool, CertFault>
+    ensures { result ≡ flag_in (option_map (λ v. view v.now) value.entry) }
+{
+    match value {
+        None => Ok(false),
+        Some(value) => value.as_bool().ok_or(CertFault::BadType),
+    }
+}
+
+/// The values of a case.
+#[tactic(auto, unfolding(crate::specs::Cases::case_parts_of))]
+fn case_parts_of(alloc: Global, value: &Value) -> Result<Written, CertFault>
+    ensures { Gives written result (case_parts_of (view value.now)) }
+{
+    let states = states_of(alloc, items_of(value_at(value, "states")?)?)?;
+    let aborted = flag_in(value.get("aborted"))?;
+    Ok(Written { states, aborted })
+}
+
+/// What a value says of a case.
+pub fn written_of(alloc: Global, value: &Value) -> Result<Written, CertFault>
+    ensures { Gives written result (written_of (view value.now)) }
+{
+    if !value.is_object() {
+        return Err(CertFault::Kind);
+    }
+    if !has_only_case_keys(value) {
+        return Err(CertFault::UnknownKey);
+    }
+    if !has_key(value, "states") {
+        return Err(CertFault::MissingKey);
+    }
+    case_parts_of(alloc, value)
+}

@@ -1,0 +1,72 @@
+//! Reading and writing the texts.
+ghost use Rattle.std.specs.Prelude.{◌≡◌, MatchResult, IfOk, Ok, string_bytes};
+ghost use Rattle.serde_json.specs.View.{view};
+ghost use Rattle.serde_json.specs.Written.{compact_text};
+ghost use Rattle.saga_cert.specs.Trees.{IsTextOf};
+ghost use Rattle.saga_cert.specs.Answers.{answer_form, IsPaired};
+ghost use Rattle.saga_cert.specs.Cases.{case_form};
+ghost use Rattle.saga_cert.specs.Reads.{IsJsonFault, ReadsAnswer, ReadsCase};
+
+use crate::answers::answer_of_value;
+use crate::cases::case_of;
+use crate::faults::CertFault;
+use crate::states::written_of;
+use crate::written_answers::value_of_answer;
+use crate::written_cases::value_of_case;
+use saga_case::{Answer, Case};
+use saga_def::Definition;
+use serde_json::Value;
+use std::alloc::{AllocError, Global};
+
+/// The value of a text.
+fn json_of(alloc: Global, bytes: &[u8]) -> Result<Value, CertFault>
+    ensures { MatchResult result (λ v. IsTextOf (view v) bytes.now) (IsJsonFault bytes.now) }
+{
+    match Value::from_slice(alloc, bytes) {
+        Ok(value) => Ok(value),
+        Err(error) => {
+            if error.is_memory() {
+                Err(CertFault::OutOfMemory)
+            } else {
+                Err(CertFault::NotJson)
+            }
+        }
+    }
+}
+
+/// Reads a case of a definition, in time linear in the text.
+pub fn read_case<'d>(
+    alloc: Global,
+    definition: &'d Definition,
+    bytes: &[u8],
+) -> Result<Case<'d>, CertFault>
+    ensures { ReadsCase definition.entry.now bytes.now result }
+{
+    let value = json_of(alloc, bytes)?;
+    let written = written_of(alloc, &value)?;
+    case_of(definition, written)
+}
+
+/// Reads an answer, in time linear in the text. Its lists may have any lengths.
+pub fn read_answer(alloc: Global, bytes: &[u8]) -> Result<Answer, CertFault>
+    ensures { ReadsAnswer bytes.now result }
+{
+    let value = json_of(alloc, bytes)?;
+    answer_of_value(alloc, &value)
+}
+
+/// The text of a case.
+pub fn write_case(alloc: Global, case: &Case) -> Result<String, AllocError>
+    ensures text { IfOk result (λ s. string_bytes s ≡ compact_text (case_form case.now)) }
+    ensures read_back { IfOk result (λ s. ReadsCase case.now.definition (string_bytes s) (Ok case.now)) }
+{
+    value_of_case(alloc, case)?.to_string(alloc)
+}
+
+/// The text of an answer.
+pub fn write_answer(alloc: Global, answer: &Answer) -> Result<String, AllocError>
+    ensures text { IfOk result (λ s. string_bytes s ≡ compact_text (answer_form answer.now)) }
+    ensures read_back { IfOk result (λ s. IsPaired answer.now → ReadsAnswer (string_bytes s) (Ok answer.now)) }
+{
+    value_of_answer(alloc, answer)?.to_string(alloc)
+}

@@ -1,0 +1,102 @@
+//! The tests of a plan, one each.
+ghost use Rattle.std.specs.Prelude.{◌≡◌, ◌↔◌, ◌<◌, ◌≤◌, ◌+◌, IsTrue, length, slice_index};
+ghost use Rattle.saga_def.specs.Order.{IsClosed, member};
+ghost use Rattle.saga_case.specs.Terms.{terms_of};
+ghost use Rattle.saga_case.specs.Flow.{FitsIn, IsWithin, IsConserved, into_step, out_of_step, value_of};
+ghost use Rattle.saga_case.specs.Right.{HasShape, flow_of};
+
+use crate::flows::{flow_through, total};
+use saga_case::{Case, Plan};
+use saga_def::{Need, Price};
+
+/// Whether each list of the plan is as long as it has to be.
+pub fn has_shape(case: &Case, plan: &Plan) -> bool
+    ensures { IsTrue result ↔ HasShape (terms_of case.now) plan.now }
+{
+    let steps = case.definition().steps();
+    let needs = case.definition().needs();
+    plan.kept.as_slice().len() == steps
+        && plan.leave.as_slice().len() == steps
+        && plan.stand.as_slice().len() == steps
+        && plan.links.as_slice().len() == needs
+}
+
+/// Whether a set holds, with each step, all that it needs.
+pub fn is_closed(case: &Case, kept: &[bool]) -> bool
+    requires { length kept.now ≡ length case.now.definition.steps }
+    ensures { IsTrue result ↔ IsClosed case.now.definition.needs (member kept.now) }
+{
+    let needs = case.definition().all_needs();
+    for need in needs {
+        if kept[need.step as usize] && !kept[need.on as usize] {
+            return false;
+        }
+    }
+    true
+}
+
+fn fits_in(amount: u64, price: Price) -> bool
+    ensures { IsTrue result ↔ FitsIn amount price }
+{
+    match price {
+        Price::Of(price) => amount <= price,
+        Price::Never => true,
+    }
+}
+
+/// Whether no arc of the source or the sink carries more than the step's price.
+pub fn is_within(case: &Case, plan: &Plan) -> bool
+    requires { HasShape (terms_of case.now) plan.now }
+    ensures { IsTrue result ↔ IsWithin (terms_of case.now) (flow_of plan.now) }
+{
+    let count = case.definition().steps() as u16;
+    let leave = plan.leave.as_slice();
+    let stand = plan.stand.as_slice();
+    for s in 0..count {
+        if !fits_in(leave[s as usize], case.leave_price(s)) {
+            return false;
+        }
+        if !fits_in(stand[s as usize], case.stand_price(s)) {
+            return false;
+        }
+    }
+    true
+}
+
+fn is_conserved_at(case: &Case, plan: &Plan, s: u16) -> bool
+    requires shape { HasShape (terms_of case.now) plan.now }
+    requires step { s < length case.now.definition.steps }
+    ensures { IsTrue result ↔ (slice_index plan.now.leave s + into_step (terms_of case.now) (flow_of plan.now) s
+        ≡ slice_index plan.now.stand s + out_of_step (terms_of case.now) (flow_of plan.now) s) }
+{
+    let at_step = flow_through(
+        case.definition().all_needs(),
+        plan.links.as_slice(),
+        s as u32,
+    );
+    let leave = plan.leave.as_slice()[s as usize] as u128;
+    let stand = plan.stand.as_slice()[s as usize] as u128;
+    leave + at_step.into == stand + at_step.out
+}
+
+/// Whether at each step as much flows in as out. Takes no memory, so it goes over the needs once for each step.
+pub fn is_conserved(case: &Case, plan: &Plan) -> bool
+    requires { HasShape (terms_of case.now) plan.now }
+    ensures { IsTrue result ↔ IsConserved (terms_of case.now) (flow_of plan.now) }
+{
+    let count = case.definition().steps() as u16;
+    for s in 0..count {
+        if !is_conserved_at(case, plan, s) {
+            return false;
+        }
+    }
+    true
+}
+
+/// Whether what leaves the source is the plan's cost.
+pub fn has_value(case: &Case, plan: &Plan) -> bool
+    requires { HasShape (terms_of case.now) plan.now }
+    ensures { IsTrue result ↔ (value_of (terms_of case.now) (flow_of plan.now) ≡ plan.now.cost) }
+{
+    total(plan.leave.as_slice()) == plan.cost as u128
+}

@@ -1,0 +1,9 @@
+-- What a definition is.
+pub mod Contents
+pub mod Order
+pub mod Rules
+pub mod Sound
+pub mod Faults
+pub mod Peeling
+pub mod Same
+pub mod SameLaws

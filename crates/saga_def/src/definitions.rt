@@ -1,0 +1,172 @@
+//! Definitions, which are always sound.
+ghost use Rattle.std.specs.Prelude.{◌≡◌, ◌<◌, ◌↔◌, IsTrue, IfOk, IfErr, length, slice_get, Some};
+
+use crate::cycles::find_cycle;
+use crate::faults::DefFault;
+use crate::limits::{MAX_NEEDS, MAX_STEPS};
+use crate::rules::{
+    is_name, names_are_distinct, names_are_good, needs_are_known, needs_are_single,
+    prices_are_small, tries_are_in_range,
+};
+use crate::steps::{Need, Step};
+use crate::texts::Text;
+use std::alloc::Global;
+use std::marker::Model;
+
+/// A saga's definition: its name, its steps in order, and its needs in the order handed in.
+#[derive(Debug, Drop)]
+pub struct Definition {
+    name: Text,
+    steps: Vec<Step>,
+    needs: Vec<Need>,
+}
+
+impl Model for Definition {
+    ghost use Rattle.saga_def.specs.Contents.{Contents, contents};
+    ghost use Rattle.saga_def.specs.Sound.{IsSound};
+
+    ghost Value = { Contents };
+
+    ghost view = { λ d. contents d.name d.steps.items d.needs.items };
+
+    ghost invariant = { λ d. IsSound (contents d.name d.steps.items d.needs.items) };
+}
+
+impl Definition {
+    ghost use Rattle.saga_def.specs.Contents.{contents};
+    ghost use Rattle.saga_def.specs.Sound.{IsSound};
+    ghost use Rattle.saga_def.specs.Faults.{IsFirstFault};
+    ghost use Rattle.saga_def.specs.Same.{same_contents};
+
+    /// The definition of a name, steps and needs, whose order it keeps, or the first fault of
+    /// [`DefFault`]. Takes time linear in the steps and needs, but for the search for a cycle, which takes at most
+    /// steps times steps and needs together.
+    pub fn build(
+        alloc: Global,
+        name: Text,
+        steps: Vec<Step>,
+        needs: Vec<Need>,
+    ) -> Result<Definition, DefFault>
+        ensures built { IfOk result (λ d. d ≡ contents name steps.items needs.items) }
+        ensures sound { IfOk result (λ d. IsSound d) }
+        ensures fault { IfErr result (λ fault. IsFirstFault (contents name steps.items needs.items) fault) }
+        ensures accepts { IsSound (contents name steps.items needs.items) → IfErr result (λ fault. fault ≡ DefFault.OutOfMemory) }
+    {
+        if steps.is_empty() {
+            return Err(DefFault::Empty);
+        }
+        if steps.len() > MAX_STEPS {
+            return Err(DefFault::TooManySteps);
+        }
+        if needs.len() > MAX_NEEDS {
+            return Err(DefFault::TooManyNeeds);
+        }
+        if !is_name(name.as_str()) || !names_are_good(&steps) {
+            return Err(DefFault::BadName);
+        }
+        if !names_are_distinct(alloc, &steps)? {
+            return Err(DefFault::DoubleName);
+        }
+        if !needs_are_known(&needs, steps.len()) {
+            return Err(DefFault::UnknownStep);
+        }
+        if !needs_are_single(alloc, &needs)? {
+            return Err(DefFault::DoubleNeed);
+        }
+        if !prices_are_small(&steps) {
+            return Err(DefFault::PriceTooLarge);
+        }
+        if !tries_are_in_range(&steps) {
+            return Err(DefFault::TriesOutOfRange);
+        }
+        if let Some(cycle) = find_cycle(alloc, &needs, steps.len())? {
+            return Err(DefFault::Cycle(cycle));
+        }
+        Ok(Definition { name, steps, needs })
+    }
+
+    fn holds_same(&self, other: &Definition) -> bool
+        ensures { result ≡ same_contents self.now other.now }
+    {
+        self.name == other.name && self.steps == other.steps && self.needs == other.needs
+    }
+
+    /// The saga's name.
+    pub fn name(&self) -> &str
+        ensures { result.now ≡ self.now.name }
+    {
+        self.name.as_str()
+    }
+
+    /// How many steps there are: 1 to [`MAX_STEPS`].
+    pub fn steps(&self) -> usize
+        ensures count { result ≡ length self.now.steps }
+        ensures sound { IsSound self.now }
+    {
+        self.steps.len()
+    }
+
+    /// How many needs there are: at most [`MAX_NEEDS`].
+    pub fn needs(&self) -> usize
+        ensures count { result ≡ length self.now.needs }
+        ensures sound { IsSound self.now }
+    {
+        self.needs.len()
+    }
+
+    /// The step of a number.
+    pub fn step(&self, i: u16) -> &Step
+        requires { i < length self.now.steps }
+        ensures { slice_get self.now.steps i ≡ Some result.now }
+    {
+        &self.steps[i as usize]
+    }
+
+    /// The need at a place in the order handed in.
+    pub fn need(&self, k: usize) -> Need
+        requires { k < length self.now.needs }
+        ensures { slice_get self.now.needs k ≡ Some result }
+    {
+        self.needs[k]
+    }
+
+    /// The steps in order.
+    pub fn all_steps(&self) -> &[Step]
+        ensures items { result.now ≡ self.now.steps }
+        ensures sound { IsSound self.now }
+    {
+        self.steps.as_slice()
+    }
+
+    /// The needs in the order handed in.
+    pub fn all_needs(&self) -> &[Need]
+        ensures items { result.now ≡ self.now.needs }
+        ensures sound { IsSound self.now }
+    {
+        self.needs.as_slice()
+    }
+}
+
+impl PartialEq for Definition {
+    ghost use Rattle.std.specs.Cmp.{partial_equiv_from_equiv};
+    ghost use Rattle.saga_def.specs.Same.{same_contents};
+    ghost use Rattle.saga_def.specs.SameLaws.{same_contents_laws};
+
+    ghost eq = { same_contents };
+
+    ghost laws = { partial_equiv_from_equiv same_contents_laws };
+
+    /// Whether two definitions have the same contents: name, steps and needs, each in order.
+    fn eq(&self, other: &Definition) -> bool
+        ensures test { result ≡ same_contents self.now other.now }
+        ensures exact { IsTrue result ↔ (self.now ≡ other.now) }
+    {
+        self.holds_same(other)
+    }
+}
+
+impl Eq for Definition {
+    ghost use Rattle.saga_def.specs.SameLaws.{same_contents_laws};
+
+    ghost laws = { same_contents_laws };
+}

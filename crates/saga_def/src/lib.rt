@@ -1,0 +1,21 @@
+//! What a saga is: its steps with their prices and tries, and which step needs which.
+//!
+//! A [`Definition`] is made by [`Definition::build`] alone. Each one is sound: within the limits, with good and
+//! distinct names, needs that are known and single, prices and tries in range, and no step that precedes itself.
+#![tactic(auto)]
+
+mod cycles;
+mod definitions;
+mod faults;
+mod limits;
+mod rules;
+mod steps;
+#[cfg(test)]
+mod tests;
+mod texts;
+
+pub use definitions::Definition;
+pub use faults::DefFault;
+pub use limits::{MAX_NAME, MAX_NEEDS, MAX_PRICE, MAX_STEPS, MAX_TRIES};
+pub use steps::{Need, Price, Step};
+pub use texts::Text;

@@ -1,0 +1,10 @@
+pub mod Network
+pub mod Flows
+pub mod Residual
+pub mod Reached
+pub mod Rounds
+pub mod Listed
+pub mod Search
+pub mod Pushes
+pub mod Levels
+pub mod Progress

@@ -1,0 +1,82 @@
+//! A greatest flow, and the rounds in which it is reached.
+ghost use Rattle.std.specs.Prelude.{◌≡◌, ◌≤◌, ◌*◌, IfOk, OnOk, length};
+ghost use Rattle.saga_flow.specs.Flows.{HasValue, IsFlow, IsGreatest};
+ghost use Rattle.saga_flow.specs.Reached.{HasUnbounded, Reaches};
+ghost use Rattle.saga_flow.specs.Residual.{IsResidual};
+ghost use Rattle.saga_flow.specs.Rounds.{IsReachedIn};
+
+use crate::gates::{Backward, Residual};
+use crate::listed::lists_of;
+use crate::nets::Net;
+use crate::phases::run_phase;
+use crate::rounds::Progress;
+use crate::searching::search;
+use std::alloc::{AllocError, Global};
+
+/// A flow through a net.
+#[derive(Debug, Drop)]
+pub struct Flow {
+    /// The units that leave the source less those that enter it.
+    pub value: u64,
+    /// The units on each arc, in the order of the net's arcs.
+    pub on: Vec<u64>,
+}
+
+/// A greatest flow: no other flow of the net has a larger value. The sink is not reached in its residual network.
+///
+/// The caller sees to it that no path of unbounded arcs leads from source to sink (`unbounded_path`).
+/// Several flows may be greatest, and which one it is, is left open. An error comes only where memory is refused.
+pub fn largest(alloc: Global, net: &Net) -> Result<Flow, AllocError>
+    requires apart { Reaches (HasUnbounded net.now.arcs) 0 1 → ⊥ }
+    ensures flow { IfOk result (λ f. IsFlow net.now.arcs f.on.items) }
+    ensures value { IfOk result (λ f. HasValue net.now.arcs f.on.items f.value) }
+    ensures greatest { IfOk result (λ f. IsGreatest net.now.arcs f.value) }
+    ensures cut { IfOk result (λ f. Reaches (IsResidual net.now.arcs f.on.items) 0 1 → ⊥) }
+{
+    let (flow, _rounds) = largest_counted(alloc, net)?;
+    Ok(flow)
+}
+
+/// The flow of `largest`, with the number of rounds in which it was reached from the empty one.
+///
+/// In each round the greatest amount that it carries goes along a path that has the fewest steps of all from source to
+/// sink in the residual network, so there are at most as many rounds as the flow's value, and at most nodes times
+/// arcs. (The flow is Ford and Fulkerson's, the bound that of Edmonds and Karp, 1972; paths are found in phases as
+/// Dinic found them, 1970.)
+pub fn largest_counted(alloc: Global, net: &Net) -> Result<(Flow, u64), AllocError>
+    requires apart { Reaches (HasUnbounded net.now.arcs) 0 1 → ⊥ }
+    ensures flow { IfOk result (λ r. IsFlow net.now.arcs r.0.on.items) }
+    ensures value { IfOk result (λ r. HasValue net.now.arcs r.0.on.items r.0.value) }
+    ensures greatest { IfOk result (λ r. IsGreatest net.now.arcs r.0.value) }
+    ensures cut { IfOk result (λ r. Reaches (IsResidual net.now.arcs r.0.on.items) 0 1 → ⊥) }
+    ensures rounds { IfOk result (λ r. IsReachedIn net.now.arcs r.0.on.items r.1) }
+    ensures by_value { IfOk result (λ r. r.1 ≤ r.0.value) }
+    ensures by_size { IfOk result (λ r. r.1 ≤ net.now.nodes * length net.now.arcs) }
+{
+    let arcs = net.arcs();
+    let lists = lists_of(alloc, net.nodes() as usize, arcs)?;
+    let mut progress = Progress {
+        on: vec![in alloc; 0u64; arcs.len()]?,
+        value: 0,
+        rounds: 0,
+    };
+    loop {
+        let open = Residual {
+            arcs,
+            on: progress.on.as_slice(),
+        };
+        let marks = search(alloc, arcs, lists.as_slice(), &Backward { gate: &open }, 1)?;
+        if marks[0].is_none() {
+            break;
+        }
+        run_phase(
+            alloc,
+            arcs,
+            lists.as_slice(),
+            marks.as_slice(),
+            &mut progress,
+        )?;
+    }
+    let Progress { on, value, rounds } = progress;
+    Ok((Flow { value, on }, rounds))
+}

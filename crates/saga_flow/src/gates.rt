@@ -1,0 +1,83 @@
+//! Gates: which steps a search may take.
+ghost use Rattle.std.specs.Prelude.{◌≡◌, ◌<◌, ℕ, ◌↔◌, IsTrue, length, slice_get, Some};
+
+use crate::nets::{Arc, Cap};
+use crate::steps::Step;
+
+/// What lets some steps pass.
+pub trait Gate {
+    ghost use Rattle.saga_flow.specs.declared.steps.Step.{Step};
+
+    ghost count: { Self → ℕ };
+
+    ghost passes: { Self → Step → Type 0 };
+
+    /// Whether a step may be taken.
+    fn lets_pass(&self, step: Step) -> bool
+        requires { step.arc < count self.now }
+        ensures { IsTrue result ↔ passes self.now step };
+}
+
+/// The steps of the residual network: along an arc that has room left, against one that carries something.
+#[derive(Drop)]
+pub struct Residual<'a> {
+    pub arcs: &'a [Arc],
+    pub on: &'a [u64],
+    ghost sized: { length on.now ≡ length arcs.now },
+}
+
+impl Gate for Residual<'_> {
+    ghost use Rattle.saga_flow.specs.Residual.{Carries};
+
+    ghost count = { λ r. length r.arcs.now };
+
+    ghost passes = { λ r s. Carries r.arcs.now r.on.now 1 s };
+
+    fn lets_pass(&self, step: Step) -> bool {
+        let carried = self.on[step.arc];
+        if step.forward {
+            match self.arcs[step.arc].cap {
+                Cap::Of(most) => carried < most,
+                Cap::Unbounded => true,
+            }
+        } else {
+            carried > 0
+        }
+    }
+}
+
+/// The steps along unbounded arcs.
+#[derive(Drop)]
+pub struct Endless<'a> {
+    pub arcs: &'a [Arc],
+}
+
+impl Gate for Endless<'_> {
+    ghost use Rattle.saga_flow.specs.Listed.{IsEndless};
+
+    ghost count = { λ r. length r.arcs.now };
+
+    ghost passes = { λ r s. IsEndless r.arcs.now s };
+
+    fn lets_pass(&self, step: Step) -> bool {
+        step.forward && matches!(self.arcs[step.arc].cap, Cap::Unbounded)
+    }
+}
+
+/// The steps that another gate lets pass the other way.
+#[derive(Drop)]
+pub struct Backward<'a, G: Gate> {
+    pub gate: &'a G,
+}
+
+impl<G: Gate> Gate for Backward<'_, G> {
+    ghost use Rattle.saga_flow.specs.Listed.{turned};
+
+    ghost count = { λ b. G.count b.gate.now };
+
+    ghost passes = { λ b s. G.passes b.gate.now (turned s) };
+
+    fn lets_pass(&self, step: Step) -> bool {
+        self.gate.lets_pass(step.turned())
+    }
+}

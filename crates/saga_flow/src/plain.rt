@@ -1,0 +1,38 @@
+//! The plain way to a greatest flow, with which tests compare: a search anew for each round.
+ghost use Rattle.saga_flow.specs.Reached.{HasUnbounded, Reaches};
+
+use crate::chains::path_home;
+use crate::flows::Flow;
+use crate::gates::{Backward, Residual};
+use crate::listed::lists_of;
+use crate::nets::Net;
+use crate::rounds::{Progress, add_round};
+use crate::searching::search;
+use std::alloc::{AllocError, Global};
+
+/// A greatest flow, and its rounds.
+pub fn plain_largest(alloc: Global, net: &Net) -> Result<(Flow, u64), AllocError>
+    requires apart { Reaches (HasUnbounded net.now.arcs) 0 1 → ⊥ }
+{
+    let arcs = net.arcs();
+    let lists = lists_of(alloc, net.nodes() as usize, arcs)?;
+    let mut progress = Progress {
+        on: vec![in alloc; 0u64; arcs.len()]?,
+        value: 0,
+        rounds: 0,
+    };
+    loop {
+        let open = Residual {
+            arcs,
+            on: progress.on.as_slice(),
+        };
+        let marks = search(alloc, arcs, lists.as_slice(), &Backward { gate: &open }, 1)?;
+        if marks[0].is_none() {
+            break;
+        }
+        let path = path_home(alloc, arcs, marks.as_slice())?;
+        add_round(arcs, path.as_slice(), &mut progress);
+    }
+    let Progress { on, value, rounds } = progress;
+    Ok((Flow { value, on }, rounds))
+}

@@ -1,0 +1,83 @@
+//! The greatest amount that a path carries, and what is left when it has gone over the path.
+ghost use Rattle.std.specs.Prelude.{◌≡◌, ◌<◌, ◌≤◌, ◌+◌, ◌^◌, ℕ, All, length, slice_index};
+ghost use Rattle.saga_flow.specs.Residual.{Carries, HasRoom};
+ghost use Rattle.saga_flow.specs.Rounds.{pushed, shifted};
+ghost use Rattle.saga_flow.specs.Pushes.{CanShift, IsPush, NoArcTwice};
+
+use crate::nets::{Arc, Cap};
+use crate::steps::Step;
+
+/// More than any bounded step carries.
+const ENDLESS: u64 = 1 << 63;
+
+/// Sends along a path the greatest amount that it carries, and answers it.
+///
+/// (Ford and Fulkerson's augmentation.)
+pub fn push_most(arcs: &[Arc], path: &[Step], on: &mut [u64]) -> u64
+    requires sized { length on.old ≡ length arcs.now }
+    requires carries { All (Carries arcs.now on.old 1) path.now }
+    requires once { NoArcTwice path.now }
+    requires fits { (more : ℕ) → All (Carries arcs.now on.old more) path.now → (k : ℕ) → slice_index on.old k + more < 2 ^ 63 }
+    ensures { IsPush arcs.now on.old path.now result on.new }
+{
+    let more = most_along(arcs, path, on);
+    push(path, on, more);
+    more
+}
+
+/// The greatest amount that a path carries, where that is below 2^63.
+fn most_along(arcs: &[Arc], path: &[Step], on: &[u64]) -> u64
+    requires sized { length on.now ≡ length arcs.now }
+    requires carries { All (Carries arcs.now on.now 1) path.now }
+    ensures some { 0 < result }
+    ensures carries { All (Carries arcs.now on.now result) path.now }
+    ensures most { result < 2 ^ 63 → All (Carries arcs.now on.now (result + 1)) path.now → ⊥ }
+{
+    let mut least = ENDLESS;
+    for step in path {
+        least = least.min(room(arcs, *step, on));
+    }
+    least
+}
+
+/// How much a step carries: 2^63 stands for any amount.
+fn room(arcs: &[Arc], step: Step, on: &[u64]) -> u64
+    requires sized { length on.now ≡ length arcs.now }
+    requires carries { Carries arcs.now on.now 1 step }
+    ensures some { 0 < result }
+    ensures carries { Carries arcs.now on.now result step }
+    ensures most { result < 2 ^ 63 → Carries arcs.now on.now (result + 1) step → ⊥ }
+{
+    let carried = on[step.arc];
+    if step.forward {
+        match arcs[step.arc].cap {
+            Cap::Of(most) => most - carried,
+            Cap::Unbounded => ENDLESS,
+        }
+    } else {
+        carried
+    }
+}
+
+/// Sends an amount over each step of a path.
+fn push(path: &[Step], on: &mut [u64], more: u64)
+    requires once { NoArcTwice path.now }
+    requires fits { All (CanShift on.old more) path.now }
+    ensures { on.new ≡ pushed on.old path.now more }
+{
+    for step in path {
+        shift(on, *step, more);
+    }
+}
+
+/// Sends an amount over one step.
+fn shift(on: &mut [u64], step: Step, more: u64)
+    requires { CanShift on.old more step }
+    ensures { on.new ≡ shifted on.old step more }
+{
+    if step.forward {
+        on[step.arc] += more;
+    } else {
+        on[step.arc] -= more;
+    }
+}

@@ -1,0 +1,31 @@
+//! Rounds: an amount goes along a path, and the flow's value and the count of rounds follow.
+ghost use Rattle.std.specs.Prelude.{◌≡◌, ◌<◌, ◌≤◌, ◌+◌, ◌^◌, ℕ, All, length, slice_index};
+ghost use Rattle.saga_flow.specs.Residual.{Carries};
+ghost use Rattle.saga_flow.specs.Pushes.{NoArcTwice};
+ghost use Rattle.saga_flow.specs.Progress.{AddsRound};
+
+use crate::nets::Arc;
+use crate::pushes::push_most;
+use crate::steps::Step;
+
+/// The amounts so far, one for each arc, their value, and the rounds in which they were reached.
+#[derive(Drop)]
+pub struct Progress {
+    pub on: Vec<u64>,
+    pub value: u64,
+    pub rounds: u64,
+}
+
+/// One round: the greatest amount that a path carries goes along it.
+pub fn add_round(arcs: &[Arc], path: &[Step], progress: &mut Progress)
+    requires sized { length progress.old.on.items ≡ length arcs.now }
+    requires carries { All (Carries arcs.now progress.old.on.items 1) path.now }
+    requires once { NoArcTwice path.now }
+    requires limit { (k : ℕ) → slice_index progress.old.on.items k ≤ progress.old.value }
+    requires fits { (more : ℕ) → All (Carries arcs.now progress.old.on.items more) path.now → progress.old.value + more < 2 ^ 63 }
+    requires few { progress.old.rounds ≤ progress.old.value }
+    ensures { AddsRound arcs.now path.now progress.old progress.new }
+{
+    progress.value += push_most(arcs, path, progress.on.as_mut_slice());
+    progress.rounds += 1;
+}

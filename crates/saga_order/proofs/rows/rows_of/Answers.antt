@@ -1,0 +1,24 @@
+use Rattle.std.proofs.lemmas.List.{take_all, take_more}
+use Rattle.saga_order.proofs.PlaceLemmas.{needs_within}
+use Rattle.saga_order.proofs.RowLemmas.{rows_more, rows_all}
+use Rattle.saga_order.proofs.rows.rows_of.Goals as goal
+
+pub row_over-requires-clause-within : goal.row_over-requires-clause-within
+row_over-requires-clause-within c =
+    rw (c.deref.ensures.value, c.loop-step.invariant.sized)
+    (needs_within c.args.neighbours.now _ c.needs_of.result.now c.count.ensures.ordered c.needs_of.ensures)
+
+pub loop-step-preserved : goal.loop-step-preserved
+loop-step-preserved c =
+    let order = c.args.order.now in
+    let i = c.loop-step.step-index in
+    rw (take_more order i 0 c.loop-step-test.true)
+    (rows_more c.args.neighbours.now _ c.needs_of.result.now c.loop-step.rows.items _ c.in_ok-row.row
+    (c.requires.in_order.within i 0 c.loop-step-test.true) c.needs_of.ensures
+    (λ a direct. c.requires.in_order.earlier i a c.loop-step-test.true direct)
+    c.loop-step.invariant (rw c.deref.ensures.value at c.in_ok-row.ensures))
+
+pub returns : goal.returns
+returns c =
+    rows_all c.args.neighbours.now _ c.args.order.now c.loop-step.rows.items
+    (take_all c.loop-step.step-index c.args.order.now c.loop-step-test.false) c.requires c.loop-step.invariant

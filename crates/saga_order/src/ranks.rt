@@ -1,0 +1,36 @@
+//! How long the chains of needs are that begin at a step.
+ghost use Rattle.std.specs.Prelude.{◌<◌, ◌≤◌, length, All, IfOk};
+ghost use Rattle.saga_order.specs.Placing.{IsPlacement};
+ghost use Rattle.saga_order.specs.Rank.{AreRanks, IsNextRank};
+
+use crate::neighbours::Neighbours;
+use std::alloc::{AllocError, Global};
+
+/// One more than the greatest rank of the steps that are needed, or 0 where none is.
+fn next_rank(needed: &[u16], ranks: &[u16]) -> u16
+    requires within { All (λ a. a < length ranks.now) needed.now }
+    requires small { All (λ rank. rank < 65535) ranks.now }
+    ensures { IsNextRank needed.now ranks.now result }
+{
+    let mut rank = 0u16;
+    for on in needed {
+        rank = rank.max(ranks[*on as usize] + 1);
+    }
+    rank
+}
+
+/// The rank of each step. Takes time linear in the steps and needs.
+pub fn ranks_of(
+    alloc: Global,
+    neighbours: &Neighbours,
+    order: &[u16],
+) -> Result<Vec<u16>, AllocError>
+    requires { IsPlacement neighbours.now order.now }
+    ensures { IfOk result (λ ranks. AreRanks neighbours.now ranks.items) }
+{
+    let mut ranks = vec![in alloc; 0; neighbours.count()]?;
+    for step in order {
+        ranks[*step as usize] = next_rank(neighbours.needs_of(*step), &ranks);
+    }
+    Ok(ranks)
+}

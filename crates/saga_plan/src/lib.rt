@@ -1,0 +1,16 @@
+//! The planner: of a case it makes a least plan with its certificate, or a chain that shows that no set of steps is
+//! allowed.
+//!
+//! A least set of steps is a least cut of the case's network (J.-C. Picard, 1976): a greatest flow is made in it, and
+//! the steps that the source still reaches in the residual network are kept. Of all least sets that is the smallest.
+#![tactic(auto)]
+
+mod chains;
+mod networks;
+mod planning;
+mod plans;
+
+pub use planning::{plan, plan_counted};
+
+#[cfg(test)]
+mod tests;

@@ -1,0 +1,49 @@
+//! The planner.
+ghost use Rattle.std.specs.Prelude.{IfOk};
+ghost use Rattle.saga_case.specs.Right.{IsRight, Settles};
+ghost use Rattle.saga_case.specs.Terms.{terms_of};
+ghost use Rattle.saga_plan.specs.Planned.{IsSmallest, IsMadeIn, HasFewRounds, HasRoundsWithinCost};
+
+use crate::chains::inner_steps;
+use crate::networks::net_of;
+use crate::plans::plan_of;
+use saga_case::{Answer, Case, Chain};
+use saga_flow::{largest_counted, reach, unbounded_path};
+use std::alloc::{AllocError, Global};
+
+/// A right answer to a case: a plan where some set of steps is allowed, a chain where none is.
+///
+/// The plan's kept set is the smallest of all least sets: each of them contains it. Which of several right flows, and
+/// which of several right chains, is left open. An error comes only where memory is refused.
+pub fn plan(alloc: Global, case: &Case) -> Result<Answer, AllocError>
+    ensures right { IfOk result (IsRight (terms_of case.now)) }
+    ensures settles { IfOk result (Settles (terms_of case.now)) }
+    ensures smallest { IfOk result (IsSmallest (terms_of case.now)) }
+{
+    let (answer, _rounds) = plan_counted(alloc, case)?;
+    Ok(answer)
+}
+
+/// The answer of [`plan`], with the number of rounds in which its flow is reached in the case's network; a chain takes
+/// none.
+///
+/// A plan for `n` steps with `m` needs takes at most `(n + 2) * (2 * n + m)` rounds, and at most as many as it costs.
+pub fn plan_counted(alloc: Global, case: &Case) -> Result<(Answer, u64), AllocError>
+    ensures right { IfOk result (λ r. IsRight (terms_of case.now) r.0) }
+    ensures settles { IfOk result (λ r. Settles (terms_of case.now) r.0) }
+    ensures smallest { IfOk result (λ r. IsSmallest (terms_of case.now) r.0) }
+    ensures rounds { IfOk result (λ r. IsMadeIn (terms_of case.now) r.0 r.1) }
+    ensures by_size { IfOk result (λ r. HasFewRounds (terms_of case.now) r.0 r.1) }
+    ensures by_cost { IfOk result (λ r. HasRoundsWithinCost r.0 r.1) }
+{
+    let steps = case.definition().steps();
+    let net = net_of(alloc, case)?;
+    if let Some(nodes) = unbounded_path(alloc, &net)? {
+        let chain = inner_steps(alloc, nodes.as_slice())?;
+        return Ok((Answer::Blocked(Chain::new(chain)), 0));
+    }
+    let (flow, rounds) = largest_counted(alloc, &net)?;
+    let reached = reach(alloc, &net, &flow)?;
+    let plan = plan_of(alloc, steps, &flow, reached.as_slice())?;
+    Ok((Answer::Plan(plan), rounds))
+}

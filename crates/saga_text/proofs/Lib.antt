@@ -1,0 +1,4 @@
+pub mod Outcomes
+pub mod TreeLemmas
+pub mod NumberLemmas
+pub mod FaultLemmas

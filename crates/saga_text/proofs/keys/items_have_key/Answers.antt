@@ -1,0 +1,13 @@
+use Rattle.std.proofs.Common.{rules, tests}
+use Rattle.std.proofs.lemmas.Iterator.{YieldsList-from_slice}
+use Rattle.std.proofs.lemmas.Iterator.Search.{all_from_yields_List}
+use Rattle.std.proofs.lemmas.List.Folds.{list_all-map}
+use Rattle.toml.specs.View.{view}
+use Rattle.saga_text.specs.Kinds.{has_key}
+use Rattle.saga_text.specs.Format.{passes}
+use Rattle.saga_text.proofs.keys.items_have_key.Goals as goal
+
+pub returns : goal.returns
+returns c =
+    rw (list_all-map (passes (has_key c.args.key.now)) view c.args.items.now)
+    (all_from_yields_List (λ item. passes (has_key c.args.key.now) (view item)) _ _ _ c.all.ensures.ran (YieldsList-from_slice c.args.items.now c.iter.ensures.rest) (λ x b q k. search (rules, tests)))

@@ -1,0 +1,9 @@
+-- What a definition file is.
+pub mod Outcomes
+pub mod Trees
+pub mod Kinds
+pub mod Format
+pub mod Faults
+pub mod Drafts
+pub mod Numbers
+pub mod Reads

@@ -1,0 +1,39 @@
+-- What reading a file gives.
+use Rattle.std.specs.Prelude.{ℕ, List, length, Result, Ok, Err, ◌≡◌, ◌<◌, ◌≤◌}
+use Rattle.toml.specs.Data.{Members}
+use Rattle.saga_def.specs.Contents.{Contents}
+use Rattle.saga_def.specs.Faults.{IsFirstFault}
+use Rattle.saga_def.specs.Sound.{IsSound}
+use Rattle.saga_def.specs.declared.faults.DefFault.TheVariants.{OutOfMemory as NoMemory}
+use Rattle.saga_text.specs.declared.limits.TheConstants.{MAX_DEFINITION}
+use Rattle.saga_text.specs.declared.faults.TextFault.{TextFault}
+use Rattle.saga_text.specs.declared.faults.TextFault.TheVariants.{TooLong, NotToml, Def, OutOfMemory}
+use Rattle.saga_text.specs.Trees.{IsTextOf}
+use Rattle.saga_text.specs.Format.{contents_of}
+
+-- the text is short enough, and holds what this reading of a tree gives
+abbrev pub Holds : List ℕ → Result Contents TextFault → Type 0
+Holds text outcome = (length text ≤ MAX_DEFINITION) × ((top : Members) × IsTextOf top text × (contents_of top ≡ outcome))
+
+-- the definition that the text holds, which is sound; or else the first fault, want of memory apart
+abbrev pub Reads : List ℕ → Result Contents TextFault → Type 0
+Reads text (Ok c) = Holds text (Ok c) × IsSound c
+Reads text (Err TooLong) = MAX_DEFINITION < length text
+Reads text (Err NotToml) = (length text ≤ MAX_DEFINITION) × ((top : Members) → IsTextOf top text → ⊥)
+Reads text (Err (Def NoMemory)) = ⊥
+Reads text (Err (Def fault)) = (c : Contents) × Holds text (Ok c) × IsFirstFault c fault
+Reads text (Err OutOfMemory) = Unit {0}
+Reads text (Err fault) = Holds text (Err fault)
+
+-- the text is no UTF-8, or `toml` refuses it; or want of memory
+abbrev pub IsTreeFault : List ℕ → TextFault → Type 0
+IsTreeFault text NotToml = (top : Members) → IsTextOf top text → ⊥
+IsTreeFault text OutOfMemory = Unit {0}
+IsTreeFault text _ = ⊥
+
+-- the first fault of a definition, carried; or want of memory
+abbrev pub IsFirstCarried : Contents → TextFault → Type 0
+IsFirstCarried c (Def NoMemory) = ⊥
+IsFirstCarried c (Def fault) = IsFirstFault c fault
+IsFirstCarried c OutOfMemory = Unit {0}
+IsFirstCarried c _ = ⊥

@@ -1,0 +1,21 @@
+//! Definition files: TOML texts that are read as definitions, exactly.
+//!
+//! `docs/FORMATS.md` of the repository has the format. [`read_definition`] decides on the tree that `toml` reads, so
+//! any spelling of the same tree is the same definition.
+#![tactic(auto)]
+
+mod definitions;
+mod documents;
+mod drafts;
+mod faults;
+mod keys;
+mod kinds;
+mod limits;
+mod numbers;
+mod steps;
+#[cfg(test)]
+mod tests;
+
+pub use definitions::read_definition;
+pub use faults::TextFault;
+pub use limits::MAX_DEFINITION;

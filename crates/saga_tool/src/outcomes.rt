@@ -1,0 +1,80 @@
+//! What a check comes to.
+ghost use Rattle.std.specs.Prelude.{◌≡◌, ◌↔◌, ◌<◌, IfOk, IsTrue, length};
+ghost use Rattle.saga_tool.specs.Outcomes.{ChecksTo, JudgesTo};
+ghost use Rattle.saga_case.specs.Situation.{HasStates};
+
+use crate::limits::MAX_CERTIFICATE;
+use saga_case::{Answer, Case};
+use saga_cert::{CertFault, read_answer, read_case};
+use saga_check::{CheckFault, judge};
+use saga_text::{TextFault, read_definition};
+use std::alloc::{AllocError, Global};
+
+/// What a check of an answer comes to: a fault of a text, or what the judge says.
+#[derive(Debug, Drop)]
+pub enum Outcome {
+    Definition(TextFault),
+    CaseTooLong,
+    Case(CertFault),
+    AnswerTooLong,
+    Answer(CertFault),
+    /// The answer is not right.
+    Refused(CheckFault),
+    /// The plan is least, and costs so much.
+    Least(u64),
+    /// No set of steps is allowed.
+    Blocked,
+}
+
+/// Whether a text has too many bytes for a case or an answer.
+fn is_too_long(text: &[u8]) -> bool
+    ensures { IsTrue result ↔ (MAX_CERTIFICATE < length text.now) }
+{
+    text.len() > MAX_CERTIFICATE
+}
+
+/// What the judge says of a case and an answer.
+fn judged(case: &Case, answer: &Answer) -> Outcome
+    ensures { JudgesTo case.now answer.now result }
+{
+    match judge(case, answer) {
+        Err(fault) => Outcome::Refused(fault),
+        Ok(()) => match answer {
+            Answer::Plan(plan) => Outcome::Least(plan.cost),
+            Answer::Blocked(_) => Outcome::Blocked,
+        },
+    }
+}
+
+/// What a check of three texts comes to: the first fault in the order definition, case, answer, each length judged with
+/// its own text.
+pub fn check(
+    alloc: Global,
+    definition: &[u8],
+    case: &[u8],
+    answer: &[u8],
+) -> Result<Outcome, AllocError>
+    ensures { IfOk result (ChecksTo definition.now case.now answer.now) }
+{
+    let definition = match read_definition(alloc, definition) {
+        Ok(definition) => definition,
+        Err(TextFault::OutOfMemory) => return Err(AllocError),
+        Err(fault) => return Ok(Outcome::Definition(fault)),
+    };
+    if is_too_long(case) {
+        return Ok(Outcome::CaseTooLong);
+    }
+    let case = match read_case(alloc, &definition, case) {
+        Ok(case) => case,
+        Err(CertFault::OutOfMemory) => return Err(AllocError),
+        Err(fault) => return Ok(Outcome::Case(fault)),
+    };
+    if is_too_long(answer) {
+        return Ok(Outcome::AnswerTooLong);
+    }
+    match read_answer(alloc, answer) {
+        Ok(answer) => Ok(judged(&case, &answer)),
+        Err(CertFault::OutOfMemory) => Err(AllocError),
+        Err(fault) => Ok(Outcome::Answer(fault)),
+    }
+}

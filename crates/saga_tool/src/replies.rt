@@ -1,0 +1,90 @@
+//! What the program prints, and its status.
+ghost use Rattle.std.specs.Prelude.{◌≡◌, IfOk};
+ghost use Rattle.std.specs.String.{string_bytes};
+ghost use Rattle.saga_tool.specs.Lines.{out_of, err_of, status_of, cert_line, step_text};
+ghost use Rattle.saga_tool.specs.Replies.{Shows};
+
+use crate::outcomes::Outcome;
+use saga_cert::CertFault;
+use std::alloc::{AllocError, Global};
+
+/// What goes to standard output and to standard error, and the status.
+#[derive(Debug, Drop)]
+pub struct Reply {
+    pub out: String,
+    pub err: String,
+    pub status: u8,
+}
+
+fn out(alloc: Global, outcome: &Outcome) -> Result<String, AllocError>
+    ensures { IfOk result (λ text. string_bytes text ≡ out_of outcome.now) }
+{
+    match outcome {
+        Outcome::Least(cost) => format!(in alloc; "least {cost}\n"),
+        Outcome::Blocked => String::from_str(alloc, "blocked\n"),
+        Outcome::Refused(fault) => {
+            let word = fault.word();
+            format!(in alloc; "no {word}\n")
+        }
+        _ => Ok(String::new(alloc)),
+    }
+}
+
+/// The number of a busy step, which follows its word.
+fn step_text(alloc: Global, fault: &CertFault) -> Result<String, AllocError>
+    ensures { IfOk result (λ text. string_bytes text ≡ step_text fault.now) }
+{
+    match fault {
+        CertFault::Busy(step) => format!(in alloc; " {step}"),
+        _ => Ok(String::new(alloc)),
+    }
+}
+
+fn cert_err(alloc: Global, part: &str, fault: &CertFault) -> Result<String, AllocError>
+    ensures { IfOk result (λ text. string_bytes text ≡ cert_line part.now fault.now) }
+{
+    let mut line = String::from_str(alloc, "sagas: ")?;
+    line.push_str(part)?;
+    line.push_str(": ")?;
+    line.push_str(fault.word())?;
+    line.push_str(step_text(alloc, fault)?.as_str())?;
+    line.push_str("\n")?;
+    Ok(line)
+}
+
+fn err(alloc: Global, outcome: &Outcome) -> Result<String, AllocError>
+    ensures { IfOk result (λ text. string_bytes text ≡ err_of outcome.now) }
+{
+    match outcome {
+        Outcome::Definition(fault) => {
+            let word = fault.word();
+            format!(in alloc; "sagas: definition: {word}\n")
+        }
+        Outcome::CaseTooLong => String::from_str(alloc, "sagas: case: too-long\n"),
+        Outcome::Case(fault) => cert_err(alloc, "case", fault),
+        Outcome::AnswerTooLong => String::from_str(alloc, "sagas: answer: too-long\n"),
+        Outcome::Answer(fault) => cert_err(alloc, "answer", fault),
+        _ => Ok(String::new(alloc)),
+    }
+}
+
+fn status(outcome: &Outcome) -> u8
+    ensures { result ≡ status_of outcome.now }
+{
+    match outcome {
+        Outcome::Least(_) | Outcome::Blocked => 0,
+        Outcome::Refused(_) => 1,
+        _ => 3,
+    }
+}
+
+/// The reply that shows an outcome.
+pub fn reply_to(alloc: Global, outcome: &Outcome) -> Result<Reply, AllocError>
+    ensures { IfOk result (Shows outcome.now) }
+{
+    Ok(Reply {
+        out: out(alloc, outcome)?,
+        err: err(alloc, outcome)?,
+        status: status(outcome),
+    })
+}

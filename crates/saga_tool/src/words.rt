@@ -1,0 +1,168 @@
+//! The words of the command line, read by `clap`.
+ghost use Rattle.std.specs.Prelude.{◌≡◌, ◌<◌, ◌∷◌, IfOk, IfSome, IsTrue, drop, length, map, Some, codes, false, true};
+ghost use Rattle.clap.specs.Words.{rule_of, app_of, with_rule, IsPlainArg, first_value, found_of};
+ghost use Rattle.saga_tool.specs.Command.{IsCommand};
+ghost use Rattle.saga_tool.specs.Words.{file_rule, bare_app, check_app, AreCheckFiles};
+
+use clap::error::ErrorKind;
+use clap::{Arg, ArgAction, ArgMatches, Command, Error};
+use std::alloc::{AllocError, Global};
+use std::convert::From;
+
+const ABOUT: &str =
+    "Coordinates sagas: finds the cheapest way to end a saga in which a step has failed, and judges such plans";
+
+const COMMANDS: &str = "check DEF CASE ANSWER: judges an answer; check --help says more";
+
+const CHECK_ABOUT: &str = "Judges an answer to a case: prints `least N`, `blocked`, or `no FAULT`";
+
+const DEFINITION: &str = "the saga's definition, a TOML file";
+
+const CASE: &str = "the states of its steps, a JSON file";
+
+const ANSWER: &str = "the plan or the chain, a JSON file";
+
+const STATUSES: &str =
+    "Without words the three parts of a check are read from standard input, with lines --- between them.
+Status: 0 a right answer; 1 a refused answer; 2 usage; 3 bad input; 4 a file or memory.";
+
+/// A file that a command needs.
+fn file<'a>(alloc: Global, name: &'a str, help: &'a str) -> Arg<'a>
+    ensures rule { rule_of result ≡ file_rule name.entry.now }
+    ensures id { result.id ≡ name.entry }
+    ensures plain { IsPlainArg result }
+    ensures own { result.global ≡ false }
+{
+    Arg::new(alloc, name)
+        .required(true)
+        .action(ArgAction::Set)
+        .help(help)
+}
+
+/// A command of that name that is given the words after it.
+fn bare_command<'a>(alloc: Global, name: &'a str, about: &'a str) -> Command<'a>
+    ensures { app_of result ≡ bare_app name.entry.now }
+{
+    Command::new(alloc, name).no_binary_name(true).about(about)
+}
+
+fn with_file<'a>(
+    alloc: Global,
+    command: Command<'a>,
+    name: &'a str,
+    help: &'a str,
+) -> Result<Command<'a>, AllocError>
+    ensures { IfOk result (λ r. app_of r ≡ with_rule (app_of command.entry) (file_rule name.entry.now)) }
+{
+    command.arg(file(alloc, name, help))
+}
+
+fn check_command<'a>(alloc: Global) -> Result<Command<'a>, AllocError>
+    ensures { IfOk result (λ command. app_of command ≡ check_app) }
+{
+    let bare = bare_command(alloc, "sagas check", CHECK_ABOUT);
+    let one = with_file(alloc, bare, "DEF", DEFINITION)?;
+    let two = with_file(alloc, one, "CASE", CASE)?;
+    with_file(alloc, two, "ANSWER", ANSWER)
+}
+
+/// The files of `check`.
+#[derive(Clone, Copy, Debug)]
+pub struct CheckFiles<'a> {
+    pub definition: &'a str,
+    pub case: &'a str,
+    pub answer: &'a str,
+}
+
+/// The files that the matches of `check` have, which is each where a parse succeeds.
+fn check_files<'a>(matches: &ArgMatches<'a>) -> Option<CheckFiles<'a>>
+    ensures { IfSome result (λ files.
+        (first_value (found_of matches.now) (codes "DEF") ≡ Some files.definition.now)
+        × (first_value (found_of matches.now) (codes "CASE") ≡ Some files.case.now)
+        × (first_value (found_of matches.now) (codes "ANSWER") ≡ Some files.answer.now)) }
+{
+    let definition = matches.get_str("DEF")?;
+    let case = matches.get_str("CASE")?;
+    let answer = matches.get_str("ANSWER")?;
+    Some(CheckFiles {
+        definition,
+        case,
+        answer,
+    })
+}
+
+fn read_check<'a>(alloc: Global, words: &'a [&'a str]) -> Result<CheckFiles<'a>, Error>
+    ensures { IfOk result (λ files. AreCheckFiles (map (λ s. s.now) words.entry.now) files.definition.now files.case.now files.answer.now) }
+{
+    let mut command = check_command(alloc)?;
+    let matches = command.try_get_matches_from_mut(words)?;
+    match check_files(&matches) {
+        Some(files) => Ok(files),
+        None => Err(command.error(ErrorKind::MissingRequiredArgument, "a file is missing")?),
+    }
+}
+
+/// Why no command is known: the first word is none, or is a call for help.
+fn without_command(alloc: Global, words: &[&str]) -> Result<Error, AllocError> {
+    let command = Arg::new(alloc, "COMMAND")
+        .required(true)
+        .action(ArgAction::Set)
+        .value_parser(["check"].as_slice())
+        .help(COMMANDS);
+    let mut sagas = bare_command(alloc, "sagas", ABOUT)
+        .after_help(STATUSES)
+        .arg(command)?;
+    match sagas.try_get_matches_from_mut(words) {
+        Err(error) => Ok(error),
+        Ok(_) => sagas.error(ErrorKind::InvalidSubcommand, "no such command"),
+    }
+}
+
+/// A command with its files.
+#[derive(Clone, Copy, Debug)]
+pub enum Words<'a> {
+    Check(CheckFiles<'a>),
+}
+
+/// Why words give no command: `clap`'s error, by its kind.
+#[derive(Drop)]
+pub enum WordsFault {
+    /// The words are not of the form; the error has the text for standard error.
+    Usage(Error),
+    /// Help is asked for; the error has the text for standard output.
+    Help(Error),
+    /// A growth of memory was refused.
+    OutOfMemory,
+}
+
+impl From<Error> for WordsFault {
+    fn from(error: Error) -> WordsFault {
+        match error.kind() {
+            ErrorKind::OutOfMemory => WordsFault::OutOfMemory,
+            ErrorKind::DisplayHelp => WordsFault::Help(error),
+            _ => WordsFault::Usage(error),
+        }
+    }
+}
+
+/// Whether the first word is that one.
+fn begins_with(words: &[&str], word: &str) -> bool
+    ensures { IsTrue result → (0 < length words.entry.now) × (map (λ s. s.now) words.entry.now ≡ word.now ∷ map (λ s. s.now) (drop 1 words.entry.now)) }
+{
+    !words.is_empty() && words[0] == word
+}
+
+/// The command that the words after the program's name give. `check` is a simple command of its own: its
+/// files are what `clap` finds for its arguments among the words after the first.
+pub fn read_words<'a>(alloc: Global, words: &'a [&'a str]) -> Result<Words<'a>, WordsFault>
+    ensures { IfOk result (IsCommand (map (λ s. s.now) words.entry.now)) }
+{
+    if begins_with(words, "check") {
+        return Ok(Words::Check(read_check(alloc, &words[1..])?));
+    }
+    let first = if words.is_empty() { words } else { &words[..1] };
+    match without_command(alloc, first) {
+        Ok(error) => Err(WordsFault::from(error)),
+        Err(_) => Err(WordsFault::OutOfMemory),
+    }
+}
