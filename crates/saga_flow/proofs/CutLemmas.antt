@@ -6,10 +6,6 @@ use Rattle.saga_flow.specs.Flows.{total, out_of, into, HasValue, IsFlow}
 use Rattle.saga_flow.proofs.TotalLemmas.{total-same, total-add, total-none}
 use Rattle.saga_flow.proofs.NetLemmas.{AreEnds}
 
--- an amount counts where its node is in the set
-abbrev pub counted : Bool → ℕ → ℕ
-counted inside x = cond inside x 0
-
 -- what leaves the nodes of a set, inner arcs included
 abbrev pub from_set : (ℕ → Bool) → List Arc → List ℕ → ℕ
 from_set S arcs on = total (λ (a : Arc) x. cond (S a.from) x 0) arcs on

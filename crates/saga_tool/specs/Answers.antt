@@ -1,9 +1,13 @@
 -- What the program answers to texts.
-use Rattle.std.specs.Prelude.{ℕ, List, ◌++◌, codes, length, ◌<◌, ◌≤◌, ◌⊎◌}
+use Rattle.std.specs.Prelude.{ℕ, List, ◌++◌, codes, length, Ok, ◌<◌, ◌≤◌, ◌⊎◌}
 use Rattle.saga_tool.specs.declared.limits.TheConstants.{MAX_INPUT}
 use Rattle.saga_tool.specs.declared.outcomes.Outcome.{Outcome}
 use Rattle.saga_tool.specs.declared.replies.Reply.{Reply}
-use Rattle.saga_tool.specs.Outcomes.{ChecksTo}
+use Rattle.saga_tool.specs.declared.outcomes.Outcome.TheVariants.{Planned}
+use Rattle.serde_json.specs.Written.{compact_text}
+use Rattle.saga_cert.specs.Answers.{answer_form}
+use Rattle.saga_cert.specs.Reads.{ReadsAnswer}
+use Rattle.saga_tool.specs.Outcomes.{ComesTo, ChecksTo, PlansTo}
 use Rattle.saga_tool.specs.Lines.{line_feed}
 use Rattle.saga_tool.specs.Parts.{AreParts, HasNoParts}
 use Rattle.saga_tool.specs.Replies.{Shows, IsBadInput}
@@ -11,8 +15,20 @@ use Rattle.saga_tool.specs.Replies.{Shows, IsBadInput}
 -- the reply shows what a check of the three texts comes to
 pub record IsCheckReply (definition case answer : List ℕ) (reply : Reply) : Type 0 where
   pub outcome : Outcome
-  pub comes : ChecksTo definition case answer outcome
+  pub comes : ComesTo (ChecksTo answer) definition case outcome
   pub shows : Shows outcome reply
+
+-- the text of an answer that is printed is read as that answer
+abbrev pub IsReadBack : Outcome → Type 0
+IsReadBack (Planned a) = ReadsAnswer (compact_text (answer_form a)) (Ok a)
+IsReadBack outcome = Unit {0}
+
+-- the reply shows what planning for the case of two texts comes to
+pub record IsPlanReply (definition case : List ℕ) (reply : Reply) : Type 0 where
+  pub outcome : Outcome
+  pub comes : ComesTo PlansTo definition case outcome
+  pub shows : Shows outcome reply
+  pub read_back : IsReadBack outcome
 
 -- an input that is too long, or has no parts
 pub record IsTooLong (input : List ℕ) (reply : Reply) : Type 0 where

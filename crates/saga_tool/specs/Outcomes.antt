@@ -1,5 +1,5 @@
--- What a check of three texts comes to.
-use Rattle.std.specs.Prelude.{ℕ, List, length, Result, Ok, Err, ◌≡◌, ◌≢◌, ◌<◌, ◌≤◌}
+-- What a question about the case of two texts comes to.
+use Rattle.std.specs.Prelude.{ℕ, List, length, Ok, Err, ◌≡◌, ◌≢◌, ◌<◌, ◌≤◌}
 use Rattle.saga_def.specs.Contents.{Contents}
 use Rattle.saga_def.specs.Order.{member}
 use Rattle.saga_def.specs.declared.steps.Price.TheVariants as price
@@ -10,13 +10,16 @@ use Rattle.saga_case.specs.declared.answers.Plan.{Plan}
 use Rattle.saga_case.specs.declared.answers.Answer.{Answer}
 use Rattle.saga_case.specs.declared.answers.Answer.TheVariants as answer
 use Rattle.saga_case.specs.Terms.{terms_of, cost_of, IsLeast, NoneIsAllowed}
-use Rattle.saga_case.specs.Right.{IsRightPlan, IsRightChain}
+use Rattle.saga_case.specs.Right.{IsRight, IsRightPlan, IsRightChain, Settles}
 use Rattle.saga_cert.specs.declared.faults.CertFault.TheVariants as cert
 use Rattle.saga_cert.specs.Reads.{ReadsCase, ReadsAnswer}
 use Rattle.saga_check.specs.Faults.{IsFirstFault}
+use Rattle.saga_plan.specs.Planned.{IsSmallest}
 use Rattle.saga_tool.specs.declared.limits.TheConstants.{MAX_CERTIFICATE}
 use Rattle.saga_tool.specs.declared.outcomes.Outcome.{Outcome}
-use Rattle.saga_tool.specs.declared.outcomes.Outcome.TheVariants.{Definition, CaseTooLong, Case, AnswerTooLong, Answer as AnswerFault, Refused, Least, Blocked}
+use Rattle.saga_tool.specs.declared.outcomes.Outcome.TheVariants.{Definition, CaseTooLong, Case, AnswerTooLong, Answer as AnswerFault, Refused, Least, Blocked, Planned}
+use Rattle.saga_tool.specs.declared.outcomes.Question.{Question}
+use Rattle.saga_tool.specs.declared.outcomes.Question.TheVariants.{Check, Plan as APlan}
 
 -- a right plan of that cost, which is least: no allowed set costs less
 pub record IsLeastPlan (c : Situation) (cost : ℕ) (plan : Plan) : Type 0 where
@@ -42,18 +45,39 @@ pub record AreRead (definition case : List ℕ) (d : Contents) (c : Situation) :
   pub short : length case ≤ MAX_CERTIFICATE
   pub case_is : ReadsCase d case (Ok c)
 
--- the first fault in the order definition, case, answer; or what the judge says of what the texts hold
-abbrev pub ChecksTo : List ℕ → List ℕ → List ℕ → Outcome → Type 0
-ChecksTo definition case answer (Definition fault) = Reads definition (Err fault) × (fault ≢ text.OutOfMemory)
-ChecksTo definition case answer CaseTooLong = (d : Contents) × Reads definition (Ok d) × (MAX_CERTIFICATE < length case)
-ChecksTo definition case answer (Case fault) =
+-- what a check of an answer's text comes to: its first fault, or what the judge says of what it holds
+abbrev pub ChecksTo : List ℕ → Situation → Outcome → Type 0
+ChecksTo text c AnswerTooLong = MAX_CERTIFICATE < length text
+ChecksTo text c (AnswerFault fault) =
+    (length text ≤ MAX_CERTIFICATE) × ReadsAnswer text (Err fault) × (fault ≢ cert.OutOfMemory)
+ChecksTo text c outcome = (a : Answer) × (length text ≤ MAX_CERTIFICATE) × ReadsAnswer text (Ok a) × JudgesTo c a outcome
+
+-- an answer of the planner: right, its plan least and contained in every least set, its chain where no set is allowed
+pub record IsPlanned (c : Situation) (a : Answer) : Type 0 where
+  pub right : IsRight (terms_of c) a
+  pub settles : Settles (terms_of c) a
+  pub smallest : IsSmallest (terms_of c) a
+
+abbrev pub PlansTo : Situation → Outcome → Type 0
+PlansTo c (Planned a) = IsPlanned c a
+PlansTo c outcome = ⊥
+
+abbrev pub AnswersTo : Question → Situation → Outcome → Type 0
+AnswersTo (Check text) c outcome = ChecksTo text.now c outcome
+AnswersTo APlan c outcome = PlansTo c outcome
+
+-- the question is answered about the case that the texts hold
+pub record IsAnswered (answers : Situation → Outcome → Type 0) (definition case : List ℕ) (outcome : Outcome) : Type 0 where
+  pub contents : Contents
+  pub situation : Situation
+  pub read : AreRead definition case contents situation
+  pub answered : answers situation outcome
+
+-- the first fault in the order definition, case, answer; or what answers the question
+abbrev pub ComesTo : (Situation → Outcome → Type 0) → List ℕ → List ℕ → Outcome → Type 0
+ComesTo answers definition case (Definition fault) = Reads definition (Err fault) × (fault ≢ text.OutOfMemory)
+ComesTo answers definition case CaseTooLong = (d : Contents) × Reads definition (Ok d) × (MAX_CERTIFICATE < length case)
+ComesTo answers definition case (Case fault) =
     (d : Contents) × Reads definition (Ok d) × (length case ≤ MAX_CERTIFICATE) × ReadsCase d case (Err fault)
     × (fault ≢ cert.OutOfMemory)
-ChecksTo definition case answer AnswerTooLong =
-    (d : Contents) × (c : Situation) × AreRead definition case d c × (MAX_CERTIFICATE < length answer)
-ChecksTo definition case answer (AnswerFault fault) =
-    (d : Contents) × (c : Situation) × AreRead definition case d c × (length answer ≤ MAX_CERTIFICATE)
-    × ReadsAnswer answer (Err fault) × (fault ≢ cert.OutOfMemory)
-ChecksTo definition case answer outcome =
-    (d : Contents) × (c : Situation) × (a : Answer) × AreRead definition case d c × (length answer ≤ MAX_CERTIFICATE)
-    × ReadsAnswer answer (Ok a) × JudgesTo c a outcome
+ComesTo answers definition case outcome = IsAnswered answers definition case outcome

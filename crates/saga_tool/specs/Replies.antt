@@ -1,7 +1,11 @@
 -- When a reply shows an outcome.
-use Rattle.std.specs.Prelude.{ℕ, List, [], ◌≡◌}
+use Rattle.std.specs.Prelude.{ℕ, List, [], Ok, ◌≡◌}
 use Rattle.std.specs.String.{string_bytes}
+use Rattle.serde_json.specs.Written.{compact_text}
+use Rattle.saga_cert.specs.Answers.{answer_form, IsPaired}
+use Rattle.saga_cert.specs.Reads.{ReadsAnswer}
 use Rattle.saga_tool.specs.declared.outcomes.Outcome.{Outcome}
+use Rattle.saga_tool.specs.declared.outcomes.Outcome.TheVariants.{Planned}
 use Rattle.saga_tool.specs.declared.replies.Reply.{Reply}
 use Rattle.saga_tool.specs.Lines.{out_of, err_of, status_of}
 
@@ -9,6 +13,11 @@ pub record Shows (outcome : Outcome) (reply : Reply) : Type 0 where
   pub out : string_bytes reply.out ≡ out_of outcome
   pub err : string_bytes reply.err ≡ err_of outcome
   pub status : reply.status ≡ status_of outcome
+
+-- the text of an answer that is printed is read as that answer, where it has as many marks as numbers of its flow
+abbrev pub ReadsBack : Outcome → Type 0
+ReadsBack (Planned a) = IsPaired a → ReadsAnswer (compact_text (answer_form a)) (Ok a)
+ReadsBack outcome = Unit {0}
 
 -- one line on standard error, and status 3
 pub record IsBadInput (line : List ℕ) (reply : Reply) : Type 0 where

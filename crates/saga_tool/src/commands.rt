@@ -4,8 +4,8 @@ ghost use Rattle.std.specs.Prelude.{◌<◌, ◌^◌};
 use crate::files::{FileFault, read_file, read_up_to};
 use crate::limits::{MAX_CERTIFICATE, MAX_INPUT};
 use crate::replies::Reply;
-use crate::texts::{check_input, check_text};
-use crate::words::{CheckFiles, Words, WordsFault, read_words};
+use crate::texts::{check_input, check_text, plan_text};
+use crate::words::{CheckFiles, PlanFiles, Words, WordsFault, read_words};
 use clap::Error;
 use saga_text::MAX_DEFINITION;
 use std::alloc::{AllocError, Global};
@@ -52,6 +52,12 @@ fn check<R: Files>(rt: &R, alloc: Global, files: &CheckFiles<'_>) -> Result<Repl
     Ok(check_text(alloc, &definition, &case, &answer)?)
 }
 
+fn plan<R: Files>(rt: &R, alloc: Global, files: &PlanFiles<'_>) -> Result<Reply, Stop> {
+    let definition = text_of(rt, alloc, files.definition, MAX_DEFINITION)?;
+    let case = text_of(rt, alloc, files.case, MAX_CERTIFICATE)?;
+    Ok(plan_text(alloc, &definition, &case)?)
+}
+
 /// What `clap` has to say: help, or why the words are not of the form.
 fn told(alloc: Global, error: &Error, is_help: bool) -> Result<Reply, AllocError> {
     let text = format!(in alloc; "{error}")?;
@@ -75,6 +81,7 @@ pub fn on_words<R: Files>(rt: &R, alloc: Global, words: &[String]) -> Result<Rep
     let words: Vec<&str> = words.iter().map(|word| word.as_str()).collect(alloc)?;
     let reply = match read_words(alloc, &words) {
         Ok(Words::Check(files)) => check(rt, alloc, &files),
+        Ok(Words::Plan(files)) => plan(rt, alloc, &files),
         Err(WordsFault::OutOfMemory) => return Err(AllocError),
         Err(WordsFault::Help(error)) => return told(alloc, &error, true),
         Err(WordsFault::Usage(error)) => return told(alloc, &error, false),

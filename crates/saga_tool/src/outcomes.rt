@@ -1,16 +1,26 @@
-//! What a check comes to.
+//! What a question about a case comes to.
 ghost use Rattle.std.specs.Prelude.{◌≡◌, ◌↔◌, ◌<◌, IfOk, IsTrue, length};
-ghost use Rattle.saga_tool.specs.Outcomes.{ChecksTo, JudgesTo};
+ghost use Rattle.saga_tool.specs.Outcomes.{ComesTo, AnswersTo, ChecksTo, JudgesTo};
 ghost use Rattle.saga_case.specs.Situation.{HasStates};
 
 use crate::limits::MAX_CERTIFICATE;
 use saga_case::{Answer, Case};
 use saga_cert::{CertFault, read_answer, read_case};
 use saga_check::{CheckFault, judge};
+use saga_plan::plan;
 use saga_text::{TextFault, read_definition};
 use std::alloc::{AllocError, Global};
 
-/// What a check of an answer comes to: a fault of a text, or what the judge says.
+/// What is asked about a case.
+#[derive(Clone, Copy)]
+pub enum Question<'a> {
+    /// Whether the answer of this text is right.
+    Check(&'a [u8]),
+    /// A right answer.
+    Plan,
+}
+
+/// What a question comes to: a fault of a text, what the judge says of an answer, or an answer.
 #[derive(Debug, Drop)]
 pub enum Outcome {
     Definition(TextFault),
@@ -24,6 +34,8 @@ pub enum Outcome {
     Least(u64),
     /// No set of steps is allowed.
     Blocked,
+    /// The answer that was asked for.
+    Planned(Answer),
 }
 
 /// Whether a text has too many bytes for a case or an answer.
@@ -46,15 +58,39 @@ fn judged(case: &Case, answer: &Answer) -> Outcome
     }
 }
 
-/// What a check of three texts comes to: the first fault in the order definition, case, answer, each length judged with
-/// its own text.
-pub fn check(
+/// What a check of the answer of a text comes to.
+fn checked(alloc: Global, case: &Case, answer: &[u8]) -> Result<Outcome, AllocError>
+    ensures { IfOk result (ChecksTo answer.now case.now) }
+{
+    if is_too_long(answer) {
+        return Ok(Outcome::AnswerTooLong);
+    }
+    match read_answer(alloc, answer) {
+        Ok(answer) => Ok(judged(case, &answer)),
+        Err(CertFault::OutOfMemory) => Err(AllocError),
+        Err(fault) => Ok(Outcome::Answer(fault)),
+    }
+}
+
+/// What a question about a case comes to.
+fn answered(alloc: Global, case: &Case, question: Question<'_>) -> Result<Outcome, AllocError>
+    ensures { IfOk result (AnswersTo question.entry case.now) }
+{
+    match question {
+        Question::Check(answer) => checked(alloc, case, answer),
+        Question::Plan => Ok(Outcome::Planned(plan(alloc, case)?)),
+    }
+}
+
+/// What a question about the case of two texts comes to: the first fault in the order definition, case, answer, each
+/// length judged with its own text.
+pub fn outcome_of(
     alloc: Global,
     definition: &[u8],
     case: &[u8],
-    answer: &[u8],
+    question: Question<'_>,
 ) -> Result<Outcome, AllocError>
-    ensures { IfOk result (ChecksTo definition.now case.now answer.now) }
+    ensures { IfOk result (ComesTo (AnswersTo question.entry) definition.now case.now) }
 {
     let definition = match read_definition(alloc, definition) {
         Ok(definition) => definition,
@@ -64,17 +100,9 @@ pub fn check(
     if is_too_long(case) {
         return Ok(Outcome::CaseTooLong);
     }
-    let case = match read_case(alloc, &definition, case) {
-        Ok(case) => case,
-        Err(CertFault::OutOfMemory) => return Err(AllocError),
-        Err(fault) => return Ok(Outcome::Case(fault)),
-    };
-    if is_too_long(answer) {
-        return Ok(Outcome::AnswerTooLong);
-    }
-    match read_answer(alloc, answer) {
-        Ok(answer) => Ok(judged(&case, &answer)),
+    match read_case(alloc, &definition, case) {
+        Ok(case) => answered(alloc, &case, question),
         Err(CertFault::OutOfMemory) => Err(AllocError),
-        Err(fault) => Ok(Outcome::Answer(fault)),
+        Err(fault) => Ok(Outcome::Case(fault)),
     }
 }

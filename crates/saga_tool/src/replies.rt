@@ -1,11 +1,15 @@
 //! What the program prints, and its status.
-ghost use Rattle.std.specs.Prelude.{◌≡◌, IfOk};
+ghost use Rattle.std.specs.Prelude.{◌≡◌, ◌++◌, IfOk, Ok};
 ghost use Rattle.std.specs.String.{string_bytes};
-ghost use Rattle.saga_tool.specs.Lines.{out_of, err_of, status_of, cert_line, step_text};
-ghost use Rattle.saga_tool.specs.Replies.{Shows};
+ghost use Rattle.serde_json.specs.Written.{compact_text};
+ghost use Rattle.saga_cert.specs.Answers.{answer_form, IsPaired};
+ghost use Rattle.saga_cert.specs.Reads.{ReadsAnswer};
+ghost use Rattle.saga_tool.specs.Lines.{out_of, err_of, status_of, cert_line, step_text, line_feed};
+ghost use Rattle.saga_tool.specs.Replies.{Shows, ReadsBack};
 
 use crate::outcomes::Outcome;
-use saga_cert::CertFault;
+use saga_case::Answer;
+use saga_cert::{CertFault, write_answer};
 use std::alloc::{AllocError, Global};
 
 /// What goes to standard output and to standard error, and the status.
@@ -16,12 +20,24 @@ pub struct Reply {
     pub status: u8,
 }
 
+/// The line of an answer that was asked for.
+fn answer_line(alloc: Global, answer: &Answer) -> Result<String, AllocError>
+    ensures line { IfOk result (λ text. string_bytes text ≡ compact_text (answer_form answer.now) ++ line_feed) }
+    ensures read_back { IfOk result (λ text. IsPaired answer.now → ReadsAnswer (compact_text (answer_form answer.now)) (Ok answer.now)) }
+{
+    let mut line = write_answer(alloc, answer)?;
+    line.push_str("\n")?;
+    Ok(line)
+}
+
 fn out(alloc: Global, outcome: &Outcome) -> Result<String, AllocError>
-    ensures { IfOk result (λ text. string_bytes text ≡ out_of outcome.now) }
+    ensures line { IfOk result (λ text. string_bytes text ≡ out_of outcome.now) }
+    ensures read_back { IfOk result (λ text. ReadsBack outcome.now) }
 {
     match outcome {
         Outcome::Least(cost) => format!(in alloc; "least {cost}\n"),
         Outcome::Blocked => String::from_str(alloc, "blocked\n"),
+        Outcome::Planned(answer) => answer_line(alloc, answer),
         Outcome::Refused(fault) => {
             let word = fault.word();
             format!(in alloc; "no {word}\n")
@@ -72,15 +88,16 @@ fn status(outcome: &Outcome) -> u8
     ensures { result ≡ status_of outcome.now }
 {
     match outcome {
-        Outcome::Least(_) | Outcome::Blocked => 0,
-        Outcome::Refused(_) => 1,
+        Outcome::Least(_) | Outcome::Blocked | Outcome::Planned(Answer::Plan(_)) => 0,
+        Outcome::Refused(_) | Outcome::Planned(Answer::Blocked(_)) => 1,
         _ => 3,
     }
 }
 
 /// The reply that shows an outcome.
 pub fn reply_to(alloc: Global, outcome: &Outcome) -> Result<Reply, AllocError>
-    ensures { IfOk result (Shows outcome.now) }
+    ensures shows { IfOk result (Shows outcome.now) }
+    ensures read_back { IfOk result (λ reply. ReadsBack outcome.now) }
 {
     Ok(Reply {
         out: out(alloc, outcome)?,

@@ -1,5 +1,5 @@
 //! Replies to texts, byte for byte.
-use crate::texts::{check_input, check_text};
+use crate::texts::{check_input, check_text, plan_text};
 use crate::words::{Words, WordsFault, read_words};
 use std::alloc::Global;
 use std::test::Fail;
@@ -29,6 +29,22 @@ const CHAIN: &str = "{\"chain\":[1,0],\"kind\":\"blocked\"}\n";
 
 const PLAN: &str =
     "{\"cost\":1,\"kept\":[],\"kind\":\"plan\",\"leave\":[1,0],\"links\":[0],\"stand\":[1,0]}";
+
+/// Four steps in a chain, all for free.
+const FOUR: &str =
+    "format = 1\nname = \"four\"\nstep = [{ name = \"a\" }, { name = \"b\", needs = [\"a\"] }, { name = \"c\", needs = [\"b\"] }, { name = \"d\", needs = [\"c\"] }]\n";
+
+/// Two steps that cannot be undone, and one more.
+const LASTING: &str =
+    "format = 1\nname = \"three\"\nstep = [{ name = \"a\", undo = \"never\", keep = 5 }, { name = \"b\", undo = \"never\", keep = 5 }, { name = \"c\" }]\n";
+
+/// Two steps that need the first, of which one must not be left out.
+const HELD: &str =
+    "format = 1\nname = \"held\"\nstep = [{ name = \"a\", keep = 4 }, { name = \"b\", needs = [\"a\"] }, { name = \"c\", needs = [\"a\"], run = 2, skip = \"never\" }]\n";
+
+/// A step that must not be left out, and needs a committed one.
+const FORCED: &str =
+    "format = 1\nname = \"two\"\nstep = [{ name = \"a\", undo = 1, keep = 4 }, { name = \"b\", needs = [\"a\"], skip = \"never\" }]\n";
 
 /// Three texts, and what is printed to standard output or standard error.
 struct Row(&'static str, &'static str, &'static str, &'static str, u8);
@@ -249,6 +265,113 @@ fn three_texts(rt: HostRuntime) -> Result<(), Fail> {
     Ok(())
 }
 
+/// A definition and a case, the text of the only right answer, and the status.
+struct PlanRow(&'static str, &'static str, &'static str, u8);
+
+const PLANNED: [PlanRow; 7] = [
+    PlanRow(TRIP, DONE, PLAN, 0),
+    PlanRow(TWO, WAITS, "{\"chain\":[1,0],\"kind\":\"blocked\"}", 1),
+    PlanRow(
+        ONE,
+        "{\"states\":[\"failed\"]}",
+        "{\"chain\":[0],\"kind\":\"blocked\"}",
+        1,
+    ),
+    PlanRow(
+        FOUR,
+        "{\"states\":[\"committed\",\"committed\",\"committed\",\"failed\"]}",
+        "{\"cost\":0,\"kept\":[],\"kind\":\"plan\",\"leave\":[0,0,0,0],\"links\":[0,0,0],\"stand\":[0,0,0,0]}",
+        0,
+    ),
+    PlanRow(
+        LASTING,
+        "{\"states\":[\"committed\",\"committed\",\"failed\"]}",
+        "{\"cost\":10,\"kept\":[0,1],\"kind\":\"plan\",\"leave\":[5,5,0],\"links\":[],\"stand\":[5,5,0]}",
+        0,
+    ),
+    PlanRow(
+        HELD,
+        "{\"states\":[\"committed\",\"failed\",\"waiting\"]}",
+        "{\"cost\":6,\"kept\":[0,2],\"kind\":\"plan\",\"leave\":[0,0,6],\"links\":[0,4],\"stand\":[4,0,2]}",
+        0,
+    ),
+    PlanRow(
+        FORCED,
+        "{\"aborted\":true,\"states\":[\"committed\",\"waiting\"]}",
+        "{\"chain\":[1],\"kind\":\"blocked\"}",
+        1,
+    ),
+];
+
+#[test]
+fn planned(rt: HostRuntime) -> Result<(), Fail> {
+    let alloc = rt.alloc();
+    for PlanRow(definition, case, answer, status) in &PLANNED {
+        let reply = plan_text(alloc, definition.as_bytes(), case.as_bytes())?;
+        assert_eq!(rt; reply.out.as_str().trim_end(), *answer);
+        assert!(rt; reply.out.as_str().ends_with("\n"));
+        assert!(rt; reply.err.is_empty());
+        assert_eq!(rt; reply.status, *status, "{answer}");
+        let judged = check_text(
+            alloc,
+            definition.as_bytes(),
+            case.as_bytes(),
+            reply.out.as_bytes(),
+        )?;
+        assert_eq!(rt; judged.status, 0, "{answer}");
+    }
+    Ok(())
+}
+
+/// A definition and a case with a fault, and the line on standard error.
+const UNPLANNED: [(&str, &str, &str); 5] = [
+    ("x = ", "no case", "sagas: definition: not-toml\n"),
+    (CYCLE, "no case", "sagas: definition: cycle\n"),
+    (TRIP, "no case", "sagas: case: not-json\n"),
+    (
+        TRIP,
+        "{\"states\":[\"committed\"]}",
+        "sagas: case: wrong-length\n",
+    ),
+    (
+        TRIP,
+        "{\"states\":[\"failed\",\"undoing\"]}",
+        "sagas: case: busy 1\n",
+    ),
+];
+
+#[test]
+fn unplanned(rt: HostRuntime) -> Result<(), Fail> {
+    for (definition, case, line) in &UNPLANNED {
+        let reply = plan_text(rt.alloc(), definition.as_bytes(), case.as_bytes())?;
+        assert_eq!(rt; reply.err.as_str(), *line);
+        assert!(rt; reply.out.is_empty());
+        assert_eq!(rt; reply.status, 3, "{line}");
+    }
+    Ok(())
+}
+
+/// Several flows are right here, and the kept set is not open.
+#[test]
+fn an_open_flow(rt: HostRuntime) -> Result<(), Fail> {
+    let case = "{\"states\":[\"committed\",\"waiting\"]}";
+    let reply = plan_text(rt.alloc(), FORCED.as_bytes(), case.as_bytes())?;
+    assert!(rt;
+        reply
+            .out
+            .as_str()
+            .starts_with("{\"cost\":4,\"kept\":[0,1],\"kind\":\"plan\",")
+    );
+    let judged = check_text(
+        rt.alloc(),
+        FORCED.as_bytes(),
+        case.as_bytes(),
+        reply.out.as_bytes(),
+    )?;
+    assert_eq!(rt; judged.out.as_str(), "least 4\n");
+    Ok(())
+}
+
 /// What is replied to an input of these pieces, one after another.
 fn replied(alloc: Global, pieces: &[&str]) -> Result<(String, String), Fail> {
     let mut input = String::new(alloc);
@@ -299,15 +422,31 @@ fn words(rt: HostRuntime) -> Result<(), Fail> {
             assert_eq!(rt; files.case, "b");
             assert_eq!(rt; files.answer, "c");
         }
-        Err(_) => assert!(rt; false, "check a b c"),
+        _ => assert!(rt; false, "check a b c"),
     }
-    let table: [(&[&str], bool); 6] = [
+    match read_words(alloc, ["plan", "d", "e"].as_slice()) {
+        Ok(Words::Plan(files)) => {
+            assert_eq!(rt; files.definition, "d");
+            assert_eq!(rt; files.case, "e");
+        }
+        _ => assert!(rt; false, "plan d e"),
+    }
+    Ok(())
+}
+
+#[test]
+fn no_words(rt: HostRuntime) -> Result<(), Fail> {
+    let alloc = rt.alloc();
+    let table: [(&[&str], bool); 9] = [
         (&["check", "a"], false),
         (&["check", "a", "b", "c", "d"], false),
         (&["chekc", "a", "b", "c"], false),
         (&["check", "--x"], false),
         (&["--help"], true),
         (&["check", "--help"], true),
+        (&["plan", "a"], false),
+        (&["plan", "a", "b", "c"], false),
+        (&["plan", "--help"], true),
     ];
     for (words, is_help) in &table {
         match read_words(alloc, words) {

@@ -1,10 +1,10 @@
 //! The program's work, over bytes.
 ghost use Rattle.std.specs.Prelude.{◌≡◌, ◌↔◌, ◌<◌, IfOk, IsTrue, length};
-ghost use Rattle.saga_tool.specs.Answers.{IsCheckReply, IsInputReply};
+ghost use Rattle.saga_tool.specs.Answers.{IsCheckReply, IsPlanReply, IsInputReply};
 ghost use Rattle.saga_tool.specs.Replies.{IsBadInput};
 
 use crate::limits::MAX_INPUT;
-use crate::outcomes::check;
+use crate::outcomes::{Question, outcome_of};
 use crate::parts::parts_of;
 use crate::replies::{Reply, reply_to};
 use std::alloc::{AllocError, Global};
@@ -19,7 +19,16 @@ pub fn check_text(
 ) -> Result<Reply, AllocError>
     ensures { IfOk result (IsCheckReply definition.now case.now answer.now) }
 {
-    let outcome = check(alloc, definition, case, answer)?;
+    let outcome = outcome_of(alloc, definition, case, Question::Check(answer))?;
+    reply_to(alloc, &outcome)
+}
+
+/// Plans how a case of a definition shall end: the text of a right answer, with status 0 for a plan and 1 for a chain; a
+/// fault of a text goes to standard error. `check_text` finds the answer right.
+pub fn plan_text(alloc: Global, definition: &[u8], case: &[u8]) -> Result<Reply, AllocError>
+    ensures { IfOk result (IsPlanReply definition.now case.now) }
+{
+    let outcome = outcome_of(alloc, definition, case, Question::Plan)?;
     reply_to(alloc, &outcome)
 }
 

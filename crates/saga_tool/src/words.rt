@@ -2,7 +2,7 @@
 ghost use Rattle.std.specs.Prelude.{◌≡◌, ◌<◌, ◌∷◌, IfOk, IfSome, IsTrue, drop, length, map, Some, codes, false, true};
 ghost use Rattle.clap.specs.Words.{rule_of, app_of, with_rule, IsPlainArg, first_value, found_of};
 ghost use Rattle.saga_tool.specs.Command.{IsCommand};
-ghost use Rattle.saga_tool.specs.Words.{file_rule, bare_app, check_app, AreCheckFiles};
+ghost use Rattle.saga_tool.specs.Words.{file_rule, bare_app, check_app, plan_app, AreCheckFiles, ArePlanFiles};
 
 use clap::error::ErrorKind;
 use clap::{Arg, ArgAction, ArgMatches, Command, Error};
@@ -12,9 +12,14 @@ use std::convert::From;
 const ABOUT: &str =
     "Coordinates sagas: finds the cheapest way to end a saga in which a step has failed, and judges such plans";
 
-const COMMANDS: &str = "check DEF CASE ANSWER: judges an answer; check --help says more";
+const COMMANDS: &str = "check DEF CASE ANSWER: judges an answer
+plan DEF CASE: makes one
+check --help, plan --help: more of each";
 
 const CHECK_ABOUT: &str = "Judges an answer to a case: prints `least N`, `blocked`, or `no FAULT`";
+
+const PLAN_ABOUT: &str =
+    "Plans how a saga shall end: prints a plan of least cost, or a chain of steps that shows that no set of steps is allowed";
 
 const DEFINITION: &str = "the saga's definition, a TOML file";
 
@@ -24,7 +29,7 @@ const ANSWER: &str = "the plan or the chain, a JSON file";
 
 const STATUSES: &str =
     "Without words the three parts of a check are read from standard input, with lines --- between them.
-Status: 0 a right answer; 1 a refused answer; 2 usage; 3 bad input; 4 a file or memory.";
+Status: 0 a right answer, or a plan; 1 a refused answer, or a planned chain; 2 usage; 3 bad input; 4 a file or memory.";
 
 /// A file that a command needs.
 fn file<'a>(alloc: Global, name: &'a str, help: &'a str) -> Arg<'a>
@@ -102,12 +107,49 @@ fn read_check<'a>(alloc: Global, words: &'a [&'a str]) -> Result<CheckFiles<'a>,
     }
 }
 
+fn plan_command<'a>(alloc: Global) -> Result<Command<'a>, AllocError>
+    ensures { IfOk result (λ command. app_of command ≡ plan_app) }
+{
+    let bare = bare_command(alloc, "sagas plan", PLAN_ABOUT);
+    let one = with_file(alloc, bare, "DEF", DEFINITION)?;
+    with_file(alloc, one, "CASE", CASE)
+}
+
+/// The files of `plan`.
+#[derive(Clone, Copy, Debug)]
+pub struct PlanFiles<'a> {
+    pub definition: &'a str,
+    pub case: &'a str,
+}
+
+/// The files that the matches of `plan` have, which is each where a parse succeeds.
+fn plan_files<'a>(matches: &ArgMatches<'a>) -> Option<PlanFiles<'a>>
+    ensures { IfSome result (λ files.
+        (first_value (found_of matches.now) (codes "DEF") ≡ Some files.definition.now)
+        × (first_value (found_of matches.now) (codes "CASE") ≡ Some files.case.now)) }
+{
+    let definition = matches.get_str("DEF")?;
+    let case = matches.get_str("CASE")?;
+    Some(PlanFiles { definition, case })
+}
+
+fn read_plan<'a>(alloc: Global, words: &'a [&'a str]) -> Result<PlanFiles<'a>, Error>
+    ensures { IfOk result (λ files. ArePlanFiles (map (λ s. s.now) words.entry.now) files.definition.now files.case.now) }
+{
+    let mut command = plan_command(alloc)?;
+    let matches = command.try_get_matches_from_mut(words)?;
+    match plan_files(&matches) {
+        Some(files) => Ok(files),
+        None => Err(command.error(ErrorKind::MissingRequiredArgument, "a file is missing")?),
+    }
+}
+
 /// Why no command is known: the first word is none, or is a call for help.
 fn without_command(alloc: Global, words: &[&str]) -> Result<Error, AllocError> {
     let command = Arg::new(alloc, "COMMAND")
         .required(true)
         .action(ArgAction::Set)
-        .value_parser(["check"].as_slice())
+        .value_parser(["check", "plan"].as_slice())
         .help(COMMANDS);
     let mut sagas = bare_command(alloc, "sagas", ABOUT)
         .after_help(STATUSES)
@@ -122,6 +164,7 @@ fn without_command(alloc: Global, words: &[&str]) -> Result<Error, AllocError> {
 #[derive(Clone, Copy, Debug)]
 pub enum Words<'a> {
     Check(CheckFiles<'a>),
+    Plan(PlanFiles<'a>),
 }
 
 /// Why words give no command: `clap`'s error, by its kind.
@@ -152,13 +195,16 @@ fn begins_with(words: &[&str], word: &str) -> bool
     !words.is_empty() && words[0] == word
 }
 
-/// The command that the words after the program's name give. `check` is a simple command of its own: its
-/// files are what `clap` finds for its arguments among the words after the first.
+/// The command that the words after the program's name give. `check` and `plan` are simple commands of their own:
+/// their files are what `clap` finds for their arguments among the words after the first.
 pub fn read_words<'a>(alloc: Global, words: &'a [&'a str]) -> Result<Words<'a>, WordsFault>
     ensures { IfOk result (IsCommand (map (λ s. s.now) words.entry.now)) }
 {
     if begins_with(words, "check") {
         return Ok(Words::Check(read_check(alloc, &words[1..])?));
+    }
+    if begins_with(words, "plan") {
+        return Ok(Words::Plan(read_plan(alloc, &words[1..])?));
     }
     let first = if words.is_empty() { words } else { &words[..1] };
     match without_command(alloc, first) {
