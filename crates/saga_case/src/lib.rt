@@ -9,6 +9,8 @@ mod laws;
 mod lists;
 mod prices;
 mod states;
+#[cfg(test)]
+mod tests;
 
 pub use answers::{Answer, Plan};
 pub use cases::{Case, CaseFault};

@@ -1,8 +1,10 @@
 //! The words of the command line, read by `clap`.
-ghost use Rattle.std.specs.Prelude.{◌≡◌, ◌<◌, ◌∷◌, IfOk, IfSome, IsTrue, drop, length, map, Some, codes, false, true};
-ghost use Rattle.clap.specs.Words.{rule_of, app_of, with_rule, IsPlainArg, first_value, found_of};
-ghost use Rattle.saga_tool.specs.Command.{IsCommand};
+ghost use Rattle.std.specs.Prelude.{◌≡◌, ◌↔◌, ◌<◌, ◌∷◌, [], IfErr, IfNone, IfOk, IfSome, IsTrue, drop, length, map, Some, None, codes, false, true};
+ghost use Rattle.clap.specs.Words.{rule_of, app_of, with_rule, takes, first_value, found_of};
+ghost use Rattle.clap.specs.Values.{kind_of};
+ghost use Rattle.saga_tool.specs.Command.{IsCommand, AreTaken};
 ghost use Rattle.saga_tool.specs.Words.{file_rule, bare_app, check_app, plan_app, AreCheckFiles, ArePlanFiles};
+ghost use Rattle.saga_tool.specs.Required.{IsFile, IsBare, AddsFile, HasFiles, LacksOne};
 
 use clap::error::ErrorKind;
 use clap::{Arg, ArgAction, ArgMatches, Command, Error};
@@ -34,9 +36,7 @@ Status: 0 a right answer, or a plan; 1 a refused answer, or a planned chain; 2 u
 /// A file that a command needs.
 fn file<'a>(alloc: Global, name: &'a str, help: &'a str) -> Arg<'a>
     ensures rule { rule_of result ≡ file_rule name.entry.now }
-    ensures id { result.id ≡ name.entry }
-    ensures plain { IsPlainArg result }
-    ensures own { result.global ≡ false }
+    ensures required { IsFile name.entry.now result }
 {
     Arg::new(alloc, name)
         .required(true)
@@ -46,7 +46,8 @@ fn file<'a>(alloc: Global, name: &'a str, help: &'a str) -> Arg<'a>
 
 /// A command of that name that is given the words after it.
 fn bare_command<'a>(alloc: Global, name: &'a str, about: &'a str) -> Command<'a>
-    ensures { app_of result ≡ bare_app name.entry.now }
+    ensures app { app_of result ≡ bare_app name.entry.now }
+    ensures bare { IsBare result }
 {
     Command::new(alloc, name).no_binary_name(true).about(about)
 }
@@ -57,13 +58,15 @@ fn with_file<'a>(
     name: &'a str,
     help: &'a str,
 ) -> Result<Command<'a>, AllocError>
-    ensures { IfOk result (λ r. app_of r ≡ with_rule (app_of command.entry) (file_rule name.entry.now)) }
+    ensures app { IfOk result (λ r. app_of r ≡ with_rule (app_of command.entry) (file_rule name.entry.now)) }
+    ensures adds { IfOk result (AddsFile command.entry name.entry.now) }
 {
     command.arg(file(alloc, name, help))
 }
 
 fn check_command<'a>(alloc: Global) -> Result<Command<'a>, AllocError>
-    ensures { IfOk result (λ command. app_of command ≡ check_app) }
+    ensures app { IfOk result (λ command. app_of command ≡ check_app) }
+    ensures files { IfOk result (HasFiles (codes "DEF" ∷ codes "CASE" ∷ codes "ANSWER" ∷ [])) }
 {
     let bare = bare_command(alloc, "sagas check", CHECK_ABOUT);
     let one = with_file(alloc, bare, "DEF", DEFINITION)?;
@@ -81,10 +84,11 @@ pub struct CheckFiles<'a> {
 
 /// The files that the matches of `check` have, which is each where a parse succeeds.
 fn check_files<'a>(matches: &ArgMatches<'a>) -> Option<CheckFiles<'a>>
-    ensures { IfSome result (λ files.
+    ensures some { IfSome result (λ files.
         (first_value (found_of matches.now) (codes "DEF") ≡ Some files.definition.now)
         × (first_value (found_of matches.now) (codes "CASE") ≡ Some files.case.now)
         × (first_value (found_of matches.now) (codes "ANSWER") ≡ Some files.answer.now)) }
+    ensures none { IfNone result (LacksOne (codes "DEF" ∷ codes "CASE" ∷ codes "ANSWER" ∷ []) matches.now) }
 {
     let definition = matches.get_str("DEF")?;
     let case = matches.get_str("CASE")?;
@@ -97,7 +101,8 @@ fn check_files<'a>(matches: &ArgMatches<'a>) -> Option<CheckFiles<'a>>
 }
 
 fn read_check<'a>(alloc: Global, words: &'a [&'a str]) -> Result<CheckFiles<'a>, Error>
-    ensures { IfOk result (λ files. AreCheckFiles (map (λ s. s.now) words.entry.now) files.definition.now files.case.now files.answer.now) }
+    ensures files { IfOk result (λ files. AreCheckFiles (map (λ s. s.now) words.entry.now) files.definition.now files.case.now files.answer.now) }
+    ensures passes { IfErr result (λ e. takes check_app (map (λ s. s.now) words.entry.now) ≡ true → kind_of e ≡ ErrorKind.OutOfMemory) }
 {
     let mut command = check_command(alloc)?;
     let matches = command.try_get_matches_from_mut(words)?;
@@ -108,7 +113,8 @@ fn read_check<'a>(alloc: Global, words: &'a [&'a str]) -> Result<CheckFiles<'a>,
 }
 
 fn plan_command<'a>(alloc: Global) -> Result<Command<'a>, AllocError>
-    ensures { IfOk result (λ command. app_of command ≡ plan_app) }
+    ensures app { IfOk result (λ command. app_of command ≡ plan_app) }
+    ensures files { IfOk result (HasFiles (codes "DEF" ∷ codes "CASE" ∷ [])) }
 {
     let bare = bare_command(alloc, "sagas plan", PLAN_ABOUT);
     let one = with_file(alloc, bare, "DEF", DEFINITION)?;
@@ -124,9 +130,10 @@ pub struct PlanFiles<'a> {
 
 /// The files that the matches of `plan` have, which is each where a parse succeeds.
 fn plan_files<'a>(matches: &ArgMatches<'a>) -> Option<PlanFiles<'a>>
-    ensures { IfSome result (λ files.
+    ensures some { IfSome result (λ files.
         (first_value (found_of matches.now) (codes "DEF") ≡ Some files.definition.now)
         × (first_value (found_of matches.now) (codes "CASE") ≡ Some files.case.now)) }
+    ensures none { IfNone result (LacksOne (codes "DEF" ∷ codes "CASE" ∷ []) matches.now) }
 {
     let definition = matches.get_str("DEF")?;
     let case = matches.get_str("CASE")?;
@@ -134,7 +141,8 @@ fn plan_files<'a>(matches: &ArgMatches<'a>) -> Option<PlanFiles<'a>>
 }
 
 fn read_plan<'a>(alloc: Global, words: &'a [&'a str]) -> Result<PlanFiles<'a>, Error>
-    ensures { IfOk result (λ files. ArePlanFiles (map (λ s. s.now) words.entry.now) files.definition.now files.case.now) }
+    ensures files { IfOk result (λ files. ArePlanFiles (map (λ s. s.now) words.entry.now) files.definition.now files.case.now) }
+    ensures passes { IfErr result (λ e. takes plan_app (map (λ s. s.now) words.entry.now) ≡ true → kind_of e ≡ ErrorKind.OutOfMemory) }
 {
     let mut command = plan_command(alloc)?;
     let matches = command.try_get_matches_from_mut(words)?;
@@ -179,6 +187,11 @@ pub enum WordsFault {
 }
 
 impl From<Error> for WordsFault {
+    ghost use Rattle.clap.specs.declared.error.kind.ErrorKind.TheVariants as kind;
+    ghost use Rattle.saga_tool.specs.declared.words.WordsFault.TheVariants as fault;
+
+    ghost from_gives = { λ e given. kind_of e ≡ kind.OutOfMemory → given ≡ fault.OutOfMemory };
+
     fn from(error: Error) -> WordsFault {
         match error.kind() {
             ErrorKind::OutOfMemory => WordsFault::OutOfMemory,
@@ -188,23 +201,26 @@ impl From<Error> for WordsFault {
     }
 }
 
-/// Whether the first word is that one.
-fn begins_with(words: &[&str], word: &str) -> bool
-    ensures { IsTrue result → (0 < length words.entry.now) × (map (λ s. s.now) words.entry.now ≡ word.now ∷ map (λ s. s.now) (drop 1 words.entry.now)) }
+/// The words after the first, where that is this one.
+fn after<'a>(words: &'a [&'a str], word: &str) -> Option<&'a [&'a str]>
+    ensures some { IfSome result (λ rest. map (λ s. s.now) words.entry.now ≡ word.now ∷ map (λ s. s.now) rest.now) }
+    ensures none { IfNone result ((rest : _) → map (λ s. s.now) words.entry.now ≡ word.now ∷ rest → ⊥) }
 {
-    !words.is_empty() && words[0] == word
+    let (first, rest) = words.split_first()?;
+    if *first == word { Some(rest) } else { None }
 }
 
 /// The command that the words after the program's name give. `check` and `plan` are simple commands of their own:
 /// their files are what `clap` finds for their arguments among the words after the first.
 pub fn read_words<'a>(alloc: Global, words: &'a [&'a str]) -> Result<Words<'a>, WordsFault>
-    ensures { IfOk result (IsCommand (map (λ s. s.now) words.entry.now)) }
+    ensures command { IfOk result (IsCommand (map (λ s. s.now) words.entry.now)) }
+    ensures accepts { IfErr result (λ fault. AreTaken (map (λ s. s.now) words.entry.now) → fault ≡ WordsFault.OutOfMemory) }
 {
-    if begins_with(words, "check") {
-        return Ok(Words::Check(read_check(alloc, &words[1..])?));
+    if let Some(rest) = after(words, "check") {
+        return Ok(Words::Check(read_check(alloc, rest)?));
     }
-    if begins_with(words, "plan") {
-        return Ok(Words::Plan(read_plan(alloc, &words[1..])?));
+    if let Some(rest) = after(words, "plan") {
+        return Ok(Words::Plan(read_plan(alloc, rest)?));
     }
     let first = if words.is_empty() { words } else { &words[..1] };
     match without_command(alloc, first) {
