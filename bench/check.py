@@ -1,5 +1,5 @@
 #!/usr/bin/env python3
-"""How long `sagas check` takes, and how that is shared among reading the definition, the case and the answer, and judging.
+"""How long `sagas check` takes at best of many runs, and how that is shared among reading the definition, the case and the answer, and judging.
 
 Each part is measured as the time of a run that ends after it, less that of the run that ends before it: a case that is no JSON
 ends after the definition, an answer that is no JSON after the case, an answer of no shape after the answer was read.
@@ -8,7 +8,6 @@ Prints one line for each size: the whole time, and each part as a share of it.
 import json
 import os
 import random
-import statistics
 import subprocess
 import sys
 import tempfile
@@ -19,7 +18,7 @@ SAGAS = os.path.join(HERE, "..", "sagas")
 PROGRAM = os.path.join(HERE, "..", "crates", "saga_tool", "out", "saga_tool")
 SIZES = [128, 256, 512, 1024]
 NEEDS = 8
-RUNS = 15
+RUNS = 60
 
 
 def definition(steps, seed):
@@ -45,13 +44,14 @@ def answer(steps, needs):
     return json.dumps(plan, separators=(",", ":"))
 
 
-def seconds(words):
+def seconds(command, words):
+    """The seconds of the best of many runs."""
     times = []
     for _ in range(RUNS):
         start = time.perf_counter()
-        subprocess.run([PROGRAM, "check", *words], stdout=subprocess.DEVNULL, stderr=subprocess.DEVNULL, check=False)
+        subprocess.run([PROGRAM, command, *words], stdout=subprocess.DEVNULL, stderr=subprocess.DEVNULL, check=False)
         times.append(time.perf_counter() - start)
-    return statistics.median(times)
+    return min(times)
 
 
 def main():
@@ -64,7 +64,7 @@ def main():
             return path
 
         none = put("none", "x")
-        start = seconds([none, none, none])
+        start = seconds("check", [none, none, none])
         for steps in SIZES:
             text, needs = definition(steps, steps)
             paths = put("saga.toml", text), put("case.json", case(steps)), put("answer.json", answer(steps, needs))
@@ -72,10 +72,10 @@ def main():
             said = subprocess.run([PROGRAM, "check", *paths], capture_output=True, text=True, check=False).stdout
             if said != f"least {steps - 1}\n":
                 sys.exit(f"not least: {said!r}")
-            read = seconds([paths[0], none, none])
-            cased = seconds([paths[0], paths[1], none])
-            answered = seconds([paths[0], paths[1], shapeless])
-            whole = seconds(paths)
+            read = seconds("check", [paths[0], none, none])
+            cased = seconds("check", [paths[0], paths[1], none])
+            answered = seconds("check", [paths[0], paths[1], shapeless])
+            whole = seconds("check", paths)
             parts = {
                 "start": start,
                 "definition": read - start,
@@ -84,7 +84,8 @@ def main():
                 "judging": whole - answered,
             }
             shares = ", ".join(f"{name} {100 * part / whole:.0f}%" for name, part in parts.items())
-            print(f"{steps} steps, {needs} needs: {1000 * whole:.1f} ms: {shares}")
+            print(f"{steps} steps, {needs} needs: {1000 * whole:.1f} ms: {shares}", flush=True)
 
 
-main()
+if __name__ == "__main__":
+    main()

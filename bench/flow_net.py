@@ -28,6 +28,20 @@ def any_net(nodes, arcs, draw):
     return found
 
 
+def dimacs(nodes, arcs):
+    """The text of a network, source 1 and sink 2."""
+    lines = [f"p max {nodes} {len(arcs)}", "n 1 s", "n 2 t"]
+    lines += [f"a {start} {end} {most}" for start, end, most in arcs]
+    return "\n".join(lines) + "\n"
+
+
+def text(shape, nodes, arcs, seed):
+    """The network of a shape, a size and a seed."""
+    draw = random.Random(f"{shape} {nodes} {arcs} {seed}")
+    made = steps_net if shape == "steps" else any_net
+    return dimacs(nodes, made(nodes, arcs, draw))
+
+
 def main():
     parser = argparse.ArgumentParser(description=__doc__.splitlines()[0])
     parser.add_argument("--nodes", type=int, default=1026)
@@ -35,14 +49,7 @@ def main():
     parser.add_argument("--seed", type=int, default=1)
     parser.add_argument("--shape", choices=["steps", "any"], default="steps")
     words = parser.parse_args()
-    draw = random.Random(f"{words.shape} {words.nodes} {words.arcs} {words.seed}")
-    shape = steps_net if words.shape == "steps" else any_net
-    found = shape(words.nodes, words.arcs, draw)
-    print(f"p max {words.nodes} {len(found)}")
-    print("n 1 s")
-    print("n 2 t")
-    for start, end, most in found:
-        print("a", start, end, most)
+    print(text(words.shape, words.nodes, words.arcs, words.seed), end="")
 
 
 if __name__ == "__main__":

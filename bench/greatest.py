@@ -33,4 +33,5 @@ def main():
         print(f'\n[[step]]\nname = "s{step}"\nneeds = [{names}]\nundo = 1\nkeep = 2')
 
 
-main()
+if __name__ == "__main__":
+    main()

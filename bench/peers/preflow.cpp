@@ -1,5 +1,5 @@
 // Reads a network in DIMACS form and prints the value of a greatest flow by LEMON's preflow; on standard error the
-// least time of nine runs in seconds, with the graph built anew in each.
+// seconds of each of many runs, with the graph built anew in each.
 #include <chrono>
 #include <cstdint>
 #include <fstream>
@@ -9,6 +9,8 @@
 #include <sstream>
 #include <string>
 #include <vector>
+
+static const int TIMES = 101;
 
 struct Line {
     int from, to;
@@ -63,14 +65,12 @@ int main(int count, char** words) {
     if (count > 1) file.open(words[1]);
     const Network net = read(count > 1 ? file : std::cin);
     std::cout << "value " << greatest(net) << "\n";
-    double least = 1e9;
-    for (int time = 0; time < 9; ++time) {
+    std::cerr << std::fixed;
+    std::cerr.precision(9);
+    for (int time = 0; time < TIMES; ++time) {
         const auto start = std::chrono::steady_clock::now();
         const std::int64_t value = greatest(net);
         const std::chrono::duration<double> took = std::chrono::steady_clock::now() - start;
-        if (value >= 0 && took.count() < least) least = took.count();
+        if (value >= 0) std::cerr << took.count() << "\n";
     }
-    std::cerr << std::fixed;
-    std::cerr.precision(9);
-    std::cerr << least << "\n";
 }

@@ -1,13 +1,14 @@
 //! Networks as texts, in the form of the DIMACS challenge for greatest flows.
 ghost use Rattle.std.specs.Prelude.{◌^◌, ◌<◌};
 
+use crate::numbers::{amount, number};
 use anyhow::{Context, Result, bail};
 use saga_flow::{Arc, Cap};
 use std::alloc::Global;
 
 /// What a text says: how many nodes, and the arcs between them, source and sink as nodes 0 and 1.
 #[derive(Drop)]
-pub struct Problem {
+pub struct Network {
     pub nodes: u32,
     pub arcs: Vec<Arc>,
 }
@@ -21,7 +22,7 @@ struct Ends {
 
 /// Reads a text: a line `p max NODES ARCS`, lines `n NODE s` and `n NODE t`, and then a line `a FROM TO CAPACITY` for
 /// each arc. Nodes are numbered from 1, lines that begin otherwise are comments.
-pub fn read_problem(alloc: Global, text: &str) -> Result<Problem> {
+pub fn read_network(alloc: Global, text: &str) -> Result<Network> {
     let mut nodes = 0;
     let mut source = None;
     let mut sink = None;
@@ -47,11 +48,7 @@ pub fn read_problem(alloc: Global, text: &str) -> Result<Problem> {
                 };
                 let from = renumbered(ends, number(words.next())?)?;
                 let to = renumbered(ends, number(words.next())?)?;
-                let most = words
-                    .next()
-                    .context("no capacity")?
-                    .parse::<u64>()
-                    .context("capacity")?;
+                let most = amount(words.next())?;
                 arcs.push(Arc {
                     from,
                     to,
@@ -61,16 +58,7 @@ pub fn read_problem(alloc: Global, text: &str) -> Result<Problem> {
             _ => {}
         }
     }
-    Ok(Problem { nodes, arcs })
-}
-
-/// A number of a node.
-fn number(word: Option<&str>) -> Result<u32> {
-    let number = word
-        .context("a number is missing")?
-        .parse::<u32>()
-        .context("a node")?;
-    Ok(number)
+    Ok(Network { nodes, arcs })
 }
 
 /// The number that a node has where the source is 0 and the sink 1, and the others keep their order.

@@ -1,39 +1,111 @@
-//! Reads a network in DIMACS form from a file or from standard input, and prints the value of a greatest flow and the
-//! rounds in which it was found; on standard error, the least time that the flow took.
+//! Times the flow, the planner and the order of a definition, each on the text that a file or standard input has.
+//!
+//! The first word says what: `flow` takes a network in DIMACS form and prints the value of a greatest flow and the
+//! rounds in which it was found; `plan` takes a case and prints the cost of a least plan and the rounds, or `blocked`;
+//! `order` takes a case as well and prints the longest chain of needs. The second word, if any, is the file. On
+//! standard error stand the seconds that each of many runs took, a line a run.
 #![tactic(auto)]
 
-mod dimacs;
+ghost use Rattle.saga_flow.specs.Network.{IsNetwork};
+ghost use Rattle.saga_flow.specs.Reached.{HasUnbounded, Reaches};
 
-use anyhow::{Result, ensure};
-use saga_flow::{Net, largest_counted, unbounded_path};
+mod cases;
+mod dimacs;
+mod numbers;
+
+use crate::cases::{Problem, read_case};
+use crate::dimacs::{Network, read_network};
+use anyhow::{Result, bail, ensure};
+use saga_case::{Answer, Case};
+use saga_flow::{Flow, Net, largest_counted, unbounded_path};
+use saga_order::Order;
+use saga_plan::{plan, plan_counted};
+use std::alloc::{AllocError, Global};
 use std::time::{Duration, Instant};
 use std::{env, fs, io};
 
-/// How often the flow is found, with its lists built anew each time: the least time counts.
-const TIMES: u32 = 9;
+/// How often each thing is done: each run has a line.
+const TIMES: u32 = 101;
+
+/// A greatest flow and its rounds, with the net built anew.
+fn flow_anew(alloc: Global, network: &Network) -> Result<(Flow, u64), AllocError>
+    requires sound { IsNetwork (record { nodes = network.now.nodes; arcs = network.now.arcs.items }) }
+    requires apart { Reaches (HasUnbounded network.now.arcs.items) 0 1 → ⊥ }
+{
+    let arcs = Vec::from_slice(alloc, network.arcs.as_slice())?;
+    largest_counted(alloc, &Net::new(network.nodes, arcs))
+}
+
+/// Writes the seconds that a run took.
+fn show(rt: &impl Eprint, took: Duration) -> io::Result<()> {
+    eprintln!(rt; "{}.{:09}", took.as_secs(), took.subsec_nanos())
+}
+
+fn time_flow(rt: &HostRuntime, text: &str) -> Result<()> {
+    let network = read_network(rt.alloc(), text)?;
+    ensure!(
+        Net::accepts(network.nodes, network.arcs.as_slice()),
+        "no net"
+    );
+    let arcs = Vec::from_slice(rt.alloc(), network.arcs.as_slice())?;
+    let net = Net::new(network.nodes, arcs);
+    let none = unbounded_path(rt.alloc(), &net)?.is_none();
+    ensure!(none, "no greatest flow");
+    let (flow, rounds) = flow_anew(rt.alloc(), &network)?;
+    println!(rt; "value {} rounds {rounds}", flow.value)?;
+    for _ in 0..TIMES {
+        let start = Instant::now(rt)?;
+        let _found = flow_anew(rt.alloc(), &network)?;
+        show(rt, start.elapsed(rt)?)?;
+    }
+    Ok(())
+}
+
+fn time_plan(rt: &HostRuntime, text: &str) -> Result<()> {
+    let Problem { definition, states } = read_case(rt.alloc(), text)?;
+    let Ok(case) = Case::new(&definition, states) else {
+        bail!("no case");
+    };
+    let (answer, rounds) = plan_counted(rt.alloc(), &case)?;
+    match answer {
+        Answer::Plan(plan) => println!(rt; "cost {} rounds {rounds}", plan.cost)?,
+        Answer::Blocked(_) => println!(rt; "blocked")?,
+    }
+    for _ in 0..TIMES {
+        let start = Instant::now(rt)?;
+        let _found = plan(rt.alloc(), &case)?;
+        show(rt, start.elapsed(rt)?)?;
+    }
+    Ok(())
+}
+
+fn time_order(rt: &HostRuntime, text: &str) -> Result<()> {
+    let definition = read_case(rt.alloc(), text)?.definition;
+    let order = Order::of(rt.alloc(), &definition)?;
+    let mut longest = 0;
+    for step in 0..order.count() as u16 {
+        longest = order.rank(step).max(longest);
+    }
+    println!(rt; "longest {longest}")?;
+    for _ in 0..TIMES {
+        let start = Instant::now(rt)?;
+        let _found = Order::of(rt.alloc(), &definition)?;
+        show(rt, start.elapsed(rt)?)?;
+    }
+    Ok(())
+}
 
 fn main(rt: HostRuntime) -> Result<()> {
-    let path = env::args(&rt)?.nth(1);
-    let text = match path {
+    let mut words = env::args(&rt)?.skip(1);
+    let what = words.next();
+    let text = match words.next() {
         Some(path) => fs::read_to_string(&rt, path.as_str())?,
         None => io::read_to_string(rt.alloc(), rt.reader())?,
     };
-    let problem = dimacs::read_problem(rt.alloc(), text.as_str())?;
-    ensure!(
-        Net::accepts(problem.nodes, problem.arcs.as_slice()),
-        "no net"
-    );
-    let net = Net::new(problem.nodes, problem.arcs);
-    let none = unbounded_path(rt.alloc(), &net)?.is_none();
-    ensure!(none, "no greatest flow");
-    let (flow, rounds) = largest_counted(rt.alloc(), &net)?;
-    println!(rt; "value {} rounds {rounds}", flow.value)?;
-    let mut least = Duration::MAX;
-    for _ in 0..TIMES {
-        let start = Instant::now(&rt)?;
-        let _found = largest_counted(rt.alloc(), &net)?;
-        least = least.min(start.elapsed(&rt)?);
+    match what.as_deref() {
+        Some("flow") => time_flow(&rt, text.as_str()),
+        Some("plan") => time_plan(&rt, text.as_str()),
+        Some("order") => time_order(&rt, text.as_str()),
+        _ => bail!("flow, plan or order?"),
     }
-    eprintln!(rt; "{}.{:09}", least.as_secs(), least.subsec_nanos())?;
-    Ok(())
 }

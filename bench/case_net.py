@@ -1,0 +1,75 @@
+#!/usr/bin/env python3
+"""Prints a random case as crates/saga_bench reads it, or with `--net` its network in DIMACS form.
+
+Each step needs some of the steps before it: any of them, or with `near` some of those just before it. The saga ran in
+order until near its end: the first three quarters of the steps are committed, and of the others some failed, and those
+wait that need what is not committed. Undoing a step and ending without it costs as much as its standing, in the middle.
+With `mixed` each step has any state, and needs any of the steps before it.
+"""
+import argparse
+import random
+
+from flow_net import dimacs
+from greatest import needs_of_each
+
+UNBOUNDED = 10**15
+DEAREST = 10**6
+
+
+def made(shape, steps, needs, seed):
+    """The steps, each a state and its prices (run, undo, skip, keep), and the needs, each a step and one before it."""
+    draw = random.Random(f"{shape} {steps} {needs} {seed}")
+    drawn, pairs = [], []
+    for step, count in enumerate(needs_of_each(steps, needs)):
+        first = max(0, step - 3 * count) if shape == "near" else 0
+        needed = draw.sample(range(first, step), count)
+        pairs += [(step, on) for on in needed]
+        if shape == "mixed":
+            state = draw.choice(["committed", "committed", "waiting", "failed"])
+        elif any(drawn[on][0] != "committed" for on in needed):
+            state = "waiting"
+        elif 4 * step > 3 * steps and draw.random() < 0.05:
+            state = "failed"
+        else:
+            state = "committed"
+        drawn.append((state, [draw.randint(0, most * DEAREST) for most in [1, 1, 1, 2]]))
+    return drawn, pairs
+
+
+def prices(state, run, undo, skip, keep):
+    """What it costs to leave the step out, and that it stands."""
+    if state == "committed":
+        return undo + skip, keep
+    return skip, run + keep if state == "waiting" else UNBOUNDED
+
+
+def case(drawn, pairs):
+    """The case as a text."""
+    lines = [" ".join(["s", state, *map(str, four)]) for state, four in drawn]
+    lines += [f"n {step} {on}" for step, on in pairs]
+    return "\n".join(lines) + "\n"
+
+
+def network(drawn, pairs):
+    """The case's network: leave arcs, stand arcs and links."""
+    both = [prices(state, *four) for state, four in drawn]
+    arcs = [(1, 3 + step, leave) for step, (leave, _) in enumerate(both)]
+    arcs += [(3 + step, 2, stand) for step, (_, stand) in enumerate(both)]
+    arcs += [(3 + step, 3 + on, UNBOUNDED) for step, on in pairs]
+    return dimacs(len(drawn) + 2, arcs)
+
+
+def main():
+    parser = argparse.ArgumentParser(description=__doc__.splitlines()[0])
+    parser.add_argument("--steps", type=int, default=1024)
+    parser.add_argument("--needs", type=int, default=8192)
+    parser.add_argument("--seed", type=int, default=1)
+    parser.add_argument("--shape", choices=["near", "any", "mixed"], default="near")
+    parser.add_argument("--net", action="store_true")
+    words = parser.parse_args()
+    drawn = made(words.shape, words.steps, words.needs, words.seed)
+    print(network(*drawn) if words.net else case(*drawn), end="")
+
+
+if __name__ == "__main__":
+    main()
