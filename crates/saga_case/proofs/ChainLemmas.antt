@@ -1,12 +1,11 @@
 -- A chain from a step that cannot be left out to one that cannot stand: no set is allowed.
-use Rattle.std.proofs.Common.{ℕ, ◌≡◌, ◌≢◌, ◌<◌, ◌+◌, ◌-◌, ◌∙◌, List, length, get_or, ap, sym, subst, refl, arith, zero, suc}
-use Rattle.std.specs.Prelude.{Bool, true, false, IsTrue, slice_index}
+use Rattle.std.proofs.Common.{ℕ, ◌≡◌, ◌<◌, ◌+◌, ◌-◌, List, length, get_or, subst, arith, zero, suc}
+use Rattle.std.specs.Prelude.{true}
 use Rattle.std.proofs.lemmas.Bool.{true_from_ne_false}
-use Rattle.saga_def.specs.declared.steps.Price.{Price}
-use Rattle.saga_def.specs.declared.steps.Price.TheVariants.{Of, Never}
-use Rattle.saga_def.specs.Order.{Steps, NeedsDirectly}
-use Rattle.saga_case.specs.Terms.{Terms, price_in, cost_of, IsAllowed, NoneIsAllowed}
-use Rattle.saga_case.specs.Right.{IsListOfSteps, IsLinked, IsRightChain}
+use Rattle.saga_def.specs.declared.steps.Price.TheVariants.{Never}
+use Rattle.saga_def.specs.Order.{Steps}
+use Rattle.saga_case.specs.Terms.{Terms, price_in, IsAllowed, NoneIsAllowed}
+use Rattle.saga_case.specs.Right.{IsLinked, IsRightChain}
 use Rattle.saga_case.proofs.SumLemmas.{prices_never}
 use Rattle.saga_case.proofs.ClosedLemmas.{closed_direct}
 

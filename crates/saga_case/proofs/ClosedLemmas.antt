@@ -1,6 +1,6 @@
 -- Closed sets by direct needs.
-use Rattle.std.proofs.Common.{ℕ, ◌≡◌, List, length, get_or, refl, sym, subst, ap, suc}
-use Rattle.std.specs.Prelude.{IsTrue, true, false, Bool}
+use Rattle.std.proofs.Common.{ℕ, List, refl, suc}
+use Rattle.std.specs.Prelude.{IsTrue}
 use Rattle.saga_def.specs.declared.steps.Need.{Need}
 use Rattle.saga_def.specs.Order.{NeedsDirectly, Precedes, Steps, IsClosed}
 use Rattle.saga_def.proofs.OrderLemmas.{closed_leads}

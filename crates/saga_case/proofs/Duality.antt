@@ -1,15 +1,15 @@
 -- Weak duality: no flow of a case has a larger value than a closed set costs. So a plan whose flow has its cost as value is least.
-use Rattle.std.proofs.Common.{ℕ, ◌≡◌, ◌≢◌, ◌<◌, ◌≤◌, ◌+◌, ◌∙◌, List, [], ◌∷◌, length, get_or, ap, sym, subst, refl, arith, zero, suc}
-use Rattle.std.specs.Prelude.{Bool, true, false, IsTrue, slice_index, if◌then◌else◌, ◌==◌}
-use Rattle.std.proofs.lemmas.Bool.{cases_Bool, cases_eq, eq-eqb, ne_eqb, eqb-true, false≢true}
+use Rattle.std.proofs.Common.{ℕ, ◌≡◌, ◌<◌, ◌≤◌, ◌+◌, ◌∙◌, List, [], ◌∷◌, length, get_or, sym, refl, arith, suc}
+use Rattle.std.specs.Prelude.{Bool, true, false, slice_index, if◌then◌else◌, ◌==◌}
+use Rattle.std.proofs.lemmas.Bool.{eq-eqb, ne_eqb}
 use Rattle.std.proofs.lemmas.List.Elements.{Contains-get_or}
 use Rattle.saga_def.specs.declared.steps.Price.{Price}
 use Rattle.saga_def.specs.declared.steps.Price.TheVariants.{Of, Never}
 use Rattle.saga_def.specs.declared.steps.Need.{Need}
-use Rattle.saga_def.specs.Order.{NeedsDirectly, Steps, IsClosed, member}
+use Rattle.saga_def.specs.Order.{Steps, IsClosed, member}
 use Rattle.saga_def.specs.Rules.{AreKnown}
 use Rattle.saga_case.specs.declared.answers.Plan.{Plan}
-use Rattle.saga_case.specs.Terms.{Terms, price_in, prices_below, cost_of, AtMost, IsAllowed, IsLeast}
+use Rattle.saga_case.specs.Terms.{Terms, price_in, cost_of, AtMost, IsLeast}
 use Rattle.saga_case.specs.Flow.{Flow, FitsIn, IsWithin, IsConserved, carried, into_step, out_of_step, sum_below, value_of}
 use Rattle.saga_case.specs.Right.{flow_of, IsRightPlan}
 use Rattle.saga_case.proofs.SumLemmas.{sum_same, sum_add, sum_zero, sum_one, sum_within}

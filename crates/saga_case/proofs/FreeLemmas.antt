@@ -1,19 +1,19 @@
 -- Cases in which all is free, and steps that cannot be undone.
-use Rattle.std.proofs.Common.{ℕ, ◌≡◌, ◌≢◌, ◌<◌, ◌≤◌, ◌+◌, ◌∙◌, List, [], length, get_or, ap, sym, subst, refl, arith, zero, suc, rules}
-use Rattle.std.specs.Prelude.{Option, Some, None, Bool, true, false, IsTrue, IfSome, slice_get, slice_index_or, option_map, unwrap_or}
+use Rattle.std.proofs.Common.{ℕ, ◌≡◌, ◌≢◌, ◌<◌, ◌∙◌, [], length, get_or, sym, refl, arith, zero, suc}
+use Rattle.std.specs.Prelude.{Option, Some, None, IsTrue, IfSome, slice_get, slice_index_or, option_map, unwrap_or}
 use Rattle.std.proofs.lemmas.Bool.{false≢true}
 use Rattle.std.proofs.lemmas.Option.{slice_get-get_or}
 use Rattle.saga_def.specs.declared.steps.Price.{Price}
 use Rattle.saga_def.specs.declared.steps.Price.TheVariants.{Of, Never}
 use Rattle.saga_def.specs.declared.steps.Step.{Step}
-use Rattle.saga_def.specs.Order.{Steps, IsClosed}
+use Rattle.saga_def.specs.Order.{Steps}
 use Rattle.saga_case.specs.declared.states.StepState.{StepState}
 use Rattle.saga_case.specs.declared.states.StepState.TheVariants.{Waiting, Running, Committed, Failed, Undoing, Undone, Fixed}
 use Rattle.saga_case.specs.Free.{none, CostsNothing, IsFree}
-use Rattle.saga_case.specs.Prices.{plus, leave_of}
+use Rattle.saga_case.specs.Prices.{leave_of}
 use Rattle.saga_case.specs.States.{IsBusy}
 use Rattle.saga_case.specs.Situation.{Situation, IsAtRest}
-use Rattle.saga_case.specs.Terms.{Terms, terms_of, price_by, price_in, prices_below, cost_of, AtMost, IsAllowed, IsLeast}
+use Rattle.saga_case.specs.Terms.{terms_of, price_by, prices_below, cost_of, AtMost, IsAllowed, IsLeast}
 use Rattle.saga_case.proofs.ChainLemmas.{forced_stands}
 
 -- the sum of prices that are all 0

@@ -1,5 +1,5 @@
 -- Sums of prices.
-use Rattle.std.proofs.Common.{ℕ, ◌≡◌, ◌≢◌, ◌<◌, ◌≤◌, ◌+◌, ◌*◌, ◌∙◌, ap, sym, subst, refl, arith, zero, suc, add-one, ◌⊎◌, inl, inr}
+use Rattle.std.proofs.Common.{ℕ, ◌≡◌, ◌≢◌, ◌<◌, ◌≤◌, ◌+◌, ◌∙◌, ap, sym, refl, arith, zero, suc, add-one, inl, inr}
 use Rattle.std.proofs.lemmas.Bool.{cases_eq}
 use Rattle.saga_def.specs.declared.steps.Price.{Price}
 use Rattle.saga_def.specs.declared.steps.Price.TheVariants.{Of, Never}

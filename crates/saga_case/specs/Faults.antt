@@ -1,5 +1,5 @@
 -- Which fault of states is the first that applies.
-use Rattle.std.specs.Prelude.{ℕ, List, length, ◌≡◌, ◌≢◌}
+use Rattle.std.specs.Prelude.{length, ◌≡◌, ◌≢◌}
 use Rattle.std.specs.declared.alloc.Global.{Global}
 use Rattle.std.specs.declared.vec.Vec.{Vec}
 use Rattle.saga_def.specs.Contents.{Contents}

@@ -1,5 +1,5 @@
 -- Cases in which all is free.
-use Rattle.std.specs.Prelude.{ℕ, Bool, false, All, ◌≡◌, ◌≢◌}
+use Rattle.std.specs.Prelude.{false, All, ◌≡◌, ◌≢◌}
 use Rattle.saga_def.specs.declared.steps.Price.TheVariants.{Of}
 use Rattle.saga_def.specs.declared.steps.Step.{Step}
 use Rattle.saga_def.specs.Order.{Steps}

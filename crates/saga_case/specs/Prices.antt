@@ -1,5 +1,5 @@
 -- What it costs that a step stands at the end, and that it does not.
-use Rattle.std.specs.Prelude.{ℕ, Bool, true, false, ◌+◌, ◌≤◌}
+use Rattle.std.specs.Prelude.{Bool, true, false, ◌+◌, ◌≤◌}
 use Rattle.saga_def.specs.declared.steps.Price.{Price}
 use Rattle.saga_def.specs.declared.steps.Price.TheVariants.{Of, Never}
 use Rattle.saga_def.specs.declared.steps.Step.{Step}

@@ -1,5 +1,5 @@
 -- What a case asks for: what each set of steps costs, which sets are allowed, and which are least.
-use Rattle.std.specs.Prelude.{ℕ, Bool, List, Option, length, slice_get, slice_index_or, option_map, unwrap_or, zero, suc, if◌then◌else◌, ◌≡◌, ◌≢◌, ◌≤◌}
+use Rattle.std.specs.Prelude.{ℕ, List, length, slice_get, slice_index_or, option_map, unwrap_or, zero, suc, if◌then◌else◌, ◌≢◌, ◌≤◌}
 use Rattle.saga_def.specs.declared.steps.Price.{Price}
 use Rattle.saga_def.specs.declared.steps.Price.TheVariants.{Of, Never}
 use Rattle.saga_def.specs.declared.steps.Step.{Step}

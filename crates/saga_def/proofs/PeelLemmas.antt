@@ -1,17 +1,17 @@
 -- What the passes of the search keep of their marks.
-use Rattle.std.proofs.Common.{ℕ, ◌≡◌, ◌≢◌, ◌<◌, ◌≤◌, ◌+◌, ◌∙◌, ◌⊎◌, inl, inr, List, [], ◌∷◌, ◌++◌, length, take, get_or, set, ap, sym, subst, refl, arith, zero, suc, map}
-use Rattle.std.specs.Prelude.{Bool, true, false, slice_index_or, Option, Some, None, is_none, IsSome, Contains}
+use Rattle.std.proofs.Common.{ℕ, ◌≡◌, ◌<◌, ◌+◌, ◌∙◌, ◌⊎◌, inl, inr, List, [], ◌∷◌, length, take, get_or, set, ap, sym, subst, refl, arith, suc}
+use Rattle.std.specs.Prelude.{Bool, true, false, slice_index_or, Option, Some, None, is_none, IsSome}
 use Rattle.std.specs.Bool.{Decides}
 use mathlib.Core.Bool.{beq}
 use Rattle.std.specs.Cmp.Lexicographic.{pointwise}
 use Rattle.std.proofs.lemmas.Slice.Eq.{slice_eq-Decides}
 use Rattle.std.proofs.lemmas.Bool.{cases_eq, cases_lt, false≢true, true≢false}
-use Rattle.std.proofs.lemmas.List.{take_more, length-set, get_or-set_same, get_or-set_other, get_or-map, get_or_past, length-map, get_or_default}
+use Rattle.std.proofs.lemmas.List.{take_more, length-set, get_or-set_same, get_or-set_other, get_or-map, get_or_past, length-map}
 use Rattle.std.proofs.lemmas.List.Elements.{Contains-push, Contains-push_cases, Contains-append_left}
 use Rattle.saga_def.specs.declared.steps.Need.{Need}
-use Rattle.saga_def.specs.Order.{NeedsDirectly, Leads, Precedes, IsAcyclic}
+use Rattle.saga_def.specs.Order.{NeedsDirectly, Precedes, IsAcyclic}
 use Rattle.saga_def.specs.Rules.{AreKnown}
-use Rattle.saga_def.specs.Peeling.{blocker_of, AreBlockers, IsMarkedBy, LeadsOn, IsPeeled}
+use Rattle.saga_def.specs.Peeling.{AreBlockers, IsMarkedBy, IsPeeled}
 use Rattle.saga_def.proofs.OrderLemmas.{closed_leads, known_on, known_step}
 
 -- a marked step needs marked steps alone, and does not precede itself

@@ -1,8 +1,7 @@
 //! The words of the command line, read by `clap`.
 ghost use Rattle.std.specs.Prelude.{◌≡◌, ◌↔◌, ◌<◌, ◌∷◌, [], IfErr, IfNone, IfOk, IfSome, IsTrue, drop, length, map, Some, None, codes, false, true};
-ghost use Rattle.clap.specs.Words.{rule_of, app_of, with_rule, takes, first_value, found_of};
-ghost use Rattle.clap.specs.Values.{kind_of};
-ghost use Rattle.saga_tool.specs.Command.{IsCommand, AreTaken};
+ghost use Rattle.clap.specs.Words.{rule_of, app_of, with_rule, takes, fault_of, HasKind, kind_of, first_value, found_of};
+ghost use Rattle.saga_tool.specs.Command.{IsCommand, AreTaken, IsMadeOf, IsWordsFault};
 ghost use Rattle.saga_tool.specs.Words.{file_rule, bare_app, check_app, plan_app, AreCheckFiles, ArePlanFiles};
 ghost use Rattle.saga_tool.specs.Required.{IsFile, IsBare, AddsFile, HasFiles, LacksOne};
 
@@ -102,13 +101,14 @@ fn check_files<'a>(matches: &ArgMatches<'a>) -> Option<CheckFiles<'a>>
 
 fn read_check<'a>(alloc: Global, words: &'a [&'a str]) -> Result<CheckFiles<'a>, Error>
     ensures files { IfOk result (λ files. AreCheckFiles (map (λ s. s.now) words.entry.now) files.definition.now files.case.now files.answer.now) }
+    ensures kinds { IfErr result (HasKind (fault_of check_app (map (λ s. s.now) words.entry.now))) }
     ensures passes { IfErr result (λ e. takes check_app (map (λ s. s.now) words.entry.now) ≡ true → kind_of e ≡ ErrorKind.OutOfMemory) }
 {
     let mut command = check_command(alloc)?;
     let matches = command.try_get_matches_from_mut(words)?;
     match check_files(&matches) {
         Some(files) => Ok(files),
-        None => Err(command.error(ErrorKind::MissingRequiredArgument, "a file is missing")?),
+        None => unreachable!(),
     }
 }
 
@@ -142,13 +142,14 @@ fn plan_files<'a>(matches: &ArgMatches<'a>) -> Option<PlanFiles<'a>>
 
 fn read_plan<'a>(alloc: Global, words: &'a [&'a str]) -> Result<PlanFiles<'a>, Error>
     ensures files { IfOk result (λ files. ArePlanFiles (map (λ s. s.now) words.entry.now) files.definition.now files.case.now) }
+    ensures kinds { IfErr result (HasKind (fault_of plan_app (map (λ s. s.now) words.entry.now))) }
     ensures passes { IfErr result (λ e. takes plan_app (map (λ s. s.now) words.entry.now) ≡ true → kind_of e ≡ ErrorKind.OutOfMemory) }
 {
     let mut command = plan_command(alloc)?;
     let matches = command.try_get_matches_from_mut(words)?;
     match plan_files(&matches) {
         Some(files) => Ok(files),
-        None => Err(command.error(ErrorKind::MissingRequiredArgument, "a file is missing")?),
+        None => unreachable!(),
     }
 }
 
@@ -187,10 +188,7 @@ pub enum WordsFault {
 }
 
 impl From<Error> for WordsFault {
-    ghost use Rattle.clap.specs.declared.error.kind.ErrorKind.TheVariants as kind;
-    ghost use Rattle.saga_tool.specs.declared.words.WordsFault.TheVariants as fault;
-
-    ghost from_gives = { λ e given. kind_of e ≡ kind.OutOfMemory → given ≡ fault.OutOfMemory };
+    ghost from_gives = { IsMadeOf };
 
     fn from(error: Error) -> WordsFault {
         match error.kind() {
@@ -214,6 +212,7 @@ fn after<'a>(words: &'a [&'a str], word: &str) -> Option<&'a [&'a str]>
 /// their files are what `clap` finds for their arguments among the words after the first.
 pub fn read_words<'a>(alloc: Global, words: &'a [&'a str]) -> Result<Words<'a>, WordsFault>
     ensures command { IfOk result (IsCommand (map (λ s. s.now) words.entry.now)) }
+    ensures fault { IfErr result (IsWordsFault (map (λ s. s.now) words.entry.now)) }
     ensures accepts { IfErr result (λ fault. AreTaken (map (λ s. s.now) words.entry.now) → fault ≡ WordsFault.OutOfMemory) }
 {
     if let Some(rest) = after(words, "check") {

@@ -1,5 +1,5 @@
-use Rattle.std.proofs.Common.{ℕ, ◌<◌, length, arith}
-use Rattle.std.specs.Prelude.{Bool, ◌==◌}
+use Rattle.std.proofs.Common.{◌<◌, length, arith}
+use Rattle.std.specs.Prelude.{◌==◌}
 use Rattle.saga_def.specs.declared.steps.Need.{Need}
 use Rattle.saga_check.proofs.FlowLemmas.{carried_more, carried_done}
 use Rattle.saga_check.proofs.flows.flow_through.Goals as goal

@@ -1,5 +1,5 @@
 use Rattle.std.proofs.Common.{◌≡◌, ◌∙◌, ◌∷◌, [], ap, sym, subst, codes, true, refl, map, arith}
-use Rattle.clap.specs.Words.{App, app_of, first_of, found_of, is_simple, kind_of, matches_of, takes, IsParsedFrom}
+use Rattle.clap.specs.Words.{App, app_of, first_of, found_of, fault_of, is_simple, is_simple_and_free, kind_of, matches_of, takes, HasKind, IsParsedFrom}
 use Rattle.clap.proofs.OnLiterals.{clap_on_literals}
 use Rattle.clap.proofs.WalkLemmas.{first_value-rows}
 use Rattle.saga_tool.specs.Words.{check_app}
@@ -11,8 +11,8 @@ is_simple-check : is_simple check_app ≡ true
 unfolding clap_on_literals check_app
 is_simple-check = refl
 
-pub returns-in-Some-clause-files : goal.returns-in-Some-clause-files
-returns-in-Some-clause-files c =
+pub returns-clause-files : goal.returns-clause-files
+returns-clause-files c =
     let app_is : app_of c.in_ok-command.command ≡ check_app = c.in_ok-command.ensures.app in
     let rows = (c.in_ok-matches.ensures.ok.2 (ap is_simple app_is ∙ is_simple-check)).0 ∙ ap (λ (a : App). matches_of a (map (λ s. s.now) c.args.words.now)) app_is in
     let found = found_of c.in_ok-matches.matches in
@@ -22,15 +22,18 @@ returns-in-Some-clause-files c =
       has_answer = ap (first_of (codes "ANSWER")) (sym rows) ∙ sym (first_value-rows found (codes "ANSWER")) ∙ c.in-Some.ensures.some.2;
     }
 
-pub returns-clause-passes : goal.returns-clause-passes
-returns-clause-passes c =
+is_free-check : is_simple_and_free check_app ≡ true
+unfolding clap_on_literals check_app
+is_free-check = refl
+
+pub unreachable-requires : goal.unreachable-requires
+unreachable-requires c =
     let names = (codes "DEF" ∷ codes "CASE" ∷ codes "ANSWER" ∷ []) in
     let ok = c.in_ok-matches.ensures.ok in
     let parsed : IsParsedFrom c.in_ok-command.command c.in_ok-matches.matches =
     record { built = c.try_get_matches_from_mut.new.self; from = ok.0; parsed = ok.1 } in
     let falls : Descend 97 names = (omega arith, omega arith, (omega arith, omega arith, (omega arith, omega arith, tt))) in
-    λ taken. absurd (lacks_none names c.in_ok-command.command c.in_ok-matches.matches c.in_ok-command.ensures.files falls parsed
-    c.in-None.ensures.none)
+    lacks_none names c.in_ok-command.command c.in_ok-matches.matches c.in_ok-command.ensures.files falls parsed c.in-None.ensures.none
 
 pub returns-in_err-matches-clause-passes : goal.returns-in_err-matches-clause-passes
 returns-in_err-matches-clause-passes c =
@@ -38,3 +41,12 @@ returns-in_err-matches-clause-passes c =
     each_err _ _ c.from_residual-in_err-matches.result c.from_residual-in_err-matches.ensures.1
     (λ e same taken. ap kind_of same ∙ c.in_err-matches.ensures.passes
     (subst (λ (a : App). takes a (map (λ s. s.now) c.args.words.now) ≡ true) (sym app_is) taken))
+
+pub returns-in_err-matches-clause-kinds : goal.returns-in_err-matches-clause-kinds
+returns-in_err-matches-clause-kinds c =
+    let app_is : app_of c.in_ok-command.command ≡ check_app = c.in_ok-command.ensures.app in
+    let words = map (λ s. s.now) c.args.words.now in
+    let kinds = c.in_err-matches.ensures.kinds (ap is_simple_and_free app_is ∙ is_free-check) in
+    each_err _ _ c.from_residual-in_err-matches.result c.from_residual-in_err-matches.ensures.1
+    (λ e same. subst (HasKind (fault_of check_app words)) (sym same)
+    (subst (λ (a : App). HasKind (fault_of a words) c.in_err-matches.field-0.0) app_is kinds))

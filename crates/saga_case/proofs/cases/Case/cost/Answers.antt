@@ -1,11 +1,9 @@
-use Rattle.std.proofs.Common.{ℕ, ◌≡◌, ◌<◌, ◌∙◌, ap, sym, subst, arith, refl, length}
-use Rattle.std.specs.Prelude.{slice_index_or, true, false, Bool, if◌then◌else◌}
+use Rattle.std.proofs.Common.{ℕ, ◌≡◌, ◌∙◌, ap, sym, arith, refl, length}
 use Rattle.saga_def.specs.Order.{member}
 use Rattle.saga_def.specs.declared.steps.Price.{Price}
 use Rattle.saga_def.specs.declared.steps.Price.TheVariants.{Of, Never}
-use Rattle.saga_case.specs.Prices.{plus}
 use Rattle.saga_case.specs.Situation.{Situation}
-use Rattle.saga_case.specs.Terms.{Terms, terms_of, price_in, prices_below}
+use Rattle.saga_case.specs.Terms.{terms_of, price_in}
 use Rattle.saga_case.proofs.SumLemmas.{prices_none, prices_more, prices_never}
 use Rattle.saga_case.proofs.cases.Case.cost.Goals as goal
 
