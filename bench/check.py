@@ -44,14 +44,15 @@ def answer(steps, needs):
     return json.dumps(plan, separators=(",", ":"))
 
 
-def seconds(command, words):
-    """The seconds of the best of many runs."""
-    times = []
+def seconds(runs):
+    """For each run, a command and its files, the seconds of the best of many, in turns."""
+    best = [float("inf")] * len(runs)
     for _ in range(RUNS):
-        start = time.perf_counter()
-        subprocess.run([PROGRAM, command, *words], stdout=subprocess.DEVNULL, stderr=subprocess.DEVNULL, check=False)
-        times.append(time.perf_counter() - start)
-    return min(times)
+        for number, (command, *words) in enumerate(runs):
+            start = time.perf_counter()
+            subprocess.run([PROGRAM, command, *words], stdout=subprocess.DEVNULL, stderr=subprocess.DEVNULL, check=False)
+            best[number] = min(best[number], time.perf_counter() - start)
+    return best
 
 
 def main():
@@ -64,18 +65,15 @@ def main():
             return path
 
         none = put("none", "x")
-        start = seconds("check", [none, none, none])
         for steps in SIZES:
             text, needs = definition(steps, steps)
-            paths = put("saga.toml", text), put("case.json", case(steps)), put("answer.json", answer(steps, needs))
+            saga, states, plan = put("saga.toml", text), put("case.json", case(steps)), put("answer.json", answer(steps, needs))
             shapeless = put("shapeless.json", answer(steps, needs).replace('"kept":[]', '"kept":[0]').replace('"links":[', '"links":[0,', 1))
-            said = subprocess.run([PROGRAM, "check", *paths], capture_output=True, text=True, check=False).stdout
+            said = subprocess.run([PROGRAM, "check", saga, states, plan], capture_output=True, text=True, check=False).stdout
             if said != f"least {steps - 1}\n":
                 sys.exit(f"not least: {said!r}")
-            read = seconds("check", [paths[0], none, none])
-            cased = seconds("check", [paths[0], paths[1], none])
-            answered = seconds("check", [paths[0], paths[1], shapeless])
-            whole = seconds("check", paths)
+            files = [[none, none, none], [saga, none, none], [saga, states, none], [saga, states, shapeless], [saga, states, plan]]
+            start, read, cased, answered, whole = seconds([["check", *words] for words in files])
             parts = {
                 "start": start,
                 "definition": read - start,

@@ -51,7 +51,6 @@ def main():
     program = runs.built(words)
     with tempfile.TemporaryDirectory() as folder:
         none = runs.put(folder, "none", "x")
-        start = seconds("check", [none, none, none])
         for steps, needs in SIZES:
             drawn, pairs = case_net.made("any", steps, needs, 1)
             files = [runs.put(folder, "saga.toml", definition(drawn, pairs)), runs.put(folder, "case.json", case(drawn))]
@@ -60,16 +59,15 @@ def main():
             _, flow = least(program, "flow", runs.put(folder, "net", case_net.network(drawn, pairs)), words.turns)
             if said[:2] != ["cost", str(text["cost"])]:
                 sys.exit(f"another cost: {said}")
-            read = seconds("plan", [files[0], none])
-            cased = seconds("check", [*files, none]) - seconds("check", [files[0], none, none])
-            whole = seconds("plan", files)
+            whole, read, start, cased = seconds(
+                [["plan", *files], ["plan", files[0], none], ["plan", none, none], ["check", *files, none]])
             parts = {
                 "start": start,
                 "definition": read - start,
-                "case": cased,
+                "case": cased - read,
                 "network and answer": planning - flow,
                 "flow": flow,
-                "writing": whole - read - cased - planning,
+                "writing": whole - cased - planning,
             }
             shares = ", ".join(f"{name} {100 * part / whole:.0f}%" for name, part in parts.items())
             print(f"{steps} steps, {needs} needs: {1000 * whole:.1f} ms: {shares}", flush=True)
