@@ -111,9 +111,9 @@ expect 2 '' '*Usage*' $none check $trip
 expect 2 '' '*Usage*' $none plan $trip
 expect 2 '' '*Usage*' $none plan $trip $case $answer
 expect 2 '' '*' $none chekc $trip
-expect 0 '*Usage*DEF*CASE*ANSWER*' '' $none check --help
-expect 0 '*Usage*DEF*CASE*' '' $none plan --help
-expect 0 '*Usage*COMMAND*' '' $none --help
+expect 0 '*Usage*DEF*CASE*ANSWER*Status: 0*' '' $none check --help
+expect 0 '*Usage*DEF*CASE*Status: 0*' '' $none plan --help
+expect 0 '*Usage*COMMAND*Status: 0*' '' $none --help
 expect 3 '' 'sagas: input: parts' $none
 
 head -c 1048577 /dev/zero | tr '\0' '#' >"$work/long.toml"

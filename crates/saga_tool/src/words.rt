@@ -11,7 +11,9 @@ use std::alloc::{AllocError, Global};
 use std::convert::From;
 
 const ABOUT: &str =
-    "Coordinates sagas: finds the cheapest way to end a saga in which a step has failed, and judges such plans";
+    "Coordinates sagas: finds the cheapest way to end a saga in which a step has failed, and judges such plans
+
+Without words, a definition, a case and an answer are read from standard input, with lines --- between them, and judged";
 
 const COMMANDS: &str = "check DEF CASE ANSWER: judges an answer
 plan DEF CASE: makes one
@@ -29,8 +31,7 @@ const CASE: &str = "the states of its steps, a JSON file";
 const ANSWER: &str = "the plan or the chain, a JSON file";
 
 const STATUSES: &str =
-    "Without words the three parts of a check are read from standard input, with lines --- between them.
-Status: 0 a right answer, or a plan; 1 a refused answer, or a planned chain; 2 usage; 3 bad input; 4 a file or memory.";
+    "Status: 0 a right answer, or a plan; 1 a refused answer, or a planned chain; 2 usage; 3 bad input; 4 a file or memory.";
 
 /// A file that a command needs.
 fn file<'a>(alloc: Global, name: &'a str, help: &'a str) -> Arg<'a>
@@ -48,7 +49,10 @@ fn bare_command<'a>(alloc: Global, name: &'a str, about: &'a str) -> Command<'a>
     ensures app { app_of result ≡ bare_app name.entry.now }
     ensures bare { IsBare result }
 {
-    Command::new(alloc, name).no_binary_name(true).about(about)
+    Command::new(alloc, name)
+        .no_binary_name(true)
+        .about(about)
+        .after_help(STATUSES)
 }
 
 fn with_file<'a>(
@@ -160,9 +164,7 @@ fn without_command(alloc: Global, words: &[&str]) -> Result<Error, AllocError> {
         .action(ArgAction::Set)
         .value_parser(["check", "plan"].as_slice())
         .help(COMMANDS);
-    let mut sagas = bare_command(alloc, "sagas", ABOUT)
-        .after_help(STATUSES)
-        .arg(command)?;
+    let mut sagas = bare_command(alloc, "sagas", ABOUT).arg(command)?;
     match sagas.try_get_matches_from_mut(words) {
         Err(error) => Ok(error),
         Ok(_) => sagas.error(ErrorKind::InvalidSubcommand, "no such command"),
