@@ -1,5 +1,6 @@
 #!/usr/bin/env python3
-"""How long `sagas check` takes at best of many runs, and how that is shared among reading the definition, the case and the answer, and judging.
+"""How long `sagas check` takes at best of many runs, and how that is shared among reading the definition, the case and the
+answer, and judging.
 
 Each part is measured as the time of a run that ends after it, less that of the run that ends before it: a case that is no JSON
 ends after the definition, an answer that is no JSON after the case, an answer of no shape after the answer was read.

@@ -7,6 +7,7 @@ import argparse
 import pathlib
 import statistics
 import subprocess
+import tempfile
 
 HERE = pathlib.Path(__file__).resolve().parent
 CRATE = HERE.parent / "crates" / "saga_bench"
@@ -54,3 +55,27 @@ def timed(commands, turns):
             said[number] = done.stdout.split()
             times[number] += [float(line) for line in done.stderr.split()]
     return [(words, statistics.median(found)) for words, found in zip(said, times)]
+
+
+def compared(summary, command, kinds):
+    """Compares a command of the program with the peer, and prints for each input both median times and their ratio, and then
+    the ratios of each kind. A kind has a name, and makes of a seed the program's text and the network as the peer reads it.
+    Gives whether all values agree."""
+    words = options(summary)
+    program = built(words)
+    agree = True
+    with tempfile.TemporaryDirectory() as folder:
+        peer = built_peer(folder)
+        for kind, made in kinds:
+            ratios = []
+            for seed in range(1, words.seeds + 1):
+                text, net = made(seed)
+                commands = [[program, command, put(folder, "text", text)], [peer, put(folder, "net", net)]]
+                (ours, our_time), (theirs, their_time) = timed(commands, words.turns)
+                same = ours[1:2] == theirs[1:2]
+                agree = agree and same
+                ratios.append(our_time / their_time)
+                print(f"{kind} seed {seed}: {' '.join(ours)} {'agrees' if same else 'DIFFERS'},"
+                      f" {our_time * 1e6:.0f} us against {their_time * 1e6:.0f} us, ratio {ratios[-1]:.2f}")
+            print(f"{kind}: ratio {statistics.median(ratios):.2f} in the middle, {max(ratios):.2f} at most", flush=True)
+    return agree

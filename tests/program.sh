@@ -47,7 +47,7 @@ planned() {
   expect 0 "$2" '' $none check "$3" "$4" "$work/answer"
 }
 
-# chain STEPS: a definition of steps in a chain, each free to keep and 1 to leave out once it is committed.
+# chain STEPS: a definition of steps in a chain; once committed, each costs 1 to leave out and 2 to keep.
 chain() {
   printf 'format = 1\nname = "chain"\n'
   for ((i = 0; i < $1; i++)); do

@@ -1,5 +1,5 @@
 //! The words of the command line, read by `clap`.
-ghost use Rattle.std.specs.Prelude.{◌≡◌, ◌↔◌, ◌<◌, ◌∷◌, [], IfErr, IfNone, IfOk, IfSome, IsTrue, drop, length, map, Some, None, codes, false, true};
+ghost use Rattle.std.specs.Prelude.{◌≡◌, ◌∷◌, [], IfErr, IfNone, IfOk, IfSome, map, Some, codes, true};
 ghost use Rattle.clap.specs.Words.{rule_of, app_of, with_rule, takes, fault_of, HasKind, kind_of, first_value, found_of};
 ghost use Rattle.saga_tool.specs.Command.{IsCommand, AreTaken, IsMadeOf, IsWordsFault};
 ghost use Rattle.saga_tool.specs.Words.{file_rule, bare_app, check_app, plan_app, AreCheckFiles, ArePlanFiles};

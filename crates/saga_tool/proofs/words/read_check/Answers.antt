@@ -1,10 +1,10 @@
 use Rattle.std.proofs.Common.{◌≡◌, ◌∙◌, ◌∷◌, [], ap, sym, subst, codes, true, refl, map, arith}
-use Rattle.clap.specs.Words.{App, app_of, first_of, found_of, fault_of, is_simple, is_simple_and_free, kind_of, matches_of, takes, HasKind, IsParsedFrom}
+use Rattle.clap.specs.Words.{App, app_of, first_of, found_of, fault_of, is_simple, is_simple_and_free, matches_of, takes, HasKind, IsParsedFrom}
 use Rattle.clap.proofs.OnLiterals.{clap_on_literals}
+use Rattle.clap.proofs.TakesLemmas.{passed_up}
 use Rattle.clap.proofs.WalkLemmas.{first_value-rows}
 use Rattle.saga_tool.specs.Words.{check_app}
 use Rattle.saga_tool.proofs.RequiredLemmas.{Descend, lacks_none}
-use Rattle.saga_tool.proofs.WordLemmas.{each_err}
 use Rattle.saga_tool.proofs.words.read_check.Goals as goal
 
 is_simple-check : is_simple check_app ≡ true
@@ -38,15 +38,14 @@ unreachable-requires c =
 pub returns-in_err-matches-clause-passes : goal.returns-in_err-matches-clause-passes
 returns-in_err-matches-clause-passes c =
     let app_is : app_of c.in_ok-command.command ≡ check_app = c.in_ok-command.ensures.app in
-    each_err _ _ c.from_residual-in_err-matches.result c.from_residual-in_err-matches.ensures.1
-    (λ e same taken. ap kind_of same ∙ c.in_err-matches.ensures.passes
-    (subst (λ (a : App). takes a (map (λ s. s.now) c.args.words.now) ≡ true) (sym app_is) taken))
+    let words = map (λ s. s.now) c.args.words.now in
+    passed_up c.from_residual-in_err-matches.result c.in_err-matches.field-0.0 _ c.from_residual-in_err-matches.ensures.1
+    (λ taken. c.in_err-matches.ensures.passes (subst (λ (a : App). takes a words ≡ true) (sym app_is) taken))
 
 pub returns-in_err-matches-clause-kinds : goal.returns-in_err-matches-clause-kinds
 returns-in_err-matches-clause-kinds c =
     let app_is : app_of c.in_ok-command.command ≡ check_app = c.in_ok-command.ensures.app in
     let words = map (λ s. s.now) c.args.words.now in
     let kinds = c.in_err-matches.ensures.kinds (ap is_simple_and_free app_is ∙ is_free-check) in
-    each_err _ _ c.from_residual-in_err-matches.result c.from_residual-in_err-matches.ensures.1
-    (λ e same. subst (HasKind (fault_of check_app words)) (sym same)
-    (subst (λ (a : App). HasKind (fault_of a words) c.in_err-matches.field-0.0) app_is kinds))
+    passed_up c.from_residual-in_err-matches.result c.in_err-matches.field-0.0 _ c.from_residual-in_err-matches.ensures.1
+    (subst (λ (a : App). HasKind (fault_of a words) c.in_err-matches.field-0.0) app_is kinds)
