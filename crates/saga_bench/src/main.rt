@@ -1,8 +1,9 @@
-//! Times the flow, the planner and the order of a definition, each on the text that a file or standard input has.
+//! Times the building of a definition, its order, the flow and the planner, each on the text that a file or standard input
+//! has.
 //!
 //! The first word says what: `flow` takes a network in DIMACS form and prints the value of a greatest flow and the
 //! rounds in which it was found; `plan` takes a case and prints the cost of a least plan and the rounds, or `blocked`;
-//! `order` takes a case as well and prints the longest chain of needs. The second word, if any, is the file. On
+//! `build` and `order` take a case as well and print how many needs it has, and the longest chain of them. The second word, if any, is the file. On
 //! standard error stand the seconds that each of many runs took, a line a run.
 #![tactic(auto)]
 
@@ -13,7 +14,7 @@ mod cases;
 mod dimacs;
 mod numbers;
 
-use crate::cases::{Problem, read_case};
+use crate::cases::{Parts, Problem, define, read_case, read_parts};
 use crate::dimacs::{Network, read_network};
 use anyhow::{Result, bail, ensure};
 use saga_case::{Answer, Case};
@@ -79,6 +80,17 @@ fn time_plan(rt: &HostRuntime, text: &str) -> Result<()> {
     Ok(())
 }
 
+fn time_build(rt: &HostRuntime, text: &str) -> Result<()> {
+    println!(rt; "needs {}", read_case(rt.alloc(), text)?.definition.needs())?;
+    for _ in 0..TIMES {
+        let Parts { steps, needs, .. } = read_parts(rt.alloc(), text)?;
+        let start = Instant::now(rt)?;
+        let _made = define(rt.alloc(), steps, needs)?;
+        show(rt, start.elapsed(rt)?)?;
+    }
+    Ok(())
+}
+
 fn time_order(rt: &HostRuntime, text: &str) -> Result<()> {
     let definition = read_case(rt.alloc(), text)?.definition;
     let order = Order::of(rt.alloc(), &definition)?;
@@ -105,7 +117,8 @@ fn main(rt: HostRuntime) -> Result<()> {
     match what.as_deref() {
         Some("flow") => time_flow(&rt, text.as_str()),
         Some("plan") => time_plan(&rt, text.as_str()),
+        Some("build") => time_build(&rt, text.as_str()),
         Some("order") => time_order(&rt, text.as_str()),
-        _ => bail!("flow, plan or order?"),
+        _ => bail!("flow, plan, build or order?"),
     }
 }

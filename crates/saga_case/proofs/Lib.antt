@@ -4,3 +4,4 @@ pub mod ClosedLemmas
 pub mod Duality
 pub mod ChainLemmas
 pub mod FreeLemmas
+pub mod MemberLemmas

@@ -7,3 +7,4 @@ pub mod Terms
 pub mod Flow
 pub mod Right
 pub mod Free
+pub mod Members

@@ -3,8 +3,9 @@ ghost use Rattle.std.specs.Prelude.{◌≡◌, ◌<◌, ℕ, length, slice_get, 
 ghost use Rattle.saga_def.specs.declared.steps.Price.TheVariants.{Never};
 ghost use Rattle.saga_def.specs.Order.{Steps};
 ghost use Rattle.saga_case.specs.Free.{IsFree, none};
+ghost use Rattle.saga_case.specs.Members.{AllowedSets, HasEach, HasNone};
 ghost use Rattle.saga_case.specs.Terms.{terms_of, IsAllowed, IsLeast};
-ghost use Rattle.saga_case.specs.declared.states.StepState.TheVariants.{Committed, Waiting};
+ghost use Rattle.saga_case.specs.declared.states.StepState.TheVariants.{Committed, Failed, Fixed, Undone, Waiting};
 
 use crate::cases::Case;
 
@@ -21,6 +22,23 @@ pub fn keeps_what_cannot_be_undone(case: &Case, step: u16)
     ensures { slice_index_or case.now.states step Waiting ≡ Committed
         → IfSome (slice_get case.now.definition.steps step) (λ s. s.undo ≡ Never)
         → (set : Steps) → IsAllowed (terms_of case.now) set → IsTrue (set step) }
+{
+    let _ = case.states();
+}
+
+/// An allowed set keeps to the states: no step that failed or was undone is in it, and each whose compensation failed
+/// for good is.
+pub fn keeps_to_the_states(case: &Case)
+    ensures failed { AllowedSets (terms_of case.now) (HasNone case.now.states Failed) }
+    ensures undone { AllowedSets (terms_of case.now) (HasNone case.now.states Undone) }
+    ensures fixed { AllowedSets (terms_of case.now) (HasEach case.now.states Fixed) }
+{
+    let _ = case.states();
+}
+
+/// In an aborted case an allowed set has no waiting step: what has not begun is not begun any more.
+pub fn begins_nothing_once_aborted(case: &Case)
+    ensures { IsTrue case.now.aborted → AllowedSets (terms_of case.now) (HasNone case.now.states Waiting) }
 {
     let _ = case.states();
 }

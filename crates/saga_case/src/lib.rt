@@ -14,7 +14,10 @@ mod tests;
 
 pub use answers::{Answer, Plan};
 pub use cases::{Case, CaseFault};
-pub use laws::{keeps_what_cannot_be_undone, leaves_all_out_for_free};
+pub use laws::{
+    begins_nothing_once_aborted, keeps_to_the_states, keeps_what_cannot_be_undone,
+    leaves_all_out_for_free,
+};
 pub use lists::{Amounts, Chain, Marks};
 pub use prices::MAX_STEP_PRICE;
 pub use states::StepState;

@@ -1,8 +1,8 @@
 //! Prices and costs by values from outside.
 use crate::StepState::{Committed, Failed, Fixed, Running, Undoing, Undone, Waiting};
 use crate::{
-    Amounts, Case, CaseFault, Chain, MAX_STEP_PRICE, Marks, StepState, keeps_what_cannot_be_undone,
-    leaves_all_out_for_free,
+    Amounts, Case, CaseFault, Chain, MAX_STEP_PRICE, Marks, StepState, begins_nothing_once_aborted,
+    keeps_to_the_states, keeps_what_cannot_be_undone, leaves_all_out_for_free,
 };
 use saga_def::Price::{Never, Of};
 use saga_def::{DefFault, Definition, Need, Price, Step, Text};
@@ -400,6 +400,8 @@ fn laws_are_called(rt: HostRuntime) -> Result<(), Fail> {
         leaves_all_out_for_free(&case);
         assert_eq!(rt; case.definition().steps(), 2);
         keeps_what_cannot_be_undone(&case, 0);
+        keeps_to_the_states(&case);
+        begins_nothing_once_aborted(&case);
         assert_eq!(rt; cost(&case, [false, false].as_slice()), Some(Of(0)));
     } else {
         assert!(rt; false, "a case");

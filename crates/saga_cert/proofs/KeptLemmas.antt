@@ -1,15 +1,44 @@
 -- The marks of a list of numbers, and the numbers of marks.
-use Rattle.std.proofs.Common.{◌≡◌, ℕ, ◌+◌, ◌<◌, ◌≤◌, ◌==◌, Bool, true, false, nat_lt, zero, suc, List, [], ◌∷◌, length, get_or, refl, sym, arith, zero-add, subst}
+use Rattle.std.proofs.Common.{◌≡◌, ℕ, ◌+◌, ◌<◌, ◌≤◌, ◌==◌, Bool, true, false, nat_lt, zero, suc, List, [], ◌∷◌, length, get_or, refl, sym, arith, zero-add, subst, ◌&&◌}
 use Rattle.std.proofs.lemmas.List.FromFn.{fill_by_all}
+use Rattle.std.proofs.lemmas.Bool.{false≢true, false_from_ne_true}
 use Rattle.std.proofs.lemmas.Bool.Decides.{nat_tests}
 use Rattle.std.specs.List.{list_all, list_any}
-use Rattle.saga_cert.specs.Kept.{ascends, is_kept, marks_of, places_from}
+use Rattle.std.specs.List.Sorted.{IsStrictlyIncreasing}
+use Rattle.saga_cert.specs.Kept.{is_increasing, is_kept, marks_of, places_from}
 
--- one number ascends, and none does
-pub ascends-short : (ns : List ℕ) → length ns ≤ 1 → ascends ns ≡ true
-ascends-short [] h = refl
-ascends-short (a ∷ []) h = refl
-ascends-short (a ∷ b ∷ ns) h = absurd (omega arith)
+both : (p : Bool) {q : Bool} → (p && q) ≡ true → (p ≡ true) × (q ≡ true)
+both true test = (refl, test)
+both false test = absurd (false≢true test)
+
+below : (a b : ℕ) → a < b → nat_lt a b ≡ true
+below a b h = grind (arith, nat_tests)
+
+above : (a b : ℕ) → nat_lt a b ≡ true → a < b
+above a b h = grind (arith, nat_tests)
+
+-- the test is true just of lists that increase
+pub increasing-true : (ns : List ℕ) → is_increasing ns ≡ true → IsStrictlyIncreasing ns
+increasing-true [] test k lt = absurd (omega arith)
+increasing-true (a ∷ []) test k lt = absurd (omega arith)
+increasing-true (a ∷ b ∷ ns) test zero lt = above a b (both (nat_lt a b) test).0
+increasing-true (a ∷ b ∷ ns) test (suc k) lt =
+    let next : suc k + 1 ≡ suc (k + 1) = omega arith in
+    let rest : get_or (b ∷ ns) k 0 < get_or (b ∷ ns) (k + 1) 0 = increasing-true (b ∷ ns) (both (nat_lt a b) test).1 k (omega arith) in
+    rw next rest
+
+pub true-increasing : (ns : List ℕ) → IsStrictlyIncreasing ns → is_increasing ns ≡ true
+true-increasing [] h = refl
+true-increasing (a ∷ []) h = refl
+true-increasing (a ∷ b ∷ ns) h =
+    let rest : is_increasing (b ∷ ns) ≡ true = true-increasing (b ∷ ns) (λ k lt.
+    let next : suc k + 1 ≡ suc (k + 1) = omega arith in
+    let pair : get_or (b ∷ ns) k 0 < get_or (a ∷ b ∷ ns) (suc k + 1) 0 = h (suc k) (omega arith) in
+    rw next at pair) in
+    rw (below a b (h 0 (omega arith)), rest) refl
+
+pub increasing-false : (ns : List ℕ) → ¬ IsStrictlyIncreasing ns → is_increasing ns ≡ false
+increasing-false ns h = false_from_ne_true (is_increasing ns) (λ test. h (increasing-true ns test))
 
 -- as many marks as the count, each true where the numbers have its place
 pub record Marked (count : ℕ) (numbers : List ℕ) (marks : List Bool) : Type 0 where
@@ -20,9 +49,6 @@ pub record Marked (count : ℕ) (numbers : List ℕ) (marks : List Bool) : Type 
 pub Marked-all : (count : ℕ) (numbers : List ℕ) (marks : List Bool) → Marked count numbers marks → marks ≡ marks_of count numbers
 Marked-all count numbers marks m = fill_by_all (λ k. list_any (λ n. n == k) numbers) marks count false m.long m.each
 
-below : (a b : ℕ) → a < b → nat_lt a b ≡ true
-below a b h = grind (arith, nat_tests)
-
 apart : (a b : ℕ) → a < b → (b == a) ≡ false
 apart a b h = grind (arith, nat_tests)
 
@@ -32,16 +58,16 @@ apart_from_sum m k = grind (arith, nat_tests)
 same_sum : (m : ℕ) → (m == m + 0) ≡ true
 same_sum m = grind (arith, nat_tests)
 
--- the numbers of marks ascend
-ascends-after : (marks : List Bool) (n m : ℕ) → n < m → ascends (n ∷ places_from m marks) ≡ true
-ascends-after [] n m h = refl
-ascends-after (true ∷ marks) n m h = rw (below n m h) (ascends-after marks m (m + 1) (omega arith))
-ascends-after (false ∷ marks) n m h = ascends-after marks n (m + 1) (omega arith)
+-- the numbers of marks increase
+increasing-after : (marks : List Bool) (n m : ℕ) → n < m → is_increasing (n ∷ places_from m marks) ≡ true
+increasing-after [] n m h = refl
+increasing-after (true ∷ marks) n m h = rw (below n m h) (increasing-after marks m (m + 1) (omega arith))
+increasing-after (false ∷ marks) n m h = increasing-after marks n (m + 1) (omega arith)
 
-ascends-places : (marks : List Bool) (m : ℕ) → ascends (places_from m marks) ≡ true
-ascends-places [] m = refl
-ascends-places (true ∷ marks) m = ascends-after marks m (m + 1) (omega arith)
-ascends-places (false ∷ marks) m = ascends-places marks (m + 1)
+increasing-places : (marks : List Bool) (m : ℕ) → is_increasing (places_from m marks) ≡ true
+increasing-places [] m = refl
+increasing-places (true ∷ marks) m = increasing-after marks m (m + 1) (omega arith)
+increasing-places (false ∷ marks) m = increasing-places marks (m + 1)
 
 -- they are below the number of marks
 below-places : (marks : List Bool) (m count : ℕ) → m + length marks ≤ count → list_all (λ n. nat_lt n count) (places_from m marks) ≡ true
@@ -76,7 +102,7 @@ mark_first marks k h =
 
 -- the numbers of marks are a list of kept steps, and stand for those marks
 pub is_kept-places : (marks : List Bool) → is_kept (length marks) (places_from 0 marks) ≡ true
-is_kept-places marks = rw (ascends-places marks 0, below-places marks 0 (length marks) (omega arith))
+is_kept-places marks = rw (increasing-places marks 0, below-places marks 0 (length marks) (omega arith))
 
 pub marks_of-places : (marks : List Bool) → marks_of (length marks) (places_from 0 marks) ≡ marks
 marks_of-places marks =

@@ -4,15 +4,15 @@ use Rattle.std.specs.List.{list_all, list_any, range_with_len}
 use Rattle.saga_cert.specs.declared.faults.CertFault.{CertFault}
 use Rattle.saga_cert.specs.declared.faults.CertFault.TheVariants.{Kept}
 
--- each number is below the next
-abbrev pub ascends : List ℕ → Bool
-ascends [] = true
-ascends (a ∷ []) = true
-ascends (a ∷ b ∷ rest) = nat_lt a b && ascends (b ∷ rest)
+-- the test of `IsStrictlyIncreasing`: each number is below the next
+abbrev pub is_increasing : List ℕ → Bool
+is_increasing [] = true
+is_increasing (a ∷ []) = true
+is_increasing (a ∷ b ∷ rest) = nat_lt a b && is_increasing (b ∷ rest)
 
--- strictly ascending numbers, each below the count
+-- strictly increasing numbers, each below the count
 abbrev pub is_kept : ℕ → List ℕ → Bool
-is_kept count kept = ascends kept && list_all (λ n. nat_lt n count) kept
+is_kept count kept = is_increasing kept && list_all (λ n. nat_lt n count) kept
 
 -- a mark for each number below the count, true where the list has it
 abbrev pub marks_of : ℕ → List ℕ → List Bool

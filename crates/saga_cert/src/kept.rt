@@ -1,15 +1,16 @@
 //! The list `kept` of a plan, and the marks that it stands for.
-ghost use Rattle.std.specs.Prelude.{◌≡◌, nat_lt, IsTrue, IfOk};
+ghost use Rattle.std.specs.Prelude.{◌≡◌, ◌↔◌, nat_lt, IsTrue, IfOk};
 ghost use Rattle.std.specs.List.{list_all};
+ghost use Rattle.std.specs.List.Sorted.{IsStrictlyIncreasing};
 ghost use Rattle.saga_cert.specs.Outcomes.{Gives};
-ghost use Rattle.saga_cert.specs.Kept.{ascends, is_kept, marks_of, kept_of};
+ghost use Rattle.saga_cert.specs.Kept.{is_kept, marks_of, kept_of};
 
 use crate::faults::CertFault;
 use std::alloc::{AllocError, Global};
 
 /// Whether each number is below the next.
-fn ascends(numbers: &[u64]) -> bool
-    ensures { result ≡ ascends numbers.now }
+fn is_increasing(numbers: &[u64]) -> bool
+    ensures { IsTrue result ↔ IsStrictlyIncreasing numbers.now }
 {
     for i in 1..numbers.len() {
         if numbers[i - 1] >= numbers[i] {
@@ -19,11 +20,11 @@ fn ascends(numbers: &[u64]) -> bool
     true
 }
 
-/// Whether the numbers ascend, each below the count.
+/// Whether each number is below the next and below the count.
 fn is_kept(numbers: &[u64], count: usize) -> bool
     ensures { result ≡ is_kept count numbers.now }
 {
-    ascends(numbers) && numbers.iter().all(|number| *number < count as u64)
+    is_increasing(numbers) && numbers.iter().all(|number| *number < count as u64)
 }
 
 /// A mark for each number below the count, true where the list has it.
@@ -38,7 +39,7 @@ fn marks_of(alloc: Global, numbers: &[u64], count: usize) -> Result<Vec<bool>, A
     Ok(marks)
 }
 
-/// The marks of a list that ascends below the count.
+/// The marks of a list whose numbers increase below the count.
 pub fn kept_of(alloc: Global, numbers: &[u64], count: usize) -> Result<Vec<bool>, CertFault>
     ensures { Gives (λ marks. marks.items) result (kept_of count numbers.now) }
 {

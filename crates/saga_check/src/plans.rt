@@ -5,9 +5,9 @@ ghost use Rattle.saga_case.specs.Terms.{terms_of};
 ghost use Rattle.saga_case.specs.Flow.{FitsIn, IsWithin, IsConserved, into_step, out_of_step, value_of};
 ghost use Rattle.saga_case.specs.Right.{HasShape, flow_of};
 
-use crate::flows::{flow_through, total};
+use crate::flows::{sum_at, total};
 use saga_case::{Case, Plan};
-use saga_def::{Need, Price};
+use saga_def::Price;
 
 /// Whether each list of the plan is as long as it has to be.
 pub fn has_shape(case: &Case, plan: &Plan) -> bool
@@ -63,23 +63,23 @@ pub fn is_within(case: &Case, plan: &Plan) -> bool
     true
 }
 
+/// Whether at a step as much flows in as out.
 fn is_conserved_at(case: &Case, plan: &Plan, s: u16) -> bool
     requires shape { HasShape (terms_of case.now) plan.now }
     requires step { s < length case.now.definition.steps }
     ensures { IsTrue result ↔ (slice_index plan.now.leave s + into_step (terms_of case.now) (flow_of plan.now) s
         ≡ slice_index plan.now.stand s + out_of_step (terms_of case.now) (flow_of plan.now) s) }
 {
-    let at_step = flow_through(
-        case.definition().all_needs(),
-        plan.links.as_slice(),
-        s as u32,
-    );
+    let definition = case.definition();
+    let links = plan.links.as_slice();
+    let into = sum_at(links, definition.places_on(s));
+    let out = sum_at(links, definition.places_of(s));
     let leave = plan.leave.as_slice()[s as usize] as u128;
     let stand = plan.stand.as_slice()[s as usize] as u128;
-    leave + at_step.into == stand + at_step.out
+    leave + into == stand + out
 }
 
-/// Whether at each step as much flows in as out. Takes no memory, so it goes over the needs once for each step.
+/// Whether at each step as much flows in as out. Takes no memory, and time linear in the steps and needs.
 pub fn is_conserved(case: &Case, plan: &Plan) -> bool
     requires { HasShape (terms_of case.now) plan.now }
     ensures { IsTrue result ↔ IsConserved (terms_of case.now) (flow_of plan.now) }

@@ -1,5 +1,9 @@
--- Lemmas on chains of needs, on the search for a cycle, and on the passes that look for a double.
+-- Lemmas on chains of needs, on adjacency lists and neighbours, on the search for a cycle, and on the passes that look
+-- for a double.
 pub mod OrderLemmas
+mod GroupLemmas
+pub mod AdjacencyLemmas
+pub mod NeighbourLemmas
 mod SeenLemmas
 mod PeelLemmas
 mod RingLemmas

@@ -2,6 +2,9 @@
 pub mod Contents
 pub mod Order
 pub mod Rules
+pub mod Groups
+pub mod Adjacency
+pub mod Neighbours
 pub mod Sound
 pub mod Faults
 pub mod Peeling

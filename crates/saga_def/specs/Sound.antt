@@ -1,5 +1,8 @@
 -- What a definition promises of its contents.
 use Rattle.saga_def.specs.Contents.{Contents}
+use Rattle.std.specs.Prelude.{length}
+use Rattle.saga_def.specs.Adjacency.{ListsNeeds, ListsDependants}
+use Rattle.saga_def.specs.declared.adjacency.Adjacency.{Adjacency}
 use Rattle.saga_def.specs.Order.{IsAcyclic}
 use Rattle.saga_def.specs.Rules.{HasSteps, HasFewSteps, HasFewNeeds, HasGoodNames, HasDistinctNames, HasKnownNeeds, HasSingleNeeds, AllPricesAreSmall, AllTriesAreInRange}
 
@@ -15,3 +18,9 @@ pub record IsSound (c : Contents) : Type 0 where
   pub small : AllPricesAreSmall c
   pub tries : AllTriesAreInRange c
   pub acyclic : IsAcyclic c.needs
+
+-- sound contents, and the adjacency lists of their needs
+pub record IsDefinition (c : Contents) (adjacency : Adjacency) : Type 0 where
+  pub sound : IsSound c
+  pub needs : ListsNeeds c.needs (length c.steps) adjacency.needs
+  pub dependants : ListsDependants c.needs (length c.steps) adjacency.dependants

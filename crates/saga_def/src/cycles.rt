@@ -1,13 +1,16 @@
-//! The search for steps that need each other in a ring.
+//! The search for steps that need each other in a ring (Kahn 1962).
 //!
-//! Marks grow from none: in each pass a step is marked where all that it needs is marked already. Where no pass marks
-//! another step, either all are marked, or each one left needs another one left, and a walk along these comes to a
-//! step for the second time.
-ghost use Rattle.std.specs.Prelude.{◌≡◌, ◌≤◌, ◌<◌, All, length, IfOk, IfSome, IfNone, IsSome, drop, slice_index_or, None};
+//! For each step it is counted how many of its needs are on steps that are not marked. A step with none is marked, and the
+//! counts of those that need it are lowered. Where no step is left to mark, either all are marked, or each one left needs
+//! another one left, and a walk along these comes to a step for the second time.
+ghost use Rattle.std.specs.Prelude.{ℕ, slice_index, ◌≡◌, ◌≤◌, ◌<◌, All, length, IfOk, IfSome, IfNone, IsSome, drop, slice_index_or, None};
 ghost use Rattle.saga_def.specs.Order.{IsAcyclic, IsCycle};
 ghost use Rattle.saga_def.specs.Rules.{AreKnown};
-ghost use Rattle.saga_def.specs.Peeling.{AreBlockers, IsMarkedBy, IsPeeled, LeadsOn, IsRing};
+ghost use Rattle.saga_def.specs.Peeling.{AreBlockers, AreFree, AreLowered, IsPeeled, LeadsOn, IsRing, demand, occurs};
+ghost use Rattle.saga_def.specs.Adjacency.{ListsDependants};
 
+use crate::adjacency::{AdjacencyList, entries_at};
+use crate::limits::{MAX_NEEDS, MAX_STEPS};
 use crate::steps::Need;
 use std::alloc::{AllocError, Global};
 
@@ -26,31 +29,76 @@ fn blockers(alloc: Global, needs: &[Need], marks: &[bool]) -> Result<Vec<Option<
     Ok(blockers)
 }
 
-/// A mark for each step that has no blocker.
-fn unblocked(alloc: Global, blockers: &[Option<u16>]) -> Result<Vec<bool>, AllocError>
-    ensures { IfOk result (λ marks. IsMarkedBy blockers.now marks.items) }
+/// How many needs each step has.
+fn demands(alloc: Global, needs: &[Need], count: usize) -> Result<Vec<u16>, AllocError>
+    requires known { AreKnown needs.now count }
+    requires few { length needs.now ≤ MAX_NEEDS }
+    ensures sized { IfOk result (λ unmet. length unmet.items ≡ count) }
+    ensures each { IfOk result (λ unmet. (s : ℕ) → s < count → slice_index unmet.items s ≡ demand needs.now s) }
 {
-    blockers
-        .iter()
-        .map(|blocker| blocker.is_none())
-        .collect(alloc)
+    let mut unmet: Vec<u16> = vec![in alloc; 0; count]?;
+    for need in needs {
+        unmet[need.step as usize] += 1;
+    }
+    Ok(unmet)
 }
 
-/// The blockers where no further step can be marked.
-fn peel(alloc: Global, needs: &[Need], count: usize) -> Result<Vec<Option<u16>>, AllocError>
+/// The steps whose count is 0.
+fn free_steps(alloc: Global, unmet: &[u16]) -> Result<Vec<u16>, AllocError>
+    requires { length unmet.now ≤ 65535 }
+    ensures { IfOk result (λ todo. AreFree unmet.now todo.items) }
+{
+    let mut todo = Vec::new(alloc);
+    for s in 0..unmet.len() as u16 {
+        if unmet[s as usize] == 0 {
+            todo.push(s)?;
+        }
+    }
+    Ok(todo)
+}
+
+/// Lowers the count of each of the steps by one, and adds those whose count comes to 0 to the steps to do.
+fn lower(unmet: &mut [u16], users: &[u16], todo: &mut Vec<u16>) -> Result<(), AllocError>
+    requires known { All (λ (s : ℕ). s < length unmet.old) users.now }
+    requires enough { (s : ℕ) → s < length unmet.old → occurs s users.now ≤ slice_index unmet.old s }
+    ensures { IfOk result (λ _. AreLowered users.now unmet.old todo.old.items unmet.new todo.new.items) }
+{
+    for user in users {
+        let left = unmet[*user as usize] - 1;
+        unmet[*user as usize] = left;
+        if left == 0 {
+            todo.push(*user)?;
+        }
+    }
+    Ok(())
+}
+
+/// The blockers where no further step can be marked. Takes time linear in the steps and needs.
+fn peel(
+    alloc: Global,
+    needs: &[Need],
+    dependants: &AdjacencyList,
+    count: usize,
+) -> Result<Vec<Option<u16>>, AllocError>
     requires known { AreKnown needs.now count }
-    requires few { count ≤ 65536 }
+    requires few { length needs.now ≤ MAX_NEEDS }
+    requires few_steps { count ≤ MAX_STEPS }
+    requires listed { ListsDependants needs.now count dependants.now }
     ensures { IfOk result (λ blockers. IsPeeled needs.now count blockers.items) }
 {
-    let mut marks = vec![in alloc; false; count]?;
-    loop {
-        let blockers = blockers(alloc, needs, &marks)?;
-        let more = unblocked(alloc, &blockers)?;
-        if more == marks {
-            return Ok(blockers);
-        }
-        marks = more;
+    let mut unmet = demands(alloc, needs, count)?;
+    let mut done = vec![in alloc; false; count]?;
+    let mut todo = free_steps(alloc, &unmet)?;
+    while let Some(s) = todo.pop() {
+        done[s as usize] = true;
+        let users = entries_at(
+            dependants.starts.as_slice(),
+            dependants.steps.as_slice(),
+            s as usize,
+        );
+        lower(unmet.as_mut_slice(), users, &mut todo)?;
     }
+    blockers(alloc, needs, &done)
 }
 
 fn tail_from(alloc: Global, path: &[u16], first: usize) -> Result<Vec<u16>, AllocError>
@@ -91,14 +139,17 @@ fn first_blocked(blockers: &[Option<u16>]) -> Option<usize>
 pub fn find_cycle(
     alloc: Global,
     needs: &[Need],
+    dependants: &AdjacencyList,
     count: usize,
 ) -> Result<Option<Vec<u16>>, AllocError>
     requires known { AreKnown needs.now count }
-    requires few { count ≤ 65536 }
+    requires few { length needs.now ≤ MAX_NEEDS }
+    requires few_steps { count ≤ MAX_STEPS }
+    requires listed { ListsDependants needs.now count dependants.now }
     ensures found { IfOk result (λ answer. IfSome answer (λ cycle. IsCycle needs.now cycle.items)) }
     ensures none { IfOk result (λ answer. IfNone answer (IsAcyclic needs.now)) }
 {
-    let blockers = peel(alloc, needs, count)?;
+    let blockers = peel(alloc, needs, dependants, count)?;
     match first_blocked(&blockers) {
         None => Ok(None),
         Some(start) => Ok(Some(ring_from(alloc, &blockers, start as u16)?)),

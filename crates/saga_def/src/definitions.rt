@@ -1,6 +1,7 @@
 //! Definitions, which are always sound.
 ghost use Rattle.std.specs.Prelude.{◌≡◌, ◌<◌, ◌↔◌, IsTrue, IfOk, IfErr, length, slice_get, Some};
 
+use crate::adjacency::{Adjacency, adjacency_of, entries_at};
 use crate::cycles::find_cycle;
 use crate::faults::DefFault;
 use crate::limits::{MAX_NEEDS, MAX_STEPS};
@@ -19,17 +20,18 @@ pub struct Definition {
     name: Text,
     steps: Vec<Step>,
     needs: Vec<Need>,
+    adjacency: Adjacency,
 }
 
 impl Model for Definition {
     ghost use Rattle.saga_def.specs.Contents.{Contents, contents};
-    ghost use Rattle.saga_def.specs.Sound.{IsSound};
+    ghost use Rattle.saga_def.specs.Sound.{IsDefinition};
 
     ghost Value = { Contents };
 
     ghost view = { λ d. contents d.name d.steps.items d.needs.items };
 
-    ghost invariant = { λ d. IsSound (contents d.name d.steps.items d.needs.items) };
+    ghost invariant = { λ d. IsDefinition (contents d.name d.steps.items d.needs.items) d.adjacency };
 }
 
 impl Definition {
@@ -37,10 +39,10 @@ impl Definition {
     ghost use Rattle.saga_def.specs.Sound.{IsSound};
     ghost use Rattle.saga_def.specs.Faults.{IsFirstFault};
     ghost use Rattle.saga_def.specs.Same.{same_contents};
+    ghost use Rattle.saga_def.specs.Neighbours.{needs_of, needed_by, places_of, places_on, AreNeedsOf, AreNeededBy, ArePlacesOf, ArePlacesOn};
 
     /// The definition of a name, steps and needs, whose order it keeps, or the first fault of
-    /// [`DefFault`]. Takes time linear in the steps and needs, but for the search for a cycle, which takes at most
-    /// steps times steps and needs together.
+    /// [`DefFault`]. Takes time linear in the steps and needs.
     pub fn build(
         alloc: Global,
         name: Text,
@@ -79,10 +81,16 @@ impl Definition {
         if !tries_are_in_range(&steps) {
             return Err(DefFault::TriesOutOfRange);
         }
-        if let Some(cycle) = find_cycle(alloc, &needs, steps.len())? {
+        let adjacency = adjacency_of(alloc, &needs, steps.len())?;
+        if let Some(cycle) = find_cycle(alloc, &needs, &adjacency.dependants, steps.len())? {
             return Err(DefFault::Cycle(cycle));
         }
-        Ok(Definition { name, steps, needs })
+        Ok(Definition {
+            name,
+            steps,
+            needs,
+            adjacency,
+        })
     }
 
     fn holds_same(&self, other: &Definition) -> bool
@@ -144,6 +152,60 @@ impl Definition {
         ensures sound { IsSound self.now }
     {
         self.needs.as_slice()
+    }
+
+    /// The steps that a step needs directly, ascending, each once.
+    pub fn needs_of(&self, i: u16) -> &[u16]
+        requires { i < length self.now.steps }
+        ensures value { result.now ≡ needs_of self.now i }
+        ensures exact { AreNeedsOf self.now.needs i result.now }
+        ensures sound { IsSound self.now }
+    {
+        let needs = &self.adjacency.needs;
+        entries_at(needs.starts.as_slice(), needs.steps.as_slice(), i as usize)
+    }
+
+    /// The places of the needs of a step, in the order handed in: beside each step of [`needs_of`](Self::needs_of)
+    /// that of the need on it.
+    pub fn places_of(&self, i: u16) -> &[u16]
+        requires { i < length self.now.steps }
+        ensures value { result.now ≡ places_of self.now i }
+        ensures exact { ArePlacesOf self.now.needs i (needs_of self.now i) result.now }
+        ensures sound { IsSound self.now }
+    {
+        let needs = &self.adjacency.needs;
+        entries_at(needs.starts.as_slice(), needs.places.as_slice(), i as usize)
+    }
+
+    /// The steps that need a step directly, ascending, each once.
+    pub fn needed_by(&self, i: u16) -> &[u16]
+        requires { i < length self.now.steps }
+        ensures value { result.now ≡ needed_by self.now i }
+        ensures exact { AreNeededBy self.now.needs i result.now }
+        ensures sound { IsSound self.now }
+    {
+        let dependants = &self.adjacency.dependants;
+        entries_at(
+            dependants.starts.as_slice(),
+            dependants.steps.as_slice(),
+            i as usize,
+        )
+    }
+
+    /// The places of the needs on a step, in the order handed in: beside each step of [`needed_by`](Self::needed_by)
+    /// that of its need.
+    pub fn places_on(&self, i: u16) -> &[u16]
+        requires { i < length self.now.steps }
+        ensures value { result.now ≡ places_on self.now i }
+        ensures exact { ArePlacesOn self.now.needs i (needed_by self.now i) result.now }
+        ensures sound { IsSound self.now }
+    {
+        let dependants = &self.adjacency.dependants;
+        entries_at(
+            dependants.starts.as_slice(),
+            dependants.places.as_slice(),
+            i as usize,
+        )
     }
 }
 

@@ -4,9 +4,11 @@
 //! distinct names, needs that are known and single, prices and tries in range, and no step that precedes itself.
 #![tactic(auto)]
 
+mod adjacency;
 mod cycles;
 mod definitions;
 mod faults;
+mod groups;
 mod limits;
 mod rules;
 mod steps;

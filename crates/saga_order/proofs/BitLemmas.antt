@@ -28,18 +28,18 @@ test word bit = bit_at word bit == 1
 -- a word with the bit of the step set
 pub with_bit : (words : List ℕ) (step word : ℕ) → step < 64 * length words → word ≡ get_or words (step / 64) 0 → IsWith words step (set words (step / 64) (bit_or word (1 * 2 ^ (step % 64) % 2 ^ 64)))
 with_bit words step word within is =
-    let place_within : step / 64 < length words = omega arith in
+    let visit_within : step / 64 < length words = omega arith in
     let bit_within : step % 64 < 64 = omega arith in
     let value : ℕ = bit_or word (1 * 2 ^ (step % 64) % 2 ^ 64) in
     record {
       sized = length-set words (step / 64) value;
       same =
-          ap (λ (w : ℕ). test w (step % 64)) (get_or-set_same words (step / 64) value 0 place_within)
+          ap (λ (w : ℕ). test w (step % 64)) (get_or-set_same words (step / 64) value 0 visit_within)
           ∙ ap (λ (b : ℕ). b == 1) (bit_at_set_same w64 word (step % 64) bit_within);
       others = λ s apart.
           elim (cases_eq (s / 64) (step / 64)) [
             | inl e ↦
-                let read : get_or (set words (step / 64) value) (s / 64) 0 ≡ value = rw e (get_or-set_same words (step / 64) value 0 place_within) in
+                let read : get_or (set words (step / 64) value) (s / 64) 0 ≡ value = rw e (get_or-set_same words (step / 64) value 0 visit_within) in
                 let old : word ≡ get_or words (s / 64) 0 = rw e is in
                 let other : s % 64 ≢ step % 64 = λ same. apart (omega arith) in
                 ap (λ (w : ℕ). test w (s % 64)) read

@@ -10,10 +10,10 @@ use Rattle.saga_def.specs.Sound.{IsSound}
 use Rattle.saga_order.specs.Shape.{Shape, shape_of, IsOrdered}
 use Rattle.saga_order.specs.Rank.{IsRank}
 use Rattle.saga_order.specs.Laws.{StepsAreRanked, RanksRise, SetsHaveFirst, SetsHaveLast}
-use Rattle.saga_order.specs.Placing.{is_marked}
+use Rattle.saga_order.specs.TopologicalOrder.{is_marked}
 use Rattle.saga_order.proofs.ListLemmas.{none_in, contains_head, contains_tail, contains_cases}
 use Rattle.saga_order.proofs.RankLemmas.{longer, none_on}
-use Rattle.saga_order.proofs.PlaceLemmas.{marked_cases, none_marked, none_few, count_marked}
+use Rattle.saga_order.proofs.TopologicalLemmas.{marked_cases, none_marked, none_few, count_marked}
 use Rattle.saga_order.proofs.Chains.{precedes_direct, precedes_trans, known_step, known_on}
 
 -- a step that needs another has the greater rank

@@ -2,8 +2,8 @@
 pub mod Chains
 mod BitLemmas
 mod ListLemmas
-mod PlaceLemmas
+mod TopologicalLemmas
 mod RankLemmas
-mod RowLemmas
+mod TransitiveLemmas
 mod ClosedLemmas
 pub mod LawLemmas

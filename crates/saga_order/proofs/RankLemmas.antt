@@ -6,8 +6,9 @@ use Rattle.std.proofs.lemmas.List.{length-set, length-replicate, length_push, ge
 use Rattle.std.proofs.lemmas.List.Elements.{All-set, All-weaker, All-replicate, Contains-push, Contains-push_cases, Contains-append_left}
 use Rattle.saga_def.specs.declared.steps.Need.{Need}
 use Rattle.saga_def.specs.Order.{NeedsDirectly, Leads}
-use Rattle.saga_order.specs.Shape.{Shape, AreNeedsOf}
-use Rattle.saga_order.specs.Placing.{IsPlacement}
+use Rattle.saga_order.specs.Shape.{Shape}
+use Rattle.saga_def.specs.Neighbours.{AreNeedsOf}
+use Rattle.saga_order.specs.TopologicalOrder.{IsTopologicalOrder}
 use Rattle.saga_order.specs.Rank.{IsRank, AreRanks, IsNextRank}
 use Rattle.saga_order.proofs.ListLemmas.{none_in}
 
@@ -111,7 +112,7 @@ ranks_more shape front needed ranks step rank known are earlier old next =
     }
 
 -- all of them
-pub ranks_all : (shape : Shape) (front order ranks : List ℕ) → front ≡ order → IsPlacement shape order → AreRanksOf shape front ranks → AreRanks shape ranks
+pub ranks_all : (shape : Shape) (front order ranks : List ℕ) → front ≡ order → IsTopologicalOrder shape order → AreRanksOf shape front ranks → AreRanks shape ranks
 ranks_all shape front order ranks whole placement old = record {
   sized = old.sized;
   each = λ b below. old.each b (rw whole (placement.all b below));

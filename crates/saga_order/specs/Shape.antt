@@ -1,10 +1,9 @@
 -- What an order knows of a definition.
-use Rattle.std.specs.Prelude.{ℕ, List, length, ◌≤◌, Contains}
-use Rattle.std.specs.List.Sorted.{IsStrictlyIncreasing}
+use Rattle.std.specs.Prelude.{ℕ, List, length, ◌≤◌}
 use Rattle.saga_def.specs.declared.limits.TheConstants.{MAX_STEPS}
 use Rattle.saga_def.specs.declared.steps.Need.{Need}
 use Rattle.saga_def.specs.Contents.{Contents}
-use Rattle.saga_def.specs.Order.{NeedsDirectly, IsAcyclic}
+use Rattle.saga_def.specs.Order.{IsAcyclic}
 use Rattle.saga_def.specs.Rules.{AreKnown}
 
 -- how many steps there are, and the needs in the order handed in
@@ -24,15 +23,3 @@ pub record IsOrdered (s : Shape) : Type 0 where
   pub few : s.count ≤ MAX_STEPS
   pub known : AreKnown s.needs s.count
   pub acyclic : IsAcyclic s.needs
-
--- the steps that b needs directly, ascending, each once
-pub record AreNeedsOf (needs : List Need) (b : ℕ) (list : List ℕ) : Type 0 where
-  pub ascending : IsStrictlyIncreasing list
-  pub found : (a : ℕ) → Contains list a → NeedsDirectly needs b a
-  pub all : (a : ℕ) → NeedsDirectly needs b a → Contains list a
-
--- the steps that need a directly, ascending, each once
-pub record AreNeededBy (needs : List Need) (a : ℕ) (list : List ℕ) : Type 0 where
-  pub ascending : IsStrictlyIncreasing list
-  pub found : (b : ℕ) → Contains list b → NeedsDirectly needs b a
-  pub all : (b : ℕ) → NeedsDirectly needs b a → Contains list b

@@ -5,15 +5,13 @@
 #![tactic(auto)]
 
 mod laws;
-mod neighbours;
 mod orders;
-mod places;
 mod ranks;
-mod rows;
-mod step_lists;
 mod step_sets;
 #[cfg(test)]
 mod tests;
+mod topological;
+mod transitive;
 
 pub use laws::order_laws;
 pub use orders::Order;

@@ -1,52 +1,51 @@
 //! What precedes what in a definition.
 ghost use Rattle.std.specs.Prelude.{◌≡◌, ◌<◌, ◌↔◌, length, IsTrue, IfOk};
 
-use crate::neighbours::Neighbours;
-use crate::places::placed;
 use crate::ranks::ranks_of;
-use crate::rows::rows_of;
 use crate::step_sets::StepSet;
+use crate::topological::topological_order;
+use crate::transitive::transitive_closure;
 use saga_def::Definition;
 use std::alloc::{AllocError, Global};
 use std::marker::Model;
 
-/// The order that the needs of a definition put its steps in. It keeps no borrow of the definition.
+/// The order that the needs of a definition put its steps in. It borrows the definition, and asks it for neighbours.
 #[derive(Debug, Drop)]
-pub struct Order {
-    neighbours: Neighbours,
+pub struct Order<'d> {
+    definition: &'d Definition,
     ranks: Vec<u16>,
-    rows: Vec<StepSet>,
+    closure: Vec<StepSet>,
 }
 
-impl Model for Order {
-    ghost use Rattle.saga_order.specs.Shape.{Shape};
-    ghost use Rattle.saga_order.specs.Rows.{IsOrder};
+impl<'d> Model for Order<'d> {
+    ghost use Rattle.saga_order.specs.Shape.{Shape, shape_of};
+    ghost use Rattle.saga_order.specs.TransitiveClosure.{IsOrder};
 
     ghost Value = { Shape };
 
-    ghost view = { λ o. o.neighbours };
+    ghost view = { λ o. shape_of o.definition.now };
 
-    ghost invariant = { λ o. IsOrder o.neighbours o.ranks.items o.rows.items };
+    ghost invariant = { λ o. IsOrder (shape_of o.definition.now) o.ranks.items o.closure.items };
 }
 
-impl Order {
+impl<'d> Order<'d> {
+    ghost use Rattle.saga_def.specs.Neighbours.{AreNeedsOf, AreNeededBy};
     ghost use Rattle.saga_def.specs.Order.{Precedes, IsClosed, member};
     ghost use Rattle.saga_order.specs.Rank.{IsRank};
-    ghost use Rattle.saga_order.specs.Shape.{shape_of, IsOrdered, AreNeedsOf, AreNeededBy};
+    ghost use Rattle.saga_order.specs.Shape.{shape_of, IsOrdered};
 
-    /// The order of a definition. Takes time linear in the steps and needs, and for the table of what precedes what at
-    /// most steps times steps and needs together, by the 64 of a word.
-    pub fn of(alloc: Global, definition: &Definition) -> Result<Order, AllocError>
+    /// The order of a definition. Takes time linear in the steps and needs, and for the transitive closure at most steps
+    /// times steps and needs together, by the 64 of a word.
+    pub fn of(alloc: Global, definition: &'d Definition) -> Result<Order<'d>, AllocError>
         ensures { IfOk result (λ order. order ≡ shape_of definition.now) }
     {
-        let neighbours = Neighbours::of(alloc, definition)?;
-        let order = placed(alloc, &neighbours)?;
-        let ranks = ranks_of(alloc, &neighbours, &order)?;
-        let rows = rows_of(alloc, &neighbours, &order)?;
+        let order = topological_order(alloc, definition)?;
+        let ranks = ranks_of(alloc, definition, &order)?;
+        let closure = transitive_closure(alloc, definition, &order)?;
         Ok(Order {
-            neighbours,
+            definition,
             ranks,
-            rows,
+            closure,
         })
     }
 
@@ -55,7 +54,7 @@ impl Order {
         ensures count { result ≡ self.now.count }
         ensures ordered { IsOrdered self.now }
     {
-        self.neighbours.count()
+        self.definition.steps()
     }
 
     /// Whether a step precedes another: a non-empty chain of needs leads from `b` to `a`.
@@ -64,7 +63,7 @@ impl Order {
         requires also_known { b < self.now.count }
         ensures { IsTrue result ↔ Precedes self.now.needs a b }
     {
-        self.rows[b as usize].contains(a)
+        self.closure[b as usize].contains(a)
     }
 
     /// The length of the longest chain of needs that begins at a step.
@@ -80,7 +79,7 @@ impl Order {
         requires { length set.now ≡ self.now.count }
         ensures { IsTrue result ↔ IsClosed self.now.needs (member set.now) }
     {
-        for need in self.neighbours.needs() {
+        for need in self.definition.all_needs() {
             if set[need.step as usize] && !set[need.on as usize] {
                 return false;
             }
@@ -93,7 +92,7 @@ impl Order {
         requires { step < self.now.count }
         ensures { AreNeedsOf self.now.needs step result.now }
     {
-        self.neighbours.needs_of(step)
+        self.definition.needs_of(step)
     }
 
     /// The steps that need a step directly, ascending, each once.
@@ -101,6 +100,6 @@ impl Order {
         requires { step < self.now.count }
         ensures { AreNeededBy self.now.needs step result.now }
     {
-        self.neighbours.needed_by(step)
+        self.definition.needed_by(step)
     }
 }

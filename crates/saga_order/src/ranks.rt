@@ -1,9 +1,10 @@
 //! How long the chains of needs are that begin at a step.
 ghost use Rattle.std.specs.Prelude.{◌<◌, ◌≤◌, length, All, IfOk};
-ghost use Rattle.saga_order.specs.Placing.{IsPlacement};
+ghost use Rattle.saga_order.specs.TopologicalOrder.{IsTopologicalOrder};
 ghost use Rattle.saga_order.specs.Rank.{AreRanks, IsNextRank};
+ghost use Rattle.saga_order.specs.Shape.{shape_of};
 
-use crate::neighbours::Neighbours;
+use saga_def::Definition;
 use std::alloc::{AllocError, Global};
 
 /// One more than the greatest rank of the steps that are needed, or 0 where none is.
@@ -22,15 +23,15 @@ fn next_rank(needed: &[u16], ranks: &[u16]) -> u16
 /// The rank of each step. Takes time linear in the steps and needs.
 pub fn ranks_of(
     alloc: Global,
-    neighbours: &Neighbours,
+    definition: &Definition,
     order: &[u16],
 ) -> Result<Vec<u16>, AllocError>
-    requires { IsPlacement neighbours.now order.now }
-    ensures { IfOk result (λ ranks. AreRanks neighbours.now ranks.items) }
+    requires { IsTopologicalOrder (shape_of definition.now) order.now }
+    ensures { IfOk result (λ ranks. AreRanks (shape_of definition.now) ranks.items) }
 {
-    let mut ranks = vec![in alloc; 0; neighbours.count()]?;
+    let mut ranks = vec![in alloc; 0; definition.steps()]?;
     for step in order {
-        ranks[*step as usize] = next_rank(neighbours.needs_of(*step), &ranks);
+        ranks[*step as usize] = next_rank(definition.needs_of(*step), &ranks);
     }
     Ok(ranks)
 }

@@ -16,6 +16,11 @@ abbrev pub IsSmallest : Terms → Answer → Type 0
 IsSmallest t (Plan plan) = (other : Steps) → IsLeast t other → IsWithinSet (member plan.kept) other
 IsSmallest t (Blocked chain) = Unit {0}
 
+-- a plan that keeps no step: pure backward recovery
+abbrev pub KeepsNothing : Answer → Type 0
+KeepsNothing (Plan plan) = (s : ℕ) → ¬ IsTrue (member plan.kept s)
+KeepsNothing (Blocked chain) = ⊥
+
 -- the flow of a plan is reached in that many rounds in the case's network; a chain takes none
 abbrev pub IsMadeIn : Terms → Answer → ℕ → Type 0
 IsMadeIn t (Plan plan) rounds = IsReachedIn (network_of t).arcs (plan.leave ++ (plan.stand ++ plan.links)) rounds

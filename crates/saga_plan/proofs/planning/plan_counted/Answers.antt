@@ -3,6 +3,8 @@ use Rattle.std.proofs.Common.{◌≡◌, ◌∙◌, ap, length, arith}
 use Rattle.saga_def.specs.Contents.{Contents}
 use Rattle.saga_case.specs.Terms.{Terms, terms_of}
 use Rattle.saga_case.specs.Right.{IsRightPlan, IsRightChain}
+use Rattle.std.proofs.lemmas.Bool.{false≢true}
+use Rattle.saga_case.specs.Free.{none}
 use Rattle.saga_case.proofs.Duality.{IsLeast-plan}
 use Rattle.saga_case.proofs.ChainLemmas.{NoneIsAllowed-chain}
 use Rattle.saga_plan.specs.CaseNet.{network_of}
@@ -69,6 +71,16 @@ pub returns-clause-smallest : goal.returns-clause-smallest
 returns-clause-smallest c =
     let at = goal.at.returns-clause-smallest c in
     plan_smallest (terms_of c.args.case.now) _ _ _ (solved at.In_ok-reached) c.in_ok-plan.plan (made at.In_ok-plan)
+
+-- where all is free, no set is least but what contains the kept one, and the empty set is least
+pub returns-clause-backward : goal.returns-clause-backward
+returns-clause-backward c free s kept =
+    let at = goal.at.returns-clause-backward c in
+    false≢true (plan_smallest (terms_of c.args.case.now) _ _ _ (solved at.In_ok-reached) c.in_ok-plan.plan (made at.In_ok-plan) none (c.leaves_all_out_for_free.ensures free) s kept)
+
+pub returns-in-Some-clause-backward : goal.returns-in-Some-clause-backward
+returns-in-Some-clause-backward c free =
+    (NoneIsAllowed-chain (terms_of c.args.case.now) c.in_ok-chain.chain.items (right_chain (goal.at.returns-in-Some-clause-backward c).In_ok-chain)).none none (c.leaves_all_out_for_free.ensures free).allowed
 
 pub returns-clause-rounds : goal.returns-clause-rounds
 returns-clause-rounds c =

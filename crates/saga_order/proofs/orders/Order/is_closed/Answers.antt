@@ -10,13 +10,13 @@ use Rattle.saga_order.proofs.orders.Order.is_closed.Goals.{else-set-need-via-the
 
 pub returns-then-not-set-need : goal.returns-then-not-set-need
 returns-then-not-set-need c =
-    leads_out c.needs-need-items.result.now c.args.self.now.needs (member c.args.set.now) c.loop-need.need-index (record { step = 0; on = 0 })
-    (c.needs-need-items.ensures.items ∙ ap (λ (s : Shape). s.needs) c.self.view_is) c.loop-need-test.true c.if-set-need.true c.if-not-set-need.true
+    leads_out c.all_needs-need-items.result.now c.args.self.now.needs (member c.args.set.now) c.loop-need.need-index (record { step = 0; on = 0 })
+    (c.all_needs-need-items.ensures.items ∙ ap (λ (s : Shape). s.needs) c.self.view_is) c.loop-need-test.true c.if-set-need.true c.if-not-set-need.true
 
 pub loop-need-preserved : goal.loop-need-preserved
 loop-need-preserved c =
     let d : Need = record { step = 0; on = 0 } in
-    All-more (StaysIn (member c.args.set.now)) c.needs-need-items.result.now c.loop-need.need-index d c.loop-need-test.true c.loop-need.invariant
+    All-more (StaysIn (member c.args.set.now)) c.all_needs-need-items.result.now c.loop-need.need-index d c.loop-need-test.true c.loop-need.invariant
     (elim c.else-set-need.branch [
       | else-set-need-via-then-set-need+else-not-set-need w ↦ λ in_set. w.if-not-set-need.false
       | else-set-need-via-else-set-need w ↦ λ in_set. absurd (both_ways _ w.if-set-need.false in_set)
@@ -24,5 +24,5 @@ loop-need-preserved c =
 
 pub returns : goal.returns
 returns c =
-    stays_in c.needs-need-items.result.now c.args.self.now.needs (member c.args.set.now) c.loop-need.need-index
-    (c.needs-need-items.ensures.items ∙ ap (λ (s : Shape). s.needs) c.self.view_is) c.loop-need-test.false c.loop-need.invariant
+    stays_in c.all_needs-need-items.result.now c.args.self.now.needs (member c.args.set.now) c.loop-need.need-index
+    (c.all_needs-need-items.ensures.items ∙ ap (λ (s : Shape). s.needs) c.self.view_is) c.loop-need-test.false c.loop-need.invariant
