@@ -28,28 +28,32 @@ fn definition(alloc: Global, count: usize, needs: &[Need]) -> Result<Definition,
     Definition::build(alloc, name, steps, Vec::from_slice(alloc, needs)?)
 }
 
-fn order(alloc: Global, count: usize, needs: &[Need]) -> Result<Order, DefFault> {
-    let definition = definition(alloc, count, needs)?;
-    order_laws(&definition);
-    Ok(Order::of(alloc, &definition)?)
+/// An order, asked for again where memory was refused.
+fn order_of(alloc: Global, definition: &Definition) -> Result<Order<'_>, AllocError> {
+    order_laws(definition);
+    match Order::of(alloc, definition) {
+        Ok(order) => Ok(order),
+        Err(_) => Order::of(alloc, definition),
+    }
 }
 
 fn need(step: u32, on: u32) -> Need {
     Need { step, on }
 }
 
-/// An order, asked for again where memory was refused.
-fn order_again(alloc: Global, count: usize, needs: &[Need]) -> Result<Order, DefFault> {
-    match order(alloc, count, needs) {
-        Ok(order) => Ok(order),
-        Err(_) => order(alloc, count, needs),
+/// A definition, asked for again where memory was refused.
+fn definition_again(alloc: Global, count: usize, needs: &[Need]) -> Result<Definition, DefFault> {
+    match definition(alloc, count, needs) {
+        Ok(definition) => Ok(definition),
+        Err(_) => definition(alloc, count, needs),
     }
 }
 
 /// Step 1 needs step 0, and step 2 needs step 1.
 #[test]
 fn orders_a_trip(rt: HostRuntime) -> Result<(), Fail> {
-    let order = order_again(rt.alloc(), 3, &[need(1, 0), need(2, 1)])?;
+    let definition = definition_again(rt.alloc(), 3, &[need(1, 0), need(2, 1)])?;
+    let order = order_of(rt.alloc(), &definition)?;
     assert_eq!(rt; order.count(), 3);
     assert!(rt; order.precedes(0, 2));
     assert!(rt; !order.precedes(2, 0));
@@ -73,7 +77,8 @@ fn lists_neighbours_once_and_ascending(rt: HostRuntime) -> Result<(), Fail> {
         need(4, 2),
         need(2, 3),
     ];
-    let order = order_again(rt.alloc(), 5, &needs)?;
+    let definition = definition_again(rt.alloc(), 5, &needs)?;
+    let order = order_of(rt.alloc(), &definition)?;
     assert_eq!(rt; order.count(), 5);
     assert_eq!(rt; order.needs_of(4), [1, 2, 3].as_slice());
     assert_eq!(rt; order.needs_of(2), [1, 3].as_slice());
@@ -86,22 +91,23 @@ fn lists_neighbours_once_and_ascending(rt: HostRuntime) -> Result<(), Fail> {
 }
 
 /// Each of 1,024 steps needs the next one.
-fn longest_chain(alloc: Global) -> Result<Order, DefFault> {
+fn longest_chain(alloc: Global) -> Result<Definition, DefFault> {
     let mut needs = Vec::new(alloc);
     for number in 0..1023u32 {
         needs
             .push(need(number, number + 1))
             .map_err(AllocError::from)?;
     }
-    order(alloc, 1024, &needs)
+    definition(alloc, 1024, &needs)
 }
 
 #[test]
 fn ranks_a_chain_of_the_greatest_length(rt: HostRuntime) -> Result<(), Fail> {
-    let order = match longest_chain(rt.alloc()) {
-        Ok(order) => order,
+    let definition = match longest_chain(rt.alloc()) {
+        Ok(definition) => definition,
         Err(_) => longest_chain(rt.alloc())?,
     };
+    let order = order_of(rt.alloc(), &definition)?;
     assert_eq!(rt; order.count(), 1024);
     for number in 0..1024u16 {
         assert_eq!(rt; order.rank(number), 1023 - number);
@@ -164,7 +170,8 @@ fn ranks_plainly(alloc: Global, needs: &[Need]) -> Result<Vec<u16>, AllocError> 
 fn disagreements(alloc: Global) -> Result<usize, DefFault> {
     let needs = mixed_needs(alloc)?;
     let ranks = ranks_plainly(alloc, &needs)?;
-    let order = order(alloc, 12, &needs)?;
+    let definition = definition(alloc, 12, &needs)?;
+    let order = order_of(alloc, &definition)?;
     let mut count = 0usize;
     if order.count() != 12 || needs.len() < 20 {
         return Ok(1);
