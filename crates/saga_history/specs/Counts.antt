@@ -1,0 +1,55 @@
+-- How many events a saga has.
+use Rattle.std.specs.Prelude.{◌≡◌, ℕ, ◌+◌, ◌*◌, ◌<◌, ◌≤◌, Bool, true, false, ◌||◌, List, Some, length, count_by}
+use Rattle.saga_def.specs.Contents.{Contents}
+use Rattle.saga_case.specs.Flow.{sum_below}
+use Rattle.saga_history.specs.declared.events.Event.{Event}
+use Rattle.saga_history.specs.declared.transitions.Transition.{Transition}
+use Rattle.saga_history.specs.declared.transitions.Transition.TheVariants as transition
+use Rattle.saga_history.specs.Changes.{Change, opens, moves, starts_plan, drops_plan, adopts, aborts, changes}
+use Rattle.saga_history.specs.States.{transitions, same_transition}
+use Rattle.saga_history.specs.Turns.{is_abort}
+use Rattle.saga_history.specs.Rules.{tries, undo_tries, definition}
+
+-- an action or a compensation failed, and is not tried again
+abbrev pub is_final_failure : Transition → Bool
+is_final_failure t = same_transition transition.Fail t || same_transition transition.UndoFail t
+
+abbrev pub is_failure : Change → Bool
+is_failure (opens k) = false
+is_failure (moves s t) = is_final_failure t
+is_failure starts_plan = false
+is_failure drops_plan = false
+is_failure (adopts a) = false
+is_failure aborts = false
+
+abbrev pub is_drop : Change → Bool
+is_drop (opens k) = false
+is_drop (moves s t) = false
+is_drop starts_plan = false
+is_drop drops_plan = true
+is_drop (adopts a) = false
+is_drop aborts = false
+
+abbrev pub is_adoption : Change → Bool
+is_adoption (opens k) = false
+is_adoption (moves s t) = false
+is_adoption starts_plan = false
+is_adoption drops_plan = false
+is_adoption (adopts a) = true
+is_adoption aborts = false
+
+-- two for each try of a step and of its compensation
+abbrev pub most_events : Contents → ℕ → ℕ
+most_events d s = 2 * (tries d s + undo_tries d s)
+
+-- no more adoptions than failures and aborts; of each step no more events than that; and of the saga no more than
+-- 4 + 2n and those of the n steps, dropped plans and their starts not counted
+pub record HasFewEvents (d : Contents) (l : List Change) : Type 0 where
+  pub adoptions : count_by is_adoption l ≤ count_by is_failure l + count_by is_abort l
+  pub each_step : (s : ℕ) → s < length d.steps → length (transitions l s) ≤ most_events d s
+  pub in_all : length l ≤ 4 + 2 * length d.steps + 2 * count_by is_drop l + sum_below (length d.steps) (most_events d)
+
+-- each saga of a history has
+abbrev pub AllHaveFewEvents : List Contents → List Event → Type 0
+AllHaveFewEvents shelf h =
+    (i : ℕ) (d : Contents) → definition shelf (changes i h) ≡ Some d → HasFewEvents d (changes i h)

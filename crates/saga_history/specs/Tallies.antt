@@ -1,0 +1,114 @@
+-- How often a step made each transition, told from its state; and how far a step is that another one needs.
+use Rattle.std.specs.Prelude.{◌≡◌, ℕ, ◌+◌, ◌<◌, Bool, true, false, List, Some, length, count_by, if◌then◌else◌}
+use Rattle.saga_def.specs.Contents.{Contents}
+use Rattle.saga_def.specs.Order.{NeedsDirectly}
+use Rattle.saga_case.specs.Situation.{AreDrained}
+use Rattle.saga_case.specs.declared.states.StepState.{StepState}
+use Rattle.saga_case.specs.declared.states.StepState.TheVariants.{Waiting, Running, Committed, Failed, Undoing, Undone, Fixed}
+use Rattle.saga_history.specs.declared.events.Event.{Event}
+use Rattle.saga_history.specs.declared.transitions.Transition.{Transition}
+use Rattle.saga_history.specs.declared.transitions.Transition.TheVariants as transition
+use Rattle.saga_history.specs.declared.turns.Turn.TheVariants.{Planning}
+use Rattle.saga_history.specs.Changes.{Change, changes}
+use Rattle.saga_history.specs.States.{transitions, state, states, is_standing, same_transition}
+use Rattle.saga_history.specs.Turns.{turn}
+use Rattle.saga_history.specs.Rules.{tries, undo_tries, misses_of, undo_misses_of, definition}
+
+abbrev pub one : Bool → ℕ
+one b = if b then 1 else 0
+
+-- its action has begun and was not missed
+abbrev pub was_begun : StepState → Bool
+was_begun Waiting = false
+was_begun Running = true
+was_begun Committed = true
+was_begun Failed = true
+was_begun Undoing = true
+was_begun Undone = true
+was_begun Fixed = true
+
+abbrev pub has_committed : StepState → Bool
+has_committed Waiting = false
+has_committed Running = false
+has_committed Committed = true
+has_committed Failed = false
+has_committed Undoing = true
+has_committed Undone = true
+has_committed Fixed = true
+
+abbrev pub has_failed : StepState → Bool
+has_failed Waiting = false
+has_failed Running = false
+has_failed Committed = false
+has_failed Failed = true
+has_failed Undoing = false
+has_failed Undone = false
+has_failed Fixed = false
+
+-- its compensation has begun and was not missed
+abbrev pub undo_begun : StepState → Bool
+undo_begun Waiting = false
+undo_begun Running = false
+undo_begun Committed = false
+undo_begun Failed = false
+undo_begun Undoing = true
+undo_begun Undone = true
+undo_begun Fixed = true
+
+abbrev pub has_undone : StepState → Bool
+has_undone Waiting = false
+has_undone Running = false
+has_undone Committed = false
+has_undone Failed = false
+has_undone Undoing = false
+has_undone Undone = true
+has_undone Fixed = false
+
+abbrev pub has_fixed : StepState → Bool
+has_fixed Waiting = false
+has_fixed Running = false
+has_fixed Committed = false
+has_fixed Failed = false
+has_fixed Undoing = false
+has_fixed Undone = false
+has_fixed Fixed = true
+
+-- how often a transition stands in a list
+abbrev pub count_of : Transition → List Transition → ℕ
+count_of t ts = count_by (same_transition t) ts
+
+-- how often each transition was made, by the state and the misses
+pub record Tally (ts : List Transition) (x : StepState) : Type 0 where
+  pub committed : count_of transition.Commit ts ≡ one (has_committed x)
+  pub undone : count_of transition.Undone ts ≡ one (has_undone x)
+  pub failed : count_of transition.Fail ts ≡ one (has_failed x)
+  pub fixed : count_of transition.UndoFail ts ≡ one (has_fixed x)
+  pub started : count_of transition.StartRun ts ≡ count_of transition.Missed ts + one (was_begun x)
+  pub undo_started : count_of transition.StartUndo ts ≡ count_of transition.UndoMissed ts + one (undo_begun x)
+  pub in_all : length ts ≡ count_of transition.StartRun ts + count_of transition.Commit ts + count_of transition.Missed ts
+      + count_of transition.Fail ts + count_of transition.StartUndo ts + count_of transition.Undone ts
+      + count_of transition.UndoMissed ts + count_of transition.UndoFail ts
+
+-- how far a step must have come that a step in that state needs directly
+abbrev pub SuitsNeed : StepState → StepState → Type 0
+SuitsNeed Waiting needed = Unit {0}
+SuitsNeed Running needed = is_standing needed ≡ true
+SuitsNeed Committed needed = is_standing needed ≡ true
+SuitsNeed Failed needed = has_committed needed ≡ true
+SuitsNeed Undoing needed = is_standing needed ≡ true
+SuitsNeed Undone needed = has_committed needed ≡ true
+SuitsNeed Fixed needed = is_standing needed ≡ true
+
+-- each step made the transitions that its state tells, was missed less often than it is tried, and what it needs has
+-- come as far as it must; while the saga is planned, no step is busy
+pub record IsTallied (d : Contents) (l : List Change) : Type 0 where
+  pub tally : (s : ℕ) → s < length d.steps → Tally (transitions l s) (state l s)
+  pub misses : (s : ℕ) → s < length d.steps → misses_of l s < tries d s
+  pub undo_misses : (s : ℕ) → s < length d.steps → undo_misses_of l s < undo_tries d s
+  pub needs : (b a : ℕ) → NeedsDirectly d.needs b a → SuitsNeed (state l b) (state l a)
+  pub drained : turn l ≡ Planning → AreDrained (states d l)
+
+-- each saga of a history is
+abbrev pub AllAreTallied : List Contents → List Event → Type 0
+AllAreTallied shelf h =
+    (i : ℕ) (d : Contents) → definition shelf (changes i h) ≡ Some d → IsTallied d (changes i h)

@@ -1,0 +1,68 @@
+//! What holds of each legal history. The functions only read what they are handed: their contracts are the laws.
+ghost use Rattle.std.specs.Prelude.{All};
+ghost use Rattle.saga_def.specs.Sound.{IsSound};
+ghost use Rattle.saga_history.specs.Changes.{past};
+ghost use Rattle.saga_history.specs.Rules.{IsLegal};
+ghost use Rattle.saga_history.specs.Headline.{Headline};
+ghost use Rattle.saga_history.specs.Tallies.{AllAreTallied};
+ghost use Rattle.saga_history.specs.Counts.{AllHaveFewEvents};
+ghost use Rattle.saga_history.specs.Progress.{AllEndedOrWait};
+ghost use Rattle.saga_history.specs.Plans.{PlansLeaveAWay};
+ghost use Rattle.saga_history.specs.Parts as parts;
+
+use crate::events::Event;
+use saga_def::Definition;
+
+/// Each definition on a shelf is sound, as each was when it was built. Takes time linear in the shelf.
+pub fn are_sound(shelf: &[Definition])
+    ensures { All IsSound shelf.now }
+{
+    for definition in shelf {
+        let _ = definition.steps();
+    }
+}
+
+/// The headline: in each legal history, each ended saga has exactly its goal, a closed set, committed and not
+/// compensated; every other committed step was compensated once, after all that depended on it; and every adopted plan
+/// costs least among all allowed closed sets, which hold no failed or undone step, or its chain shows that none is
+/// allowed.
+pub fn headline(shelf: &[Definition], history: &[Event])
+    ensures { IsLegal shelf.now (past history.now) → Headline shelf.now (past history.now) }
+{
+    are_sound(shelf);
+}
+
+/// What else holds of each saga of a legal history: what its states tell of its events; how many events it has; where
+/// it stands when nothing may begin in it; and that a compensation that fails for good does not by itself make it stuck.
+#[tactic(auto, using(crate::proofs::TallyLemmas::all_are_tallied, crate::proofs::CountLemmas::all_have_few_events, crate::proofs::ProgressLemmas::all_ended_or_wait, crate::proofs::PlanLemmas::plans_leave_a_way))]
+pub fn saga_laws(shelf: &[Definition], history: &[Event])
+    ensures tallied { IsLegal shelf.now (past history.now) → AllAreTallied shelf.now (past history.now) }
+    ensures few { IsLegal shelf.now (past history.now) → AllHaveFewEvents shelf.now (past history.now) }
+    ensures waits { IsLegal shelf.now (past history.now) → AllEndedOrWait shelf.now (past history.now) }
+    ensures goes_on { IsLegal shelf.now (past history.now) → PlansLeaveAWay shelf.now (past history.now) }
+{
+    are_sound(shelf);
+}
+
+/// How a history is made of its events: the event at each place of a legal one was allowed after those before it, which
+/// are a legal history too; and with an event that is allowed it stays legal. An event adds one change to its saga and
+/// leaves every other one as it was, and the history is legal exactly where each saga's part of it is.
+#[tactic(auto, using(crate::proofs::PartLemmas::grows_by_allowed, crate::proofs::PartLemmas::leaves_other_sagas, crate::proofs::MergeLemmas::adds_one_change))]
+pub fn history_laws(shelf: &[Definition], history: &[Event])
+    ensures places { IsLegal shelf.now (past history.now) → parts.EachWasAllowed shelf.now history.now }
+    ensures adds { parts.AddsOneChange history.now }
+    ensures grows { parts.GrowsByAllowed shelf.now history.now }
+    ensures others { parts.LeavesOtherSagas shelf.now history.now }
+    ensures sagas { parts.IsLegalBySagas shelf.now history.now }
+{}
+
+/// What histories have to do with each other: what is allowed in a saga depends on its own changes alone; a merge of
+/// legal histories that have no saga in common is legal, of two and of any number; and two that number their sagas by
+/// one stride from different first numbers have none in common.
+#[tactic(auto, using(crate::proofs::MergeLemmas::merges_are_legal, crate::proofs::MergeLemmas::merges_of_many_are_legal, crate::proofs::MergeLemmas::depends_on_own_changes))]
+pub fn merge_laws(shelf: &[Definition], first: &[Event], second: &[Event])
+    ensures own { parts.DependsOnOwnChanges shelf.now first.now second.now }
+    ensures merges { parts.MergesAreLegal shelf.now first.now second.now }
+    ensures many { parts.MergesOfManyAreLegal shelf.now }
+    ensures numbered { parts.NumberedApart shelf.now first.now second.now }
+{}

@@ -1,0 +1,29 @@
+//! Histories of sagas: which events there are, which may follow which, and what holds of each legal history, in which
+//! every event was allowed after those before it.
+//!
+//! [`headline`] is what all else is for: each ended saga has exactly its goal, compensations stand in reverse order,
+//! and each adopted plan is least, or its chain shows that no set is allowed. [`first_not_allowed`] judges a history by
+//! the rules alone.
+#![tactic(auto)]
+
+mod adopted;
+mod events;
+mod follower;
+mod laws;
+mod questions;
+mod states;
+mod tasks;
+#[cfg(test)]
+mod tests;
+mod transitions;
+mod turns;
+
+pub use adopted::Adopted;
+pub use events::{Event, Mark};
+pub use follower::{first_not_allowed, phase_of};
+pub use laws::{are_sound, headline, history_laws, merge_laws, saga_laws};
+pub use questions::{goal_contains, is_aborted, is_in_goal, opened_with, state_of, times, turn_of};
+pub use states::{is_busy, is_off, is_standing};
+pub use tasks::{Outcome, Phase, Task};
+pub use transitions::Transition;
+pub use turns::Turn;
