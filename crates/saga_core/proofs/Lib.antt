@@ -1,0 +1,6 @@
+-- Lemmas on a book that grows by one event.
+pub mod BookLemmas
+pub mod SagaLemmas
+mod OpenLemmas
+mod NextLemmas
+mod PhaseLemmas

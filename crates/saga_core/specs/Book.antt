@@ -1,0 +1,61 @@
+-- What a book is.
+use Rattle.std.specs.Prelude.{◌≡◌, ℕ, ◌<◌, ◌≤◌, ◌+◌, ◌*◌, All, List, None, length}
+use Rattle.std.specs.List.{count_by, sum_by}
+use Rattle.saga_def.specs.Contents.{Contents}
+use Rattle.saga_def.specs.Sound.{IsSound}
+use Rattle.saga_history.specs.declared.events.Event.{Event}
+use Rattle.saga_history.specs.declared.turns.Turn.{Turn}
+use Rattle.saga_history.specs.declared.turns.Turn.TheVariants.{Going, Draining, Planning, Stuck}
+use Rattle.saga_history.specs.Changes.{past, changes}
+use Rattle.saga_history.specs.Merges.{opened_sagas, IsNumbered}
+use Rattle.saga_history.specs.Rules.{IsLegal}
+use Rattle.saga_history.specs.States.{is_busy}
+use Rattle.saga_history.specs.Turns.{opened_with}
+use Rattle.saga_rows.specs.Follows.{Follows}
+use Rattle.saga_rows.specs.Row.{Row}
+use Rattle.saga_rows.specs.Rows.{row_at}
+use Rattle.saga_rows.specs.declared.rows.TheConstants.{MAX_ROWS}
+use Rattle.saga_core.specs.Journal.{Journal}
+
+-- the definitions on its shelf, how it numbers its sagas, and what happened
+pub record Book : Type 0 where
+  pub shelf : List Contents
+  pub first : ℕ
+  pub stride : ℕ
+  pub history : List Event
+
+-- the number of the saga that is opened after so many others
+abbrev pub number : ℕ → ℕ → ℕ → ℕ
+number first stride k = first + k * stride
+
+-- how many sagas a history opens
+abbrev pub sagas_in : List Event → ℕ
+sagas_in h = length (opened_sagas h)
+
+-- how many ends a row is owed: of its busy steps, and of a plan that is being made
+abbrev pub busy_in : Row → ℕ
+busy_in row = count_by is_busy row.states
+
+abbrev pub plans_in_turn : Turn → ℕ
+plans_in_turn Going = 0
+plans_in_turn Draining = 0
+plans_in_turn Planning = 1
+plans_in_turn Stuck = 0
+
+abbrev pub plans_in : Row → ℕ
+plans_in row = plans_in_turn row.turn
+
+-- how a book keeps its word: its history is legal, the rows follow it, and what is owed has its room
+pub record IsBook (shelf : List Contents) (first stride : ℕ) (rows : List Row) (journal : Journal) : Type 0 where
+  pub sound : All IsSound shelf
+  pub legal : IsLegal shelf (past journal.history)
+  pub follow : (k : ℕ) → k < length rows → Follows shelf (row_at rows k) (changes (number first stride k) (past journal.history))
+  pub others : (i : ℕ) → ((k : ℕ) → k < length rows → i ≡ number first stride k → ⊥)
+      → opened_with (changes i (past journal.history)) ≡ None
+  pub counted : sagas_in journal.history ≡ length rows
+  pub numbered : IsNumbered first stride journal.history
+  pub room : sum_by busy_in rows ≤ journal.owed
+  pub room_for_plans : sum_by plans_in rows ≤ journal.plans
+  pub few : length rows ≤ MAX_ROWS
+  pub begins : first < stride
+  pub near : stride ≤ 16

@@ -1,0 +1,5 @@
+-- The book of a coordinator.
+pub mod Journal
+pub mod Book
+pub mod Refusals
+pub mod Tasks

@@ -1,0 +1,88 @@
+-- What a call on a book says by its answer.
+use Rattle.std.specs.Prelude.{◌≡◌, ◌≢◌, ℕ, ◌<◌, ◌≤◌, ◌++◌, ◌∷◌, [], List, None, IsSomeAnd, length}
+use Rattle.saga_def.specs.Contents.{Contents}
+use Rattle.saga_case.specs.declared.states.StepState.{StepState}
+use Rattle.saga_case.specs.Situation.{Situation}
+use Rattle.saga_history.specs.declared.events.Event.{Event}
+use Rattle.saga_history.specs.declared.tasks.Outcome.{Outcome}
+use Rattle.saga_history.specs.declared.transitions.Transition.{Transition}
+use Rattle.saga_history.specs.declared.turns.Turn.TheVariants.{Planning}
+use Rattle.saga_history.specs.Changes.{Change, past, changes, step_event}
+use Rattle.saga_history.specs.Rules.{definition, IsAllowed, SagaMay, StepMay}
+use Rattle.saga_history.specs.States.{state}
+use Rattle.saga_history.specs.Turns.{opened_with, present_case, turn}
+use Rattle.saga_rows.specs.Follows.{IsEndOfRun, IsEndOfUndo}
+use Rattle.saga_rows.specs.declared.rows.TheConstants.{MAX_ROWS}
+use Rattle.saga_core.specs.Book.{Book, sagas_in}
+use Rattle.saga_core.specs.declared.refusals.AdoptRefusal.{AdoptRefusal}
+use Rattle.saga_core.specs.declared.refusals.AdoptRefusal.TheVariants as adopt
+use Rattle.saga_core.specs.declared.refusals.DropRefusal.{DropRefusal}
+use Rattle.saga_core.specs.declared.refusals.DropRefusal.TheVariants as drop
+use Rattle.saga_core.specs.declared.refusals.OpenRefusal.{OpenRefusal}
+use Rattle.saga_core.specs.declared.refusals.OpenRefusal.TheVariants as opening
+use Rattle.saga_core.specs.declared.refusals.ReportRefusal.{ReportRefusal}
+use Rattle.saga_core.specs.declared.refusals.ReportRefusal.TheVariants as report
+use Rattle.saga_core.specs.declared.refusals.SagaRefusal.{SagaRefusal}
+use Rattle.saga_core.specs.declared.refusals.SagaRefusal.TheVariants as saga
+use Rattle.saga_core.specs.declared.refusals.TakeRefusal.{TakeRefusal}
+use Rattle.saga_core.specs.declared.refusals.TakeRefusal.TheVariants as take
+
+-- the saga was not opened
+abbrev pub IsUnknown : List Event → ℕ → Type 0
+IsUnknown h i = opened_with (changes i h) ≡ None
+
+-- the saga was opened, and this holds of its definition and its changes
+abbrev pub OfSaga : List Contents → List Event → ℕ → (Contents → List Change → Type 0) → Type 0
+OfSaga shelf h i P = IsSomeAnd (definition shelf (changes i h)) (λ d. P d (changes i h))
+
+-- why no saga is opened; the first cause that applies
+abbrev pub OpenRefused : List Contents → List Event → ℕ → OpenRefusal → Type 0
+OpenRefused shelf h k opening.NoSuchDefinition = length shelf ≤ k
+OpenRefused shelf h k opening.Full = (k < length shelf) × (sagas_in h ≡ MAX_ROWS)
+OpenRefused shelf h k opening.OutOfMemory = (k < length shelf) × (sagas_in h < MAX_ROWS)
+
+-- why a step does not make a transition that begins something
+abbrev pub TakeRefused : List Contents → List Event → ℕ → ℕ → Transition → TakeRefusal → Type 0
+TakeRefused shelf h i s t take.NoSuchSaga = IsUnknown h i
+TakeRefused shelf h i s t take.NoSuchStep = OfSaga shelf h i (λ d l. length d.steps ≤ s)
+TakeRefused shelf h i s t take.NotNow = OfSaga shelf h i (λ d l. (s < length d.steps) × (StepMay d l s t → ⊥))
+TakeRefused shelf h i s t take.OutOfMemory = IsAllowed shelf h (step_event i s t)
+
+-- why an outcome is not taken for a step, which would have to be in that state
+abbrev pub ReportRefused : List Contents → List Event → ℕ → ℕ → StepState → ReportRefusal → Type 0
+ReportRefused shelf h i s x report.NoSuchSaga = IsUnknown h i
+ReportRefused shelf h i s x report.NoSuchStep = OfSaga shelf h i (λ d l. length d.steps ≤ s)
+ReportRefused shelf h i s x report.NotTaken = OfSaga shelf h i (λ d l. (s < length d.steps) × (state l s ≢ x))
+
+-- the book gained the event of a transition that was allowed
+pub record GainsTransition (old new : Book) (i s : ℕ) (t : Transition) : Type 0 where
+  pub allowed : IsAllowed old.shelf (past old.history) (step_event i s t)
+  pub gains : new ≡ record old { history = old.history ++ step_event i s t ∷ [] }
+
+-- of the transitions by which an action ends with that outcome, the book gained the one that was allowed
+abbrev pub RunIsReported : Book → Book → ℕ → ℕ → Outcome → Type 0
+RunIsReported old new i s outcome = (t : Transition) × IsEndOfRun outcome t × GainsTransition old new i s t
+
+abbrev pub UndoIsReported : Book → Book → ℕ → ℕ → Outcome → Type 0
+UndoIsReported old new i s outcome = (t : Transition) × IsEndOfUndo outcome t × GainsTransition old new i s t
+
+-- why a change of the saga as a whole is not made
+abbrev pub SagaRefused : List Contents → List Event → ℕ → Change → SagaRefusal → Type 0
+SagaRefused shelf h i c saga.NoSuchSaga = IsUnknown h i
+SagaRefused shelf h i c saga.NotNow = OfSaga shelf h i (λ d l. SagaMay d l c → ⊥)
+SagaRefused shelf h i c saga.OutOfMemory = OfSaga shelf h i (λ d l. SagaMay d l c)
+
+-- the case is the saga's present one
+abbrev pub IsPresentCase : List Contents → List Event → ℕ → Situation → Type 0
+IsPresentCase shelf h i case = OfSaga shelf h i (λ d l. case ≡ present_case d l)
+
+-- why a plan is not dropped
+abbrev pub DropRefused : List Contents → List Event → ℕ → DropRefusal → Type 0
+DropRefused shelf h i drop.NoSuchSaga = IsUnknown h i
+DropRefused shelf h i drop.NotPlanning = OfSaga shelf h i (λ d l. turn l ≢ Planning)
+
+-- why a verdict on a case is not adopted
+abbrev pub AdoptIsRefused : List Contents → List Event → ℕ → Situation → AdoptRefusal → Type 0
+AdoptIsRefused shelf h i case adopt.NoSuchSaga = IsUnknown h i
+AdoptIsRefused shelf h i case adopt.NotPlanning = OfSaga shelf h i (λ d l. turn l ≢ Planning)
+AdoptIsRefused shelf h i case adopt.Stale = OfSaga shelf h i (λ d l. (turn l ≡ Planning) × (case ≢ present_case d l))

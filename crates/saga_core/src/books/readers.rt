@@ -1,0 +1,100 @@
+//! What a book tells of its sagas. No reader takes memory, and none goes over steps or sagas.
+ghost use Rattle.std.specs.Prelude.{◌≡◌, ◌↔◌, IsTrue, MatchOption, Some};
+ghost use Rattle.saga_history.specs.Changes.{past};
+ghost use Rattle.saga_core.specs.Book as book;
+ghost use Rattle.saga_core.specs.Refusals.{IsUnknown, OfSaga};
+ghost use Rattle.saga_core.specs.Tasks.{AllAreOver, HasGoal, HasNoStep, HasState, IsDefinedBy, StandsAt};
+
+use crate::books::Book;
+use crate::numbers::place_of;
+use saga_case::StepState;
+use saga_def::Definition;
+use saga_history::{Phase, Turn};
+
+impl<'d> Book<'d> {
+    /// The state of a step, or none where there is no such saga or step.
+    pub fn state(&self, saga: u32, step: u16) -> Option<StepState>
+        ensures { MatchOption result (HasNoStep self.now.shelf (past self.now.history) saga step) (λ x. HasState self.now.shelf (past self.now.history) saga step x) }
+    {
+        let Some(place) = place_of(&self.rows, self.first_number, self.apart, saga) else {
+            return None;
+        };
+        let row = self.rows.row(place);
+        if step as usize >= row.steps() {
+            return None;
+        }
+        Some(row.states()[step as usize])
+    }
+
+    /// Whether a step is in the goal, or none where there is no such saga or step. In a saga that is not going, no step
+    /// is.
+    pub fn in_goal(&self, saga: u32, step: u16) -> Option<bool>
+        ensures { MatchOption result (HasNoStep self.now.shelf (past self.now.history) saga step) (λ wanted. HasGoal self.now.shelf (past self.now.history) saga step wanted) }
+    {
+        let Some(place) = place_of(&self.rows, self.first_number, self.apart, saga) else {
+            return None;
+        };
+        let row = self.rows.row(place);
+        if step as usize >= row.steps() {
+            return None;
+        }
+        Some(row.turn() == Turn::Going && row.goal()[step as usize])
+    }
+
+    /// Where a saga stands, or none where there is no such saga.
+    pub fn phase(&self, saga: u32) -> Option<Phase>
+        ensures { MatchOption result (IsUnknown (past self.now.history) saga) (λ phase. StandsAt self.now.shelf (past self.now.history) saga phase) }
+    {
+        let Some(place) = place_of(&self.rows, self.first_number, self.apart, saga) else {
+            return None;
+        };
+        let row = self.rows.row(place);
+        Some(row.phase())
+    }
+
+    /// The definition of a saga, or none where there is no such saga.
+    pub fn definition(&self, saga: u32) -> Option<&'d Definition>
+        ensures { MatchOption result (IsUnknown (past self.now.history) saga) (λ d. IsDefinedBy self.now.shelf (past self.now.history) saga d.now) }
+    {
+        let Some(place) = place_of(&self.rows, self.first_number, self.apart, saga) else {
+            return None;
+        };
+        let row = self.rows.row(place);
+        Some(row.definition())
+    }
+
+    /// How many sagas were opened.
+    pub fn sagas(&self) -> usize
+        ensures { result ≡ book.sagas_in self.now.history }
+    {
+        self.rows.len()
+    }
+
+    /// Whether each saga is ended or stuck.
+    pub fn settled(&self) -> bool
+        ensures { IsTrue result ↔ AllAreOver self.now.shelf (past self.now.history) }
+    {
+        self.rows.are_over()
+    }
+
+    /// The definitions that the book was made with.
+    pub fn shelf(&self) -> &'d [Definition]
+        ensures { result.now ≡ self.now.shelf }
+    {
+        self.definitions
+    }
+
+    /// The number of the saga that is opened first.
+    pub fn first(&self) -> u32
+        ensures { result ≡ self.now.first }
+    {
+        self.first_number
+    }
+
+    /// How far the numbers of sagas that are opened one after the other are apart.
+    pub fn stride(&self) -> u32
+        ensures { result ≡ self.now.stride }
+    {
+        self.apart
+    }
+}

@@ -1,0 +1,16 @@
+//! The book: sagas by their numbers, and the history of what happened to them, one event for each accepted call.
+//!
+//! Whatever calls are made on a [`Book`], its history is legal, so the headline of `saga_history` holds of it.
+#![tactic(auto)]
+
+mod books;
+mod journals;
+mod numbers;
+mod refusals;
+#[cfg(test)]
+mod tests;
+
+pub use books::{Book, MAX_SAGAS};
+pub use refusals::{
+    AdoptRefusal, AdoptRefused, DropRefusal, OpenRefusal, ReportRefusal, SagaRefusal, TakeRefusal,
+};

@@ -1,0 +1,47 @@
+//! The numbers of a book's sagas, and of their tasks.
+ghost use Rattle.std.specs.Prelude.{ℕ, ◌≡◌, ◌<◌, ◌≤◌, MatchOption, length};
+ghost use Rattle.saga_core.specs.Book.{number};
+ghost use Rattle.saga_core.specs.Tasks as tasks;
+ghost use Rattle.saga_rows.specs.declared.rows.TheConstants.{MAX_ROWS};
+
+use saga_history::Task;
+use saga_rows::{RowTask, Rows};
+
+/// The place of a saga among the rows, by its number.
+pub fn place_of(rows: &Rows, first: u32, stride: u32, saga: u32) -> Option<usize>
+    requires { first < stride }
+    ensures { MatchOption result ((k : ℕ) → k < length rows.now → saga ≡ number first stride k → ⊥) (λ k. (k < length rows.now) × (saga ≡ number first stride k)) }
+{
+    if saga < first {
+        return None;
+    }
+    if (saga - first) % stride != 0 {
+        return None;
+    }
+    let place = (saga - first) / stride;
+    if place as usize >= rows.len() {
+        return None;
+    }
+    Some(place as usize)
+}
+
+/// The number of the saga of a row.
+pub fn number_of(first: u32, stride: u32, place: usize) -> u32
+    requires begins { first < stride }
+    requires near { stride ≤ 16 }
+    requires few { place ≤ MAX_ROWS }
+    ensures { result ≡ number first stride place }
+{
+    first + place as u32 * stride
+}
+
+/// The task of a row, as one of its saga.
+pub fn task_of(saga: u32, task: RowTask) -> Task
+    ensures { result ≡ tasks.task_of saga task }
+{
+    match task {
+        RowTask::Run(step) => Task::Run(saga, step),
+        RowTask::Undo(step) => Task::Undo(saga, step),
+        RowTask::Plan => Task::Plan(saga),
+    }
+}

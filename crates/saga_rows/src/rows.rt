@@ -1,0 +1,212 @@
+//! The rows of several sagas, and the first task of all.
+ghost use Rattle.std.specs.Prelude.{ℕ, Bool, List, ◌≡◌, ◌<◌, ◌≤◌, ◌++◌, ◌∷◌, [], ◌↔◌, true, IsTrue, IfOk, IfErr, MatchOption, length, slice_set};
+ghost use Rattle.std.specs.List.{count_by};
+ghost use Rattle.saga_rows.specs.Row.{Row, RowAllowsNone, new_row, row_turning, row_after, row_adopting, row_aborting, HasRoom, FitsIn};
+ghost use Rattle.saga_rows.specs.Rows.{AreMarked, IsCountBut, IsMarkOf, IsNext, is_open, is_over, row_at};
+
+use crate::bit_sets::BitSet;
+use crate::counts::moved;
+use crate::row::Row;
+use crate::tasks::RowTask;
+use saga_case::Answer;
+use saga_def::Definition;
+use saga_history::{Transition, Turn};
+use std::alloc::{AllocError, Global};
+use std::marker::Model;
+
+/// The most rows that [`Rows`] holds.
+pub const MAX_ROWS: usize = 1000;
+
+/// Rows, which contracts see as a list. With a mark for each in which a task is allowed, and a count of those that are
+/// not over.
+#[derive(Drop)]
+pub struct Rows<'d> {
+    rows: Vec<Row<'d>>,
+    tasks: BitSet,
+    open_rows: usize,
+}
+
+impl<'d> Model for Rows<'d> {
+    ghost use Rattle.std.specs.Prelude.{List};
+    ghost use Rattle.saga_rows.specs.Row.{Row};
+    ghost use Rattle.saga_rows.specs.Rows.{AreRows};
+
+    ghost Value = { List Row };
+
+    ghost view = { λ r. r.rows.items };
+
+    ghost invariant = { λ r. AreRows r.rows.items r.tasks r.open_rows };
+}
+
+/// Whether a task is allowed in a saga.
+fn has_task(row: &Row) -> bool
+    ensures { IsMarkOf row.now result }
+{
+    match row.first() {
+        Some(_) => true,
+        None => false,
+    }
+}
+
+/// Marks one row anew.
+fn mark(rows: &[Row], tasks: &mut BitSet, i: usize)
+    requires within { i < length rows.now }
+    requires others { AreMarked rows.now tasks.old i }
+    ensures { AreMarked rows.now tasks.new (length rows.now) }
+{
+    let some = has_task(&rows[i]);
+    tasks.set(i, some);
+}
+
+/// The count of open rows after one row changed.
+fn recount(rows: &[Row], open_rows: usize, i: usize, was: bool) -> usize
+    requires within { i < length rows.now }
+    requires few { length rows.now ≤ MAX_ROWS }
+    requires counted { IsCountBut rows.now i was open_rows }
+    ensures { result ≡ count_by is_open rows.now }
+{
+    let row = &rows[i];
+    moved(open_rows, was, !row.is_over())
+}
+
+/// Room for the mark of one row more.
+fn make_room(tasks: &mut BitSet, rows: &[Row]) -> Result<(), AllocError>
+    requires { AreMarked rows.now tasks.old (length rows.now) }
+    ensures marked { AreMarked rows.now tasks.new (length rows.now) }
+    ensures room { IfOk result (λ _. length rows.now < length tasks.new) }
+{
+    if tasks.len() == rows.len() {
+        tasks.push()?;
+    }
+    Ok(())
+}
+
+impl<'d> Rows<'d> {
+    /// No row yet. Takes no memory.
+    pub fn new(alloc: Global) -> Rows<'d>
+        ensures { result ≡ [] }
+    {
+        Rows {
+            rows: Vec::new(alloc),
+            tasks: BitSet::empty(alloc),
+            open_rows: 0,
+        }
+    }
+
+    /// A row more, for a saga in which nothing has happened. All its memory is taken here; where some is refused, the
+    /// rows are as before.
+    pub fn open(&mut self, alloc: Global, definition: &'d Definition) -> Result<(), AllocError>
+        requires { length self.old < MAX_ROWS }
+        ensures ok { IfOk result (λ _. self.new ≡ self.old ++ new_row definition.now ∷ []) }
+        ensures err { IfErr result (λ _. self.new ≡ self.old) }
+    {
+        let row = Row::new(alloc, definition)?;
+        let i = self.rows.len();
+        let is_open = !row.is_over();
+        make_room(&mut self.tasks, &self.rows)?;
+        self.rows.push(row)?;
+        mark(&self.rows, &mut self.tasks, i);
+        self.open_rows += usize::from(is_open);
+        Ok(())
+    }
+
+    /// Without the last row.
+    pub fn close(&mut self)
+        requires { 0 < length self.old }
+        ensures { (rows : List Row) (row : Row) → self.old ≡ rows ++ row ∷ [] → self.new ≡ rows }
+    {
+        let i = self.rows.len() - 1;
+        self.tasks.set(i, false);
+        let last = self.rows.take_last();
+        self.open_rows = moved(self.open_rows, !last.is_over(), false);
+    }
+
+    /// A step of a saga makes a transition.
+    pub fn apply(&mut self, i: usize, s: u16, t: Transition)
+        requires within { i < length self.old }
+        requires step { s < length (row_at self.old i).definition.steps }
+        requires room { HasRoom (row_at self.old i) s t }
+        ensures { self.new ≡ slice_set self.old i (row_after (row_at self.old i) s t) }
+    {
+        let row = &mut self.rows[i];
+        let was = !row.is_over();
+        row.apply(s, t);
+        mark(&self.rows, &mut self.tasks, i);
+        self.open_rows = recount(&self.rows, self.open_rows, i, was);
+    }
+
+    /// An answer is adopted in a saga.
+    pub fn adopt(&mut self, i: usize, answer: &Answer)
+        requires within { i < length self.old }
+        requires fits { FitsIn (row_at self.old i) answer.now }
+        ensures { self.new ≡ slice_set self.old i (row_adopting (row_at self.old i) answer.now) }
+    {
+        let row = &mut self.rows[i];
+        let was = !row.is_over();
+        row.adopt(answer);
+        mark(&self.rows, &mut self.tasks, i);
+        self.open_rows = recount(&self.rows, self.open_rows, i, was);
+    }
+
+    /// A saga is aborted.
+    pub fn abort(&mut self, i: usize)
+        requires { i < length self.old }
+        ensures { self.new ≡ slice_set self.old i (row_aborting (row_at self.old i)) }
+    {
+        let row = &mut self.rows[i];
+        let was = !row.is_over();
+        row.abort();
+        mark(&self.rows, &mut self.tasks, i);
+        self.open_rows = recount(&self.rows, self.open_rows, i, was);
+    }
+
+    /// The turn of a saga changes: a plan is begun or dropped.
+    pub fn turn_to(&mut self, i: usize, turn: Turn)
+        requires { i < length self.old }
+        ensures { self.new ≡ slice_set self.old i (row_turning (row_at self.old i) turn) }
+    {
+        let row = &mut self.rows[i];
+        let was = !row.is_over();
+        row.turn_to(turn);
+        mark(&self.rows, &mut self.tasks, i);
+        self.open_rows = recount(&self.rows, self.open_rows, i, was);
+    }
+
+    /// One row.
+    pub fn row(&self, i: usize) -> &Row<'d>
+        requires { i < length self.now }
+        ensures { result.now ≡ row_at self.now i }
+    {
+        &self.rows[i]
+    }
+
+    /// How many rows there are.
+    pub fn len(&self) -> usize
+        ensures { result ≡ length self.now }
+    {
+        self.rows.len()
+    }
+
+    /// Whether each saga is ended or stuck. Looks at no row.
+    pub fn are_over(&self) -> bool
+        ensures { IsTrue result ↔ ((i : ℕ) → i < length self.now → is_over (row_at self.now i) ≡ true) }
+    {
+        self.open_rows == 0
+    }
+
+    /// The first task of all, by row and then by step. Looks at no row but the one that has it.
+    pub fn next(&self) -> Option<(usize, RowTask)>
+        ensures { MatchOption result ((i : ℕ) → i < length self.now → RowAllowsNone (row_at self.now i)) (λ r. IsNext self.now r.0 r.1) }
+    {
+        match self.tasks.first() {
+            None => None,
+            Some(i) => {
+                let row = &self.rows[i];
+                match row.first() {
+                    None => None,
+                    Some(task) => Some((i, task)),
+                }
+            }
+        }
+    }
+}

@@ -1,0 +1,12 @@
+//! What there is to do in one saga.
+
+/// What may start in a saga, with the step's number.
+#[derive(Clone, Copy, Debug, PartialEq, Eq)]
+pub enum RowTask {
+    /// A step's action.
+    Run(u16),
+    /// A step's compensation.
+    Undo(u16),
+    /// A plan.
+    Plan,
+}
