@@ -71,6 +71,25 @@ states() {
   printf '"%s"]}' "$3"
 }
 
+# named NAME NEEDS: a definition of 1,024 steps with so many needs, of which the first step has that name. A step needs steps
+# before it, the nearest first, and nine at most.
+named() {
+  awk -v name="$1" -v left="$2" 'BEGIN {
+    printf "format = 1\nname = \"named\"\n"
+    for (i = 0; i < 1024; i++) {
+      printf "\n[[step]]\nname = \"%s\"\nneeds = [", i ? "s" i : name
+      for (k = 1; k <= 9 && k <= i && left > 0; k++) { printf "\"%s\",", i - k ? "s" (i - k) : name; left-- }
+      print "]"
+    }
+  }'
+}
+
+# padded FILE BYTES WITH: the file, filled up to so many bytes with a character.
+padded() {
+  cat "$1"
+  head -c $(($2 - $(stat -c %s "$1"))) /dev/zero | tr '\0' "$3"
+}
+
 none=/dev/null
 examples=examples
 ./sagas --help >/dev/null || { echo "the program is not built"; exit 1; }
@@ -107,30 +126,100 @@ expect 4 '' 'sagas: cannot read x' $none plan $trip x
 expect 4 '' 'sagas: cannot read x' $none plan x y
 expect 3 '' 'sagas: definition: not-toml' $none plan $case $answer
 expect 3 '' 'sagas: case: unknown-key' $none plan $trip $answer
-expect 2 '' '*Usage*' $none check $trip
-expect 2 '' '*Usage*' $none plan $trip
-expect 2 '' '*Usage*' $none plan $trip $case $answer
-expect 2 '' '*' $none chekc $trip
-expect 0 '*Usage*DEF*CASE*ANSWER*Status: 0*' '' $none check --help
-expect 0 '*Usage*DEF*CASE*Status: 0*' '' $none plan --help
-expect 0 '*Usage*COMMAND*Status: 0*' '' $none --help
+
+# words
+usage='*Usage: sagas check <DEF> <CASE> <ANSWER>*'
+expect 2 '' "$usage" $none check $trip
+expect 2 '' "$usage" $none check $trip $case $answer $answer
+expect 2 '' "$usage" $none check --version
+expect 2 '' '*Usage: sagas plan <DEF> <CASE>*' $none plan $trip
+expect 2 '' '*Usage: sagas plan <DEF> <CASE>*' $none plan $trip $case $answer
+expect 2 '' '*--workers*Usage: sagas plan <DEF> <CASE>*' $none plan --workers 2 $trip $case
+expect 2 '' 'error: *' $none chekc
+expect 2 '' 'error: *' $none chekc $trip
+expect 2 '' 'error: *' $none chekc $trip $case
+expect 2 '' 'error: *' $none chekc --help
+expect 2 '' 'error: *' $none run $trip
+expect 2 '' 'error: *--x*' $none --x
+expect 2 '' 'error: invalid UTF-8*' $none plan $'\xff.toml' $case
+expect 2 '' 'error: invalid UTF-8*' $none $'\xff'
+expect 0 '*Usage: sagas check <DEF> <CASE> <ANSWER>*Status: 0*' '' $none check --help
+expect 0 '*Usage: sagas check <DEF> <CASE> <ANSWER>*Status: 0*' '' $none check $trip $case $answer --help
+expect 0 '*Usage: sagas plan <DEF> <CASE>*Status: 0*' '' $none plan --help
+expect 0 '*Usage: sagas <COMMAND>*check DEF CASE ANSWER: *plan DEF CASE: *Status: 0*' '' $none --help
+expect 0 'sagas 0.1.0' '' $none --version
 expect 3 '' 'sagas: input: parts' $none
 
-head -c 1048577 /dev/zero | tr '\0' '#' >"$work/long.toml"
+# a terminal on standard input: help, instead of waiting
+runs=$((runs + 1))
+timeout 20 script -qec ./sagas /dev/null <$none >"$work/out" 2>&1
+got=$?
+if [ $got != 0 ] || [[ "$(cat "$work/out")" != *'Usage: sagas <COMMAND>'* ]]; then
+  wrong=$((wrong + 1))
+  echo "wrong: a terminal without words: status $got"
+fi
+
+runs=$((runs + 1))
+./sagas <&- >"$work/out" 2>"$work/err"
+got=$?
+if [ $got != 4 ] || [ -s "$work/out" ] || [ "$(cat "$work/err")" != 'sagas: cannot read -' ]; then
+  wrong=$((wrong + 1))
+  echo "wrong: a closed standard input: status $got"
+fi
+
+# limits, on both sides
+named abcdefghijklmnopqrstuvwxyz_-0123 8192 >"$work/named.toml"
+states 1024 waiting failed >"$work/named.json"
+planned 0 'least 0' "$work/named.toml" "$work/named.json"
+named abcdefghijklmnopqrstuvwxyz_-01234 8192 >"$work/named.toml"
+expect 3 '' 'sagas: definition: bad-name' $none plan "$work/named.toml" "$work/named.json"
+named a 8193 >"$work/named.toml"
+expect 3 '' 'sagas: definition: too-many-needs' $none plan "$work/named.toml" "$work/named.json"
+padded $trip 1048576 '#' >"$work/long.toml"
+planned 0 'least 38' "$work/long.toml" $case
+printf '#' >>"$work/long.toml"
 expect 3 '' 'sagas: definition: too-long' $none check "$work/long.toml" $case $answer
-expect 3 '' 'sagas: input: too-long' "$work/long.toml"
-head -c 1048576 "$work/long.toml" >"$work/full.toml"
-expect 3 '' 'sagas: definition: bad-format' $none check "$work/full.toml" $case $answer
-truncate -s 67108865 "$work/long.json"
+expect 4 '' "sagas: cannot read $work/none" $none check "$work/long.toml" "$work/none" $answer
 expect 3 '' 'sagas: definition: too-long' $none plan "$work/long.toml" $case
-expect 3 '' 'sagas: case: too-long' $none plan $trip "$work/long.json"
+padded $case 67108864 ' ' >"$work/long.json"
+expect 0 'least 38' '' $none check $trip "$work/long.json" $answer
+printf ' ' >>"$work/long.json"
 expect 3 '' 'sagas: case: too-long' $none check $trip "$work/long.json" $answer
+expect 3 '' 'sagas: case: too-long' $none plan $trip "$work/long.json"
+padded $answer 67108864 ' ' >"$work/long.json"
+expect 0 'least 38' '' $none check $trip $case "$work/long.json"
+printf ' ' >>"$work/long.json"
 expect 3 '' 'sagas: answer: too-long' $none check $trip $case "$work/long.json"
+padded crates/saga_tool/stdin 1048576 ' ' >"$work/long.txt"
+expect 0 'blocked' '' "$work/long.txt"
+printf ' ' >>"$work/long.txt"
+expect 3 '' 'sagas: input: too-long' "$work/long.txt"
 
-./sagas check $trip $case $answer >/dev/full 2>"$work/err"
-[ $? = 4 ] && [ "$(cat "$work/err")" = 'sagas: cannot write -' ] || { wrong=$((wrong + 1)); echo "wrong: an unwritable output"; }
-./sagas check $case $case $answer >/dev/full 2>"$work/err"
-[ $? = 3 ] && [ "$(cat "$work/err")" = 'sagas: definition: not-toml' ] || { wrong=$((wrong + 1)); echo "wrong: nothing to print"; }
+# files that never end
+expect 3 '' 'sagas: definition: too-long' $none plan /dev/zero $case
+expect 3 '' 'sagas: case: too-long' $none plan $trip /dev/zero
+expect 3 '' 'sagas: answer: too-long' $none check $trip $case /dev/zero
+expect 3 '' 'sagas: input: too-long' /dev/zero
 
-echo "program: $((runs + 2)) runs, $wrong wrong"
+# unwritten STATUS LINE WORDS..: the status and the line where standard output is full, and where it is closed
+unwritten() {
+  local status=$1 line=$2 got
+  shift 2
+  for stream in full closed; do
+    if [ $stream = full ]; then ./sagas "$@" >/dev/full 2>"$work/err"; else ./sagas "$@" >&- 2>"$work/err"; fi
+    got=$?
+    runs=$((runs + 1))
+    if [ "$got" != "$status" ] || [ "$(cat "$work/err")" != "$line" ]; then
+      wrong=$((wrong + 1))
+      echo "wrong: sagas $*, standard output $stream: status $got for $status: $(head -n 1 "$work/err")"
+    fi
+  done
+}
+
+unwritten 4 'sagas: cannot write -' check $trip $case $answer
+unwritten 4 'sagas: cannot write -' --help
+unwritten 3 'sagas: definition: not-toml' check $case $case $answer
+unwritten 4 'sagas: cannot read x' plan x y
+
+echo "program: $runs runs, $wrong wrong"
 [ "$wrong" = 0 ]

@@ -1,21 +1,26 @@
-//! Times the building of a definition, its order, the flow and the planner, each on the text that a file or standard input
-//! has.
+//! Times the building of a definition, its order, the flow, the planner and the book, each on the text that a file or
+//! standard input has.
 //!
 //! The first word says what: `flow` takes a network in DIMACS form and prints the value of a greatest flow and the
 //! rounds in which it was found; `plan` takes a case and prints the cost of a least plan and the rounds, or `blocked`;
-//! `build` and `order` take a case as well and print how many needs it has, and the longest chain of them. The second word, if any, is the file. On
-//! standard error stand the seconds that each of many runs took, a line a run.
+//! `build` and `order` take a case as well and print how many needs it has, and the longest chain of them; `book` takes a
+//! case, whose states it does not look at, how many sagas of its definition are driven, and which step of each fails, if
+//! any, and prints how many events that made. The second word, if any, is the file. On standard error stand the seconds
+//! that each of many runs took, a line a run.
 #![tactic(auto)]
 
 ghost use Rattle.saga_flow.specs.Network.{IsNetwork};
 ghost use Rattle.saga_flow.specs.Reached.{HasUnbounded, Reaches};
 
+mod books;
 mod cases;
 mod dimacs;
 mod numbers;
 
+use crate::books::{Load, drive};
 use crate::cases::{Parts, Problem, define, read_case, read_parts};
 use crate::dimacs::{Network, read_network};
+use crate::numbers::number;
 use anyhow::{Result, bail, ensure};
 use saga_case::{Answer, Case};
 use saga_flow::{Flow, Net, largest_counted, unbounded_path};
@@ -27,6 +32,9 @@ use std::{env, fs, io};
 
 /// How often each thing is done: each run has a line.
 const TIMES: u32 = 101;
+
+/// How often a book is driven.
+const BOOK_TIMES: u32 = 5;
 
 /// A greatest flow and its rounds, with the net built anew.
 fn flow_anew(alloc: Global, network: &Network) -> Result<(Flow, u64), AllocError>
@@ -107,6 +115,18 @@ fn time_order(rt: &HostRuntime, text: &str) -> Result<()> {
     Ok(())
 }
 
+fn time_book(rt: &HostRuntime, text: &str, load: Load) -> Result<()> {
+    let definition = read_case(rt.alloc(), text)?.definition;
+    let mut shelf = Vec::new(rt.alloc());
+    shelf.push(definition)?;
+    println!(rt; "events {}", drive(rt, &shelf, load)?.0)?;
+    for _ in 0..BOOK_TIMES {
+        let (_, took) = drive(rt, &shelf, load)?;
+        show(rt, took)?;
+    }
+    Ok(())
+}
+
 fn main(rt: HostRuntime) -> Result<()> {
     let mut words = env::args(&rt)?.skip(1);
     let what = words.next();
@@ -119,6 +139,14 @@ fn main(rt: HostRuntime) -> Result<()> {
         Some("plan") => time_plan(&rt, text.as_str()),
         Some("build") => time_build(&rt, text.as_str()),
         Some("order") => time_order(&rt, text.as_str()),
-        _ => bail!("flow, plan, build or order?"),
+        Some("book") => {
+            let sagas = number(words.next().as_deref())?;
+            let fails = match words.next() {
+                Some(word) => Some(u16::try_from(number(Some(word.as_str()))?)?),
+                None => None,
+            };
+            time_book(&rt, text.as_str(), Load { sagas, fails })
+        }
+        _ => bail!("flow, plan, build, order or book?"),
     }
 }

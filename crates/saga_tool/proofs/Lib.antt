@@ -1,1 +1,6 @@
-mod RequiredLemmas
+mod ParseLemmas
+mod TableLemmas
+mod MatchLemmas
+mod CountLemmas
+mod FaultLemmas
+mod ReplyLemmas

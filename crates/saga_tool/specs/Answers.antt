@@ -1,6 +1,6 @@
 -- What the program answers to texts.
 use Rattle.std.specs.Prelude.{ℕ, List, ◌++◌, codes, length, Ok, ◌<◌, ◌≤◌, ◌⊎◌}
-use Rattle.saga_tool.specs.declared.limits.TheConstants.{MAX_INPUT}
+use Rattle.saga_tool.specs.Limits.{max_input}
 use Rattle.saga_tool.specs.declared.outcomes.Outcome.{Outcome}
 use Rattle.saga_tool.specs.declared.replies.Reply.{Reply}
 use Rattle.saga_tool.specs.declared.outcomes.Outcome.TheVariants.{Planned}
@@ -32,16 +32,16 @@ pub record IsPlanReply (definition case : List ℕ) (reply : Reply) : Type 0 whe
 
 -- an input that is too long, or has no parts
 pub record IsTooLong (input : List ℕ) (reply : Reply) : Type 0 where
-  pub long : MAX_INPUT < length input
+  pub long : max_input < length input
   pub says : IsBadInput (codes "sagas: input: too-long" ++ line_feed) reply
 
 pub record LacksParts (input : List ℕ) (reply : Reply) : Type 0 where
-  pub short : length input ≤ MAX_INPUT
+  pub short : length input ≤ max_input
   pub none : HasNoParts input
   pub says : IsBadInput (codes "sagas: input: parts" ++ line_feed) reply
 
 pub record IsPartsReply (input : List ℕ) (reply : Reply) : Type 0 where
-  pub short : length input ≤ MAX_INPUT
+  pub short : length input ≤ max_input
   pub definition : List ℕ
   pub case : List ℕ
   pub answer : List ℕ

@@ -1,9 +1,13 @@
 -- What the program answers to words and texts.
 pub mod Parts
-pub mod Words
-pub mod Required
+pub mod Forms
+pub mod Suited
+pub mod Given
 pub mod Command
+pub mod Limits
 pub mod Outcomes
 pub mod Lines
 pub mod Replies
 pub mod Answers
+pub mod Outside
+pub mod Program

@@ -15,7 +15,7 @@ use Rattle.saga_cert.specs.declared.faults.CertFault.TheVariants as cert
 use Rattle.saga_cert.specs.Reads.{ReadsCase, ReadsAnswer}
 use Rattle.saga_check.specs.Faults.{IsFirstFault}
 use Rattle.saga_plan.specs.Planned.{IsSmallest}
-use Rattle.saga_tool.specs.declared.limits.TheConstants.{MAX_CERTIFICATE}
+use Rattle.saga_tool.specs.Limits.{max_certificate}
 use Rattle.saga_tool.specs.declared.outcomes.Outcome.{Outcome}
 use Rattle.saga_tool.specs.declared.outcomes.Outcome.TheVariants.{Definition, CaseTooLong, Case, AnswerTooLong, Answer as AnswerFault, Refused, Least, Blocked, Planned}
 use Rattle.saga_tool.specs.declared.outcomes.Question.{Question}
@@ -42,15 +42,15 @@ JudgesTo c a outcome = ⊥
 -- the texts of a definition and of a case of it
 pub record AreRead (definition case : List ℕ) (d : Contents) (c : Situation) : Type 0 where
   pub definition_is : Reads definition (Ok d)
-  pub short : length case ≤ MAX_CERTIFICATE
+  pub short : length case ≤ max_certificate
   pub case_is : ReadsCase d case (Ok c)
 
 -- what a check of an answer's text comes to: its first fault, or what the judge says of what it holds
 abbrev pub ChecksTo : List ℕ → Situation → Outcome → Type 0
-ChecksTo text c AnswerTooLong = MAX_CERTIFICATE < length text
+ChecksTo text c AnswerTooLong = max_certificate < length text
 ChecksTo text c (AnswerFault fault) =
-    (length text ≤ MAX_CERTIFICATE) × ReadsAnswer text (Err fault) × (fault ≢ cert.OutOfMemory)
-ChecksTo text c outcome = (a : Answer) × (length text ≤ MAX_CERTIFICATE) × ReadsAnswer text (Ok a) × JudgesTo c a outcome
+    (length text ≤ max_certificate) × ReadsAnswer text (Err fault) × (fault ≢ cert.OutOfMemory)
+ChecksTo text c outcome = (a : Answer) × (length text ≤ max_certificate) × ReadsAnswer text (Ok a) × JudgesTo c a outcome
 
 -- an answer of the planner: right, its plan least and contained in every least set, its chain where no set is allowed
 pub record IsPlanned (c : Situation) (a : Answer) : Type 0 where
@@ -76,8 +76,8 @@ pub record IsAnswered (answers : Situation → Outcome → Type 0) (definition c
 -- the first fault in the order definition, case, answer; or what answers the question
 abbrev pub ComesTo : (Situation → Outcome → Type 0) → List ℕ → List ℕ → Outcome → Type 0
 ComesTo answers definition case (Definition fault) = Reads definition (Err fault) × (fault ≢ text.OutOfMemory)
-ComesTo answers definition case CaseTooLong = (d : Contents) × Reads definition (Ok d) × (MAX_CERTIFICATE < length case)
+ComesTo answers definition case CaseTooLong = (d : Contents) × Reads definition (Ok d) × (max_certificate < length case)
 ComesTo answers definition case (Case fault) =
-    (d : Contents) × Reads definition (Ok d) × (length case ≤ MAX_CERTIFICATE) × ReadsCase d case (Err fault)
+    (d : Contents) × Reads definition (Ok d) × (length case ≤ max_certificate) × ReadsCase d case (Err fault)
     × (fault ≢ cert.OutOfMemory)
 ComesTo answers definition case outcome = IsAnswered answers definition case outcome

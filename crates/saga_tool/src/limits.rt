@@ -1,4 +1,4 @@
-//! The limits of files and of standard input.
+//! The limits of files and of standard input; the limit of a definition is `saga_text`'s.
 
 /// The most bytes of a case or answer.
 pub const MAX_CERTIFICATE: usize = 67_108_864;

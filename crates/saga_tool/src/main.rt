@@ -1,23 +1,27 @@
 //! The program `sagas`: finds the cheapest way to end a saga in which a step has failed, and judges such plans.
 //!
-//! The work is done by functions over bytes. `main` reads the files, calls one of them, and prints what it replies.
+//! The work is done by functions over bytes, and by `run` over whatever outside it is given. `main` hands it the system
+//! and the words.
 #![tactic(auto)]
 
-mod commands;
-mod files;
+mod arguments;
+mod forms;
 mod limits;
 mod outcomes;
+mod outside;
 mod parts;
+mod program;
 mod replies;
 #[cfg(test)]
 mod tests;
 mod texts;
 mod words;
 
-use crate::commands::{on_input, on_words};
-use crate::replies::Reply;
+use crate::outside::{Outside, System};
+use crate::program::{run, without_words};
+use std::env;
+use std::io::{self, IsTerminal};
 use std::process::ExitCode;
-use std::{env, io};
 
 /// The words after the program's name.
 fn words_of(rt: &HostRuntime) -> io::Result<Vec<String>> {
@@ -28,30 +32,20 @@ fn words_of(rt: &HostRuntime) -> io::Result<Vec<String>> {
     Ok(words)
 }
 
-/// Prints a reply, and gives its status; 4 where standard output takes no more.
-fn show(rt: &(impl Print + Eprint), reply: &Reply) -> ExitCode {
-    let _ = rt.eprint(reply.err.as_str());
-    if !reply.out.is_empty() && rt.print(reply.out.as_str()).is_err() {
-        let _ = rt.eprint("sagas: cannot write -\n");
-        return ExitCode::from(4);
-    }
-    ExitCode::from(reply.status)
+/// The status of a run on the words of the command line.
+fn status_of(rt: &HostRuntime, outside: &impl Outside) -> io::Result<u8> {
+    let words = words_of(rt)?;
+    let words: Vec<&str> = words.iter().map(|word| word.as_str()).collect(rt.alloc())?;
+    Ok(run(outside, rt.alloc(), &words))
 }
 
 fn main(rt: HostRuntime) -> ExitCode {
-    let reply = match words_of(&rt) {
-        Ok(words) if words.is_empty() => on_input(&rt, rt.alloc()),
-        Ok(words) => on_words(&rt, rt.alloc(), &words),
-        Err(_) => {
-            let _ = rt.eprint("sagas: out of memory\n");
-            return ExitCode::from(4);
-        }
+    let system = System {
+        rt: &rt,
+        is_terminal: rt.stdin().is_terminal(),
     };
-    match reply {
-        Ok(reply) => show(&rt, &reply),
-        Err(_) => {
-            let _ = rt.eprint("sagas: out of memory\n");
-            ExitCode::from(4)
-        }
+    match status_of(&rt, &system) {
+        Ok(status) => ExitCode::from(status),
+        Err(error) => ExitCode::from(without_words(&system, &error)),
     }
 }

@@ -1,7 +1,7 @@
 //! What a question about a case comes to.
-ghost use Rattle.std.specs.Prelude.{◌≡◌, ◌↔◌, ◌<◌, IfOk, IsTrue, length};
+ghost use Rattle.std.specs.Prelude.{◌↔◌, ◌<◌, IfOk, IsTrue, length};
 ghost use Rattle.saga_tool.specs.Outcomes.{ComesTo, AnswersTo, ChecksTo, JudgesTo};
-ghost use Rattle.saga_case.specs.Situation.{HasStates};
+ghost use Rattle.saga_tool.specs.Limits.{max_certificate};
 
 use crate::limits::MAX_CERTIFICATE;
 use saga_case::{Answer, Case};
@@ -40,7 +40,7 @@ pub enum Outcome {
 
 /// Whether a text has too many bytes for a case or an answer.
 fn is_too_long(text: &[u8]) -> bool
-    ensures { IsTrue result ↔ (MAX_CERTIFICATE < length text.now) }
+    ensures { IsTrue result ↔ (max_certificate < length text.now) }
 {
     text.len() > MAX_CERTIFICATE
 }

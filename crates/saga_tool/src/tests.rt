@@ -1,7 +1,18 @@
-//! Replies to texts, byte for byte.
+//! Replies to texts, byte for byte; words; the program over an outside of its own.
+ghost use Rattle.std.specs.Prelude.{◌≡◌, ◌<◌, ◌≤◌, ◌+◌, ◌^◌, IfOk, length, true};
+ghost use Rattle.saga_tool.specs.Forms.{app_by, outline_of};
+ghost use Rattle.saga_tool.specs.Outside.{system_world};
+ghost use Rattle.saga_tool.specs.Suited.{is_suited};
+
+use crate::arguments::read_by;
+use crate::forms::{Form, Kind, Name, Parameter};
+use crate::outside::{FileFault, Outside};
+use crate::program::{respond, run};
 use crate::texts::{check_input, check_text, plan_text};
-use crate::words::{Words, WordsFault, read_words};
+use crate::words::{WordsFault, read_words};
+use saga_read::read_up_to;
 use std::alloc::Global;
+use std::cell::RefCell;
 use std::test::Fail;
 
 const TWO: &str =
@@ -414,22 +425,21 @@ fn one_input(rt: HostRuntime) -> Result<(), Fail> {
 
 #[test]
 fn words(rt: HostRuntime) -> Result<(), Fail> {
-    let alloc = rt.alloc();
-    let good: [&str; 4] = ["check", "a", "b", "c"];
-    match read_words(alloc, good.as_slice()) {
-        Ok(Words::Check(files)) => {
-            assert_eq!(rt; files.definition, "a");
-            assert_eq!(rt; files.case, "b");
-            assert_eq!(rt; files.answer, "c");
+    let table: [(&[&str], Name, &[&str]); 3] = [
+        (&["check", "a", "b", "c"], Name::Check, &["a", "b", "c"]),
+        (&["plan", "d", "e"], Name::Plan, &["d", "e"]),
+        (&["plan", "--", "-d", "e"], Name::Plan, &["-d", "e"]),
+    ];
+    for (words, name, files) in &table {
+        match read_words(rt.alloc(), words) {
+            Ok(found) => {
+                assert!(rt; found.name == *name, "{words:?}");
+                assert!(rt; found.given.files.as_slice() == *files, "{words:?}");
+                assert!(rt; found.given.workers == 1 && found.given.shards == 1);
+                assert!(rt; found.given.script.is_none() && found.given.log.is_none());
+            }
+            Err(_) => assert!(rt; false, "{words:?}"),
         }
-        _ => assert!(rt; false, "check a b c"),
-    }
-    match read_words(alloc, ["plan", "d", "e"].as_slice()) {
-        Ok(Words::Plan(files)) => {
-            assert_eq!(rt; files.definition, "d");
-            assert_eq!(rt; files.case, "e");
-        }
-        _ => assert!(rt; false, "plan d e"),
     }
     Ok(())
 }
@@ -437,16 +447,24 @@ fn words(rt: HostRuntime) -> Result<(), Fail> {
 #[test]
 fn no_words(rt: HostRuntime) -> Result<(), Fail> {
     let alloc = rt.alloc();
-    let table: [(&[&str], bool); 9] = [
+    let table: [(&[&str], bool); 17] = [
         (&["check", "a"], false),
         (&["check", "a", "b", "c", "d"], false),
-        (&["chekc", "a", "b", "c"], false),
+        (&["check", "a", "b", "c", "--help"], true),
         (&["check", "--x"], false),
-        (&["--help"], true),
         (&["check", "--help"], true),
+        (&["check", "--version"], false),
         (&["plan", "a"], false),
         (&["plan", "a", "b", "c"], false),
-        (&["plan", "--help"], true),
+        (&["plan", "--workers", "2", "a", "b"], false),
+        (&["plan", "-h"], true),
+        (&["chekc"], false),
+        (&["chekc", "a"], false),
+        (&["chekc", "a", "b"], false),
+        (&["chekc", "--help"], false),
+        (&[], false),
+        (&["--help"], true),
+        (&["--version"], true),
     ];
     for (words, is_help) in &table {
         match read_words(alloc, words) {
@@ -456,5 +474,270 @@ fn no_words(rt: HostRuntime) -> Result<(), Fail> {
             Err(WordsFault::OutOfMemory) => assert!(rt; false, "memory"),
         }
     }
+    Ok(())
+}
+
+/// A row with arguments of every kind.
+const EVERY: Form<'static> = Form {
+    word: "every",
+    title: "every",
+    brief: "",
+    about: "",
+    parameters: &[
+        Parameter {
+            kind: Kind::Number,
+            name: "workers",
+            shown: "workers",
+            help: "",
+        },
+        Parameter {
+            kind: Kind::Number,
+            name: "shards",
+            shown: "shards",
+            help: "",
+        },
+        Parameter {
+            kind: Kind::Path,
+            name: "script",
+            shown: "script",
+            help: "",
+        },
+        Parameter {
+            kind: Kind::Path,
+            name: "log",
+            shown: "log",
+            help: "",
+        },
+        Parameter {
+            kind: Kind::File,
+            name: "DEF",
+            shown: "DEF",
+            help: "",
+        },
+        Parameter {
+            kind: Kind::Files,
+            name: "MORE",
+            shown: "DEF",
+            help: "",
+        },
+    ],
+};
+
+#[test]
+fn options_between_files(rt: HostRuntime) -> Result<(), Fail> {
+    let words = [
+        "a",
+        "--workers",
+        "2",
+        "b",
+        "--log=l",
+        "--script",
+        "s",
+        "c",
+        "--shards",
+        "+16",
+    ];
+    match read_by(rt.alloc(), &EVERY, words.as_slice()) {
+        Ok(given) => {
+            assert!(rt; given.files.as_slice() == ["a", "b", "c"].as_slice());
+            assert!(rt; given.workers == 2 && given.shards == 16);
+            assert!(rt; given.script == Some("s") && given.log == Some("l"));
+        }
+        Err(_) => assert!(rt; false, "refused"),
+    }
+    match read_by(rt.alloc(), &EVERY, ["a"].as_slice()) {
+        Ok(given) => {
+            assert!(rt; given.files.as_slice() == ["a"].as_slice());
+            assert!(rt; given.workers == 1 && given.shards == 1);
+            assert!(rt; given.script.is_none() && given.log.is_none());
+        }
+        Err(_) => assert!(rt; false, "refused"),
+    }
+    Ok(())
+}
+
+fn is_refused<'a>(alloc: Global, form: &Form<'a>, words: &'a [&'a str]) -> bool
+    requires { is_suited (app_by (outline_of form.now)) ≡ true }
+{
+    read_by(alloc, form, words).is_err()
+}
+
+#[test]
+fn options_out_of_range(rt: HostRuntime) {
+    let alloc = rt.alloc();
+    assert!(rt; is_refused(alloc, &EVERY, [].as_slice()));
+    assert!(rt; is_refused(alloc, &EVERY, ["--workers", "2"].as_slice()));
+    assert!(rt; is_refused(alloc, &EVERY, ["--workers", "0", "a"].as_slice()));
+    assert!(rt; is_refused(alloc, &EVERY, ["--shards", "17", "a"].as_slice()));
+    assert!(rt; is_refused(alloc, &EVERY, ["--workers", "x", "a"].as_slice()));
+    assert!(rt; is_refused(alloc, &EVERY, ["--log", "l", "--log", "m", "a"].as_slice()));
+    assert!(rt; is_refused(alloc, &EVERY, ["a", "--script"].as_slice()));
+}
+
+/// An outside that is made up: a few files, of which `memory` is too large for the memory, and all else is unreadable.
+#[derive(Drop)]
+struct Made {
+    input: Result<&'static str, FileFault>,
+    is_terminal: bool,
+    takes_output: bool,
+    shown: RefCell<String>,
+}
+
+impl Made {
+    fn new(alloc: Global) -> Made {
+        Made {
+            input: Err(FileFault::Unreadable),
+            is_terminal: false,
+            takes_output: true,
+            shown: RefCell::new(String::new(alloc)),
+        }
+    }
+
+    fn show(&self, stream: &str, text: &str) {
+        if let Ok(mut shown) = self.shown.try_borrow_mut() {
+            let _ = shown.push_str(stream);
+            let _ = shown.push_str(text);
+        }
+    }
+}
+
+fn bytes_of(alloc: Global, text: &str, limit: usize) -> Result<Vec<u8>, FileFault>
+    requires { limit < 2 ^ 63 }
+    ensures { IfOk result (λ bytes. length bytes.items ≤ limit + 1) }
+{
+    let mut reader = text.as_bytes();
+    read_up_to(alloc, &mut reader, limit).map_err(|_| FileFault::OutOfMemory)
+}
+
+impl Outside for Made {
+    ghost world = { λ made. system_world made.is_terminal };
+
+    fn read_file(&self, alloc: Global, path: &str, limit: usize) -> Result<Vec<u8>, FileFault> {
+        match path {
+            "trip" => bytes_of(alloc, TRIP, limit),
+            "done" => bytes_of(alloc, DONE, limit),
+            "plan" => bytes_of(alloc, PLAN, limit),
+            "memory" => Err(FileFault::OutOfMemory),
+            _ => Err(FileFault::Unreadable),
+        }
+    }
+
+    fn read_input(&self, alloc: Global, limit: usize) -> Result<Vec<u8>, FileFault> {
+        match self.input {
+            Ok(text) => bytes_of(alloc, text, limit),
+            Err(fault) => Err(fault),
+        }
+    }
+
+    fn is_terminal(&self) -> bool {
+        self.is_terminal
+    }
+
+    fn print(&self, text: &str) -> bool {
+        if self.takes_output {
+            self.show("out: ", text);
+        }
+        self.takes_output
+    }
+
+    fn complain(&self, text: &str) {
+        self.show("err: ", text);
+    }
+}
+
+/// Words, what is shown, and the status.
+struct RunRow(&'static [&'static str], &'static str, u8);
+
+const RUNS: [RunRow; 9] = [
+    RunRow(&["check", "trip", "done", "plan"], "out: least 1\n", 0),
+    RunRow(
+        &["check", "trip", "done", "done"],
+        "err: sagas: answer: kind\n",
+        3,
+    ),
+    RunRow(
+        &["plan", "trip", "done"],
+        "out: {\"cost\":1,\"kept\":[],\"kind\":\"plan\",\"leave\":[1,0],\"links\":[0],\"stand\":[1,0]}\n",
+        0,
+    ),
+    RunRow(
+        &["check", "no definition", "no case", "plan"],
+        "err: sagas: cannot read no definition\n",
+        4,
+    ),
+    RunRow(
+        &["check", "done", "no case", "no answer"],
+        "err: sagas: cannot read no case\n",
+        4,
+    ),
+    RunRow(
+        &["check", "done", "done", "no answer"],
+        "err: sagas: cannot read no answer\n",
+        4,
+    ),
+    RunRow(
+        &["plan", "done", "no case"],
+        "err: sagas: cannot read no case\n",
+        4,
+    ),
+    RunRow(
+        &["plan", "trip", "memory"],
+        "err: sagas: out of memory\n",
+        4,
+    ),
+    RunRow(&[], "err: sagas: cannot read -\n", 4),
+];
+
+#[test]
+fn runs(rt: HostRuntime) -> Result<(), Fail> {
+    for RunRow(words, shown, status) in &RUNS {
+        let made = Made::new(rt.alloc());
+        assert_eq!(rt; run(&made, rt.alloc(), words), *status, "{words:?}");
+        match made.shown.try_borrow() {
+            Ok(text) => assert_eq!(rt; text.as_str(), *shown, "{words:?}"),
+            Err(_) => assert!(rt; false),
+        }
+    }
+    Ok(())
+}
+
+#[test]
+fn an_output_that_takes_no_more(rt: HostRuntime) -> Result<(), Fail> {
+    let table: [(&[&str], u8, &str); 3] = [
+        (
+            &["check", "trip", "done", "plan"],
+            4,
+            "err: sagas: cannot write -\n",
+        ),
+        (
+            &["check", "trip", "done", "done"],
+            3,
+            "err: sagas: answer: kind\n",
+        ),
+        (&["--version"], 4, "err: sagas: cannot write -\n"),
+    ];
+    for (words, status, shown) in &table {
+        let mut made = Made::new(rt.alloc());
+        made.takes_output = false;
+        assert_eq!(rt; run(&made, rt.alloc(), words), *status, "{words:?}");
+        match made.shown.try_borrow() {
+            Ok(text) => assert_eq!(rt; text.as_str(), *shown, "{words:?}"),
+            Err(_) => assert!(rt; false),
+        }
+    }
+    Ok(())
+}
+
+#[test]
+fn without_words(rt: HostRuntime) -> Result<(), Fail> {
+    let mut made = Made::new(rt.alloc());
+    made.input = Ok("---\n---\n");
+    let reply = respond(&made, rt.alloc(), [].as_slice())?;
+    assert_eq!(rt; reply.err.as_str(), "sagas: definition: bad-format\n");
+    made.is_terminal = true;
+    let reply = respond(&made, rt.alloc(), [].as_slice())?;
+    assert_eq!(rt; reply.status, 0);
+    assert!(rt; reply.err.is_empty());
+    assert!(rt; reply.out.as_str().starts_with("Coordinates sagas"));
     Ok(())
 }

@@ -1,6 +1,7 @@
 //! The program's work, over bytes.
-ghost use Rattle.std.specs.Prelude.{◌≡◌, ◌↔◌, ◌<◌, IfOk, IsTrue, length};
+ghost use Rattle.std.specs.Prelude.{◌↔◌, ◌<◌, IfOk, IsTrue, length};
 ghost use Rattle.saga_tool.specs.Answers.{IsCheckReply, IsPlanReply, IsInputReply};
+ghost use Rattle.saga_tool.specs.Limits.{max_input};
 ghost use Rattle.saga_tool.specs.Replies.{IsBadInput};
 
 use crate::limits::MAX_INPUT;
@@ -33,7 +34,7 @@ pub fn plan_text(alloc: Global, definition: &[u8], case: &[u8]) -> Result<Reply,
 }
 
 fn is_too_long(input: &[u8]) -> bool
-    ensures { IsTrue result ↔ (MAX_INPUT < length input.now) }
+    ensures { IsTrue result ↔ (max_input < length input.now) }
 {
     input.len() > MAX_INPUT
 }

@@ -1,181 +1,29 @@
 //! The words of the command line, read by `clap`.
-ghost use Rattle.std.specs.Prelude.{◌≡◌, ◌∷◌, [], IfErr, IfNone, IfOk, IfSome, map, Some, codes, true};
-ghost use Rattle.clap.specs.Words.{rule_of, app_of, with_rule, takes, fault_of, HasKind, kind_of, first_value, found_of};
-ghost use Rattle.saga_tool.specs.Command.{IsCommand, AreTaken, IsMadeOf, IsWordsFault};
-ghost use Rattle.saga_tool.specs.Words.{file_rule, bare_app, check_app, plan_app, AreCheckFiles, ArePlanFiles};
-ghost use Rattle.saga_tool.specs.Required.{IsFile, IsBare, AddsFile, HasFiles, LacksOne};
+ghost use Rattle.std.specs.Prelude.{◌≡◌, [], IfErr, IfOk, map};
+ghost use Rattle.clap.specs.Words.{app_of};
+ghost use Rattle.saga_tool.specs.Command.{IsCommand, IsTaken, IsMadeOf, IsWordsFault, IsOther, may_be_option, sagas_app};
 
+use crate::arguments::{Given, STATUSES, read_by};
+use crate::forms::{Form, NAMES, Name, form_of, named};
 use clap::error::ErrorKind;
-use clap::{Arg, ArgAction, ArgMatches, Command, Error};
+use clap::{Arg, ArgAction, Command, Error};
 use std::alloc::{AllocError, Global};
 use std::convert::From;
+
+const VERSION: &str = "0.1.0";
 
 const ABOUT: &str =
     "Coordinates sagas: finds the cheapest way to end a saga in which a step has failed, and judges such plans
 
 Without words, a definition, a case and an answer are read from standard input, with lines --- between them, and judged";
 
-const COMMANDS: &str = "check DEF CASE ANSWER: judges an answer
-plan DEF CASE: makes one
-check --help, plan --help: more of each";
+const NO_SUCH_COMMAND: &str = "no such command";
 
-const CHECK_ABOUT: &str = "Judges an answer to a case: prints `least N`, `blocked`, or `no FAULT`";
-
-const PLAN_ABOUT: &str =
-    "Plans how a saga shall end: prints a plan of least cost, or a chain of steps that shows that no set of steps is allowed";
-
-const DEFINITION: &str = "the saga's definition, a TOML file";
-
-const CASE: &str = "the states of its steps, a JSON file";
-
-const ANSWER: &str = "the plan or the chain, a JSON file";
-
-const STATUSES: &str =
-    "Status: 0 a right answer, or a plan; 1 a refused answer, or a planned chain; 2 usage; 3 bad input; 4 a file or memory.";
-
-/// A file that a command needs.
-fn file<'a>(alloc: Global, name: &'a str, help: &'a str) -> Arg<'a>
-    ensures rule { rule_of result ≡ file_rule name.entry.now }
-    ensures required { IsFile name.entry.now result }
-{
-    Arg::new(alloc, name)
-        .required(true)
-        .action(ArgAction::Set)
-        .help(help)
-}
-
-/// A command of that name that is given the words after it.
-fn bare_command<'a>(alloc: Global, name: &'a str, about: &'a str) -> Command<'a>
-    ensures app { app_of result ≡ bare_app name.entry.now }
-    ensures bare { IsBare result }
-{
-    Command::new(alloc, name)
-        .no_binary_name(true)
-        .about(about)
-        .after_help(STATUSES)
-}
-
-fn with_file<'a>(
-    alloc: Global,
-    command: Command<'a>,
-    name: &'a str,
-    help: &'a str,
-) -> Result<Command<'a>, AllocError>
-    ensures app { IfOk result (λ r. app_of r ≡ with_rule (app_of command.entry) (file_rule name.entry.now)) }
-    ensures adds { IfOk result (AddsFile command.entry name.entry.now) }
-{
-    command.arg(file(alloc, name, help))
-}
-
-fn check_command<'a>(alloc: Global) -> Result<Command<'a>, AllocError>
-    ensures app { IfOk result (λ command. app_of command ≡ check_app) }
-    ensures files { IfOk result (HasFiles (codes "DEF" ∷ codes "CASE" ∷ codes "ANSWER" ∷ [])) }
-{
-    let bare = bare_command(alloc, "sagas check", CHECK_ABOUT);
-    let one = with_file(alloc, bare, "DEF", DEFINITION)?;
-    let two = with_file(alloc, one, "CASE", CASE)?;
-    with_file(alloc, two, "ANSWER", ANSWER)
-}
-
-/// The files of `check`.
-#[derive(Clone, Copy, Debug)]
-pub struct CheckFiles<'a> {
-    pub definition: &'a str,
-    pub case: &'a str,
-    pub answer: &'a str,
-}
-
-/// The files that the matches of `check` have, which is each where a parse succeeds.
-fn check_files<'a>(matches: &ArgMatches<'a>) -> Option<CheckFiles<'a>>
-    ensures some { IfSome result (λ files.
-        (first_value (found_of matches.now) (codes "DEF") ≡ Some files.definition.now)
-        × (first_value (found_of matches.now) (codes "CASE") ≡ Some files.case.now)
-        × (first_value (found_of matches.now) (codes "ANSWER") ≡ Some files.answer.now)) }
-    ensures none { IfNone result (LacksOne (codes "DEF" ∷ codes "CASE" ∷ codes "ANSWER" ∷ []) matches.now) }
-{
-    let definition = matches.get_str("DEF")?;
-    let case = matches.get_str("CASE")?;
-    let answer = matches.get_str("ANSWER")?;
-    Some(CheckFiles {
-        definition,
-        case,
-        answer,
-    })
-}
-
-fn read_check<'a>(alloc: Global, words: &'a [&'a str]) -> Result<CheckFiles<'a>, Error>
-    ensures files { IfOk result (λ files. AreCheckFiles (map (λ s. s.now) words.entry.now) files.definition.now files.case.now files.answer.now) }
-    ensures kinds { IfErr result (HasKind (fault_of check_app (map (λ s. s.now) words.entry.now))) }
-    ensures passes { IfErr result (λ e. takes check_app (map (λ s. s.now) words.entry.now) ≡ true → kind_of e ≡ ErrorKind.OutOfMemory) }
-{
-    let mut command = check_command(alloc)?;
-    let matches = command.try_get_matches_from_mut(words)?;
-    match check_files(&matches) {
-        Some(files) => Ok(files),
-        None => unreachable!(),
-    }
-}
-
-fn plan_command<'a>(alloc: Global) -> Result<Command<'a>, AllocError>
-    ensures app { IfOk result (λ command. app_of command ≡ plan_app) }
-    ensures files { IfOk result (HasFiles (codes "DEF" ∷ codes "CASE" ∷ [])) }
-{
-    let bare = bare_command(alloc, "sagas plan", PLAN_ABOUT);
-    let one = with_file(alloc, bare, "DEF", DEFINITION)?;
-    with_file(alloc, one, "CASE", CASE)
-}
-
-/// The files of `plan`.
-#[derive(Clone, Copy, Debug)]
-pub struct PlanFiles<'a> {
-    pub definition: &'a str,
-    pub case: &'a str,
-}
-
-/// The files that the matches of `plan` have, which is each where a parse succeeds.
-fn plan_files<'a>(matches: &ArgMatches<'a>) -> Option<PlanFiles<'a>>
-    ensures some { IfSome result (λ files.
-        (first_value (found_of matches.now) (codes "DEF") ≡ Some files.definition.now)
-        × (first_value (found_of matches.now) (codes "CASE") ≡ Some files.case.now)) }
-    ensures none { IfNone result (LacksOne (codes "DEF" ∷ codes "CASE" ∷ []) matches.now) }
-{
-    let definition = matches.get_str("DEF")?;
-    let case = matches.get_str("CASE")?;
-    Some(PlanFiles { definition, case })
-}
-
-fn read_plan<'a>(alloc: Global, words: &'a [&'a str]) -> Result<PlanFiles<'a>, Error>
-    ensures files { IfOk result (λ files. ArePlanFiles (map (λ s. s.now) words.entry.now) files.definition.now files.case.now) }
-    ensures kinds { IfErr result (HasKind (fault_of plan_app (map (λ s. s.now) words.entry.now))) }
-    ensures passes { IfErr result (λ e. takes plan_app (map (λ s. s.now) words.entry.now) ≡ true → kind_of e ≡ ErrorKind.OutOfMemory) }
-{
-    let mut command = plan_command(alloc)?;
-    let matches = command.try_get_matches_from_mut(words)?;
-    match plan_files(&matches) {
-        Some(files) => Ok(files),
-        None => unreachable!(),
-    }
-}
-
-/// Why no command is known: the first word is none, or is a call for help.
-fn without_command(alloc: Global, words: &[&str]) -> Result<Error, AllocError> {
-    let command = Arg::new(alloc, "COMMAND")
-        .required(true)
-        .action(ArgAction::Set)
-        .value_parser(["check", "plan"].as_slice())
-        .help(COMMANDS);
-    let mut sagas = bare_command(alloc, "sagas", ABOUT).arg(command)?;
-    match sagas.try_get_matches_from_mut(words) {
-        Err(error) => Ok(error),
-        Ok(_) => sagas.error(ErrorKind::InvalidSubcommand, "no such command"),
-    }
-}
-
-/// A command with its files.
-#[derive(Clone, Copy, Debug)]
-pub enum Words<'a> {
-    Check(CheckFiles<'a>),
-    Plan(PlanFiles<'a>),
+/// A command with what its words give.
+#[derive(Debug, Drop)]
+pub struct Words<'a> {
+    pub name: Name,
+    pub given: Given<'a>,
 }
 
 /// Why words give no command: `clap`'s error, by its kind.
@@ -183,7 +31,7 @@ pub enum Words<'a> {
 pub enum WordsFault {
     /// The words are not of the form; the error has the text for standard error.
     Usage(Error),
-    /// Help is asked for; the error has the text for standard output.
+    /// Help or the version is asked for; the error has the text for standard output.
     Help(Error),
     /// A growth of memory was refused.
     OutOfMemory,
@@ -195,33 +43,91 @@ impl From<Error> for WordsFault {
     fn from(error: Error) -> WordsFault {
         match error.kind() {
             ErrorKind::OutOfMemory => WordsFault::OutOfMemory,
-            ErrorKind::DisplayHelp => WordsFault::Help(error),
+            ErrorKind::DisplayHelp | ErrorKind::DisplayVersion => WordsFault::Help(error),
             _ => WordsFault::Usage(error),
         }
     }
 }
 
-/// The words after the first, where that is this one.
-fn after<'a>(words: &'a [&'a str], word: &str) -> Option<&'a [&'a str]>
-    ensures some { IfSome result (λ rest. map (λ s. s.now) words.entry.now ≡ word.now ∷ map (λ s. s.now) rest.now) }
-    ensures none { IfNone result ((rest : _) → map (λ s. s.now) words.entry.now ≡ word.now ∷ rest → ⊥) }
-{
-    let (first, rest) = words.split_first()?;
-    if *first == word { Some(rest) } else { None }
+/// Adds a line on a command: its words, and what it is for.
+fn push_line(lines: &mut String, form: &Form<'_>) -> Result<(), AllocError> {
+    lines.push_str(form.word)?;
+    for parameter in form.parameters {
+        lines.push_str(" ")?;
+        lines.push_str(parameter.shown)?;
+    }
+    lines.push_str(": ")?;
+    lines.push_str(form.brief)?;
+    lines.push_str("\n")
 }
 
-/// The command that the words after the program's name give. `check` and `plan` are simple commands of their own:
-/// their files are what `clap` finds for their arguments among the words after the first.
+/// A line for each command.
+fn commands(alloc: Global) -> Result<String, AllocError> {
+    let mut lines = String::new(alloc);
+    for name in &NAMES {
+        push_line(&mut lines, &form_of(*name))?;
+    }
+    lines.push_str("COMMAND --help: more of it")?;
+    Ok(lines)
+}
+
+/// The program, which wants one of the commands.
+fn sagas<'a>(alloc: Global, commands: &'a str) -> Result<Command<'a>, AllocError>
+    ensures { IfOk result (λ command. app_of command ≡ sagas_app) }
+{
+    let command = Arg::new(alloc, "COMMAND")
+        .required(true)
+        .action(ArgAction::Set)
+        .help(commands);
+    Command::new(alloc, "sagas")
+        .no_binary_name(true)
+        .version(VERSION)
+        .about(ABOUT)
+        .after_help(STATUSES)
+        .arg(command)
+}
+
+/// Whether there is no word, or one that begins with a hyphen.
+fn may_be_option(first: &[&str]) -> bool
+    ensures { result ≡ may_be_option (map (λ s. s.now) first.now) }
+{
+    match first {
+        [] => true,
+        [word, ..] => word.starts_with("-"),
+    }
+}
+
+/// Why no command is known: there is no word, or the first asks for help or the version, or is none of the commands.
+fn without_command(alloc: Global, first: &[&str]) -> Result<Error, AllocError>
+    ensures { IfOk result (λ error. IsOther (map (λ s. s.now) first.now) error) }
+{
+    let commands = commands(alloc)?;
+    // at the lifetime of the list
+    let first: &[&str] = first;
+    let mut sagas = sagas(alloc, commands.as_str())?;
+    if !may_be_option(first) {
+        return sagas.error(ErrorKind::InvalidSubcommand, NO_SUCH_COMMAND);
+    }
+    match sagas.try_get_matches_from_mut(first) {
+        Err(error) => Ok(error),
+        Ok(_) => sagas.error(ErrorKind::InvalidSubcommand, NO_SUCH_COMMAND),
+    }
+}
+
+/// The command that the words after the program's name give: its files and options are what `clap` finds among the words
+/// after the first. `--workers` and `--shards` are 1 where they are not given.
 pub fn read_words<'a>(alloc: Global, words: &'a [&'a str]) -> Result<Words<'a>, WordsFault>
     ensures command { IfOk result (IsCommand (map (λ s. s.now) words.entry.now)) }
     ensures fault { IfErr result (IsWordsFault (map (λ s. s.now) words.entry.now)) }
-    ensures accepts { IfErr result (λ fault. AreTaken (map (λ s. s.now) words.entry.now) → fault ≡ WordsFault.OutOfMemory) }
+    ensures accepts { IfErr result (λ fault.
+        IsTaken (map (λ s. s.now) words.entry.now) → fault ≡ WordsFault.OutOfMemory) }
 {
-    if let Some(rest) = after(words, "check") {
-        return Ok(Words::Check(read_check(alloc, rest)?));
-    }
-    if let Some(rest) = after(words, "plan") {
-        return Ok(Words::Plan(read_plan(alloc, rest)?));
+    if let Some((first, rest)) = words.split_first() {
+        if let Some(name) = named(first) {
+            let form = form_of(name);
+            let given = read_by(alloc, &form, rest)?;
+            return Ok(Words { name, given });
+        }
     }
     let first = if words.is_empty() { words } else { &words[..1] };
     match without_command(alloc, first) {

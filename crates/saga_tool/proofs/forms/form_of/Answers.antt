@@ -1,0 +1,9 @@
+use Rattle.std.proofs.Common.{ap, sym}
+use Rattle.saga_tool.specs.Forms.{outline_for}
+use Rattle.saga_tool.proofs.forms.form_of.Goals as goal
+
+pub returns-in-Check-clause-outline : goal.returns-in-Check-clause-outline
+returns-in-Check-clause-outline c = ap outline_for (sym c.in-Check.is)
+
+pub returns-in-Plan-clause-outline : goal.returns-in-Plan-clause-outline
+returns-in-Plan-clause-outline c = ap outline_for (sym c.in-Plan.is)

@@ -1,0 +1,12 @@
+use Rattle.std.proofs.Common.{◌≡◌, ◌∷◌, [], codes, map, rules, subst, List, ℕ}
+use Rattle.std.proofs.lemmas.Result.{IfOk-weaker}
+use Rattle.saga_tool.specs.Program.{RepliesToWords}
+use Rattle.saga_tool.proofs.FaultLemmas.{is_help}
+use Rattle.saga_tool.proofs.program.help.Goals as goal
+
+pub returns : goal.returns
+returns g c =
+    let gives = (g.W.Outside.world c.args.outside.now).file_gives in
+    let is : map (λ s. s.now) c.as_slice.result.now ≡ codes "--help" ∷ [] = search rules in
+    IfOk-weaker c.on_words.result _ _
+    (λ reply r. is_help gives reply (subst (λ (words : List (List ℕ)). RepliesToWords gives words reply) is r)) c.on_words.ensures

@@ -1,0 +1,80 @@
+-- What the words of a command give.
+use Rattle.std.specs.Prelude.{ℕ, List, [], ◌∷◌, Option, Some, None, Bool, true, false, option_map, ◌&&◌, ◌≡◌, ◌≤◌, ◌+◌, ⊤, length, map, flat_map, codes, unwrap_or, if◌then◌else◌}
+use Rattle.std.specs.List.{All, list_any}
+use Rattle.std.specs.Str.{bytes_eq}
+use Rattle.std.specs.Str.Parse.{digits_value, without_leading_plus}
+use Rattle.clap.specs.Words.{Row, all_of, first_of, one_of, matches_of, fault_of}
+use Rattle.clap.specs.Values.{IsUnsignedIn}
+use Rattle.clap.specs.Walk.{Text}
+use Rattle.saga_tool.specs.declared.forms.Kind.{Kind}
+use Rattle.saga_tool.specs.declared.forms.Kind.TheVariants.{File, Files, Number}
+use Rattle.saga_tool.specs.declared.arguments.Given.{Given}
+use Rattle.saga_tool.specs.Forms.{Argument, Outline, app_by}
+
+-- what matches have of an argument: a file is there, and a number is from 1 to 16
+abbrev pub HoldsBy : Kind → Text → List Row → Type 0
+HoldsBy File name rows = (path : Text) × (first_of name rows ≡ Some path)
+HoldsBy Number name rows = (text : Text) × (one_of name rows ≡ Some text) × IsUnsignedIn 1 16 text
+HoldsBy _ name rows = ⊤
+
+abbrev pub Holds : List Row → Argument → Type 0
+Holds rows a = HoldsBy a.kind a.name rows
+
+abbrev pub one_or_none : Option Text → List Text
+one_or_none None = []
+one_or_none (Some path) = path ∷ []
+
+abbrev pub files_by : Kind → Text → List Row → List Text
+files_by File name rows = one_or_none (first_of name rows)
+files_by Files name rows = unwrap_or (all_of name rows) []
+files_by _ name rows = []
+
+-- the files, in the order of the command's arguments
+abbrev pub files_in : List Row → List Argument → List Text
+files_in rows args = flat_map (λ a. files_by a.kind a.name rows) args
+
+abbrev pub files_wanted : Kind → ℕ
+files_wanted File = 1
+files_wanted _ = 0
+
+-- how many files a command wants
+abbrev pub wanted : List Argument → ℕ
+wanted [] = 0
+wanted (a ∷ args) = files_wanted a.kind + wanted args
+
+abbrev pub takes_more : Kind → Bool
+takes_more Files = true
+takes_more _ = false
+
+-- as many files as are wanted; more only where the command takes more
+pub record IsCount (args : List Argument) (n : ℕ) : Type 0 where
+  pub enough : wanted args ≤ n
+  pub exact : list_any (λ a. takes_more a.kind) args ≡ false → n ≡ wanted args
+
+abbrev pub is_number : Kind → Bool
+is_number Number = true
+is_number _ = false
+
+abbrev pub has_number : Text → List Argument → Bool
+has_number name args = list_any (λ a. is_number a.kind && bytes_eq a.name name) args
+
+-- the number of a text that is one
+abbrev pub number_of : Text → ℕ
+number_of text = digits_value 10 (without_leading_plus text)
+
+-- the number of that name, 1 where the command takes none
+abbrev pub IsNumber : List Argument → List Row → Text → ℕ → Type 0
+IsNumber args rows name n = Some n ≡ (if has_number name args then option_map number_of (one_of name rows) else Some 1)
+
+-- `clap` finds no fault among the words, and what is given is what its matches say
+pub record IsGiven (o : Outline) (words : List Text) (given : Given) : Type 0 where
+  pub taken : fault_of (app_by o) words ≡ []
+  pub files : map (λ s. s.now) given.files.items ≡ files_in (matches_of (app_by o) words) o.arguments
+  pub holds : All (Holds (matches_of (app_by o) words)) o.arguments
+  pub counted : IsCount o.arguments (length given.files.items)
+  pub script : option_map (λ s. s.now) given.script ≡ first_of (codes "script") (matches_of (app_by o) words)
+  pub log : option_map (λ s. s.now) given.log ≡ first_of (codes "log") (matches_of (app_by o) words)
+  pub workers : IsNumber o.arguments (matches_of (app_by o) words) (codes "workers") given.workers
+  pub workers_within : (1 ≤ given.workers) × (given.workers ≤ 16)
+  pub shards : IsNumber o.arguments (matches_of (app_by o) words) (codes "shards") given.shards
+  pub shards_within : (1 ≤ given.shards) × (given.shards ≤ 16)

@@ -1,0 +1,51 @@
+-- The world outside, as the program sees it.
+use Rattle.std.specs.Prelude.{ℕ, Bool, List, Result, IfOk, ⊤, length, ◌≤◌, ◌+◌}
+use Rattle.std.specs.declared.io.ErrorKind.{ErrorKind}
+use Rattle.std.specs.declared.io.ErrorKind.TheVariants as kind
+use Rattle.saga_tool.specs.declared.outside.FileFault.{FileFault}
+use Rattle.saga_tool.specs.declared.outside.FileFault.TheVariants.{Unreadable, OutOfMemory}
+
+abbrev pub Text : Type 0
+Text = List ℕ
+
+-- what reading standard input, or a file, up to a limit may give
+abbrev pub InputGives : Type 1
+InputGives = ℕ → Result Text FileFault → Type 0
+
+abbrev pub FileGives : Type 1
+FileGives = Text → InputGives
+
+-- a text went to standard output, or could not be written
+abbrev pub Prints : Type 1
+Prints = Text → Bool → Type 0
+
+-- a text went to standard error, as far as that could be written
+abbrev pub Complains : Type 1
+Complains = Text → Type 0
+
+-- what the world outside may answer
+pub record World : Type 1 where
+  pub file_gives : FileGives
+  pub input_gives : InputGives
+  -- standard input is a terminal
+  pub has_terminal : Bool
+  pub prints : Prints
+  pub complains : Complains
+
+-- want of memory is told apart from every other error
+abbrev pub file_fault_of : ErrorKind → FileFault
+file_fault_of kind.OutOfMemory = OutOfMemory
+file_fault_of _ = Unreadable
+
+-- of the system nothing is known but that no more than one byte past a limit is read
+abbrev pub IsWithin : ℕ → Result Text FileFault → Type 0
+IsWithin limit given = IfOk given (λ text. length text ≤ limit + 1)
+
+abbrev pub system_world : Bool → World
+system_world is_terminal = record {
+  file_gives = λ path limit given. IsWithin limit given;
+  input_gives = λ limit given. IsWithin limit given;
+  has_terminal = is_terminal;
+  prints = λ text written. ⊤;
+  complains = λ text. ⊤;
+}

@@ -1,0 +1,177 @@
+//! The words after a command's name, read by `clap` as the command's row says: one reader for all rows.
+ghost use Rattle.std.specs.Prelude.{◌≡◌, ◌≤◌, ◌++◌, [], IfErr, OnOk, IfOk, false, map, true};
+ghost use Rattle.std.specs.List.{All};
+ghost use Rattle.clap.specs.Words.{rule_of, app_of, rows_of, found_of, matches_of, fault_of, HasKind};
+ghost use Rattle.saga_tool.specs.Forms.{rule_for, argument_of, app_by, outline_of};
+ghost use Rattle.saga_tool.specs.Given.{Holds, files_by, files_in, IsNumber, has_number, IsGiven};
+ghost use Rattle.saga_tool.specs.Suited.{is_suited};
+
+use crate::forms::{Form, Kind, Parameter};
+use clap::builder::ValueParser;
+use clap::{Arg, ArgAction, ArgMatches, Command, Error};
+use std::alloc::{AllocError, Global};
+
+/// What stands at the end of each help.
+pub const STATUSES: &str =
+    "Status: 0 a right answer, or a plan; 1 a refused answer, or a planned chain; 2 usage; 3 bad input; 4 a file or memory.";
+
+/// An argument as `clap` takes it.
+fn arg_of<'a>(alloc: Global, parameter: &Parameter<'a>) -> Arg<'a>
+    ensures rule { rule_of result ≡ rule_for (argument_of parameter.now) }
+    ensures own { result.global ≡ false }
+{
+    let arg = Arg::new(alloc, parameter.name)
+        .value_name(parameter.shown)
+        .help(parameter.help);
+    match parameter.kind {
+        Kind::File => arg.required(true).action(ArgAction::Set),
+        Kind::Files => arg.action(ArgAction::Append),
+        Kind::Path => arg.long(parameter.name).action(ArgAction::Set),
+        Kind::Number => arg
+            .long(parameter.name)
+            .action(ArgAction::Set)
+            .value_parser(ValueParser::unsigned(1, 16))
+            .default_value("1"),
+    }
+}
+
+/// The command of a row, which is given the words after its name.
+fn command_of<'a>(alloc: Global, form: &Form<'a>) -> Result<Command<'a>, AllocError>
+    ensures { IfOk result (λ command. app_of command ≡ app_by (outline_of form.now)) }
+{
+    let mut command = Command::new(alloc, form.title)
+        .no_binary_name(true)
+        .about(form.about)
+        .after_help(STATUSES);
+    for parameter in form.parameters {
+        command = command.arg(arg_of(alloc, parameter))?;
+    }
+    Ok(command)
+}
+
+/// What `clap` finds among words for the arguments of a row.
+fn matches_by<'a>(
+    alloc: Global,
+    form: &Form<'a>,
+    words: &'a [&'a str],
+) -> Result<ArgMatches<'a>, Error>
+    requires suited { is_suited (app_by (outline_of form.now)) ≡ true }
+    ensures rows { IfOk result (λ m. rows_of (found_of m)
+        ≡ matches_of (app_by (outline_of form.now)) (map (λ s. s.now) words.entry.now)) }
+    ensures taken { IfOk result (λ _.
+        fault_of (app_by (outline_of form.now)) (map (λ s. s.now) words.entry.now) ≡ []) }
+    ensures holds { IfOk result (λ m.
+        All (Holds (rows_of (found_of m))) (outline_of form.now).arguments) }
+    ensures kinds { IfErr result (HasKind
+        (fault_of (app_by (outline_of form.now)) (map (λ s. s.now) words.entry.now))) }
+{
+    let mut command = command_of(alloc, form)?;
+    command.try_get_matches_from_mut(words)
+}
+
+/// What the words after a command's name give.
+#[derive(Debug, Drop)]
+pub struct Given<'a> {
+    /// In the order of the command's row.
+    pub files: Vec<&'a str>,
+    pub script: Option<&'a str>,
+    pub log: Option<&'a str>,
+    /// From 1 to 16, and 1 where the command takes no such number; likewise the shards.
+    pub workers: usize,
+    pub shards: usize,
+}
+
+/// Adds the files that matches have of one argument.
+fn push_files<'a>(
+    parameter: &Parameter<'_>,
+    matches: &ArgMatches<'a>,
+    files: &mut Vec<&'a str>,
+) -> Result<(), AllocError>
+    ensures { OnOk result (map (λ s. s.now) files.new.items ≡ map (λ s. s.now) files.old.items
+        ++ files_by parameter.now.kind parameter.now.name.now (rows_of (found_of matches.now))) }
+{
+    match parameter.kind {
+        Kind::File => {
+            if let Some(path) = matches.get_str(parameter.name) {
+                files.push(path)?;
+            }
+        }
+        Kind::Files => {
+            if let Some(paths) = matches.get_strs(parameter.name) {
+                for path in paths {
+                    files.push(*path)?;
+                }
+            }
+        }
+        Kind::Path | Kind::Number => {}
+    }
+    Ok(())
+}
+
+/// The files that matches have, in the order of the row.
+fn files_of<'a>(
+    alloc: Global,
+    form: &Form<'_>,
+    matches: &ArgMatches<'a>,
+) -> Result<Vec<&'a str>, AllocError>
+    ensures { IfOk result (λ files. map (λ s. s.now) files.items
+        ≡ files_in (rows_of (found_of matches.now)) (outline_of form.now).arguments) }
+{
+    let mut files = Vec::new(alloc);
+    for parameter in form.parameters {
+        push_files(parameter, matches, &mut files)?;
+    }
+    Ok(files)
+}
+
+/// Whether the row has a number of that name.
+fn has_number(form: &Form<'_>, name: &str) -> bool
+    ensures { result ≡ has_number name.now (outline_of form.now).arguments }
+{
+    for parameter in form.parameters {
+        if parameter.kind == Kind::Number && parameter.name == name {
+            return true;
+        }
+    }
+    false
+}
+
+/// The number of that name, which is 1 where the row has none.
+fn number_of(form: &Form<'_>, matches: &ArgMatches<'_>, name: &str) -> usize
+    requires holds { All (Holds (rows_of (found_of matches.now))) (outline_of form.now).arguments }
+    ensures number { IsNumber (outline_of form.now).arguments (rows_of (found_of matches.now))
+        name.now result }
+    ensures within { (1 ≤ result) × (result ≤ 16) }
+{
+    if !has_number(form, name) {
+        return 1;
+    }
+    match matches.get_one::<usize>(name) {
+        Some(number) => number,
+        None => unreachable!(),
+    }
+}
+
+/// What the words after a command's name give, as its row says. A `clap` command of any row whose names are apart, and
+/// none of them `help` or `version`, is suited.
+pub fn read_by<'a>(alloc: Global, form: &Form<'a>, words: &'a [&'a str]) -> Result<Given<'a>, Error>
+    requires suited { is_suited (app_by (outline_of form.now)) ≡ true }
+    ensures given { IfOk result
+        (IsGiven (outline_of form.now) (map (λ s. s.now) words.entry.now)) }
+    ensures kinds { IfErr result (HasKind
+        (fault_of (app_by (outline_of form.now)) (map (λ s. s.now) words.entry.now))) }
+{
+    let matches = matches_by(alloc, form, words)?;
+    let files = files_of(alloc, form, &matches)?;
+    let script = matches.get_str("script");
+    let log = matches.get_str("log");
+    let workers = number_of(form, &matches, "workers");
+    let shards = number_of(form, &matches, "shards");
+    Ok(Given {
+        files,
+        script,
+        log,
+        workers,
+        shards,
+    })
+}
