@@ -4,6 +4,7 @@ The program is crates/saga_bench, which `rt run` proves and builds on its first 
 liblemon-dev), built by g++. Each prints one line, and on standard error the seconds of each of 101 runs.
 """
 import argparse
+import os
 import pathlib
 import statistics
 import subprocess
@@ -11,6 +12,9 @@ import tempfile
 
 HERE = pathlib.Path(__file__).resolve().parent
 CRATE = HERE.parent / "crates" / "saga_bench"
+
+# Tells the allocator of the C library to keep the memory that a run gives back, and not to take it anew, page by page.
+KEPT = {"MALLOC_MMAP_THRESHOLD_": str(2**30), "MALLOC_TRIM_THRESHOLD_": str(2**32)}
 
 
 def options(summary):
@@ -45,13 +49,15 @@ def put(folder, name, text):
     return path
 
 
-def timed(commands, turns):
-    """For each command the words that it printed, and the median seconds of its runs in all its turns."""
+def timed(commands, turns, settings=None):
+    """For each command the words that it printed, and the median seconds of its runs in all its turns. The settings are added
+    to the environment."""
+    surroundings = os.environ | (settings or {})
     said = [None] * len(commands)
     times = [[] for _ in commands]
     for _ in range(turns):
         for number, command in enumerate(commands):
-            done = subprocess.run(command, capture_output=True, text=True, check=True)
+            done = subprocess.run(command, env=surroundings, capture_output=True, text=True, check=True)
             said[number] = done.stdout.split()
             times[number] += [float(line) for line in done.stderr.split()]
     return [(words, statistics.median(found)) for words, found in zip(said, times)]

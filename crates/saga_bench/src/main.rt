@@ -1,12 +1,13 @@
-//! Times the building of a definition, its order, the flow, the planner and the book, each on the text that a file or
-//! standard input has.
+//! Times the building of a definition, its order, the flow, the planner, the book and logs, each on the text that a file
+//! or standard input has.
 //!
 //! The first word says what: `flow` takes a network in DIMACS form and prints the value of a greatest flow and the
 //! rounds in which it was found; `plan` takes a case and prints the cost of a least plan and the rounds, or `blocked`;
 //! `build` and `order` take a case as well and print how many needs it has, and the longest chain of them; `book` takes a
 //! case, whose states it does not look at, how many sagas of its definition are driven, and which step of each fails, if
-//! any, and prints how many events that made. The second word, if any, is the file. On standard error stand the seconds
-//! that each of many runs took, a line a run.
+//! any, and prints how many events that made; `log` takes a log and prints how many events it has. The second word, if
+//! any, is the file. On standard error stand the seconds that each of many runs took, a line a run; of a log, those of
+//! reading, of writing, and of reading the lines to JSON values alone, a line each.
 #![tactic(auto)]
 
 ghost use Rattle.saga_flow.specs.Network.{IsNetwork};
@@ -15,11 +16,13 @@ ghost use Rattle.saga_flow.specs.Reached.{HasUnbounded, Reaches};
 mod books;
 mod cases;
 mod dimacs;
+mod logs;
 mod numbers;
 
 use crate::books::{Load, drive};
 use crate::cases::{Parts, Problem, define, read_case, read_parts};
 use crate::dimacs::{Network, read_network};
+use crate::logs::time_log;
 use crate::numbers::number;
 use anyhow::{Result, bail, ensure};
 use saga_case::{Answer, Case};
@@ -127,6 +130,17 @@ fn time_book(rt: &HostRuntime, text: &str, load: Load) -> Result<()> {
     Ok(())
 }
 
+fn time_logs(rt: &HostRuntime, text: &str) -> Result<()> {
+    let (events, times) = time_log(rt, text)?;
+    println!(rt; "events {events}")?;
+    for time in times.iter() {
+        show(rt, time.read)?;
+        show(rt, time.write)?;
+        show(rt, time.values)?;
+    }
+    Ok(())
+}
+
 fn main(rt: HostRuntime) -> Result<()> {
     let mut words = env::args(&rt)?.skip(1);
     let what = words.next();
@@ -147,6 +161,7 @@ fn main(rt: HostRuntime) -> Result<()> {
             };
             time_book(&rt, text.as_str(), Load { sagas, fails })
         }
-        _ => bail!("flow, plan, build, order or book?"),
+        Some("log") => time_logs(&rt, text.as_str()),
+        _ => bail!("flow, plan, build, order, book or log?"),
     }
 }

@@ -52,6 +52,11 @@ amount_at key value = do
   found ← value_in (get key value)
   amount_of found
 
+abbrev pub step_at : List ℕ → Data → Result ℕ CertFault
+step_at key value = do
+  found ← value_in (get key value)
+  step_of found
+
 abbrev pub amounts_at : List ℕ → Data → Result (List ℕ) CertFault
 amounts_at key value = do
   found ← value_in (get key value)

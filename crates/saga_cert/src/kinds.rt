@@ -3,20 +3,20 @@ ghost use Rattle.std.specs.Prelude.{◌≡◌, map, option_map};
 ghost use Rattle.serde_json.specs.Find.{get};
 ghost use Rattle.serde_json.specs.View.{view};
 ghost use Rattle.saga_cert.specs.Outcomes.{Gives, each, seen};
-ghost use Rattle.saga_cert.specs.Kinds.{has_key, text_at, value_in, amount_of, amount_at, amounts_at, step_of, steps_at, items_of};
+ghost use Rattle.saga_cert.specs.Kinds.{has_key, text_at, value_in, amount_of, amount_at, amounts_at, step_of, step_at, steps_at, items_of};
 
 use crate::faults::CertFault;
 use serde_json::Value;
 use std::alloc::Global;
 
-/// Whether the object has the key.
+/// Whether a value is an object that has the key.
 pub fn has_key(value: &Value, key: &str) -> bool
     ensures { result ≡ has_key key.now (view value.now) }
 {
     value.get(key).is_some()
 }
 
-/// The text at a key, if there is one.
+/// The text at a key of an object, if there is one.
 pub fn text_at<'a>(value: &'a Value, key: &str) -> Option<&'a str>
     ensures { option_map (λ t. t.now) result ≡ text_at key.now (view value.entry.now) }
 {
@@ -26,7 +26,7 @@ pub fn text_at<'a>(value: &'a Value, key: &str) -> Option<&'a str>
     }
 }
 
-/// The value at a key, which must be there.
+/// The value at a key of an object; `MissingKey` where there is none.
 pub fn value_at<'a>(value: &'a Value, key: &str) -> Result<&'a Value, CertFault>
     ensures { seen (λ v. view v.now) result ≡ value_in (get key.now (view value.entry.now)) }
 {
@@ -64,6 +64,13 @@ pub fn items_of(value: &Value) -> Result<&[Value], CertFault>
         Value::Array(items) => Ok(items.as_slice()),
         _ => Err(CertFault::BadType),
     }
+}
+
+/// The whole number of 16 bits at a key of an object; `MissingKey`, or `BadType` for any other value.
+pub fn step_at(value: &Value, key: &str) -> Result<u16, CertFault>
+    ensures { result ≡ step_at key.now (view value.now) }
+{
+    step_of(value_at(value, key)?)
 }
 
 /// The whole number at a key.

@@ -18,8 +18,8 @@ use saga_def::Definition;
 use serde_json::Value;
 use std::alloc::{AllocError, Global};
 
-/// The value of a text.
-fn json_of(alloc: Global, bytes: &[u8]) -> Result<Value, CertFault>
+/// The JSON value of a text, as `serde_json` reads it; `NotJson`, or want of memory.
+pub fn value_of_text(alloc: Global, bytes: &[u8]) -> Result<Value, CertFault>
     ensures { MatchResult result (λ v. IsTextOf (view v) bytes.now) (IsJsonFault bytes.now) }
 {
     match Value::from_slice(alloc, bytes) {
@@ -42,7 +42,7 @@ pub fn read_case<'d>(
 ) -> Result<Case<'d>, CertFault>
     ensures { ReadsCase definition.entry.now bytes.now result }
 {
-    let value = json_of(alloc, bytes)?;
+    let value = value_of_text(alloc, bytes)?;
     let written = written_of(alloc, &value)?;
     case_of(definition, written)
 }
@@ -51,7 +51,7 @@ pub fn read_case<'d>(
 pub fn read_answer(alloc: Global, bytes: &[u8]) -> Result<Answer, CertFault>
     ensures { ReadsAnswer bytes.now result }
 {
-    let value = json_of(alloc, bytes)?;
+    let value = value_of_text(alloc, bytes)?;
     answer_of_value(alloc, &value)
 }
 

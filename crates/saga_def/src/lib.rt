@@ -19,5 +19,6 @@ mod texts;
 pub use definitions::Definition;
 pub use faults::DefFault;
 pub use limits::{MAX_NAME, MAX_NEEDS, MAX_PRICE, MAX_STEPS, MAX_TRIES};
+pub use rules::is_name;
 pub use steps::{Need, Price, Step};
 pub use texts::Text;

@@ -1,0 +1,2 @@
+-- How a text is split into lines.
+pub mod LineLemmas

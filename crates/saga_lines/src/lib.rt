@@ -1,0 +1,8 @@
+//! The lines of a text: a line feed ends a line, the last line may lack it, and nothing is no line.
+#![tactic(auto)]
+
+mod lines;
+#[cfg(test)]
+mod tests;
+
+pub use lines::split_line;

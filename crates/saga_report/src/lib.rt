@@ -1,0 +1,14 @@
+//! The report of a run: for each saga its phase, the states of its steps, and what its plans came to.
+//!
+//! `docs/FORMATS.md` of the repository has the form. It is told from the histories alone, in one pass.
+#![tactic(auto)]
+
+mod entries;
+mod follow;
+mod lines;
+mod reports;
+mod sagas;
+#[cfg(test)]
+mod tests;
+
+pub use reports::report;

@@ -1,0 +1,114 @@
+//! The report of histories.
+ghost use Rattle.std.specs.Prelude.{◌≡◌, ◌++◌, List, [], IfOk, map, length, sum_by, slice_index_or, string_bytes};
+ghost use Rattle.std.specs.Option.{option_copied};
+ghost use Rattle.saga_history.specs.declared.events.Event.{Event};
+ghost use Rattle.saga_history.specs.Changes.{changes, past};
+ghost use Rattle.saga_report.specs.Tells.{AreFollowed, IsKept};
+ghost use Rattle.saga_report.specs.Reports.{IsReport, is_ended, is_stuck, phase_at, text_at};
+
+use crate::entries::ordered_entries;
+use crate::follow::follow;
+use crate::lines::{push_saga, push_total};
+use crate::sagas::{Entry, Saga};
+use saga_def::Definition;
+use saga_history::{Event, Phase};
+use std::alloc::{AllocError, Global};
+use std::collections::HashMap;
+
+/// The sagas of each history.
+fn follow_all(alloc: Global, histories: &[&[Event]]) -> Result<Vec<HashMap<u32, Saga>>, AllocError>
+    ensures { IfOk result (λ books. AreFollowed books.items (map (λ h. h.now) histories.now)) }
+{
+    let mut books = Vec::new(alloc);
+    for events in histories {
+        let book = follow(alloc, events)?;
+        books.push(book)?;
+    }
+    Ok(books)
+}
+
+/// What is kept of a saga.
+fn find<'a>(books: &'a [HashMap<u32, Saga>], entry: Entry) -> Option<&'a Saga>
+    ensures { (histories : List (List Event)) → AreFollowed books.entry.now histories
+        → IsKept (option_copied result) (changes entry.number (past (slice_index_or histories entry.place []))) }
+{
+    match books.get(entry.place) {
+        Some(book) => book.get(&entry.number),
+        None => None,
+    }
+}
+
+/// Adds the lines of a saga, and tells its phase.
+fn push_entry(
+    alloc: Global,
+    text: &mut String,
+    shelf: &[Definition],
+    books: &[HashMap<u32, Saga>],
+    entry: Entry,
+) -> Result<Phase, AllocError>
+    ensures text { IfOk result (λ _. (histories : List (List Event)) → AreFollowed books.now histories
+        → string_bytes text.new ≡ string_bytes text.old ++ text_at shelf.now histories entry) }
+    ensures phase { IfOk result (λ phase. (histories : List (List Event))
+        → AreFollowed books.now histories
+        → phase ≡ phase_at shelf.now histories entry) }
+{
+    match find(books, entry) {
+        Some(saga) => push_saga(text, shelf, entry.number, saga),
+        None => push_saga(text, shelf, entry.number, &Saga::new(alloc)),
+    }
+}
+
+fn is_ended(phase: Phase) -> bool
+    ensures { result ≡ is_ended phase }
+{
+    match phase {
+        Phase::Ended => true,
+        _ => false,
+    }
+}
+
+fn is_stuck(phase: Phase) -> bool
+    ensures { result ≡ is_stuck phase }
+{
+    match phase {
+        Phase::Stuck => true,
+        _ => false,
+    }
+}
+
+/// How many events the histories have together.
+fn events_of(histories: &[&[Event]]) -> u128
+    ensures { result ≡ sum_by length (map (λ h. h.now) histories.now) }
+{
+    let mut total: u128 = 0;
+    for events in histories {
+        total += events.len() as u128;
+    }
+    total
+}
+
+/// The report of the sagas that histories open, by the definitions of a shelf, in time linear in the events.
+///
+/// The sagas stand in ascending order of their numbers, those of one number in the order of their histories. Of a saga
+/// that was opened with no definition of the shelf, which no legal history has, neither name nor steps are told.
+pub fn report(
+    alloc: Global,
+    shelf: &[Definition],
+    histories: &[&[Event]],
+) -> Result<String, AllocError>
+    ensures { IfOk result (λ text. IsReport shelf.now (map (λ h. h.now) histories.now) (string_bytes text)) }
+{
+    let ordered = ordered_entries(alloc, histories)?;
+    let entries = ordered.as_slice();
+    let books = follow_all(alloc, histories)?;
+    let mut text = String::new(alloc);
+    let mut ended = 0usize;
+    let mut stuck = 0usize;
+    for entry in entries {
+        let phase = push_entry(alloc, &mut text, shelf, books.as_slice(), *entry)?;
+        ended += is_ended(phase) as usize;
+        stuck += is_stuck(phase) as usize;
+    }
+    push_total(&mut text, entries.len(), ended, stuck, events_of(histories))?;
+    Ok(text)
+}

@@ -1,0 +1,26 @@
+-- How an action ends, and which attempts a line names.
+use Rattle.std.specs.Prelude.{ℕ, ◌==◌, Bool, true, false, Option, Some, None, nat_lt, if◌then◌else◌}
+use Rattle.saga_history.specs.declared.tasks.Outcome.{Outcome}
+use Rattle.saga_history.specs.declared.tasks.Outcome.TheVariants as outcome
+use Rattle.saga_script.specs.declared.endings.Ending.{Ending}
+use Rattle.saga_script.specs.declared.endings.Ending.TheVariants.{Done, Failed, DoneThenAbort}
+
+abbrev pub outcome_of : Ending → Outcome
+outcome_of Done = outcome.Done
+outcome_of Failed = outcome.Failed
+outcome_of DoneThenAbort = outcome.Done
+
+-- the saga is to be aborted after it
+abbrev pub asks_abort : Ending → Bool
+asks_abort Done = false
+asks_abort Failed = false
+asks_abort DoneThenAbort = true
+
+-- a line names the attempt of that number: it names no attempt, and so each, or just this one
+abbrev pub is_attempt : Option ℕ → ℕ → Bool
+is_attempt None attempt = true
+is_attempt (Some named) attempt = attempt == named
+
+-- the place of an attempt in a row of ten; place 0 is for all attempts that no line can name
+abbrev pub place_of : ℕ → ℕ
+place_of attempt = if nat_lt attempt 10 then attempt else 0

@@ -1,0 +1,7 @@
+-- Scripts, and what they tell.
+pub mod Endings
+pub mod Statements
+pub mod Questions
+pub mod Table
+pub mod Scripts
+pub mod Progress

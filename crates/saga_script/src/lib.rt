@@ -1,0 +1,16 @@
+//! Scripts: how the actions and compensations of sagas end, told beforehand by the lines of a text.
+//!
+//! `docs/FORMATS.md` of the repository has the form. Reading makes a table, so that a look-up goes over no lines.
+#![tactic(auto)]
+
+mod endings;
+mod faults;
+mod limits;
+mod scripts;
+mod statements;
+#[cfg(test)]
+mod tests;
+
+pub use faults::ScriptFault;
+pub use limits::MAX_SCRIPT;
+pub use scripts::Script;
