@@ -1,6 +1,7 @@
 //! Books by worked examples, call by call, and `next` against a plain search. Each test passes also where one growth of
 //! memory is refused: the book is then as it was, and what was refused is done again.
 mod calls;
+mod memory;
 mod samples;
 mod search;
 

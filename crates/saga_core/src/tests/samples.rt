@@ -87,7 +87,9 @@ pub fn shelf_of(alloc: Global, sample: Sample) -> Result<Vec<Definition>, DefFau
         Err(_) => made(alloc, sample)?,
     };
     let mut shelf = Vec::new(alloc);
-    shelf.reserve(1).map_err(AllocError::from)?;
+    if shelf.reserve(1).is_err() {
+        shelf.reserve(1).map_err(AllocError::from)?;
+    }
     shelf.push(definition).map_err(AllocError::from)?;
     Ok(shelf)
 }
