@@ -22,7 +22,10 @@ pub use adopted::Adopted;
 pub use events::{Event, Mark};
 pub use follower::{first_not_allowed, phase_of};
 pub use laws::{are_sound, headline, history_laws, merge_laws, saga_laws};
-pub use questions::{goal_contains, is_aborted, is_in_goal, opened_with, state_of, times, turn_of};
+pub use questions::{
+    goal_contains, is_aborted, is_in_goal, next_aborted, next_opened, next_turn, opened_with,
+    state_of, times, turn_of,
+};
 pub use states::{is_busy, is_off, is_standing};
 pub use tasks::{Outcome, Phase, Task};
 pub use transitions::Transition;

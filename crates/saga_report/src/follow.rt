@@ -3,10 +3,8 @@ ghost use Rattle.std.specs.Prelude.{◌≡◌, ◌<◌, ◌≤◌, ◌+◌, ◌^
 ghost use Rattle.saga_history.specs.Changes.{Change, change_of};
 ghost use Rattle.saga_report.specs.Tells.{Tells, Follows};
 
-use crate::sagas::{
-    Saga, is_adoption, next_aborted, next_cost, next_goal, next_opened, next_turn, put_state,
-};
-use saga_history::Event;
+use crate::sagas::{Saga, is_adoption, next_cost, next_goal, put_state};
+use saga_history::{Event, next_aborted, next_opened, next_turn};
 use std::alloc::{AllocError, Global};
 use std::collections::HashMap;
 

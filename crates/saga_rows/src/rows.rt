@@ -42,10 +42,7 @@ impl<'d> Model for Rows<'d> {
 fn has_task(row: &Row) -> bool
     ensures { IsMarkOf row.now result }
 {
-    match row.first() {
-        Some(_) => true,
-        None => false,
-    }
+    row.first().is_some()
 }
 
 /// Marks one row anew.
