@@ -9,7 +9,6 @@ event of 1,000 sagas, as a ratio to that of 100. The allocator keeps the memory 
 import pathlib
 import subprocess
 import tempfile
-import time
 
 import case_net
 import runs
@@ -25,7 +24,13 @@ def definition(steps):
 
 
 def greatest_memory(command):
-    """The most bytes that a command had in use, as the system says while it runs."""
+    """The most bytes that a command had in use in one of several runs, as the system says while it runs. Runs may be so
+    short that a look comes too early."""
+    return max(greatest_seen(command) for _ in range(9))
+
+
+def greatest_seen(command):
+    """The most bytes that a look at a running command saw."""
     greatest = 0
     with subprocess.Popen(command, stdout=subprocess.DEVNULL, stderr=subprocess.DEVNULL) as process:
         while process.poll() is None:
@@ -35,8 +40,7 @@ def greatest_memory(command):
                 break
             for line in status.splitlines():
                 if line.startswith("VmHWM") and process.poll() is None:
-                    greatest = 1024 * int(line.split()[1])
-            time.sleep(0.002)
+                    greatest = max(greatest, 1024 * int(line.split()[1]))
     return greatest
 
 

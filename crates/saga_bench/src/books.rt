@@ -3,17 +3,19 @@ use anyhow::{Result, bail, ensure};
 use saga_check::verify;
 use saga_core::Book;
 use saga_def::Definition;
-use saga_history::{Outcome, Task};
+use saga_history::{Event, Outcome, Task};
 use saga_plan::plan;
 use std::time::{Duration, Instant};
 
 /// The most tasks of one saga: each of its steps run and compensated, and the plans.
 const MOST_TASKS: usize = 4096;
 
-/// What is driven: so many sagas of one definition, and which step of each fails, if any.
+/// What is driven: so many sagas of one definition, how often each step is missed before it succeeds, and which step of
+/// each fails, if any.
 #[derive(Clone, Copy)]
 pub struct Load {
     pub sagas: u32,
+    pub misses: u32,
     pub fails: Option<u16>,
 }
 
@@ -36,6 +38,11 @@ fn settle(rt: &HostRuntime, book: &mut Book, saga: u32) -> Result<Duration> {
 fn perform(rt: &HostRuntime, book: &mut Book, task: Task, load: Load) -> Result<Duration> {
     match task {
         Task::Run(saga, step) => {
+            for _ in 0..load.misses {
+                ensure!(book.take_run(saga, step).is_ok(), "not taken");
+                let missed = book.report_run(saga, step, Outcome::Failed).is_ok();
+                ensure!(missed, "not missed");
+            }
             ensure!(book.take_run(saga, step).is_ok(), "not taken");
             let outcome = if load.fails == Some(step) {
                 Outcome::Failed
@@ -55,8 +62,12 @@ fn perform(rt: &HostRuntime, book: &mut Book, task: Task, load: Load) -> Result<
     }
 }
 
-/// Opens the sagas of a load and drives them to their end. Gives how many events the history has, and the book's time.
-pub fn drive(rt: &HostRuntime, shelf: &[Definition], load: Load) -> Result<(usize, Duration)> {
+/// Opens the sagas of a load and drives them to their end. Gives the history, and the book's time.
+pub fn drive(
+    rt: &HostRuntime,
+    shelf: &[Definition],
+    load: Load,
+) -> Result<(Vec<Event>, Duration)> {
     let start = Instant::now(rt)?;
     let mut others = Duration::ZERO;
     let mut book = Book::new(rt.alloc(), shelf, 0, 1);
@@ -71,5 +82,5 @@ pub fn drive(rt: &HostRuntime, shelf: &[Definition], load: Load) -> Result<(usiz
     }
     ensure!(book.settled(), "not settled");
     let took = start.elapsed(rt)?.saturating_sub(others);
-    Ok((book.history().len(), took))
+    Ok((book.into_history(), took))
 }

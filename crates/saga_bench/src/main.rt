@@ -5,27 +5,36 @@
 //! rounds in which it was found; `plan` takes a case and prints the cost of a least plan and the rounds, or `blocked`;
 //! `build` and `order` take a case as well and print how many needs it has, and the longest chain of them; `book` takes a
 //! case, whose states it does not look at, how many sagas of its definition are driven, and which step of each fails, if
-//! any, and prints how many events that made; `log` takes a log and prints how many events it has. The second word, if
+//! any, and prints how many events that made; `audit` takes the same and between them the number of workers and how often
+//! each step is missed before, and prints how many events were audited and how many sagas are ended; `desk`
+//! takes a case and how many sagas are driven by 16 seats on 16 shards, and prints how many receipts their end compares;
+//! `log` takes a log and prints how many events it has. The second word, if
 //! any, is the file. On standard error stand the seconds that each of many runs took, a line a run; of a log, those of
-//! reading, of writing, and of reading the lines to JSON values alone, a line each.
+//! reading, of writing, and of reading the lines to JSON values alone, a line each; of an audit, those of the book's calls,
+//! of one thread and of the workers, a line each.
 #![tactic(auto)]
 
 ghost use Rattle.saga_flow.specs.Network.{IsNetwork};
 ghost use Rattle.saga_flow.specs.Reached.{HasUnbounded, Reaches};
 
+mod audits;
 mod books;
 mod cases;
+mod desks;
 mod dimacs;
 mod logs;
 mod numbers;
 
+use crate::audits::{ended, history_of};
 use crate::books::{Load, drive};
 use crate::cases::{Parts, Problem, define, read_case, read_parts};
+use crate::desks::time_desk;
 use crate::dimacs::{Network, read_network};
 use crate::logs::time_log;
 use crate::numbers::number;
 use anyhow::{Result, bail, ensure};
 use saga_case::{Answer, Case};
+use saga_def::{Definition, Step};
 use saga_flow::{Flow, Net, largest_counted, unbounded_path};
 use saga_order::Order;
 use saga_plan::{plan, plan_counted};
@@ -122,12 +131,27 @@ fn time_book(rt: &HostRuntime, text: &str, load: Load) -> Result<()> {
     let definition = read_case(rt.alloc(), text)?.definition;
     let mut shelf = Vec::new(rt.alloc());
     shelf.push(definition)?;
-    println!(rt; "events {}", drive(rt, &shelf, load)?.0)?;
+    println!(rt; "events {}", drive(rt, &shelf, load)?.0.len())?;
     for _ in 0..BOOK_TIMES {
         let (_, took) = drive(rt, &shelf, load)?;
         show(rt, took)?;
     }
     Ok(())
+}
+
+/// A shelf of one definition, each of whose steps may be missed so often.
+fn shelf_of(alloc: Global, text: &str, misses: u32) -> Result<Vec<Definition>> {
+    let Parts { steps, needs, .. } = read_parts(alloc, text)?;
+    let mut tried = Vec::new(alloc);
+    for step in steps {
+        tried.push(Step {
+            tries: u64::from(misses) + 1,
+            ..step
+        })?;
+    }
+    let mut shelf = Vec::new(alloc);
+    shelf.push(define(alloc, tried, needs)?)?;
+    Ok(shelf)
 }
 
 fn time_logs(rt: &HostRuntime, text: &str) -> Result<()> {
@@ -159,9 +183,46 @@ fn main(rt: HostRuntime) -> Result<()> {
                 Some(word) => Some(u16::try_from(number(Some(word.as_str()))?)?),
                 None => None,
             };
-            time_book(&rt, text.as_str(), Load { sagas, fails })
+            let load = Load {
+                sagas,
+                misses: 0,
+                fails,
+            };
+            time_book(&rt, text.as_str(), load)
+        }
+        Some("audit") => {
+            let sagas = number(words.next().as_deref())?;
+            let workers = number(words.next().as_deref())?;
+            let misses = number(words.next().as_deref())?;
+            let fails = match words.next() {
+                Some(word) => Some(u16::try_from(number(Some(word.as_str()))?)?),
+                None => None,
+            };
+            let load = Load {
+                sagas,
+                misses,
+                fails,
+            };
+            let shelf = shelf_of(rt.alloc(), text.as_str(), misses)?;
+            for _ in 0..BOOK_TIMES {
+                let history = history_of(&rt, &shelf, load)?;
+                show(&rt, history.took)?;
+                for split in [None, Some(workers)] {
+                    let start = Instant::now(&rt)?;
+                    let count = ended(&rt, rt.alloc(), split, &shelf, &history.events)?;
+                    show(&rt, start.elapsed(&rt)?)?;
+                    ensure!(count == sagas as usize, "not all ended");
+                }
+            }
+            let history = history_of(&rt, &shelf, load)?;
+            println!(rt; "events {} ended {sagas}", history.events.len())?;
+            Ok(())
+        }
+        Some("desk") => {
+            let sagas = number(words.next().as_deref())?;
+            time_desk(&rt, text.as_str(), sagas)
         }
         Some("log") => time_logs(&rt, text.as_str()),
-        _ => bail!("flow, plan, build, order, book or log?"),
+        _ => bail!("flow, plan, build, order, book, audit, desk or log?"),
     }
 }

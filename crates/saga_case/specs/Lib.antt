@@ -1,5 +1,6 @@
 -- Cases, prices, sets of steps, and right answers.
 pub mod States
+pub mod Amounts
 pub mod Prices
 pub mod Situation
 pub mod Faults

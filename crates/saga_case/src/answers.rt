@@ -1,5 +1,6 @@
 //! Answers to a case.
-use crate::lists::{Amounts, Chain, Marks};
+use crate::amounts::Amounts;
+use crate::lists::{Chain, Marks};
 
 /// An answer to a case: a plan, or a chain that shows that no set of steps is allowed.
 #[derive(Debug, Drop)]

@@ -3,6 +3,7 @@
 //! answer to a case is right.
 #![tactic(auto)]
 
+mod amounts;
 mod answers;
 mod cases;
 mod laws;
@@ -12,12 +13,13 @@ mod states;
 #[cfg(test)]
 mod tests;
 
+pub use amounts::Amounts;
 pub use answers::{Answer, Plan};
 pub use cases::{Case, CaseFault};
 pub use laws::{
     begins_nothing_once_aborted, keeps_to_the_states, keeps_what_cannot_be_undone,
     leaves_all_out_for_free,
 };
-pub use lists::{Amounts, Chain, Marks};
+pub use lists::{Chain, Marks};
 pub use prices::MAX_STEP_PRICE;
 pub use states::StepState;

@@ -41,44 +41,6 @@ impl Marks {
     }
 }
 
-/// Amounts of a flow in order.
-#[derive(Debug, Drop)]
-pub struct Amounts {
-    amounts: Vec<u64>,
-}
-
-impl Model for Amounts {
-    ghost use Rattle.std.specs.Prelude.{List, ℕ};
-
-    ghost Value = { List ℕ };
-
-    ghost view = { λ a. a.amounts.items };
-}
-
-impl Amounts {
-    /// The amounts of a list, whose memory it takes over.
-    pub fn new(amounts: Vec<u64>) -> Amounts
-        ensures { result ≡ amounts.items }
-    {
-        Amounts { amounts }
-    }
-
-    /// The amounts, borrowed.
-    pub fn as_slice(&self) -> &[u64]
-        ensures { result.now ≡ self.now }
-    {
-        self.amounts.as_slice()
-    }
-
-    /// The list that they were made of.
-    pub fn into_vec(self) -> Vec<u64>
-        ensures { result.items ≡ self }
-    {
-        let Amounts { amounts } = self;
-        amounts
-    }
-}
-
 /// A chain of steps by their numbers.
 #[derive(Debug, Drop)]
 pub struct Chain {

@@ -377,17 +377,32 @@ fn words_of_states(rt: HostRuntime) -> Result<(), Fail> {
 fn lists_are_given_back(rt: HostRuntime) -> Result<(), Fail> {
     let alloc = rt.alloc();
     let marks = Marks::new(Vec::from_slice(alloc, [true, false].as_slice())?);
-    let amounts = Amounts::new(Vec::from_slice(alloc, [0, 18446744073709551615].as_slice())?);
     let chain = Chain::new(Vec::from_slice(alloc, [65535, 0].as_slice())?);
     assert_eq!(rt; marks.as_slice(), [true, false].as_slice());
-    assert_eq!(rt; amounts.as_slice(), [0, 18446744073709551615].as_slice());
     assert_eq!(rt; chain.as_slice(), [65535, 0].as_slice());
     assert_eq!(rt; marks.into_vec().as_slice(), [true, false].as_slice());
-    assert_eq!(rt;
-        amounts.into_vec().as_slice(),
-        [0, 18446744073709551615].as_slice()
-    );
     assert_eq!(rt; chain.into_vec().as_slice(), [65535, 0].as_slice());
+    Ok(())
+}
+
+/// Whatever bytes they take, amounts are what they were made of.
+#[test]
+fn amounts_keep_their_values(rt: HostRuntime) -> Result<(), Fail> {
+    let alloc = rt.alloc();
+    let lists: &[&[u64]] = &[
+        &[],
+        &[0, 65535],
+        &[65536, 0, 1],
+        &[7, 4294967295, 65535],
+        &[4294967296],
+        &[18446744073709551615, 0, 65536],
+    ];
+    for list in lists {
+        let amounts = Amounts::new(alloc, list)?;
+        assert_eq!(rt; amounts.len(), list.len());
+        assert!(rt; !amounts.are(&[7]));
+        assert!(rt; amounts.are(list));
+    }
     Ok(())
 }
 

@@ -26,9 +26,9 @@ fn plan_parts_of(alloc: Global, value: &Value) -> Result<Plan, CertFault>
     Ok(Plan {
         kept: Marks::new(kept),
         cost,
-        leave: Amounts::new(leave),
-        stand: Amounts::new(stand),
-        links: Amounts::new(links),
+        leave: Amounts::new(alloc, &leave)?,
+        stand: Amounts::new(alloc, &stand)?,
+        links: Amounts::new(alloc, &links)?,
     })
 }
 

@@ -4,17 +4,17 @@ ghost use Rattle.serde_json.specs.View.{view};
 ghost use Rattle.saga_cert.specs.Kept.{places_from};
 ghost use Rattle.saga_cert.specs.Answers.{numbers, plan_form, chain_form, answer_form, answer_of, IsPaired};
 
-use saga_case::{Answer, Plan};
+use saga_case::{Amounts, Answer, Plan};
 use serde_json::{Value, json};
 use std::alloc::{AllocError, Global};
 
 /// The list of amounts.
-fn amounts_value(alloc: Global, amounts: &[u64]) -> Result<Value, AllocError>
+fn amounts_value(alloc: Global, amounts: &Amounts) -> Result<Value, AllocError>
     ensures { IfOk result (λ v. view v ≡ numbers amounts.now) }
 {
     let mut list = Vec::new(alloc);
-    for amount in amounts {
-        list.push(Value::from(*amount))?;
+    for place in 0..amounts.len() {
+        list.push(Value::from(amounts.get(place)))?;
     }
     Ok(Value::Array(list))
 }
@@ -47,9 +47,9 @@ fn plan_value(alloc: Global, plan: &Plan) -> Result<Value, AllocError>
     ensures { IfOk result (λ v. view v ≡ plan_form plan.now) }
 {
     let kept = places_value(alloc, plan.kept.as_slice())?;
-    let leave = amounts_value(alloc, plan.leave.as_slice())?;
-    let links = amounts_value(alloc, plan.links.as_slice())?;
-    let stand = amounts_value(alloc, plan.stand.as_slice())?;
+    let leave = amounts_value(alloc, &plan.leave)?;
+    let links = amounts_value(alloc, &plan.links)?;
+    let stand = amounts_value(alloc, &plan.stand)?;
     json!(in alloc; {
         "cost": plan.cost,
         "kept": kept,

@@ -16,9 +16,9 @@ pub fn has_shape(case: &Case, plan: &Plan) -> bool
     let steps = case.definition().steps();
     let needs = case.definition().needs();
     plan.kept.as_slice().len() == steps
-        && plan.leave.as_slice().len() == steps
-        && plan.stand.as_slice().len() == steps
-        && plan.links.as_slice().len() == needs
+        && plan.leave.len() == steps
+        && plan.stand.len() == steps
+        && plan.links.len() == needs
 }
 
 /// Whether a set holds, with each step, all that it needs.
@@ -50,13 +50,11 @@ pub fn is_within(case: &Case, plan: &Plan) -> bool
     ensures { IsTrue result ↔ IsWithin (terms_of case.now) (flow_of plan.now) }
 {
     let count = case.definition().steps() as u16;
-    let leave = plan.leave.as_slice();
-    let stand = plan.stand.as_slice();
     for s in 0..count {
-        if !fits_in(leave[s as usize], case.leave_price(s)) {
+        if !fits_in(plan.leave.get(s as usize), case.leave_price(s)) {
             return false;
         }
-        if !fits_in(stand[s as usize], case.stand_price(s)) {
+        if !fits_in(plan.stand.get(s as usize), case.stand_price(s)) {
             return false;
         }
     }
@@ -71,11 +69,10 @@ fn is_conserved_at(case: &Case, plan: &Plan, s: u16) -> bool
         ≡ slice_index plan.now.stand s + out_of_step (terms_of case.now) (flow_of plan.now) s) }
 {
     let definition = case.definition();
-    let links = plan.links.as_slice();
-    let into = sum_at(links, definition.places_on(s));
-    let out = sum_at(links, definition.places_of(s));
-    let leave = plan.leave.as_slice()[s as usize] as u128;
-    let stand = plan.stand.as_slice()[s as usize] as u128;
+    let into = sum_at(&plan.links, definition.places_on(s));
+    let out = sum_at(&plan.links, definition.places_of(s));
+    let leave = plan.leave.get(s as usize) as u128;
+    let stand = plan.stand.get(s as usize) as u128;
     leave + into == stand + out
 }
 
@@ -98,5 +95,5 @@ pub fn has_value(case: &Case, plan: &Plan) -> bool
     requires { HasShape (terms_of case.now) plan.now }
     ensures { IsTrue result ↔ (value_of (terms_of case.now) (flow_of plan.now) ≡ plan.now.cost) }
 {
-    total(plan.leave.as_slice()) == plan.cost as u128
+    total(&plan.leave) == plan.cost as u128
 }

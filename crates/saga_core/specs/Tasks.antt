@@ -11,7 +11,7 @@ use Rattle.saga_history.specs.declared.transitions.Transition.TheVariants as tra
 use Rattle.saga_history.specs.declared.turns.Turn.TheVariants.{Stuck}
 use Rattle.saga_history.specs.Changes.{changes}
 use Rattle.saga_history.specs.Progress.{IsEndedOrWaits}
-use Rattle.saga_history.specs.Rules.{definition, HasPhase, IsEnded}
+use Rattle.saga_history.specs.Rules.{definition, HasPhase, IsEnded, misses_of, undo_misses_of}
 use Rattle.saga_history.specs.States.{state}
 use Rattle.saga_history.specs.Tasks.{TaskIsAllowed}
 use Rattle.saga_history.specs.Turns.{in_goal, turn}
@@ -75,6 +75,13 @@ HasNoStep shelf h i s = IsUnknown h i ⊎ OfSaga shelf h i (λ d l. length d.ste
 -- the state of a step, and whether it is in the goal
 abbrev pub HasState : List Contents → List Event → ℕ → ℕ → StepState → Type 0
 HasState shelf h i s x = OfSaga shelf h i (λ d l. (s < length d.steps) × (x ≡ state l s))
+
+-- how often its action was missed, and its compensation
+abbrev pub HasMisses : List Contents → List Event → ℕ → ℕ → ℕ → Type 0
+HasMisses shelf h i s count = OfSaga shelf h i (λ d l. (s < length d.steps) × (count ≡ misses_of l s))
+
+abbrev pub HasUndoMisses : List Contents → List Event → ℕ → ℕ → ℕ → Type 0
+HasUndoMisses shelf h i s count = OfSaga shelf h i (λ d l. (s < length d.steps) × (count ≡ undo_misses_of l s))
 
 abbrev pub HasGoal : List Contents → List Event → ℕ → ℕ → Bool → Type 0
 HasGoal shelf h i s wanted = OfSaga shelf h i (λ d l. (s < length d.steps) × (wanted ≡ in_goal l s))

@@ -348,6 +348,21 @@ fn random_runs(rt: HostRuntime) -> Result<(), Fail> {
     Ok(())
 }
 
+/// Misses are counted for each step, of its action and of its compensation.
+#[test]
+fn misses_are_counted(rt: HostRuntime) -> Result<(), Fail> {
+    let alloc = rt.alloc();
+    let shelf = shelf_of(alloc, RETRIED.sample)?;
+    assert_eq!(rt; shelf.len(), 1);
+    let mut book = Book::new(alloc, &shelf, 0, 1);
+    assert_eq!(rt; first_wrong(alloc, &mut book, &shelf[0], RETRIED.calls)?, None);
+    assert!(rt; book.misses(0, 0) == Some(2));
+    assert!(rt; book.undo_misses(0, 0) == Some(0));
+    assert!(rt; book.misses(0, 1) == None);
+    assert!(rt; book.undo_misses(1, 0) == None);
+    Ok(())
+}
+
 /// A verdict on another definition of the same size is stale.
 #[test]
 fn another_definition_is_stale(rt: HostRuntime) -> Result<(), Fail> {

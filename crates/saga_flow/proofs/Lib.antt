@@ -2,15 +2,15 @@ pub mod NetLemmas
 pub mod TotalLemmas
 pub mod CutLemmas
 pub mod LeastCut
-mod StepLemmas
-mod PushLemmas
-mod AmountLemmas
-mod LevelLemmas
-mod RoundLemmas
-mod ListLemmas
-mod SearchLemmas
-mod VisitLemmas
-mod TreeLemmas
-mod PathLemmas
-mod PhaseLemmas
-mod FlowLemmas
+pub mod StepLemmas
+pub mod PushLemmas
+pub mod AmountLemmas
+pub mod LevelLemmas
+pub mod RoundLemmas
+pub mod ListLemmas
+pub mod SearchLemmas
+pub mod VisitLemmas
+pub mod TreeLemmas
+pub mod PathLemmas
+pub mod PhaseLemmas
+pub mod FlowLemmas

@@ -19,7 +19,10 @@ mod steps;
 
 pub use flows::{Flow, largest, largest_counted};
 pub use nets::{Arc, Cap, Net};
+pub use pushes::push;
 pub use reaching::{reach, unbounded_path};
+pub use rounds::Progress;
+pub use steps::Step;
 
 #[cfg(test)]
 mod plain;

@@ -60,7 +60,7 @@ fn room(arcs: &[Arc], step: Step, on: &[u64]) -> u64
 }
 
 /// Sends an amount over each step of a path.
-fn push(path: &[Step], on: &mut [u64], more: u64)
+pub fn push(path: &[Step], on: &mut [u64], more: u64)
     requires once { NoArcTwice path.now }
     requires fits { All (CanShift on.old more) path.now }
     ensures { on.new ≡ pushed on.old path.now more }

@@ -15,8 +15,9 @@ use Rattle.saga_flow.specs.declared.nets.Arc.{Arc}
 use Rattle.saga_flow.specs.declared.nets.Cap.TheVariants as cap
 use Rattle.saga_flow.specs.Network.{bound_of}
 use Rattle.saga_flow.proofs.LeastCut.{leaves, cut_bound, IsCut}
-use Rattle.saga_plan.specs.CaseNet.{cap_of, leave_arc, stand_arc, link_arc, network_of}
-use Rattle.saga_plan.proofs.ArcLemmas.{sum_network, each_arc, leave_at, stand_at, link_at}
+use Rattle.saga_closure.specs.CaseNet.{cap_of, leave_arc, stand_arc, link_arc, network_of}
+use Rattle.saga_closure.proofs.NetLemmas.{unbounded_never}
+use Rattle.saga_closure.proofs.ArcLemmas.{sum_network, each_arc, leave_at, stand_at, link_at}
 
 -- the steps of a set of nodes
 abbrev pub steps_in : (ℕ → Bool) → Steps
@@ -97,10 +98,6 @@ pub side_step : (set : Steps) (s : ℕ) → side set (2 + s) ≡ set s
 side_step set s =
     let e : 2 + s - 2 ≡ s = omega arith in
     rw (ne_eqb (2 + s) 0 (λ q. absurd (omega (arith, q))), ne_eqb (2 + s) 1 (λ q. absurd (omega (arith, q)))) (ap set e)
-
-pub unbounded_never : (p : Price) → cap_of p ≡ cap.Unbounded → p ≡ price.Never
-unbounded_never (price.Of a) e = absurd (cc)
-unbounded_never price.Never e = refl
 
 pub allowed_is_cut : (t : Terms) (set : Steps) → IsAllowed t set → IsCut (side set) (network_of t).arcs
 allowed_is_cut t set allowed = record {

@@ -12,8 +12,8 @@ use Rattle.saga_case.proofs.SumLemmas.{sum_same, sum_zero, sum_one}
 use Rattle.saga_flow.specs.declared.nets.Arc.{Arc}
 use Rattle.saga_flow.specs.Flows.{total, out_of, into, IsFlow, HasValue}
 use Rattle.saga_flow.specs.Flows as flows
-use Rattle.saga_plan.specs.CaseNet.{cap_of, leave_arc, stand_arc, network_of}
-use Rattle.saga_plan.proofs.ArcLemmas.{total_network, carried_none, leave_at, stand_at}
+use Rattle.saga_closure.specs.CaseNet.{cap_of, leave_arc, stand_arc, network_of}
+use Rattle.saga_closure.proofs.ArcLemmas.{total_network, carried_none, leave_at, stand_at}
 
 -- the amounts on the three groups of arcs
 abbrev pub groups : Terms → List ℕ → Flow

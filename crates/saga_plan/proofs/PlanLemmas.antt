@@ -1,9 +1,9 @@
 -- What a greatest flow of a case's network and the nodes reached in its residual network give: a right plan, whose kept
 -- set is contained in every least set.
-use Rattle.std.proofs.Common.{ℕ, ◌≡◌, ◌<◌, ◌≤◌, ◌+◌, ◌*◌, ◌∙◌, ◌++◌, Bool, true, false, List, length, get_or, take, drop, ap, sym, subst, refl, arith, inl, inr}
-use Rattle.std.specs.Prelude.{IsTrue, ◌↔◌, slice_index_or}
-use Rattle.std.proofs.lemmas.Bool.{cases_lt, false≢true}
-use Rattle.std.proofs.lemmas.List.{get_or-drop, get_or_past, length-drop, length-take-le, take-append-drop}
+use Rattle.std.proofs.Common.{ℕ, ◌≡◌, ◌<◌, ◌≤◌, ◌+◌, ◌-◌, ◌*◌, ◌∙◌, ◌++◌, Bool, true, false, List, length, get_or, take, drop, ap, sym, subst, refl, arith, inl, inr}
+use Rattle.std.specs.Prelude.{IsTrue}
+use Rattle.std.proofs.lemmas.Bool.{cases_eq, cases_lt, false≢true}
+use Rattle.std.proofs.lemmas.List.{get_or_past, length-drop, length-take-le, take-append-drop}
 use Rattle.saga_def.specs.declared.steps.Price.TheVariants as price
 use Rattle.saga_def.specs.Order.{Steps, member}
 use Rattle.saga_def.specs.Rules.{AreKnown}
@@ -11,16 +11,17 @@ use Rattle.saga_case.specs.declared.answers.Plan.{Plan}
 use Rattle.saga_case.specs.Terms.{Terms, cost_of, AtMost, IsLeast}
 use Rattle.saga_case.specs.Flow.{IsWithin, IsConserved, value_of}
 use Rattle.saga_case.specs.Right.{flow_of, HasShape, IsRightPlan}
-use Rattle.saga_flow.specs.Flows.{IsFlow, HasValue}
 use Rattle.saga_flow.specs.declared.nets.Arc.{Arc}
 use Rattle.saga_flow.specs.Residual.{Joins, IsResidual}
 use Rattle.saga_flow.specs.Reached.{Reaches, here, next}
 use Rattle.saga_flow.specs.Rounds.{IsReachedIn}
 use Rattle.saga_flow.proofs.NetLemmas.{AreEnds}
 use Rattle.saga_flow.proofs.LeastCut.{IsCut, cut_bound, value_le_cut, arc_of, reached_is_cut, reached_value, reached_in_cut}
-use Rattle.saga_plan.specs.CaseNet.{network_of}
+use Rattle.saga_closure.specs.CaseNet.{network_of}
+use Rattle.saga_closure.specs.Largest.{IsLargest}
+use Rattle.saga_closure.specs.declared.flows.ClosureFlow.{ClosureFlow}
 use Rattle.saga_plan.specs.Making.{IsPlanOf}
-use Rattle.saga_plan.proofs.ArcLemmas.{arcs_sized, each_arc}
+use Rattle.saga_closure.proofs.ArcLemmas.{arcs_sized, each_arc}
 use Rattle.saga_plan.proofs.CutCost.{steps_in, closed_same, cost_same, cut_is_cost, cut_is_allowed, side, side_step, allowed_is_cut, allowed_cost}
 use Rattle.saga_plan.proofs.FlowLemmas.{groups, groups_within, groups_conserved, groups_value}
 
@@ -42,56 +43,70 @@ reached_node t on ends v (next {mid} r step) =
     let found = arc_of (network_of t).arcs on step.0 mid v step.1 in
     head_within step.0.forward (t.count + 2) found.0 mid v (ends step.0.arc found.0 found.1) found.2
 
--- a greatest flow and what is reached
-pub record IsSolved (t : Terms) (on : List ℕ) (value : ℕ) (reached : List Bool) : Type 0 where
-  pub known : AreKnown t.needs t.count
-  pub flow : IsFlow (network_of t).arcs on
-  pub worth : HasValue (network_of t).arcs on value
-  pub apart : Reaches (IsResidual (network_of t).arcs on) 0 1 → ⊥
-  pub sized : length reached ≡ t.count + 2
-  pub exact : (node : ℕ) → node < t.count + 2 → IsTrue (slice_index_or reached node false) ↔ Reaches (IsResidual (network_of t).arcs on) 0 node
-
-module _ (t : Terms) (on : List ℕ) (value : ℕ) (reached : List Bool) (solved : IsSolved t on value reached) where
+module _ (t : Terms) (flow : ClosureFlow) (known : AreKnown t.needs t.count) (solved : IsLargest t flow) where
+  -- the source and the nodes of the steps reached
   abbrev nodes_in : ℕ → Bool
-  nodes_in v = get_or reached v false
+  nodes_in = side (member flow.reached.items)
 
   ends : AreEnds (t.count + 2) (network_of t).arcs
-  ends = net_ends t solved.known
+  ends = net_ends t known
 
-  sound : (v : ℕ) → nodes_in v ≡ true → Reaches (IsResidual (network_of t).arcs on) 0 v
-  sound v test = elim (cases_lt v (t.count + 2)) [
-    | inl less ↦ (solved.exact v less).0 test
-    | inr past ↦ absurd (false≢true (sym (get_or_past reached v false (omega (arith, past, solved.sized))) ∙ test))
+  step_sound : (s : ℕ) → member flow.reached.items s ≡ true → Reaches (IsResidual (network_of t).arcs flow.on.items) 0 (2 + s)
+  step_sound s test = elim (cases_lt s t.count) [
+    | inl less ↦ (solved.exact s less).0 test
+    | inr past ↦ absurd (false≢true (sym (get_or_past flow.reached.items s false (omega (arith, past, solved.sized))) ∙ test))
   ]
 
-  whole : (v : ℕ) → Reaches (IsResidual (network_of t).arcs on) 0 v → nodes_in v ≡ true
-  whole v r = (solved.exact v (reached_node t on ends v r)).1 r
+  step_whole : (s : ℕ) → Reaches (IsResidual (network_of t).arcs flow.on.items) 0 (2 + s) → member flow.reached.items s ≡ true
+  step_whole s r = (solved.exact s (omega (arith, reached_node t flow.on.items ends (2 + s) r))).1 r
+
+  sound : (v : ℕ) → nodes_in v ≡ true → Reaches (IsResidual (network_of t).arcs flow.on.items) 0 v
+  sound v test = elim (cases_eq v 0) [
+    | inl source ↦ rw source here
+    | inr past ↦ elim (cases_eq v 1) [
+      | inl sink ↦ absurd (false≢true (rw sink at test))
+      | inr far ↦
+          let e : 2 + (v - 2) ≡ v = omega (arith, past, far) in
+          subst (λ x. Reaches (IsResidual (network_of t).arcs flow.on.items) 0 x) e (step_sound (v - 2) (sym (side_step (member flow.reached.items) (v - 2)) ∙ subst (λ x. nodes_in x ≡ true) (sym e) test))
+    ]
+  ]
+
+  whole : (v : ℕ) → Reaches (IsResidual (network_of t).arcs flow.on.items) 0 v → nodes_in v ≡ true
+  whole v r = elim (cases_eq v 0) [
+    | inl source ↦ rw source refl
+    | inr past ↦ elim (cases_eq v 1) [
+      | inl sink ↦ absurd (solved.cut (rw sink at r))
+      | inr far ↦
+          let e : 2 + (v - 2) ≡ v = omega (arith, past, far) in
+          subst (λ x. nodes_in x ≡ true) e (side_step (member flow.reached.items) (v - 2) ∙ step_whole (v - 2) (subst (λ x. Reaches (IsResidual (network_of t).arcs flow.on.items) 0 x) (sym e) r))
+    ]
+  ]
 
   cut : IsCut nodes_in (network_of t).arcs
-  cut = reached_is_cut nodes_in (t.count + 2) (network_of t).arcs on value ends solved.flow solved.worth sound whole solved.apart
+  cut = reached_is_cut nodes_in (t.count + 2) (network_of t).arcs flow.on.items flow.value ends solved.flow solved.value sound whole solved.cut
 
-  filled : value ≡ cut_bound nodes_in (network_of t).arcs
-  filled = reached_value nodes_in (t.count + 2) (network_of t).arcs on value ends solved.flow solved.worth sound whole solved.apart
+  filled : flow.value ≡ cut_bound nodes_in (network_of t).arcs
+  filled = reached_value nodes_in (t.count + 2) (network_of t).arcs flow.on.items flow.value ends solved.flow solved.value sound whole solved.cut
 
-  cost_is : cost_of t (steps_in nodes_in) ≡ price.Of value
+  cost_is : cost_of t (steps_in nodes_in) ≡ price.Of flow.value
   cost_is = cut_is_cost t nodes_in cut ∙ ap price.Of (sym filled)
 
-  sizes : length on ≡ t.count + (t.count + length t.needs)
+  sizes : length flow.on.items ≡ t.count + (t.count + length t.needs)
   sizes = solved.flow.sized ∙ arcs_sized t
 
-  module _ (plan : Plan) (made : IsPlanOf t.count value on reached plan) where
+  module _ (plan : Plan) (made : IsPlanOf t.count flow plan) where
     kept_same : (s : ℕ) → steps_in nodes_in s ≡ member plan.kept s
-    kept_same s = sym (ap (λ (marks : List Bool). get_or marks s false) made.kept ∙ get_or-drop 2 reached s false)
+    kept_same s = side_step (member flow.reached.items) s ∙ sym (ap (λ (marks : List Bool). get_or marks s false) made.kept)
 
-    flow_same : groups t on ≡ flow_of plan
+    flow_same : groups t flow.on.items ≡ flow_of plan
     flow_same = rw (made.leave, made.stand, made.links) refl
 
     shape : HasShape t plan
     shape = record {
-      kept = ap length made.kept ∙ omega (arith, length-drop 2 reached, solved.sized);
-      leave = ap length made.leave ∙ length-take-le t.count on (omega (arith, sizes));
-      stand = ap length made.stand ∙ length-take-le t.count (drop t.count on) (omega (arith, length-drop t.count on, sizes));
-      links = ap length made.links ∙ omega (arith, length-drop t.count (drop t.count on), length-drop t.count on, sizes);
+      kept = ap length made.kept ∙ solved.sized;
+      leave = ap length made.leave ∙ length-take-le t.count flow.on.items (omega (arith, sizes));
+      stand = ap length made.stand ∙ length-take-le t.count (drop t.count flow.on.items) (omega (arith, length-drop t.count flow.on.items, sizes));
+      links = ap length made.links ∙ omega (arith, length-drop t.count (drop t.count flow.on.items), length-drop t.count flow.on.items, sizes);
     }
 
     pub plan_right : IsRightPlan t plan
@@ -99,28 +114,28 @@ module _ (t : Terms) (on : List ℕ) (value : ℕ) (reached : List Bool) (solved
       shape = shape;
       closed = closed_same t.needs (steps_in nodes_in) (member plan.kept) kept_same (cut_is_allowed t nodes_in cut).closed;
       priced = sym (cost_same t (steps_in nodes_in) (member plan.kept) kept_same) ∙ cost_is ∙ ap price.Of (sym made.cost);
-      within = subst (IsWithin t) flow_same (groups_within t on solved.flow);
-      conserved = subst (IsConserved t) flow_same (groups_conserved t on sizes solved.flow);
-      valued = sym (ap (value_of t) flow_same) ∙ groups_value t on sizes value solved.worth ∙ sym made.cost;
+      within = subst (IsWithin t) flow_same (groups_within t flow.on.items solved.flow);
+      conserved = subst (IsConserved t) flow_same (groups_conserved t flow.on.items sizes solved.flow);
+      valued = sym (ap (value_of t) flow_same) ∙ groups_value t flow.on.items sizes flow.value solved.value ∙ sym made.cost;
     }
 
     -- the cost of each least set is the value
-    least_filled : (other : Steps) → IsLeast t other → value ≡ cut_bound (side other) (network_of t).arcs
+    least_filled : (other : Steps) → IsLeast t other → flow.value ≡ cut_bound (side other) (network_of t).arcs
     least_filled other least =
         let bound : ℕ = cut_bound (side other) (network_of t).arcs in
-        let above : value ≤ bound = value_le_cut (side other) (t.count + 2) (network_of t).arcs on value ends solved.flow solved.worth (allowed_is_cut t other least.allowed) in
-        let below : AtMost (price.Of bound) (price.Of value) = rw (allowed_cost t other least.allowed, cost_is) at (least.least (steps_in nodes_in) (cut_is_allowed t nodes_in cut)) in
+        let above : flow.value ≤ bound = value_le_cut (side other) (t.count + 2) (network_of t).arcs flow.on.items flow.value ends solved.flow solved.value (allowed_is_cut t other least.allowed) in
+        let below : AtMost (price.Of bound) (price.Of flow.value) = rw (allowed_cost t other least.allowed, cost_is) at (least.least (steps_in nodes_in) (cut_is_allowed t nodes_in cut)) in
         omega (arith, above, below)
 
     pub plan_smallest : (other : Steps) → IsLeast t other → (s : ℕ) → IsTrue (member plan.kept s) → IsTrue (other s)
     plan_smallest other least s kept =
         sym (side_step other s) ∙
-        reached_in_cut (side other) (t.count + 2) (network_of t).arcs on value ends solved.flow solved.worth (allowed_is_cut t other least.allowed) (least_filled other least) (2 + s) (sound (2 + s) (kept_same s ∙ kept))
+        reached_in_cut (side other) (t.count + 2) (network_of t).arcs flow.on.items flow.value ends solved.flow solved.value (allowed_is_cut t other least.allowed) (least_filled other least) (2 + s) (sound (2 + s) (kept_same s ∙ kept))
 
-    pub plan_flow : (rounds : ℕ) → IsReachedIn (network_of t).arcs on rounds → IsReachedIn (network_of t).arcs (plan.leave ++ (plan.stand ++ plan.links)) rounds
+    pub plan_flow : (rounds : ℕ) → IsReachedIn (network_of t).arcs flow.on.items rounds → IsReachedIn (network_of t).arcs (plan.leave ++ (plan.stand ++ plan.links)) rounds
     plan_flow rounds made_in =
-        let whole_flow : on ≡ plan.leave ++ (plan.stand ++ plan.links) =
-        rw (made.leave, made.stand, made.links) (sym (ap (λ (xs : List ℕ). take t.count on ++ xs) (take-append-drop t.count (drop t.count on)) ∙ take-append-drop t.count on)) in
+        let whole_flow : flow.on.items ≡ plan.leave ++ (plan.stand ++ plan.links) =
+        rw (made.leave, made.stand, made.links) (sym (ap (λ (xs : List ℕ). take t.count flow.on.items ++ xs) (take-append-drop t.count (drop t.count flow.on.items)) ∙ take-append-drop t.count flow.on.items)) in
         subst (λ (xs : List ℕ). IsReachedIn (network_of t).arcs xs rounds) whole_flow made_in
 
 pub few_rounds : (t : Terms) (rounds : ℕ) → rounds ≤ (t.count + 2) * length (network_of t).arcs → rounds ≤ (t.count + 2) * (2 * t.count + length t.needs)

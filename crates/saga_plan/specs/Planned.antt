@@ -5,7 +5,7 @@ use Rattle.saga_case.specs.declared.answers.Answer.{Answer}
 use Rattle.saga_case.specs.declared.answers.Answer.TheVariants.{Plan, Blocked}
 use Rattle.saga_case.specs.Terms.{Terms, IsLeast}
 use Rattle.saga_flow.specs.Rounds.{IsReachedIn}
-use Rattle.saga_plan.specs.CaseNet.{network_of}
+use Rattle.saga_closure.specs.CaseNet.{network_of}
 
 -- one set of steps is contained in another
 abbrev pub IsWithinSet : Steps → Steps → Type 0

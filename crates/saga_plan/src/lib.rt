@@ -5,12 +5,14 @@
 //! the steps that the source still reaches in the residual network are kept. Of all least sets that is the smallest.
 #![tactic(auto)]
 
-mod chains;
-mod networks;
 mod planning;
 mod plans;
 
 pub use planning::{plan, plan_counted};
 
+#[cfg(test)]
+mod compared;
+#[cfg(test)]
+mod networks;
 #[cfg(test)]
 mod tests;

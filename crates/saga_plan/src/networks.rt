@@ -1,7 +1,7 @@
 //! The network of a case.
 ghost use Rattle.std.specs.Prelude.{◌≡◌, ◌++◌, IfOk, OnOk, map};
 ghost use Rattle.saga_case.specs.Terms.{terms_of};
-ghost use Rattle.saga_plan.specs.CaseNet.{cap_of, leave_arc, stand_arc, link_arc, arcs_below, network_of};
+ghost use Rattle.saga_closure.specs.CaseNet.{cap_of, leave_arc, stand_arc, link_arc, arcs_below, network_of};
 
 use saga_case::Case;
 use saga_def::Price;

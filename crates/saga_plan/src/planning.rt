@@ -5,11 +5,9 @@ ghost use Rattle.saga_case.specs.Right.{IsRight, Settles};
 ghost use Rattle.saga_case.specs.Terms.{terms_of};
 ghost use Rattle.saga_plan.specs.Planned.{IsSmallest, KeepsNothing, IsMadeIn, HasFewRounds, HasRoundsWithinCost};
 
-use crate::chains::inner_steps;
-use crate::networks::net_of;
 use crate::plans::plan_of;
 use saga_case::{Answer, Case, Chain, leaves_all_out_for_free};
-use saga_flow::{largest_counted, reach, unbounded_path};
+use saga_closure::{Solution, solve};
 use std::alloc::{AllocError, Global};
 
 /// A right answer to a case: a plan where some set of steps is allowed, a chain where none is.
@@ -42,13 +40,12 @@ pub fn plan_counted(alloc: Global, case: &Case) -> Result<(Answer, u64), AllocEr
 {
     leaves_all_out_for_free(case);
     let steps = case.definition().steps();
-    let net = net_of(alloc, case)?;
-    if let Some(nodes) = unbounded_path(alloc, &net)? {
-        let chain = inner_steps(alloc, nodes.as_slice())?;
-        return Ok((Answer::Blocked(Chain::new(chain)), 0));
+    match solve(alloc, case)? {
+        Solution::Blocked(chain) => Ok((Answer::Blocked(Chain::new(chain)), 0)),
+        Solution::Flow(flow) => {
+            let rounds = flow.rounds;
+            let plan = plan_of(alloc, steps, flow)?;
+            Ok((Answer::Plan(plan), rounds))
+        }
     }
-    let (flow, rounds) = largest_counted(alloc, &net)?;
-    let reached = reach(alloc, &net, &flow)?;
-    let plan = plan_of(alloc, steps, &flow, reached.as_slice())?;
-    Ok((Answer::Plan(plan), rounds))
 }

@@ -3,34 +3,27 @@ ghost use Rattle.std.specs.Prelude.{◌≡◌, ◌≤◌, ◌+◌, length, IfOk}
 ghost use Rattle.saga_plan.specs.Making.{IsPlanOf};
 
 use saga_case::{Amounts, Marks, Plan};
-use saga_flow::Flow;
+use saga_closure::ClosureFlow;
 use std::alloc::{AllocError, Global};
 
 /// The plan that keeps the steps reached, with the flow in its three groups as certificate.
-pub fn plan_of(
-    alloc: Global,
-    steps: usize,
-    flow: &Flow,
-    reached: &[bool],
-) -> Result<Plan, AllocError>
-    requires flow { steps + steps ≤ length flow.now.on.items }
-    requires reached { length reached.now ≡ steps + 2 }
-    ensures { IfOk result (λ plan. IsPlanOf steps flow.now.value flow.now.on.items reached.now plan) }
+pub fn plan_of(alloc: Global, steps: usize, flow: ClosureFlow) -> Result<Plan, AllocError>
+    requires { steps + steps ≤ length flow.on.items }
+    ensures { IfOk result (IsPlanOf steps flow) }
 {
-    let (leave, rest) = flow.on.as_slice().split_at(steps);
+    let ClosureFlow {
+        value,
+        on,
+        reached,
+        ..
+    } = flow;
+    let (leave, rest) = on.as_slice().split_at(steps);
     let (stand, links) = rest.split_at(steps);
     Ok(Plan {
-        kept: Marks::new(Vec::from_slice(alloc, &reached[2..])?),
-        cost: flow.value,
-        leave: amounts(alloc, leave)?,
-        stand: amounts(alloc, stand)?,
-        links: amounts(alloc, links)?,
+        kept: Marks::new(reached),
+        cost: value,
+        leave: Amounts::new(alloc, leave)?,
+        stand: Amounts::new(alloc, stand)?,
+        links: Amounts::new(alloc, links)?,
     })
-}
-
-/// Amounts of their own.
-fn amounts(alloc: Global, amounts: &[u64]) -> Result<Amounts, AllocError>
-    ensures { IfOk result (λ own. own ≡ amounts.now) }
-{
-    Ok(Amounts::new(Vec::from_slice(alloc, amounts)?))
 }

@@ -101,9 +101,9 @@ fn case<'d>(
 fn is_plan(plan: &Plan, wanted: &Sketch) -> bool {
     plan.kept.as_slice() == wanted.kept
         && plan.cost == wanted.cost
-        && plan.leave.as_slice() == wanted.leave
-        && plan.stand.as_slice() == wanted.stand
-        && plan.links.as_slice() == wanted.links
+        && plan.leave.are(wanted.leave)
+        && plan.stand.are(wanted.stand)
+        && plan.links.are(wanted.links)
 }
 
 fn is_wanted(answer: &Answer, wanted: &Wanted) -> bool {

@@ -135,14 +135,13 @@ fn definition(alloc: Global, name: &str, names: &[&str]) -> Result<Definition, D
 }
 
 fn answer(alloc: Global, deed: Deed) -> Result<Answer, AllocError> {
-    let none = Vec::new(alloc);
     match deed {
         Deed::Plan(kept, cost) => Ok(Answer::Plan(Plan {
             kept: Marks::new(Vec::from_slice(alloc, kept)?),
             cost,
-            leave: Amounts::new(none),
-            stand: Amounts::new(Vec::new(alloc)),
-            links: Amounts::new(Vec::new(alloc)),
+            leave: Amounts::new(alloc, &[])?,
+            stand: Amounts::new(alloc, &[])?,
+            links: Amounts::new(alloc, &[])?,
         })),
         _ => Ok(Answer::Blocked(Chain::new(Vec::new(alloc)))),
     }

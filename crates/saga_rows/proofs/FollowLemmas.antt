@@ -1,8 +1,9 @@
 -- What a row says of its saga, and how it follows each change.
-use Rattle.std.proofs.Common.{◌≡◌, ◌≢◌, ℕ, ◌+◌, ◌<◌, Bool, true, false, List, [], ◌∷◌, length, refl, sym, ap, ◌∙◌, subst, inl, inr, arith, get_or, set, Some}
+use Rattle.std.proofs.Common.{◌≡◌, ◌≢◌, ℕ, ◌+◌, ◌<◌, ◌≤◌, Bool, true, false, List, [], ◌∷◌, length, refl, sym, ap, ◌∙◌, subst, inl, inr, arith, get_or, set, Some}
 use Rattle.std.specs.Prelude.{slice_get}
 use Rattle.std.specs.List.{count_by}
 use Rattle.std.proofs.lemmas.Bool.{cases_eq, eq-eqb, ne_eqb}
+use Rattle.std.proofs.lemmas.Option.{slice_get-get_or}
 use Rattle.std.proofs.lemmas.List.{length-set, get_or-set_same, get_or-set_other, ext_get_or, get_or-replicate, length-replicate}
 use Rattle.std.proofs.lemmas.List.Sums.{sum_by-cons}
 use Rattle.saga_def.specs.Contents.{Contents}
@@ -17,7 +18,7 @@ use Rattle.saga_case.specs.Right.{IsRight}
 use Rattle.saga_case.specs.Situation.{situation}
 use Rattle.saga_case.specs.Terms.{terms_of}
 use Rattle.saga_history.specs.Changes.{Change, opens, moves, starts_plan, drops_plan, adopts, aborts}
-use Rattle.saga_history.specs.Rules.{HasPhase, IsEnded, SagaMay, StepMay, misses_of, undo_misses_of}
+use Rattle.saga_history.specs.Rules.{HasPhase, IsEnded, SagaMay, StepMay, misses_of, tries, undo_misses_of, undo_tries}
 use Rattle.saga_history.specs.States.{end_state, is_busy, is_off, is_standing, same_transition, state, state_after, states, transitions}
 use Rattle.saga_history.specs.Turns.{aborted, goal, present_case, turn_after_abort, turn_after_transition}
 use Rattle.saga_history.specs.declared.tasks.Phase.{Phase}
@@ -29,10 +30,10 @@ use Rattle.saga_history.specs.declared.turns.Turn.TheVariants.{Going, Draining, 
 use Rattle.saga_history.proofs.SagaLemmas.{IsLegalUnder}
 use Rattle.saga_history.proofs.TallyLemmas.{few_of}
 use Rattle.saga_history.proofs.TransitionLemmas.{transitions_own, transitions_other}
-use Rattle.saga_history.proofs.TurnLemmas.{drained_from, none_busy_from, states_count}
+use Rattle.saga_history.proofs.TurnLemmas.{any_step, drained_from, none_busy, none_busy_from, states_count}
 use Rattle.saga_history.proofs.TurnLemmas as turns
-use Rattle.saga_rows.specs.Row.{FitsIn, MayPlan, MayRun, MayUndo, Row, RowIsEnded, is_finished, mark_at, miss_in, new_row, one_if, row_aborting, row_adopting, row_after, row_turning, state_at, undo_miss_in}
-use Rattle.saga_rows.specs.Follows.{Follows, IsIn, IsNotOver, RowHasPhase, RowMay, RowMayAbort, row_case}
+use Rattle.saga_rows.specs.Row.{FitsIn, HasRoom, MayPlan, MayRun, MayUndo, Row, RowIsEnded, is_finished, mark_at, miss_in, new_row, one_if, row_aborting, row_adopting, row_after, row_turning, state_at, undo_miss_in}
+use Rattle.saga_rows.specs.Follows.{Follows, IsDrained, IsIn, IsNotOver, RowHasPhase, RowMay, RowMayAbort, row_case}
 
 -- a list of which one place is set, against a function
 set_read : {A : Type 0} (xs : List A) (s t : ℕ) (x none : A) (now : ℕ → A) → s < length xs → now s ≡ x → (t ≢ s → get_or xs t none ≡ now t) → get_or (set xs s x) t none ≡ now t
@@ -46,6 +47,21 @@ own l s t = transitions_own s s t l (eq-eqb s s refl)
 
 other : (l : List Change) (s u : ℕ) (t : Transition) → u ≢ s → transitions (moves s t ∷ l) u ≡ transitions l u
 other l s u t apart = transitions_other u s t l (ne_eqb u s apart)
+
+miss_small : (t : Transition) → (miss_in t ≤ 1) × (undo_miss_in t ≤ 1)
+miss_small transition.StartRun = (omega arith, omega arith)
+miss_small transition.Commit = (omega arith, omega arith)
+miss_small transition.Missed = (omega arith, omega arith)
+miss_small transition.Fail = (omega arith, omega arith)
+miss_small transition.StartUndo = (omega arith, omega arith)
+miss_small transition.Undone = (omega arith, omega arith)
+miss_small transition.UndoMissed = (omega arith, omega arith)
+miss_small transition.UndoFail = (omega arith, omega arith)
+
+most_tries : (d : Contents) (s : ℕ) → IsSound d → s < length d.steps → (tries d s ≤ 9) × (undo_tries d s ≤ 9)
+most_tries d s sound lt =
+    let t = sound.tries s any_step lt in
+    rw (slice_get-get_or d.steps s any_step lt) (t.few, t.few_undo)
 
 finished_from : (wanted : Bool) (x : StepState) → (wanted ≡ true → is_standing x ≡ true) → (wanted ≡ false → is_off x ≡ true) → is_finished wanted x ≡ true
 finished_from true x stand off = stand refl
@@ -117,6 +133,21 @@ module _ (shelf : List Contents) (row : Row) (l : List Change) (f : Follows shel
   may_from s transition.Undone may = in_from s Undoing may.is_step may.begins
   may_from s transition.UndoMissed may = (in_from s Undoing may.is_step may.begins, omega (arith, may.condition, f.undo_misses_are s may.is_step))
   may_from s transition.UndoFail may = (in_from s Undoing may.is_step may.begins, omega (arith, may.condition, f.undo_misses_are s may.is_step))
+
+  -- there is room to count one miss more
+  pub has_room : (s : ℕ) (t : Transition) → IsLegalUnder row.definition l → s < length row.definition.steps → HasRoom row s t
+  has_room s t legal lt =
+      let few = few_of row.definition l s f.sound legal lt in
+      let small = miss_small t in
+      let most = most_tries row.definition s f.sound lt in
+      record {
+        few = omega (arith, few.few, small.0, most.0, f.misses_are s lt);
+        few_undo = omega (arith, few.few_undo, small.1, most.1, f.undo_misses_are s lt);
+      }
+
+  -- while the saga is planned, no step is busy
+  pub drained_for_planning : IsLegalUnder row.definition l → row.turn ≡ Planning → IsDrained row
+  drained_for_planning legal planning = λ s lt. ap is_busy (f.states_are s lt) ∙ none_busy row.definition l legal (sym f.turn_is ∙ planning) s lt
 
   -- the row follows each transition
   pub follows_move : (s : ℕ) (t : Transition) → s < length row.definition.steps → Follows shelf (row_after row s t) (moves s t ∷ l)

@@ -14,7 +14,7 @@ use Rattle.saga_history.specs.declared.tasks.Outcome.TheVariants.{Done, Failed}
 use Rattle.saga_history.specs.declared.tasks.Phase.{Phase}
 use Rattle.saga_history.specs.declared.tasks.Phase.TheVariants as phase
 use Rattle.saga_history.specs.Changes.{Change}
-use Rattle.saga_history.specs.States.{state}
+use Rattle.saga_history.specs.States.{is_busy, state}
 use Rattle.saga_history.specs.Turns.{turn, goal, aborted}
 use Rattle.saga_history.specs.Rules.{definition, tries, undo_tries, misses_of, undo_misses_of}
 use Rattle.saga_rows.specs.Row.{Row, state_at, mark_at, IsSized, MayRun, MayUndo, RowIsEnded}
@@ -41,6 +41,10 @@ misses_at row s = slice_index row.misses s
 
 abbrev pub undo_misses_at : Row → ℕ → ℕ
 undo_misses_at row s = slice_index row.undo_misses s
+
+-- no step is busy
+abbrev pub IsDrained : Row → Type 0
+IsDrained row = (s : ℕ) → s < length row.definition.steps → is_busy (state_at row.states s) ≡ false
 
 -- the transitions that the row allows
 abbrev pub RowMay : Row → ℕ → Transition → Type 0

@@ -90,6 +90,17 @@ impl BitSet {
         }
     }
 
+    /// The same set in memory of its own.
+    pub fn copy(&self, alloc: Global) -> Result<BitSet, AllocError>
+        ensures { IfOk result (λ bits. bits ≡ self.now) }
+    {
+        Ok(BitSet {
+            words: self.words.to_vec(alloc)?,
+            summary: self.summary,
+            len: self.len,
+        })
+    }
+
     /// How many numbers there is room for.
     pub fn len(&self) -> usize
         ensures { result ≡ length self.now }

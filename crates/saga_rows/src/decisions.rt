@@ -1,11 +1,11 @@
 //! What the tables of a row allow, and where its saga stands. None of it goes over the steps, but for
-//! [`Row::present_case`] and [`Row::is_present`].
+//! [`Row::present_case`], [`Row::drained_case`] and [`Row::is_present`].
 ghost use Rattle.std.specs.Prelude.{◌≡◌, ◌<◌, ◌+◌, ◌↔◌, IsTrue, IfOk, MatchOption, length};
 ghost use Rattle.saga_case.specs.declared.states.StepState.TheVariants.{Running, Undoing};
 ghost use Rattle.saga_history.specs.Rules.{tries, undo_tries};
 ghost use Rattle.saga_history.specs.declared.turns.Turn.TheVariants.{Planning};
 ghost use Rattle.saga_rows.specs.Row.{MayPlan};
-ghost use Rattle.saga_rows.specs.Follows.{IsEndOfRun, IsEndOfUndo, IsIn, RowHasPhase, RowMay, RowMayAbort, misses_at, undo_misses_at, row_case};
+ghost use Rattle.saga_rows.specs.Follows.{IsDrained, IsEndOfRun, IsEndOfUndo, IsIn, RowHasPhase, RowMay, RowMayAbort, misses_at, undo_misses_at, row_case};
 
 use crate::row::Row;
 use saga_case::{Case, StepState};
@@ -147,6 +147,14 @@ impl<'d> Row<'d> {
     /// The present case of a saga that may be planned. Takes time linear in the steps.
     pub fn present_case(&self, alloc: Global) -> Result<Case<'d>, AllocError>
         requires { MayPlan self.now }
+        ensures { IfOk result (λ case. case ≡ row_case self.now) }
+    {
+        self.drained_case(alloc)
+    }
+
+    /// The present case of a saga in which no step is busy. Takes time linear in the steps.
+    pub fn drained_case(&self, alloc: Global) -> Result<Case<'d>, AllocError>
+        requires { IsDrained self.now }
         ensures { IfOk result (λ case. case ≡ row_case self.now) }
     {
         let _ = self.steps();

@@ -119,6 +119,26 @@ impl<'d> Row<'d> {
         })
     }
 
+    /// The same row in memory of its own, which costs less than to make it from its definition.
+    pub fn copy(&self, alloc: Global) -> Result<Row<'d>, AllocError>
+        ensures { IfOk result (λ row. row ≡ self.now) }
+    {
+        Ok(Row {
+            definition: self.definition,
+            states: self.states.to_vec(alloc)?,
+            goal: self.goal.to_vec(alloc)?,
+            turn: self.turn,
+            misses: self.misses.to_vec(alloc)?,
+            undo_misses: self.undo_misses.to_vec(alloc)?,
+            aborted: self.aborted,
+            unmet: self.unmet.to_vec(alloc)?,
+            held: self.held.to_vec(alloc)?,
+            busy: self.busy,
+            unfinished: self.unfinished,
+            ready: self.ready.copy(alloc)?,
+        })
+    }
+
     /// How many steps there are.
     pub fn steps(&self) -> usize
         ensures count { result ≡ length self.now.definition.steps }

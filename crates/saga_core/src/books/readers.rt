@@ -1,9 +1,10 @@
 //! What a book tells of its sagas. No reader takes memory, and none goes over steps or sagas.
-ghost use Rattle.std.specs.Prelude.{◌≡◌, ◌↔◌, IsTrue, MatchOption, Some};
+ghost use Rattle.std.specs.Prelude.{◌≡◌, ◌≤◌, ◌↔◌, IsTrue, MatchOption, Some};
+ghost use Rattle.saga_rows.specs.declared.rows.TheConstants.{MAX_ROWS};
 ghost use Rattle.saga_history.specs.Changes.{past};
 ghost use Rattle.saga_core.specs.Book as book;
 ghost use Rattle.saga_core.specs.Refusals.{IsUnknown, OfSaga};
-ghost use Rattle.saga_core.specs.Tasks.{AllAreOver, HasGoal, HasNoStep, HasState, IsDefinedBy, StandsAt};
+ghost use Rattle.saga_core.specs.Tasks.{AllAreOver, HasGoal, HasMisses, HasNoStep, HasState, HasUndoMisses, IsDefinedBy, StandsAt};
 
 use crate::books::Book;
 use crate::numbers::place_of;
@@ -24,6 +25,34 @@ impl<'d> Book<'d> {
             return None;
         }
         Some(row.states()[step as usize])
+    }
+
+    /// How often the action of a step was missed, or none where there is no such saga or step.
+    pub fn misses(&self, saga: u32, step: u16) -> Option<u8>
+        ensures { MatchOption result (HasNoStep self.now.shelf (past self.now.history) saga step) (λ count. HasMisses self.now.shelf (past self.now.history) saga step count) }
+    {
+        let Some(place) = place_of(&self.rows, self.first_number, self.apart, saga) else {
+            return None;
+        };
+        let row = self.rows.row(place);
+        if step as usize >= row.steps() {
+            return None;
+        }
+        Some(row.misses()[step as usize])
+    }
+
+    /// How often the compensation of a step was missed, or none where there is no such saga or step.
+    pub fn undo_misses(&self, saga: u32, step: u16) -> Option<u8>
+        ensures { MatchOption result (HasNoStep self.now.shelf (past self.now.history) saga step) (λ count. HasUndoMisses self.now.shelf (past self.now.history) saga step count) }
+    {
+        let Some(place) = place_of(&self.rows, self.first_number, self.apart, saga) else {
+            return None;
+        };
+        let row = self.rows.row(place);
+        if step as usize >= row.steps() {
+            return None;
+        }
+        Some(row.undo_misses()[step as usize])
     }
 
     /// Whether a step is in the goal, or none where there is no such saga or step. In a saga that is not going, no step
@@ -65,7 +94,8 @@ impl<'d> Book<'d> {
 
     /// How many sagas were opened.
     pub fn sagas(&self) -> usize
-        ensures { result ≡ book.sagas_in self.now.history }
+        ensures count { result ≡ book.sagas_in self.now.history }
+        ensures few { result ≤ MAX_ROWS }
     {
         self.rows.len()
     }

@@ -106,9 +106,9 @@ fn answer(alloc: Global, sketch: Sketch) -> Result<Answer, AllocError> {
         Sketch::Plan(kept, cost, leave, stand, links) => Ok(Answer::Plan(Plan {
             kept: Marks::new(Vec::from_slice(alloc, kept)?),
             cost,
-            leave: Amounts::new(Vec::from_slice(alloc, leave)?),
-            stand: Amounts::new(Vec::from_slice(alloc, stand)?),
-            links: Amounts::new(Vec::from_slice(alloc, links)?),
+            leave: Amounts::new(alloc, leave)?,
+            stand: Amounts::new(alloc, stand)?,
+            links: Amounts::new(alloc, links)?,
         })),
         Sketch::Chain(steps) => Ok(Answer::Blocked(Chain::new(Vec::from_slice(alloc, steps)?))),
     }

@@ -124,9 +124,9 @@ fn free_answer(alloc: Global, case: &Case) -> Result<Answer, AllocError> {
     Ok(Answer::Plan(Plan {
         kept: Marks::new(kept),
         cost: 0,
-        leave: Amounts::new(vec![in alloc; 0; count]?),
-        stand: Amounts::new(vec![in alloc; 0; count]?),
-        links: Amounts::new(vec![in alloc; 0; definition.needs()]?),
+        leave: Amounts::new(alloc, &vec![in alloc; 0; count]?)?,
+        stand: Amounts::new(alloc, &vec![in alloc; 0; count]?)?,
+        links: Amounts::new(alloc, &vec![in alloc; 0; definition.needs()]?)?,
     }))
 }
 

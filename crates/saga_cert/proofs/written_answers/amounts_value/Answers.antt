@@ -8,5 +8,5 @@ use Rattle.saga_cert.proofs.written_answers.amounts_value.Goals as goal
 
 pub returns : goal.returns
 returns c =
-    let whole : take c.loop-amount.amount-index c.args.amounts.now ≡ c.args.amounts.now = take_all c.loop-amount.amount-index c.args.amounts.now (omega arith) in
-    view-Array c.loop-amount.list ∙ ap array (items_from-view c.loop-amount.list.items ∙ ap items_from (rw whole at c.loop-amount.invariant))
+    let whole : take c.loop-place.place c.args.amounts.now ≡ c.args.amounts.now = take_all c.loop-place.place c.args.amounts.now (omega arith) in
+    view-Array c.loop-place.list ∙ ap array (items_from-view c.loop-place.list.items ∙ ap items_from (rw whole at c.loop-place.invariant))

@@ -3,5 +3,5 @@ use Rattle.serde_json.specs.Data.{number, unsigned}
 use Rattle.serde_json.specs.View.{view}
 use Rattle.saga_cert.proofs.written_answers.amounts_value.Given as goal
 
-abbrev pub invariant-loop-amount : goal.invariant-loop-amount
-invariant-loop-amount l = map view l.list.items ≡ map (λ n. number (unsigned n)) (take l.amount-index l.amounts)
+abbrev pub invariant-loop-place : goal.invariant-loop-place
+invariant-loop-place l = map view l.list.items ≡ map (λ n. number (unsigned n)) (take l.place l.amounts)

@@ -1,5 +1,5 @@
 use Rattle.std.proofs.Common.{◌≡◌, ◌++◌, map, take}
-use Rattle.saga_plan.specs.CaseNet.{link_arc}
+use Rattle.saga_closure.specs.CaseNet.{link_arc}
 use Rattle.saga_plan.proofs.networks.add_link_arcs.Given as goal
 
 abbrev pub invariant-loop-need : goal.invariant-loop-need

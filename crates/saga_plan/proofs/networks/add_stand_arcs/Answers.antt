@@ -1,7 +1,7 @@
 use Rattle.std.proofs.Common.{◌≡◌, ◌∙◌, ap, refl}
 use Rattle.saga_case.specs.Terms.{terms_of}
-use Rattle.saga_plan.specs.CaseNet.{cap_of, stand_arc}
-use Rattle.saga_plan.proofs.ArcLemmas.{arcs_start, arcs_pushed}
+use Rattle.saga_closure.specs.CaseNet.{cap_of, stand_arc}
+use Rattle.saga_closure.proofs.ArcLemmas.{arcs_start, arcs_pushed}
 use Rattle.saga_plan.proofs.networks.add_stand_arcs.Goals as goal
 
 pub loop-step-init : goal.loop-step-init

@@ -1,8 +1,8 @@
 use Rattle.std.proofs.Common.{◌≡◌, ◌+◌, length, ap, arith}
 use Rattle.saga_case.specs.Terms.{terms_of}
-use Rattle.saga_plan.specs.CaseNet.{network_of}
-use Rattle.saga_plan.proofs.ArcLemmas.{listed_in_turn}
-use Rattle.saga_plan.proofs.PriceLemmas.{case_bounded, case_ends}
+use Rattle.saga_closure.specs.CaseNet.{network_of}
+use Rattle.saga_closure.proofs.ArcLemmas.{listed_in_turn}
+use Rattle.saga_closure.proofs.PriceLemmas.{case_bounded, case_ends}
 use Rattle.saga_plan.proofs.networks.net_of.Goals as goal
 use Rattle.saga_plan.proofs.networks.net_of.Goals.{In_ok-add_link_arcs}
 

@@ -1,99 +1,77 @@
--- A path of unbounded arcs gives a chain; otherwise a greatest flow and what is reached give a plan.
+-- The chain that is found is right; otherwise a greatest flow and the steps that the source reaches give a plan.
 use Rattle.std.proofs.Common.{◌≡◌, ◌∙◌, ap, length, arith}
+use Rattle.std.proofs.lemmas.Bool.{false≢true}
 use Rattle.saga_def.specs.Contents.{Contents}
+use Rattle.saga_case.specs.Free.{none}
 use Rattle.saga_case.specs.Terms.{Terms, terms_of}
 use Rattle.saga_case.specs.Right.{IsRightPlan, IsRightChain}
-use Rattle.std.proofs.lemmas.Bool.{false≢true}
-use Rattle.saga_case.specs.Free.{none}
-use Rattle.saga_case.proofs.Duality.{IsLeast-plan}
 use Rattle.saga_case.proofs.ChainLemmas.{NoneIsAllowed-chain}
-use Rattle.saga_plan.specs.CaseNet.{network_of}
+use Rattle.saga_case.proofs.Duality.{IsLeast-plan}
+use Rattle.saga_closure.specs.Largest.{IsLargest}
+use Rattle.saga_closure.proofs.ArcLemmas.{arcs_sized}
 use Rattle.saga_plan.specs.Making.{IsPlanOf}
-use Rattle.saga_plan.proofs.ArcLemmas.{arcs_sized}
-use Rattle.saga_plan.proofs.PlanLemmas.{IsSolved, plan_right, plan_smallest, plan_flow, few_rounds}
-use Rattle.saga_plan.proofs.ChainLemmas.{way, path_inner, chain_right}
+use Rattle.saga_plan.proofs.PlanLemmas.{plan_right, plan_smallest, plan_flow, few_rounds}
 use Rattle.saga_plan.proofs.planning.plan_counted.Goals as goal
-use Rattle.saga_plan.proofs.planning.plan_counted.Goals.{In_ok-chain, In_ok-reached, In_ok-plan}
+use Rattle.saga_plan.proofs.planning.plan_counted.Goals.{In-Blocked, In-Flow, In_ok-plan-in-Flow}
 
 -- ---- the chain
 
-pub inner_steps-requires-clause-steps : goal.inner_steps-requires-clause-steps
-inner_steps-requires-clause-steps c =
-    let t : Terms = terms_of c.args.case.now in
-    let sound = c.definition.ensures.at_rest.sound in
-    let path = way t c.in_ok-net.net c.in-Some.nodes.items c.as_slice.result.now c.in_ok-net.ensures c.as_slice.ensures.value (rw c.in-Some.is at c.in_ok-nodes.ensures.some) in
-    path_inner t c.as_slice.result.now sound.known path.0 path.1 sound.few_steps
+right_chain : (c : In-Blocked) → IsRightChain (terms_of c.args.case.now) c.in-Blocked.chain.items
+right_chain c = rw c.in-Blocked.is at c.in_ok-chain.ensures
 
-right_chain : (c : In_ok-chain) → IsRightChain (terms_of c.args.case.now) c.in_ok-chain.chain.items
-right_chain c =
-    let t : Terms = terms_of c.args.case.now in
-    let path = way t c.in_ok-net.net c.in-Some.nodes.items c.as_slice.result.now c.in_ok-net.ensures c.as_slice.ensures.value (rw c.in-Some.is at c.in_ok-nodes.ensures.some) in
-    chain_right t c.as_slice.result.now c.definition.ensures.at_rest.sound.known path.0 path.1 c.in_ok-chain.chain.items c.in_ok-chain.ensures
+pub returns-in-Blocked-clause-right : goal.returns-in-Blocked-clause-right
+returns-in-Blocked-clause-right c = rw c.new.ensures (right_chain (goal.at.returns-in-Blocked-clause-right c).In-Blocked)
 
-pub returns-in-Some-clause-right : goal.returns-in-Some-clause-right
-returns-in-Some-clause-right c = rw c.new.ensures (right_chain (goal.at.returns-in-Some-clause-right c).In_ok-chain)
+pub returns-in-Blocked-clause-settles : goal.returns-in-Blocked-clause-settles
+returns-in-Blocked-clause-settles c =
+    NoneIsAllowed-chain (terms_of c.args.case.now) c.in-Blocked.chain.items (right_chain (goal.at.returns-in-Blocked-clause-settles c).In-Blocked)
 
-pub returns-in-Some-clause-settles : goal.returns-in-Some-clause-settles
-returns-in-Some-clause-settles c =
-    NoneIsAllowed-chain (terms_of c.args.case.now) c.in_ok-chain.chain.items (right_chain (goal.at.returns-in-Some-clause-settles c).In_ok-chain)
+pub returns-in-Blocked-clause-backward : goal.returns-in-Blocked-clause-backward
+returns-in-Blocked-clause-backward c free =
+    (NoneIsAllowed-chain (terms_of c.args.case.now) c.in-Blocked.chain.items (right_chain (goal.at.returns-in-Blocked-clause-backward c).In-Blocked)).none none (c.leaves_all_out_for_free.ensures free).allowed
 
 -- ---- the plan
 
--- the flow and what is reached
-solved : (c : In_ok-reached) → IsSolved (terms_of c.args.case.now) c.in_ok-flow.flow.on.items c.in_ok-flow.flow.value c.in_ok-reached.reached.items
-solved c =
+largest : (c : In-Flow) → IsLargest (terms_of c.args.case.now) c.in-Flow.flow
+largest c = rw c.in-Flow.is at c.in_ok-chain.ensures
+
+pub plan_of-requires : goal.plan_of-requires
+plan_of-requires c =
     let t : Terms = terms_of c.args.case.now in
-    let net : c.in_ok-net.net ≡ network_of t = c.in_ok-net.ensures in
-    record {
-      known = c.definition.ensures.at_rest.sound.known;
-      flow = rw net at c.in_ok-flow.ensures.flow;
-      worth = rw net at c.in_ok-flow.ensures.value;
-      apart = rw net at c.in_ok-flow.ensures.cut;
-      sized = rw net at c.in_ok-reached.ensures.sized;
-      exact = rw net at c.in_ok-reached.ensures.exact;
-    }
+    let count : c.steps-steps.result ≡ t.count = c.steps-steps.ensures.count ∙ ap (λ (d : Contents). length d.steps) c.definition.ensures.value in
+    omega (arith, (largest (goal.at.plan_of-requires c).In-Flow).flow.sized, arcs_sized t, count)
 
-made : (c : In_ok-plan) → IsPlanOf (terms_of c.args.case.now).count c.in_ok-flow.flow.value c.in_ok-flow.flow.on.items c.in_ok-reached.reached.items c.in_ok-plan.plan
-made c = rw (c.steps-steps.ensures.count, c.definition.ensures.value, c.as_slice-2.ensures.value) at c.in_ok-plan.ensures
+-- steps as the case counts them
+made : (c : In_ok-plan-in-Flow) → IsPlanOf (terms_of c.args.case.now).count c.in-Flow.flow c.in_ok-plan-in-Flow.plan
+made c = rw (c.steps-steps.ensures.count, c.definition.ensures.value) at c.in_ok-plan-in-Flow.ensures
 
-right : (c : In_ok-plan) → IsSolved (terms_of c.args.case.now) c.in_ok-flow.flow.on.items c.in_ok-flow.flow.value c.in_ok-reached.reached.items → IsRightPlan (terms_of c.args.case.now) c.in_ok-plan.plan
-right c whole = plan_right (terms_of c.args.case.now) _ _ _ whole c.in_ok-plan.plan (made c)
+right : (c : In_ok-plan-in-Flow) → IsLargest (terms_of c.args.case.now) c.in-Flow.flow → IsRightPlan (terms_of c.args.case.now) c.in_ok-plan-in-Flow.plan
+right c most = plan_right (terms_of c.args.case.now) c.in-Flow.flow c.definition.ensures.at_rest.sound.known most c.in_ok-plan-in-Flow.plan (made c)
 
-pub returns-clause-right : goal.returns-clause-right
-returns-clause-right c = let at = goal.at.returns-clause-right c in right at.In_ok-plan (solved at.In_ok-reached)
+pub returns-in_ok-plan-in-Flow-clause-right : goal.returns-in_ok-plan-in-Flow-clause-right
+returns-in_ok-plan-in-Flow-clause-right c = let at = goal.at.returns-in_ok-plan-in-Flow-clause-right c in right at.In_ok-plan-in-Flow (largest at.In-Flow)
 
-pub returns-clause-settles : goal.returns-clause-settles
-returns-clause-settles c =
-    let at = goal.at.returns-clause-settles c in
-    IsLeast-plan (terms_of c.args.case.now) c.in_ok-plan.plan (solved at.In_ok-reached).known (right at.In_ok-plan (solved at.In_ok-reached))
+pub returns-in_ok-plan-in-Flow-clause-settles : goal.returns-in_ok-plan-in-Flow-clause-settles
+returns-in_ok-plan-in-Flow-clause-settles c =
+    let at = goal.at.returns-in_ok-plan-in-Flow-clause-settles c in
+    IsLeast-plan (terms_of c.args.case.now) c.in_ok-plan-in-Flow.plan c.definition.ensures.at_rest.sound.known (right at.In_ok-plan-in-Flow (largest at.In-Flow))
 
-pub returns-clause-smallest : goal.returns-clause-smallest
-returns-clause-smallest c =
-    let at = goal.at.returns-clause-smallest c in
-    plan_smallest (terms_of c.args.case.now) _ _ _ (solved at.In_ok-reached) c.in_ok-plan.plan (made at.In_ok-plan)
+pub returns-in_ok-plan-in-Flow-clause-smallest : goal.returns-in_ok-plan-in-Flow-clause-smallest
+returns-in_ok-plan-in-Flow-clause-smallest c =
+    let at = goal.at.returns-in_ok-plan-in-Flow-clause-smallest c in
+    plan_smallest (terms_of c.args.case.now) c.in-Flow.flow c.definition.ensures.at_rest.sound.known (largest at.In-Flow) c.in_ok-plan-in-Flow.plan (made at.In_ok-plan-in-Flow)
 
 -- where all is free, no set is least but what contains the kept one, and the empty set is least
-pub returns-clause-backward : goal.returns-clause-backward
-returns-clause-backward c free s kept =
-    let at = goal.at.returns-clause-backward c in
-    false≢true (plan_smallest (terms_of c.args.case.now) _ _ _ (solved at.In_ok-reached) c.in_ok-plan.plan (made at.In_ok-plan) none (c.leaves_all_out_for_free.ensures free) s kept)
+pub returns-in_ok-plan-in-Flow-clause-backward : goal.returns-in_ok-plan-in-Flow-clause-backward
+returns-in_ok-plan-in-Flow-clause-backward c free s kept =
+    let at = goal.at.returns-in_ok-plan-in-Flow-clause-backward c in
+    false≢true (plan_smallest (terms_of c.args.case.now) c.in-Flow.flow c.definition.ensures.at_rest.sound.known (largest at.In-Flow) c.in_ok-plan-in-Flow.plan (made at.In_ok-plan-in-Flow) none (c.leaves_all_out_for_free.ensures free) s kept)
 
-pub returns-in-Some-clause-backward : goal.returns-in-Some-clause-backward
-returns-in-Some-clause-backward c free =
-    (NoneIsAllowed-chain (terms_of c.args.case.now) c.in_ok-chain.chain.items (right_chain (goal.at.returns-in-Some-clause-backward c).In_ok-chain)).none none (c.leaves_all_out_for_free.ensures free).allowed
+pub returns-in_ok-plan-in-Flow-clause-rounds : goal.returns-in_ok-plan-in-Flow-clause-rounds
+returns-in_ok-plan-in-Flow-clause-rounds c =
+    let at = goal.at.returns-in_ok-plan-in-Flow-clause-rounds c in
+    let most = largest at.In-Flow in
+    plan_flow (terms_of c.args.case.now) c.in-Flow.flow c.definition.ensures.at_rest.sound.known most c.in_ok-plan-in-Flow.plan (made at.In_ok-plan-in-Flow) c.in-Flow.flow.rounds most.rounds
 
-pub returns-clause-rounds : goal.returns-clause-rounds
-returns-clause-rounds c =
-    let at = goal.at.returns-clause-rounds c in
-    plan_flow (terms_of c.args.case.now) _ _ _ (solved at.In_ok-reached) c.in_ok-plan.plan (made at.In_ok-plan) c.in_ok-flow.rounds (rw c.in_ok-net.ensures at c.in_ok-flow.ensures.rounds)
-
-pub returns-clause-by_size : goal.returns-clause-by_size
-returns-clause-by_size c =
-    few_rounds (terms_of c.args.case.now) c.in_ok-flow.rounds (rw c.in_ok-net.ensures at c.in_ok-flow.ensures.by_size)
-
-pub plan_of-requires-clause-flow : goal.plan_of-requires-clause-flow
-plan_of-requires-clause-flow c =
-    let t : Terms = terms_of c.args.case.now in
-    let sized : length c.in_ok-flow.flow.on.items ≡ length (network_of t).arcs = (solved (goal.at.plan_of-requires-clause-flow c).In_ok-reached).flow.sized in
-    let count : c.steps-steps.result ≡ t.count = c.steps-steps.ensures.count ∙ ap (λ (d : Contents). length d.steps) c.definition.ensures.value in
-    omega (arith, sized, arcs_sized t, count)
+pub returns-in_ok-plan-in-Flow-clause-by_size : goal.returns-in_ok-plan-in-Flow-clause-by_size
+returns-in_ok-plan-in-Flow-clause-by_size c = few_rounds (terms_of c.args.case.now) c.in-Flow.flow.rounds (largest (goal.at.returns-in_ok-plan-in-Flow-clause-by_size c).In-Flow).by_size

@@ -1,0 +1,72 @@
+-- Why a change is not allowed: the first reason that applies.
+use Rattle.std.specs.Prelude.{◌≡◌, ℕ, nat_lt, List, length, Option, Some, None, if◌then◌else◌}
+use Rattle.saga_def.specs.Contents.{Contents}
+use Rattle.saga_history.specs.declared.transitions.Transition.{Transition}
+use Rattle.saga_history.specs.declared.transitions.Transition.TheVariants as transition
+use Rattle.saga_history.specs.declared.turns.Turn.{Turn}
+use Rattle.saga_history.specs.declared.turns.Turn.TheVariants.{Going, Draining, Planning, Stuck}
+use Rattle.saga_history.specs.Changes.{Change, opens, moves, starts_plan, drops_plan, adopts, aborts}
+use Rattle.saga_history.specs.Turns.{turn}
+use Rattle.saga_history.specs.Rules.{definition, IsAllowedChange}
+use Rattle.saga_audit.specs.declared.reasons.Reason.{Reason}
+use Rattle.saga_audit.specs.declared.reasons.Reason.TheVariants as reason
+
+-- the place on the shelf of the definition that a change opens a saga with
+abbrev pub opened_by : Change → Option ℕ
+opened_by (opens k) = Some k
+opened_by (moves s t) = None
+opened_by starts_plan = None
+opened_by drops_plan = None
+opened_by (adopts a) = None
+opened_by aborts = None
+
+-- in a saga that was not opened
+abbrev pub reason_unopened : Change → Reason
+reason_unopened (opens k) = reason.NoSuchDefinition
+reason_unopened (moves s t) = reason.NoSuchSaga
+reason_unopened starts_plan = reason.NoSuchSaga
+reason_unopened drops_plan = reason.NoSuchSaga
+reason_unopened (adopts a) = reason.NoSuchSaga
+reason_unopened aborts = reason.NoSuchSaga
+
+-- of a transition that begins an action or a compensation, or ends one
+abbrev pub reason_of_transition : Transition → Reason
+reason_of_transition transition.StartRun = reason.NotNow
+reason_of_transition transition.Commit = reason.NotTaken
+reason_of_transition transition.Missed = reason.NotTaken
+reason_of_transition transition.Fail = reason.NotTaken
+reason_of_transition transition.StartUndo = reason.NotNow
+reason_of_transition transition.Undone = reason.NotTaken
+reason_of_transition transition.UndoMissed = reason.NotTaken
+reason_of_transition transition.UndoFail = reason.NotTaken
+
+abbrev pub reason_of_step : Contents → ℕ → Transition → Reason
+reason_of_step d s t = if nat_lt s (length d.steps) then reason_of_transition t else reason.NoSuchStep
+
+abbrev pub reason_of_adoption : Turn → Reason
+reason_of_adoption Going = reason.NotPlanning
+reason_of_adoption Draining = reason.NotPlanning
+reason_of_adoption Planning = reason.NotRight
+reason_of_adoption Stuck = reason.NotPlanning
+
+-- in a saga of that definition, whose turn it is
+abbrev pub reason_opened : Contents → Turn → Change → Reason
+reason_opened d turn (opens k) = reason.DoubleOpen
+reason_opened d turn (moves s t) = reason_of_step d s t
+reason_opened d turn starts_plan = reason.NotNow
+reason_opened d turn drops_plan = reason.NotPlanning
+reason_opened d turn (adopts a) = reason_of_adoption turn
+reason_opened d turn aborts = reason.NotNow
+
+abbrev pub reason_by : Option Contents → Turn → Change → Reason
+reason_by None turn c = reason_unopened c
+reason_by (Some d) turn c = reason_opened d turn c
+
+-- the first reason that applies to a change that is not allowed after those of its saga
+abbrev pub reason_of : List Contents → List Change → Change → Reason
+reason_of shelf l c = reason_by (definition shelf l) (turn l) c
+
+-- a change is not allowed, and that is why
+pub record IsRefused (shelf : List Contents) (l : List Change) (c : Change) (why : Reason) : Type 0 where
+  pub denied : IsAllowedChange shelf l c → ⊥
+  pub first : why ≡ reason_of shelf l c

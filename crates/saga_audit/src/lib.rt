@@ -1,0 +1,21 @@
+//! The auditor: whether a history kept the rules, told from the history and the definitions alone.
+//!
+//! [`audit`] says yes exactly where a history is legal, and then the headline of `saga_history` holds of it; or it names the
+//! first event that was not allowed, and why. [`audit_with`] gives the same answer by several threads.
+//!
+//! One saga is followed after the other, each over the places of its own events, so there are the tables of one saga at a
+//! time.
+#![tactic(auto)]
+
+mod answers;
+mod audits;
+mod chains;
+mod decisions;
+mod reasons;
+mod sagas;
+#[cfg(test)]
+mod tests;
+
+pub use answers::AuditAnswer;
+pub use audits::{audit, audit_with};
+pub use reasons::Reason;

@@ -1,0 +1,146 @@
+-- A visit: the open steps out of a step are entries of its lists.
+use Rattle.std.proofs.Common.{ℕ, ◌≡◌, ◌<◌, ◌≤◌, ◌+◌, ◌∙◌, ◌⊎◌, true, List, Some, length, get_or, ap, subst, refl, arith, inl, inr}
+use Rattle.std.proofs.lemmas.Bool.{cases_eq}
+use Rattle.std.specs.Prelude.{slice_get}
+use Rattle.std.proofs.lemmas.Option.{slice_get-get_or}
+use Rattle.saga_def.specs.Neighbours.{a_need}
+use Rattle.saga_case.specs.Terms.{Terms}
+use Rattle.saga_flow.specs.declared.steps.Step.{Step}
+use Rattle.saga_flow.specs.Flows.{IsWithin}
+use Rattle.saga_flow.specs.Residual.{IsOpen}
+use Rattle.saga_closure.specs.CaseNet.{network_of, cap_of}
+use Rattle.saga_closure.specs.Capacities.{AreCapacities, room_at}
+use Rattle.saga_closure.specs.declared.searching.Found.{Found}
+use Rattle.saga_closure.specs.Layers.{none, GoesIn, GoesOut, Goes, IsSearch, IsStart, IsVisit, IsLabelled, IsUpTo, AreNeedsUpTo, AreCarryingUpTo}
+use Rattle.saga_closure.proofs.ArcCases.{no_need, need_at, each_open, opens_leave, opens_stand}
+use Rattle.saga_closure.proofs.RoomLemmas.{leave_room, stand_room}
+use Rattle.saga_closure.proofs.NeighbourLemmas.{has_need}
+use Rattle.saga_closure.proofs.SearchLemmas.{label_more, label_lower, label_here, label_place, next_more}
+
+module _ (t : Terms) (on : List ℕ) (v w : ℕ) where
+  pub goes_in : GoesIn t on v → (v < t.count) × IsWithin (get_or on v 0 + 1) (cap_of (t.leave v))
+  goes_in (s, step) =
+      each_open t on (λ a b. a ≡ 0 → b ≡ 2 + v → (v < t.count) × IsWithin (get_or on v 0 + 1) (cap_of (t.leave v)))
+      (λ x lt room p q. let e : x ≡ v = omega arith in (omega arith, subst (λ y. IsWithin (get_or on y 0 + 1) (cap_of (t.leave y))) e room))
+      (λ x lt p q. absurd (omega arith))
+      (λ x lt room p q. absurd (omega arith))
+      (λ x lt p q. absurd (omega arith))
+      (λ k lt p q. absurd (omega arith))
+      (λ k lt some p q. absurd (omega arith))
+      s 0 (2 + v) step refl refl
+
+  pub goes_out : GoesOut t on v → (v < t.count) × IsWithin (get_or on (t.count + v) 0 + 1) (cap_of (t.stand v))
+  goes_out (s, step) =
+      each_open t on (λ a b. a ≡ 2 + v → b ≡ 1 → (v < t.count) × IsWithin (get_or on (t.count + v) 0 + 1) (cap_of (t.stand v)))
+      (λ x lt room p q. absurd (omega arith))
+      (λ x lt p q. absurd (omega arith))
+      (λ x lt room p q. let e : x ≡ v = omega arith in (omega arith, subst (λ y. IsWithin (get_or on (t.count + y) 0 + 1) (cap_of (t.stand y))) e room))
+      (λ x lt p q. absurd (omega arith))
+      (λ k lt p q. absurd (omega arith))
+      (λ k lt some p q. absurd (omega arith))
+      s (2 + v) 1 step refl refl
+
+  abbrev pub GoesBy : Type 0
+  GoesBy = ((k : ℕ) × (k < length t.needs) × ((need_at t k).step ≡ v) × ((need_at t k).on ≡ w))
+      ⊎ ((k : ℕ) × (k < length t.needs) × ((need_at t k).on ≡ v) × ((need_at t k).step ≡ w) × (0 < get_or on (t.count + (t.count + k)) 0))
+
+  pub goes_by : Goes t on v w → GoesBy
+  goes_by (s, step) =
+      each_open t on (λ a b. a ≡ 2 + v → b ≡ 2 + w → GoesBy)
+      (λ x lt room p q. absurd (omega arith))
+      (λ x lt p q. absurd (omega arith))
+      (λ x lt room p q. absurd (omega arith))
+      (λ x lt p q. absurd (omega arith))
+      (λ k lt p q. inl (k, lt, omega arith, omega arith))
+      (λ k lt some p q. inr (k, lt, omega arith, omega arith, some))
+      s (2 + v) (2 + w) step refl refl
+
+-- the rooms of the two prices
+pub in_from_room : (t : Terms) (caps on : List ℕ) (v : ℕ) → AreCapacities t caps → v < t.count → 0 < room_at caps on v → GoesIn t on v
+in_from_room t caps on v capacities lt some = (record { arc = v; forward = true }, opens_leave t on v lt ((leave_room t caps on v capacities lt).one some))
+
+pub room_from_in : (t : Terms) (caps on : List ℕ) (v : ℕ) → AreCapacities t caps → GoesIn t on v → 0 < room_at caps on v
+room_from_in t caps on v capacities goes = let is = goes_in t on v 0 goes in (leave_room t caps on v capacities is.0).shut is.1
+
+pub out_from_room : (t : Terms) (caps on : List ℕ) (v : ℕ) → AreCapacities t caps → v < t.count → 0 < room_at caps on (t.count + v) → IsOpen (network_of t).arcs on (record { arc = t.count + v; forward = true }) (2 + v) 1
+out_from_room t caps on v capacities lt some = opens_stand t on v lt ((stand_room t caps on v capacities lt).one some)
+
+pub room_from_out : (t : Terms) (caps on : List ℕ) (v : ℕ) → AreCapacities t caps → GoesOut t on v → 0 < room_at caps on (t.count + v)
+room_from_out t caps on v capacities goes = let is = goes_out t on v 0 goes in (stand_room t caps on v capacities is.0).shut is.1
+
+-- what a label does to a visit
+pub record IsVisitMore (t : Terms) (on : List ℕ) (old new : Found) (first end next depth v w : ℕ) : Type 0 where
+  pub visit : IsVisit t on new.level.items new.by.items new.order.items first end next depth v
+  pub lower : (x : ℕ) → get_or new.level.items x 0 ≤ get_or old.level.items x 0
+  pub here : get_or new.level.items w 0 ≡ depth + 1
+
+pub visit_at : (t : Terms) (on level : List ℕ) (by : List Step) (order : List ℕ) (first end next depth v : ℕ) → IsVisit t on level by order first end next depth v → (v < t.count) × (get_or level v 0 ≡ depth) × (next < length order)
+visit_at t on level by order first end next depth v visit = (
+  rw visit.at at (visit.search.inside next (omega (arith, visit.less, visit.search.bounds))),
+  rw visit.at at (visit.search.here next (omega (arith, visit.search.bounds)) visit.less),
+  omega (arith, visit.less, visit.search.bounds),
+)
+
+pub visit_labelled : (t : Terms) (on : List ℕ) (old new : Found) (first end next depth v w : ℕ) (s : Step) → IsVisit t on old.level.items old.by.items old.order.items first end next depth v → w < t.count → get_or old.level.items w 0 ≡ none → IsOpen (network_of t).arcs on s (2 + v) (2 + w) → IsLabelled old new w (depth + 1) s → IsVisitMore t on old new first end next depth v w
+visit_labelled t on old new first end next depth v w s visit lt fresh step labelled =
+    let at = visit_at t on old.level.items old.by.items old.order.items first end next depth v visit in
+    record {
+      visit = rw (labelled.level, labelled.by, labelled.order) (record {
+        search = label_more t on old.level.items old.by.items old.order.items first end next depth (depth + 1) visit.search v w s lt fresh at.0 at.1 step;
+        less = visit.less;
+        at = label_place t on old.level.items old.by.items old.order.items first end next depth (depth + 1) visit.search v w s lt fresh at.0 at.1 step next at.2 ∙ visit.at;
+      });
+      lower = rw labelled.level (label_lower t on old.level.items old.by.items old.order.items first end next depth (depth + 1) visit.search v w s lt fresh at.0 at.1 step);
+      here = rw labelled.level (label_here t on old.level.items old.by.items old.order.items first end next depth (depth + 1) visit.search v w s lt fresh at.0 at.1 step);
+    }
+
+pub visit_levels : (t : Terms) (on level : List ℕ) (by : List Step) (order : List ℕ) (first end next depth v w : ℕ) → IsVisit t on level by order first end next depth v → w < t.count → (get_or level w 0 ≡ none → ⊥) → get_or level w 0 ≤ depth + 1
+visit_levels t on level by order first end next depth v w visit lt old = elim (visit.search.levels w lt) [ inl few ↦ few | inr is ↦ absurd (old is) ]
+
+-- one entry more is looked at
+pub seen_more : (passes : ℕ → Type 0) (entries old new : List ℕ) (most e : ℕ) → IsUpTo passes entries old most e → ((x : ℕ) → get_or new x 0 ≤ get_or old x 0) → (passes e → get_or new (get_or entries e 0) 0 ≤ most) → IsUpTo passes entries new most (e + 1)
+seen_more passes entries old new most e seen lower now k lt pass = elim (cases_eq k e) [
+  | inl same ↦ rw same (now (rw same at pass))
+  | inr ne ↦ omega (arith, lower (get_or entries k 0), seen k (omega arith) pass)
+]
+
+pub needs_lower : (t : Terms) (old new : List ℕ) (v most : ℕ) → AreNeedsUpTo t old v most → ((x : ℕ) → get_or new x 0 ≤ get_or old x 0) → AreNeedsUpTo t new v most
+needs_lower t old new v most seen lower a needs = omega (arith, lower a, seen a needs)
+
+-- the whole visit
+pub visit_end : (t : Terms) (on level : List ℕ) (by : List Step) (order : List ℕ) (first end next depth v : ℕ) → IsVisit t on level by order first end next depth v → AreNeedsUpTo t level v (depth + 1) → AreCarryingUpTo t on level v (depth + 1) → IsSearch t on level by order first end (next + 1) depth (depth + 1)
+visit_end t on level by order first end next depth v visit free carrying =
+    next_more t on level by order first end next depth (depth + 1) visit.search visit.less (λ w lt goes. each w (goes_by t on (get_or order next 0) w goes))
+  where
+    needed : (k b a : ℕ) → k < length t.needs → (need_at t k).step ≡ b → (need_at t k).on ≡ a → slice_get t.needs k ≡ Some (a_need b a)
+    needed k b a lt from to = slice_get-get_or t.needs k no_need lt ∙ ap Some (rw (← from, ← to) refl)
+
+    each : (w : ℕ) → GoesBy t on (get_or order next 0) w → get_or level w 0 ≤ depth + 1
+    each w (inl (k, lt, from, to)) = free w (has_need t.needs k v w (needed k v w lt (from ∙ visit.at) to))
+    each w (inr (k, lt, from, to, some)) = carrying k w (needed k w v lt to (from ∙ visit.at)) some
+
+-- the search begins
+pub search_start : (t : Terms) (caps on level : List ℕ) (by : List Step) (order : List ℕ) → AreCapacities t caps → t.count ≤ 1024 → IsStart (λ v. room_at caps on v) t.count level by order t.count → IsSearch t on level by order 0 (length order) 0 0 0
+search_start t caps on level by order capacities few start = record {
+  sized = start.sized;
+  by_sized = start.by_sized;
+  few_steps = few;
+  bounds = (omega arith, omega arith, omega arith);
+  dries = omega arith;
+  inside = λ j lt. (start.inside j lt).0;
+  counted = start.counted;
+  deep = omega arith;
+  levels = λ v lt. elim (start.either v lt) [ inl w ↦ inl (omega (arith, w.0)) | inr w ↦ inr w.0 ];
+  here = λ j le lt. (start.inside j lt).1;
+  there = λ j le lt. absurd (omega arith);
+  listed = λ v lt at. elim (start.either v lt) [ inl w ↦ (w.2.0, omega arith, w.2.1, w.2.2) | inr w ↦ absurd (omega (arith, w.0)) ];
+  listed_next = λ v lt at. elim (start.either v lt) [ inl w ↦ absurd (omega (arith, w.0)) | inr w ↦ absurd (omega (arith, w.0)) ];
+  source = λ v lt goes. elim (start.either v lt) [ inl w ↦ w.0 | inr w ↦ absurd (omega (arith, w.1, room_from_in t caps on v capacities goes)) ];
+  done = λ v w v_lt w_lt less goes. absurd (omega arith);
+  done_here = λ j w le lt w_lt goes. absurd (omega arith);
+  dry = λ v lt less goes. absurd (omega arith);
+  back = λ v lt less. elim (start.either v lt) [ inl w ↦ inl (w.0, in_from_room t caps on v capacities lt w.1) | inr w ↦ absurd (omega (arith, w.0)) ];
+}
+
+pub opened_in : (t : Terms) (caps on : List ℕ) (v : ℕ) → AreCapacities t caps → v < t.count → 0 < room_at caps on v → IsOpen (network_of t).arcs on (record { arc = v; forward = true }) 0 (2 + v)
+opened_in t caps on v capacities lt some = opens_leave t on v lt ((leave_room t caps on v capacities lt).one some)

@@ -1,0 +1,18 @@
+use Rattle.std.proofs.Common.{◌≡◌, ◌<◌, ◌≤◌, ◌-◌, ◌^◌, vec_len}
+use Rattle.saga_flow.specs.Levels.{IsLevelled}
+use Rattle.saga_closure.specs.Layers.{node_level}
+use Rattle.saga_closure.specs.Largest.{IsOnTheWay}
+use Rattle.saga_closure.specs.Nets.{terms_in, arcs_in}
+use Rattle.saga_closure.proofs.phases.send_to.Given as goal
+
+abbrev pub invariant-loop-path : goal.invariant-loop-path
+invariant-loop-path l = record {
+  left : vec_len l.left ≡ (terms_in l.net).count;
+  levelled : IsLevelled (arcs_in l.net) l.progress.on.items (node_level l.fn.depth l.level);
+  progress : IsOnTheWay (terms_in l.net) l.progress;
+  small : l.progress.value < 2 ^ 63;
+  more : l.initial.progress.value ≤ l.progress.value;
+}
+
+abbrev pub decreases-loop-path : goal.decreases-loop-path
+decreases-loop-path l = 2 ^ 63 - l.progress.value

@@ -1,0 +1,8 @@
+-- A step of the path is over an arc.
+use Rattle.std.proofs.Common.{false, arith}
+use Rattle.saga_closure.specs.Nets.{terms_in}
+use Rattle.saga_closure.proofs.ArcLemmas.{arcs_sized}
+use Rattle.saga_closure.proofs.walking.put_back.Goals as goal
+
+pub head-requires-clause-inside : goal.head-requires-clause-inside
+head-requires-clause-inside c = omega (arith, c.requires.steps c.loop-step.step-index (record { arc = 0; forward = false }) c.loop-step-test.true, arcs_sized (terms_in c.args.net.now))

@@ -1,0 +1,111 @@
+-- A search from the source, layer by layer.
+use Rattle.std.specs.Prelude.{ℕ, Bool, List, [], ◌∷◌, ◌++◌, length, slice_index, slice_index_or, slice_set, slice_get, Some, if◌then◌else◌, nat_lt, min, ◌⊎◌, ◌==◌, ◌≡◌, ◌<◌, ◌≤◌, ◌+◌, ◌-◌}
+use Rattle.std.specs.List.{count_by}
+use Rattle.saga_def.specs.Neighbours.{a_need}
+use Rattle.saga_def.specs.Order.{NeedsDirectly}
+use Rattle.saga_case.specs.Terms.{Terms}
+use Rattle.saga_flow.specs.declared.steps.Step.{Step}
+use Rattle.saga_flow.specs.Residual.{IsOpen, IsResidual}
+use Rattle.saga_closure.specs.CaseNet.{network_of}
+use Rattle.saga_closure.specs.declared.searching.Found.{Found}
+use Rattle.saga_closure.specs.declared.searching.Goal.{Goal}
+
+-- no level
+abbrev pub none : ℕ
+none = 65535
+
+-- whether a level is one
+abbrev pub is_level : ℕ → Bool
+is_level level = nat_lt level none
+
+-- the source can send more to a step; a step can send more to the sink; a step to a step
+abbrev pub GoesIn : Terms → List ℕ → ℕ → Type 0
+GoesIn t on v = IsResidual (network_of t).arcs on 0 (2 + v)
+
+abbrev pub GoesOut : Terms → List ℕ → ℕ → Type 0
+GoesOut t on v = IsResidual (network_of t).arcs on (2 + v) 1
+
+abbrev pub Goes : Terms → List ℕ → ℕ → ℕ → Type 0
+Goes t on v w = IsResidual (network_of t).arcs on (2 + v) (2 + w)
+
+abbrev pub no_step : Step
+no_step = record { arc = 0; forward = 0 == 1 }
+
+-- how a step came by its level: from the source, or by an open step from one a level lower
+abbrev pub CameBy : Terms → List ℕ → List ℕ → List Step → ℕ → Type 0
+CameBy t on level by v =
+    ((slice_index level v ≡ 0) × GoesIn t on v)
+    ⊎ ((u : ℕ) × (u < t.count) × IsOpen (network_of t).arcs on (slice_index_or by v no_step) (2 + u) (2 + v) × (slice_index level v ≡ slice_index level u + 1))
+
+-- a search on the way: the layers before `depth` are done, that of `depth` stands in `order` from `first` to `end`, and its
+-- first ones, to `next`, are done; those found from them follow. No step of a level below `dried` sends more to the sink
+pub record IsSearch (t : Terms) (on level : List ℕ) (by : List Step) (order : List ℕ) (first end next depth dried : ℕ) : Type 0 where
+  pub sized : length level ≡ t.count
+  pub by_sized : length by ≡ t.count
+  pub few_steps : t.count ≤ 1024
+  pub bounds : (first ≤ next) × (next ≤ end) × (end ≤ length order)
+  pub dries : dried ≤ depth + 1
+  pub inside : (j : ℕ) → j < length order → slice_index order j < t.count
+  pub counted : length order ≡ count_by is_level level
+  pub deep : depth ≤ first
+  pub levels : (v : ℕ) → v < t.count → (slice_index level v ≤ depth + 1) ⊎ (slice_index level v ≡ none)
+  pub here : (j : ℕ) → first ≤ j → j < end → slice_index level (slice_index order j) ≡ depth
+  pub there : (j : ℕ) → end ≤ j → j < length order → slice_index level (slice_index order j) ≡ depth + 1
+  pub listed : (v : ℕ) → v < t.count → slice_index level v ≡ depth → (j : ℕ) × (first ≤ j) × (j < end) × (slice_index order j ≡ v)
+  pub listed_next : (v : ℕ) → v < t.count → slice_index level v ≡ depth + 1 → (j : ℕ) × (end ≤ j) × (j < length order) × (slice_index order j ≡ v)
+  pub source : (v : ℕ) → v < t.count → GoesIn t on v → slice_index level v ≡ 0
+  pub done : (v w : ℕ) → v < t.count → w < t.count → slice_index level v < depth → Goes t on v w → slice_index level w ≤ slice_index level v + 1
+  pub done_here : (j w : ℕ) → first ≤ j → j < next → w < t.count → Goes t on (slice_index order j) w → slice_index level w ≤ depth + 1
+  pub dry : (v : ℕ) → v < t.count → slice_index level v < dried → GoesOut t on v → ⊥
+  pub back : (v : ℕ) → v < t.count → slice_index level v < none → CameBy t on level by v
+
+-- one step more has a level
+pub record IsLabelled (old new : Found) (v depth : ℕ) (s : Step) : Type 0 where
+  pub level : new.level.items ≡ slice_set old.level.items v depth
+  pub by : new.by.items ≡ slice_set old.by.items v s
+  pub order : new.order.items ≡ old.order.items ++ v ∷ []
+
+-- the levels of nodes when the search ended at a layer with a goal
+abbrev pub node_level : ℕ → List ℕ → ℕ → ℕ
+node_level depth level node =
+    if node == 0 then 0 else (if node == 1 then depth + 2 else min (slice_index level (node - 2)) (depth + 1) + 1)
+
+-- the steps of which a test is positive, of the first so many, are labelled 0
+pub record IsStart (room : ℕ → ℕ) (count : ℕ) (level : List ℕ) (by : List Step) (order : List ℕ) (so_far : ℕ) : Type 0 where
+  pub sized : length level ≡ count
+  pub by_sized : length by ≡ count
+  pub inside : (j : ℕ) → j < length order → (slice_index order j < so_far) × (slice_index level (slice_index order j) ≡ 0)
+  pub counted : length order ≡ count_by is_level level
+  pub either : (v : ℕ) → v < so_far → ((slice_index level v ≡ 0) × (0 < room v) × ((j : ℕ) × (j < length order) × (slice_index order j ≡ v))) ⊎ ((slice_index level v ≡ none) × (room v ≡ 0))
+  pub later : (v : ℕ) → so_far ≤ v → v < count → slice_index level v ≡ none
+
+-- what a step needs directly has a level of at most this
+abbrev pub AreNeedsUpTo : Terms → List ℕ → ℕ → ℕ → Type 0
+AreNeedsUpTo t level v most = (a : ℕ) → NeedsDirectly t.needs v a → slice_index level a ≤ most
+
+-- what needs a step directly, over a need that carries something, has a level of at most this
+abbrev pub AreCarryingUpTo : Terms → List ℕ → List ℕ → ℕ → ℕ → Type 0
+AreCarryingUpTo t on level v most =
+    (k b : ℕ) → slice_get t.needs k ≡ Some (a_need b v) → 0 < slice_index on (t.count + (t.count + k)) → slice_index level b ≤ most
+
+-- of the first so many entries those that pass a test have a level of at most this
+abbrev pub IsUpTo : (ℕ → Type 0) → List ℕ → List ℕ → ℕ → ℕ → Type 0
+IsUpTo passes entries level most count = (e : ℕ) → e < count → passes e → slice_index level (slice_index entries e) ≤ most
+
+-- a visit of the step that stands next in the order
+pub record IsVisit (t : Terms) (on level : List ℕ) (by : List Step) (order : List ℕ) (first end next depth v : ℕ) : Type 0 where
+  pub search : IsSearch t on level by order first end next depth (depth + 1)
+  pub less : next < end
+  pub at : slice_index order next ≡ v
+
+-- a search that ended at a layer with a goal
+pub record IsAtGoal (t : Terms) (on : List ℕ) (found : Found) (goal : Goal) : Type 0 where
+  pub search : IsSearch t on found.level.items found.by.items found.order.items goal.first (length found.order.items) goal.first goal.depth goal.depth
+  pub inside : goal.step < t.count
+  pub level : slice_index found.level.items goal.step ≡ goal.depth
+  pub goes : IsOpen (network_of t).arcs on (record { arc = t.count + goal.step; forward = 0 == 0 }) (2 + goal.step) 1
+
+-- a search without a goal: the steps with a level are those that the source reaches, and none of them sends more to the sink
+pub record IsReach (t : Terms) (on : List ℕ) (found : Found) : Type 0 where
+  pub depth : ℕ
+  pub search : IsSearch t on found.level.items found.by.items found.order.items (length found.order.items) (length found.order.items) (length found.order.items) depth depth

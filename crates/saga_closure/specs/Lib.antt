@@ -1,0 +1,10 @@
+-- The network of a case over its definition's lists, searches in it, and a greatest flow.
+pub mod CaseNet
+pub mod Capacities
+pub mod Nets
+pub mod Outs
+pub mod Layers
+pub mod Found
+pub mod Paths
+pub mod Chains
+pub mod Largest

@@ -1,0 +1,18 @@
+-- Which steps a need joins.
+use Rattle.std.specs.Prelude.{ℕ, if◌then◌else◌, slice_index_or, ◌*◌, ◌-◌}
+use Rattle.saga_def.specs.declared.steps.Need.{Need}
+use Rattle.saga_case.specs.Terms.{Terms}
+use Rattle.saga_flow.specs.declared.steps.Step.{Step}
+
+abbrev pub no_need : Need
+no_need = record { step = 0; on = 0 }
+
+abbrev pub need_at : Terms → ℕ → Need
+need_at t k = slice_index_or t.needs k no_need
+
+-- where a step over a need leaves, and where it leads
+abbrev pub tail_of : Terms → Step → ℕ
+tail_of t s = if s.forward then (need_at t (s.arc - 2 * t.count)).step else (need_at t (s.arc - 2 * t.count)).on
+
+abbrev pub head_of : Terms → Step → ℕ
+head_of t s = if s.forward then (need_at t (s.arc - 2 * t.count)).on else (need_at t (s.arc - 2 * t.count)).step

@@ -1,0 +1,45 @@
+//! Prices as capacities.
+ghost use Rattle.std.specs.Prelude.{◌≡◌, IfOk, map};
+ghost use Rattle.saga_case.specs.Terms.{terms_of};
+ghost use Rattle.saga_closure.specs.Capacities.{AreCapacities, amount_of, endless};
+
+use saga_case::Case;
+use saga_def::Price;
+use std::alloc::{AllocError, Global};
+
+/// The capacity without a bound: more than any bounded one.
+pub const ENDLESS: u64 = 1 << 63;
+
+/// A price as a capacity.
+fn capacity(price: Price) -> u64
+    ensures { result ≡ amount_of price }
+{
+    match price {
+        Price::Of(amount) => amount,
+        Price::Never => ENDLESS,
+    }
+}
+
+/// The leave prices of a case's steps, then their stand prices.
+pub fn capacities(alloc: Global, case: &Case) -> Result<Vec<u64>, AllocError>
+    ensures { IfOk result (λ caps. AreCapacities (terms_of case.now) caps.items) }
+{
+    let count = case.definition().steps();
+    let mut caps = Vec::with_capacity(alloc, 2 * count)?;
+    for step in 0..count as u16 {
+        caps.push(capacity(case.leave_price(step)))?;
+    }
+    for step in 0..count as u16 {
+        caps.push(capacity(case.stand_price(step)))?;
+    }
+    Ok(caps)
+}
+
+/// Those without a bound, and 0 in place of the others.
+pub fn endless_only(alloc: Global, caps: &[u64]) -> Result<Vec<u64>, AllocError>
+    ensures { IfOk result (λ only. only.items ≡ map endless caps.now) }
+{
+    caps.iter()
+        .map(|most| if *most == ENDLESS { ENDLESS } else { 0 })
+        .collect(alloc)
+}

@@ -1,0 +1,25 @@
+//! A greatest flow through the network of a case, over the lists of its definition: the network is not built.
+//!
+//! Paths are found in phases (E. A. Dinic, 1970): a search from the source, layer by layer, and then walks back from
+//! the steps of its last layer, a level lower at each step.
+#![tactic(auto)]
+
+mod capacities;
+mod chains;
+mod flows;
+mod nets;
+mod paths;
+mod phases;
+mod pushes;
+mod rooms;
+mod searching;
+mod solutions;
+mod solving;
+mod walking;
+
+pub use flows::ClosureFlow;
+pub use solutions::Solution;
+pub use solving::solve;
+
+#[cfg(test)]
+mod tests;

@@ -1,0 +1,32 @@
+//! The network of a case over its definition's lists: no arc is listed.
+//!
+//! The arc from the source to a step and that from a step to the sink have the step's number, the second after as many
+//! as there are steps; after them come the needs by their places. A step's needs, and the needs on it, are the
+//! definition's own lists.
+ghost use Rattle.std.specs.Prelude.{◌≡◌, ◌≤◌, ◌+◌, ◌^◌, ℕ, length, slice_index};
+ghost use Rattle.saga_def.specs.Rules.{AreKnown, AreSingle};
+ghost use Rattle.saga_closure.specs.Capacities.{terms_by};
+ghost use Rattle.saga_closure.specs.CaseNet.{network_of};
+
+use saga_def::Definition;
+
+/// The network over a definition with these capacities: for each step that of the arc from the source, then for each
+/// step that of the arc to the sink; 2^63 is without a bound.
+#[derive(Clone, Copy)]
+pub struct ClosureNet<'a> {
+    pub definition: &'a Definition,
+    pub caps: &'a [u64],
+    ghost few: { length definition.now.steps ≤ 1024 },
+    ghost known: { AreKnown definition.now.needs (length definition.now.steps) },
+    ghost single: { AreSingle definition.now.needs },
+    ghost sized: { length caps.now ≡ length definition.now.steps + length definition.now.steps },
+    ghost small: { (k : ℕ) → slice_index caps.now k ≤ 2 ^ 63 },
+}
+
+/// The residual network of amounts, one for each arc.
+#[derive(Clone, Copy)]
+pub struct Residual<'a> {
+    pub net: &'a ClosureNet<'a>,
+    pub on: &'a [u64],
+    ghost amounts: { length on.now ≡ length (network_of (terms_by net.now.definition.now net.now.caps.now)).arcs },
+}

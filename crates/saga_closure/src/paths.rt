@@ -1,0 +1,71 @@
+//! The path that a search found.
+ghost use Rattle.std.specs.Prelude.{◌≡◌, ◌<◌, ◌≤◌, ◌+◌, ◌*◌, OnOk, length};
+ghost use Rattle.saga_closure.specs.Layers.{IsAtGoal};
+ghost use Rattle.saga_closure.specs.Found.{IsClimb};
+ghost use Rattle.saga_closure.specs.Nets.{terms_in, arcs_in};
+ghost use Rattle.saga_closure.specs.Paths.{tail_of, head_of};
+
+use crate::nets::{ClosureNet, Residual};
+use crate::searching::{Found, Goal};
+use saga_flow::Step;
+use std::alloc::AllocError;
+
+/// The saga's step where a step over a need leaves.
+pub fn tail(net: &ClosureNet, step: Step) -> u16
+    requires far { 2 * (terms_in net.now).count ≤ step.arc }
+    requires inside { step.arc < (terms_in net.now).count + ((terms_in net.now).count + length (terms_in net.now).needs) }
+    ensures is { result ≡ tail_of (terms_in net.now) step }
+    ensures inside { result < (terms_in net.now).count }
+{
+    let need = net.definition.need(step.arc - 2 * net.definition.steps());
+    if step.forward {
+        need.step as u16
+    } else {
+        need.on as u16
+    }
+}
+
+/// The saga's step to which a step over a need leads.
+pub fn head(net: &ClosureNet, step: Step) -> u16
+    requires far { 2 * (terms_in net.now).count ≤ step.arc }
+    requires inside { step.arc < (terms_in net.now).count + ((terms_in net.now).count + length (terms_in net.now).needs) }
+    ensures is { result ≡ head_of (terms_in net.now) step }
+    ensures inside { result < (terms_in net.now).count }
+{
+    let need = net.definition.need(step.arc - 2 * net.definition.steps());
+    if step.forward {
+        need.on as u16
+    } else {
+        need.step as u16
+    }
+}
+
+/// The path by which a search came to its goal, and on to the sink.
+pub fn path_to(
+    residual: &Residual,
+    found: &Found,
+    goal: Goal,
+    path: &mut Vec<Step>,
+) -> Result<(), AllocError>
+    requires { IsAtGoal (terms_in residual.now.net.now) residual.now.on.now found.now goal }
+    ensures { OnOk result (IsClimb residual.now goal.depth found.now.level.items path.new.items) }
+{
+    path.clear();
+    let count = residual.net.definition.steps();
+    path.push(Step {
+        arc: count + goal.step as usize,
+        forward: true,
+    })?;
+    let mut v = goal.step;
+    while found.level[v as usize] > 0 {
+        let by = found.by[v as usize];
+        path.push(by)?;
+        v = tail(residual.net, by);
+    }
+    path.push(Step {
+        arc: v as usize,
+        forward: true,
+    })?;
+    path.reverse();
+    Ok(())
+}

@@ -1,0 +1,52 @@
+//! The greatest amount that a path carries, what is left when it has gone over the path, and rounds.
+ghost use Rattle.std.specs.Prelude.{◌≡◌, ◌<◌, ◌≤◌, ◌+◌, ◌^◌, ℕ, All, length, slice_index};
+ghost use Rattle.saga_flow.specs.Residual.{Carries};
+ghost use Rattle.saga_flow.specs.Pushes.{IsPush, NoArcTwice};
+ghost use Rattle.saga_flow.specs.Progress.{AddsRound};
+ghost use Rattle.saga_closure.specs.Nets.{arcs_in};
+
+use crate::capacities::ENDLESS;
+use crate::nets::{ClosureNet, Residual};
+use crate::rooms::room;
+use saga_flow::{Progress, Step, push};
+
+/// One round: the greatest amount that a path carries goes along it.
+pub fn add_round(net: &ClosureNet, path: &[Step], progress: &mut Progress)
+    requires sized { length progress.old.on.items ≡ length (arcs_in net.now) }
+    requires carries { All (Carries (arcs_in net.now) progress.old.on.items 1) path.now }
+    requires once { NoArcTwice path.now }
+    requires limit { (k : ℕ) → slice_index progress.old.on.items k ≤ progress.old.value }
+    requires fits { (more : ℕ) → All (Carries (arcs_in net.now) progress.old.on.items more) path.now → progress.old.value + more < 2 ^ 63 }
+    requires few { progress.old.rounds ≤ progress.old.value }
+    ensures { AddsRound (arcs_in net.now) path.now progress.old progress.new }
+{
+    progress.value += push_most(net, path, progress.on.as_mut_slice());
+    progress.rounds += 1;
+}
+
+/// Sends along a path the greatest amount that it carries, and answers it.
+fn push_most(net: &ClosureNet, path: &[Step], on: &mut [u64]) -> u64
+    requires sized { length on.old ≡ length (arcs_in net.now) }
+    requires carries { All (Carries (arcs_in net.now) on.old 1) path.now }
+    requires once { NoArcTwice path.now }
+    requires fits { (more : ℕ) → All (Carries (arcs_in net.now) on.old more) path.now → (k : ℕ) → slice_index on.old k + more < 2 ^ 63 }
+    ensures { IsPush (arcs_in net.now) on.old path.now result on.new }
+{
+    let more = most_along(&Residual { net: &*net, on }, path);
+    push(path, on, more);
+    more
+}
+
+/// The greatest amount that a path carries, where that is below 2^63.
+fn most_along(residual: &Residual, path: &[Step]) -> u64
+    requires carries { All (Carries (arcs_in residual.now.net.now) residual.now.on.now 1) path.now }
+    ensures some { 0 < result }
+    ensures carries { All (Carries (arcs_in residual.now.net.now) residual.now.on.now result) path.now }
+    ensures most { result < 2 ^ 63 → All (Carries (arcs_in residual.now.net.now) residual.now.on.now (result + 1)) path.now → ⊥ }
+{
+    let mut least = ENDLESS;
+    for step in path {
+        least = least.min(room(residual, *step));
+    }
+    least
+}

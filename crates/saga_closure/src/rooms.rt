@@ -1,0 +1,38 @@
+//! How much more goes over a step of a residual network.
+ghost use Rattle.std.specs.Prelude.{◌≡◌, ◌<◌, ◌+◌, ◌^◌, length};
+ghost use Rattle.saga_flow.specs.Residual.{Carries};
+ghost use Rattle.saga_closure.specs.Capacities.{room_at};
+ghost use Rattle.saga_closure.specs.Nets.{arcs_in};
+
+use crate::capacities::ENDLESS;
+use crate::nets::Residual;
+use saga_flow::Step;
+
+/// How much more goes along an arc from the source or to the sink; 2^63 stands for any amount.
+pub fn room_along(residual: &Residual, arc: usize) -> u64
+    requires { arc < length residual.now.net.now.caps.now }
+    ensures { result ≡ room_at residual.now.net.now.caps.now residual.now.on.now arc }
+{
+    let most = residual.net.caps[arc];
+    if most == ENDLESS {
+        ENDLESS
+    } else {
+        most.saturating_sub(residual.on[arc])
+    }
+}
+
+/// How much a step carries; 2^63 stands for any amount.
+pub fn room(residual: &Residual, step: Step) -> u64
+    requires carries { Carries (arcs_in residual.now.net.now) residual.now.on.now 1 step }
+    ensures some { 0 < result }
+    ensures carries { Carries (arcs_in residual.now.net.now) residual.now.on.now result step }
+    ensures most { result < 2 ^ 63 → Carries (arcs_in residual.now.net.now) residual.now.on.now (result + 1) step → ⊥ }
+{
+    if !step.forward {
+        residual.on[step.arc]
+    } else if step.arc < residual.net.caps.len() {
+        room_along(residual, step.arc)
+    } else {
+        ENDLESS
+    }
+}

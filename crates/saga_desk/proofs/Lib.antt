@@ -1,0 +1,5 @@
+-- Lemmas on desks.
+mod MergeLemmas
+mod RestLemmas
+mod StepLemmas
+mod FinishLemmas

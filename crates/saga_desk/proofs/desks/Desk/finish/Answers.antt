@@ -1,0 +1,28 @@
+use Rattle.std.proofs.Common.{rules}
+use Rattle.std.specs.List.{All}
+use Rattle.saga_def.specs.Sound.{IsSound}
+use Rattle.saga_history.specs.Changes.{past}
+use Rattle.saga_history.proofs.HeadlineLemmas.{headline_holds}
+use Rattle.saga_desk.specs.Agreement.{Agree, histories_of, receipts_of}
+use Rattle.saga_desk.specs.Finish.{AreOfShards, KeepLegalHistories}
+use Rattle.saga_desk.proofs.FinishLemmas.{merges_legal}
+use Rattle.saga_desk.proofs.MergeLemmas.{all_of-common}
+use Rattle.saga_desk.proofs.desks.Desk.finish.Goals as goal
+
+pub returns-clause-named : goal.returns-clause-named
+returns-clause-named c =
+    let agree : Agree c.loop-slot.books.items c.args.seats.items = search rules in
+    all_of-common (histories_of c.loop-slot.books.items) (receipts_of c.args.seats.items) agree
+
+pub returns-clause-legal : goal.returns-clause-legal
+returns-clause-legal c =
+    let of : AreOfShards c.args.self.shelf c.args.self.shards c.loop-slot.books.items = search rules in
+    let keep : KeepLegalHistories c.loop-slot.books.items = rw c.as_slice-5.ensures.value at c.see_histories.ensures in
+    merges_legal c.args.self.shelf c.args.self.shards c.loop-slot.books.items of keep
+
+pub returns-clause-headline : goal.returns-clause-headline
+returns-clause-headline c =
+    let of : AreOfShards c.args.self.shelf c.args.self.shards c.loop-slot.books.items = search rules in
+    let keep : KeepLegalHistories c.loop-slot.books.items = rw c.as_slice-5.ensures.value at c.see_histories.ensures in
+    let sound : All IsSound c.args.self.shelf = search rules in
+    λ m merge. headline_holds c.args.self.shelf (past m) sound (merges_legal c.args.self.shelf c.args.self.shards c.loop-slot.books.items of keep m merge)

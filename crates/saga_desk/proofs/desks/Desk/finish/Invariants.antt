@@ -1,0 +1,10 @@
+use Rattle.std.proofs.Common.{◌≤◌, ◌+◌, length, vec_len}
+use Rattle.std.specs.Vec.{vec_capacity}
+use Rattle.std.specs.Vec.Iter.{into_iter_items}
+use Rattle.saga_desk.proofs.desks.Desk.finish.Given as goal
+
+abbrev pub invariant-loop-slot : goal.invariant-loop-slot
+invariant-loop-slot l =
+    (goal.iterator-loop-slot).can_next l.slot-iterator
+    × (goal.iterator-loop-slot).is_finite l.slot-iterator
+    × (vec_len l.books + length (into_iter_items l.slot-iterator) ≤ vec_capacity l.books)

@@ -1,0 +1,11 @@
+use Rattle.std.proofs.Common.{◌≡◌, ◌<◌, ℕ, vec_len, Some, []}
+use Rattle.std.specs.List.{slice_get}
+use Rattle.std.specs.Vec.{vec_capacity}
+use Rattle.saga_desk.proofs.desks.Desk.open.Given as goal
+
+abbrev pub invariant-loop-shard : goal.invariant-loop-shard
+invariant-loop-shard l = (vec_len l.slots ≡ l.shard) × (vec_capacity l.slots ≡ l.shards)
+
+abbrev pub invariant-loop-number : goal.invariant-loop-number
+invariant-loop-number l = (vec_len l.all ≡ l.number) × (vec_capacity l.all ≡ l.seats)
+    × ((k : ℕ) → k < l.number → slice_get l.all.items k ≡ Some (record { number = k; receipts = []; claims = 0 }))

@@ -1,0 +1,122 @@
+-- What calls do to a book and to a seat.
+use Rattle.std.specs.Prelude.{◌≡◌, ℕ, ◌+◌, ◌-◌, ◌⊎◌, Bool, true, false, List, [], ◌∷◌, ◌++◌, length, slice_get, IsSomeAnd}
+use Rattle.saga_def.specs.Contents.{Contents}
+use Rattle.saga_def.specs.declared.steps.Step.{Step}
+use Rattle.saga_history.specs.declared.events.Event.{Event}
+use Rattle.saga_history.specs.declared.events.Event.TheVariants as event
+use Rattle.saga_history.specs.declared.events.Mark.{Mark}
+use Rattle.saga_history.specs.declared.events.Mark.TheVariants as mark
+use Rattle.saga_history.specs.declared.tasks.Outcome.{Outcome}
+use Rattle.saga_history.specs.declared.tasks.Outcome.TheVariants.{Done, Failed}
+use Rattle.saga_history.specs.declared.tasks.Task.TheVariants as task
+use Rattle.saga_history.specs.declared.transitions.Transition.{Transition}
+use Rattle.saga_history.specs.declared.transitions.Transition.TheVariants as transition
+use Rattle.saga_history.specs.Changes.{Change, past, changes, mark_of, step_event}
+use Rattle.saga_history.specs.Rules.{IsAllowed, misses_of, undo_misses_of}
+use Rattle.saga_core.specs.Book.{Book}
+use Rattle.saga_core.specs.Refusals.{IsPresentCase, OfSaga}
+use Rattle.saga_core.specs.Tasks.{IsFirstTask}
+use Rattle.saga_desk.specs.Job.{Job}
+use Rattle.saga_desk.specs.Seat.{Seat}
+use Rattle.saga_desk.specs.declared.jobs.Claim.{Claim}
+use Rattle.saga_desk.specs.declared.jobs.Claim.TheVariants.{Run, Undo, Plan, Idle, Settled}
+use Rattle.saga_desk.specs.declared.receipts.Receipt.{Receipt}
+
+-- the receipt of an event that is added to this book
+abbrev pub receipt_of : Book → Event → Receipt
+receipt_of book e = record { shard = book.first; mark = mark_of e; number = length book.history }
+
+-- the book has this one event more, and the seat its receipt; the seat has then so many claims outstanding
+pub record Records (old new : Book) (before after : Seat) (e : Event) (claims : ℕ) : Type 0 where
+  pub event : new ≡ record old { history = old.history ++ e ∷ [] }
+  pub receipt : after ≡ record { number = before.number; receipts = before.receipts ++ receipt_of old e ∷ []; claims = claims }
+
+-- book and seat are as they were
+pub record StayAsTheyWere (old new : Book) (before after : Seat) : Type 0 where
+  pub book : new ≡ old
+  pub seat : after ≡ before
+
+-- the transition with which an action, or a compensation, begins
+abbrev pub start_of : Bool → Transition
+start_of false = transition.StartRun
+start_of true = transition.StartUndo
+
+-- the transitions with which it may end, by its outcome
+abbrev pub IsEndOf : Bool → Outcome → Transition → Type 0
+IsEndOf false Done t = t ≡ transition.Commit
+IsEndOf false Failed t = (t ≡ transition.Missed) ⊎ (t ≡ transition.Fail)
+IsEndOf true Done t = t ≡ transition.Undone
+IsEndOf true Failed t = (t ≡ transition.UndoMissed) ⊎ (t ≡ transition.UndoFail)
+
+-- how often it was missed
+abbrev pub misses_before : Bool → List Change → ℕ → ℕ
+misses_before false l s = misses_of l s
+misses_before true l s = undo_misses_of l s
+
+-- the step of a definition has that name
+abbrev pub IsNamed : Contents → ℕ → List ℕ → Type 0
+IsNamed d s name = IsSomeAnd (slice_get d.steps s) (λ (step : Step). step.name ≡ name)
+
+-- the job of seat k at step s of saga i: its action or its compensation, with the step's name; the attempts are counted
+-- from 1
+pub record IsJob (book : Book) (k i s : ℕ) (undo : Bool) (job : Job) : Type 0 where
+  pub seat : job.seat ≡ k
+  pub saga : job.saga ≡ i
+  pub step : job.step ≡ s
+  pub is_undo : job.is_undo ≡ undo
+  pub name : OfSaga book.shelf (past book.history) i (λ d l. IsNamed d s job.name)
+  pub attempt : job.attempt ≡ misses_before undo (changes i (past book.history)) s + 1
+
+-- of the tasks of the book the first was claimed, and nothing else happened
+abbrev pub ClaimsFirst : Book → Book → Seat → Seat → Claim → Type 0
+ClaimsFirst old new before after (Run job) =
+    IsFirstTask old.shelf (past old.history) (task.Run job.saga job.step)
+    × IsJob old before.number job.saga job.step false job
+    × Records old new before after (event.StartRun job.saga job.step) (before.claims + 1)
+ClaimsFirst old new before after (Undo job) =
+    IsFirstTask old.shelf (past old.history) (task.Undo job.saga job.step)
+    × IsJob old before.number job.saga job.step true job
+    × Records old new before after (event.StartUndo job.saga job.step) (before.claims + 1)
+ClaimsFirst old new before after (Plan job case) =
+    IsFirstTask old.shelf (past old.history) (task.Plan job.saga)
+    × (job.seat ≡ before.number)
+    × IsPresentCase old.shelf (past old.history) job.saga case
+    × Records old new before after (event.StartPlan job.saga) (before.claims + 1)
+ClaimsFirst old new before after Idle = ⊥
+ClaimsFirst old new before after Settled = ⊥
+
+-- the job ended by its outcome, with a transition that was allowed
+pub record EndsBy (old new : Book) (before after : Seat) (job : Job) (outcome : Outcome) (t : Transition) : Type 0 where
+  pub ends : IsEndOf job.is_undo outcome t
+  pub allowed : IsAllowed old.shelf (past old.history) (step_event job.saga job.step t)
+  pub records : Records old new before after (step_event job.saga job.step t) (before.claims - 1)
+
+abbrev pub Ends : Book → Book → Seat → Seat → Job → Outcome → Type 0
+Ends old new before after job outcome = (t : Transition) × EndsBy old new before after job outcome t
+
+-- the seat has one receipt more, with this mark, and then so many claims outstanding
+abbrev pub Gains : Seat → Seat → Mark → ℕ → Type 0
+Gains before after m claims =
+    (r : Receipt) × (r.mark ≡ m) × (after ≡ record { number = before.number; receipts = before.receipts ++ r ∷ []; claims = claims })
+
+-- the same, of a receipt on this shard
+abbrev pub GainsOn : ℕ → Seat → Seat → Mark → Type 0
+GainsOn shard before after m =
+    (r : Receipt) × (r.shard ≡ shard) × (r.mark ≡ m)
+    × (after ≡ record { number = before.number; receipts = before.receipts ++ r ∷ []; claims = before.claims })
+
+-- what a claim does to the seat
+abbrev pub Claims : Seat → Seat → Claim → Type 0
+Claims before after (Run job) =
+    (job.seat ≡ before.number) × (job.is_undo ≡ false) × Gains before after (mark.StartRun job.saga job.step) (before.claims + 1)
+Claims before after (Undo job) =
+    (job.seat ≡ before.number) × (job.is_undo ≡ true) × Gains before after (mark.StartUndo job.saga job.step) (before.claims + 1)
+Claims before after (Plan job case) =
+    (job.seat ≡ before.number) × Gains before after (mark.StartPlan job.saga) (before.claims + 1)
+Claims before after Idle = after ≡ before
+Claims before after Settled = after ≡ before
+
+-- the seat gained the receipt of an end of the job by its outcome
+abbrev pub GainsEnd : Seat → Seat → Job → Outcome → Type 0
+GainsEnd before after job outcome =
+    (t : Transition) × IsEndOf job.is_undo outcome t × Gains before after (mark_of (step_event job.saga job.step t)) (before.claims - 1)

@@ -1,0 +1,66 @@
+-- When a desk can be finished, and what is then known of its books.
+use Rattle.std.specs.Prelude.{◌≡◌, ◌≢◌, ℕ, ◌<◌, List, [], Some, length, map, slice_get}
+use Rattle.saga_def.specs.Contents.{Contents}
+use Rattle.saga_history.specs.declared.events.Event.{Event}
+use Rattle.saga_history.specs.Changes.{past}
+use Rattle.saga_history.specs.Headline.{Headline}
+use Rattle.saga_history.specs.Merges.{IsMergeOf, IsNumbered}
+use Rattle.saga_history.specs.Rules.{IsLegal}
+use Rattle.saga_core.specs.Book.{Book}
+use Rattle.saga_desk.specs.Agreement.{Agree}
+use Rattle.saga_desk.specs.Desk.{Desk}
+use Rattle.saga_desk.specs.Seat.{Seat}
+use Rattle.saga_desk.specs.declared.desks.finish.FinishRefused.{FinishRefused}
+use Rattle.saga_desk.specs.declared.desks.finish.FinishRefused.TheVariants.{Stranger, Missing, OutOfMemory, Torn}
+
+-- the seats that a desk hands out: numbered from 0 on, without receipts
+pub record AreFirstSeats (count : ℕ) (seats : List Seat) : Type 0 where
+  pub all : length seats ≡ count
+  pub new : (k : ℕ) → k < count → slice_get seats k ≡ Some (record { number = k; receipts = []; claims = 0 })
+
+-- the desk has a seat of each number, and none stands twice
+pub record AreOwn (desk : Desk) (seats : List Seat) : Type 0 where
+  pub known : (i : ℕ) (s : Seat) → slice_get seats i ≡ Some s → s.number < desk.seats
+  pub once : (i j : ℕ) (s t : Seat) → slice_get seats i ≡ Some s → slice_get seats j ≡ Some t → j < i → t.number ≢ s.number
+
+-- all seats of the desk, each once
+pub record AreAll (desk : Desk) (seats : List Seat) : Type 0 where
+  pub own : AreOwn desk seats
+  pub all : length seats ≡ desk.seats
+
+-- a book with that shelf, which numbers its sagas as the shard of that number does, of so many
+pub record IsOfShard (definitions : List Contents) (shards shard : ℕ) (book : Book) : Type 0 where
+  pub shelf : book.shelf ≡ definitions
+  pub first : book.first ≡ shard
+  pub stride : book.stride ≡ shards
+
+-- a book for each shard
+pub record AreOfShards (shelf : List Contents) (shards : ℕ) (books : List Book) : Type 0 where
+  pub all : length books ≡ shards
+  pub each : (i : ℕ) (b : Book) → slice_get books i ≡ Some b → IsOfShard shelf shards i b
+
+abbrev pub events_of : List Book → List (List Event)
+events_of books = map (λ b. b.history) books
+
+-- the history of a book is legal, and its sagas are numbered as the book says
+pub record KeepsLegalHistory (book : Book) : Type 0 where
+  pub legal : IsLegal book.shelf (past book.history)
+  pub numbered : IsNumbered book.first book.stride book.history
+
+abbrev pub KeepLegalHistories : List Book → Type 0
+KeepLegalHistories books = (i : ℕ) (b : Book) → slice_get books i ≡ Some b → KeepsLegalHistory b
+
+-- each merge of the histories is legal, so the headline holds of it
+abbrev pub MergesAreLegal : List Contents → List Book → Type 0
+MergesAreLegal shelf books = (m : List Event) → IsMergeOf (events_of books) m → IsLegal shelf (past m)
+
+abbrev pub HeadlineHolds : List Contents → List Book → Type 0
+HeadlineHolds shelf books = (m : List Event) → IsMergeOf (events_of books) m → Headline shelf (past m)
+
+-- why a desk is not finished; what was handed in comes back, where the books do not fit in place of the desk
+abbrev pub FinishIsRefused : Desk → List Seat → FinishRefused → Type 0
+FinishIsRefused desk seats (Stranger d ss) = (d ≡ desk) × (ss.items ≡ seats) × (AreOwn desk seats → ⊥)
+FinishIsRefused desk seats (Missing d ss) = (d ≡ desk) × (ss.items ≡ seats) × AreOwn desk seats × (length seats ≢ desk.seats)
+FinishIsRefused desk seats (OutOfMemory d ss) = (d ≡ desk) × (ss.items ≡ seats) × AreAll desk seats
+FinishIsRefused desk seats (Torn books ss) =
+    (ss.items ≡ seats) × AreAll desk seats × (AreOfShards desk.shelf desk.shards books.items × Agree books.items seats → ⊥)

@@ -1,0 +1,16 @@
+-- What a seat has claimed.
+use Rattle.std.specs.Prelude.{ℕ, Bool, List}
+
+-- the number of the seat, the saga, the step with its name, whether its compensation is meant, and the attempt
+pub record Job : Type 0 where
+  pub seat : ℕ
+  pub saga : ℕ
+  pub step : ℕ
+  pub is_undo : Bool
+  pub name : List ℕ
+  pub attempt : ℕ
+
+-- the number of the seat, and the saga
+pub record PlanJob : Type 0 where
+  pub seat : ℕ
+  pub saga : ℕ

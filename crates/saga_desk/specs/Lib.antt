@@ -1,0 +1,10 @@
+-- Desks: seats that work on shared books, and the receipts by which they answer for it.
+pub mod Seat
+pub mod Job
+pub mod Desk
+pub mod Effects
+pub mod Refusals
+pub mod Merges
+pub mod Agreement
+pub mod Rests
+pub mod Finish

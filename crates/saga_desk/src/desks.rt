@@ -1,0 +1,261 @@
+//! The desk: shards under locks of their own, which seats share.
+ghost use Rattle.std.specs.Prelude.{◌≡◌, ◌<◌, ◌≤◌, ◌-◌, IfOk, IfErr, OnOk, OnErr};
+ghost use Rattle.saga_history.specs.declared.events.Mark.TheVariants as mark;
+ghost use Rattle.saga_desk.specs.Effects.{Claims, Gains, GainsEnd, GainsOn};
+ghost use Rattle.saga_desk.specs.Finish.{AreFirstSeats};
+ghost use Rattle.saga_desk.specs.Refusals.{EndIsRefused, HasClaimed};
+
+mod finish;
+
+use crate::jobs::{Claim, Job, PlanJob};
+use crate::refusals::{AdoptionRefused, GiveBackRefused, ReportRefused};
+use crate::shards::{Seat, Shard};
+pub use finish::FinishRefused;
+use saga_check::Verdict;
+use saga_core::{Book, OpenRefusal, SagaRefusal};
+use saga_def::Definition;
+use saga_history::Outcome;
+use std::alloc::{AllocError, Global};
+use std::marker::Model;
+use std::sync::atomic::{AtomicBool, Ordering};
+use std::sync::{Mutex, Wait};
+
+/// A shard under its lock, and a flag that a claim may look at without the lock. The flag is written under the lock alone:
+/// it is set only where each saga of the shard is ended or stuck, and cleared where one is opened.
+#[derive(Drop)]
+struct Slot<'d> {
+    shard: Mutex<Shard<'d>>,
+    settled: AtomicBool,
+}
+
+impl<'d> Slot<'d> {
+    fn new(shard: Shard<'d>) -> Slot<'d> {
+        Slot {
+            shard: Mutex::new(shard),
+            settled: AtomicBool::new(true),
+        }
+    }
+
+    /// Opens a saga on this shard.
+    fn open_saga<R: Wait>(
+        &self,
+        rt: &R,
+        seat: &mut Seat,
+        number: u32,
+        definition: u32,
+    ) -> Result<u32, OpenRefusal>
+        ensures ok { IfOk result (λ saga. GainsOn number seat.old seat.new (mark.Open saga definition)) }
+        ensures err { OnErr result (seat.new ≡ seat.old) }
+    {
+        let mut locked = self.shard.lock(rt);
+        let shard: &mut Shard<'d> = &mut *locked;
+        if shard.first() != number {
+            // Never taken: a shard keeps its number. Nothing is known of what a lock holds but its type.
+            for _ in rt.forever() {}
+            unreachable!()
+        }
+        let saga = shard.open_saga(seat, definition)?;
+        self.settled.store(false, Ordering::SeqCst);
+        Ok(saga)
+    }
+
+    /// Claims the first task of this shard. Where there is none, the shard is settled or idle.
+    fn claim<R: Wait>(&self, rt: &R, seat: &mut Seat) -> Result<Claim<'d>, AllocError>
+        ensures ok { IfOk result (λ claim. Claims seat.old seat.new claim) }
+        ensures err { OnErr result (seat.new ≡ seat.old) }
+    {
+        if self.settled.load(Ordering::SeqCst) {
+            return Ok(Claim::Settled);
+        }
+        let mut locked = self.shard.lock(rt);
+        let shard: &mut Shard<'d> = &mut *locked;
+        if let Some(claim) = shard.claim(seat)? {
+            return Ok(claim);
+        }
+        if !shard.settled() {
+            return Ok(Claim::Idle);
+        }
+        self.settled.store(true, Ordering::SeqCst);
+        Ok(Claim::Settled)
+    }
+
+    fn into_book(self) -> Book<'d> {
+        let Slot { shard, settled: _ } = self;
+        shard.into_inner().into_book()
+    }
+}
+
+/// Shards that several seats share. Contracts see its shelf, and how many seats and shards it has.
+///
+/// Each call but `shards` and `finish` locks a shard and makes one call of [`Shard`] there, which says what happens; it
+/// may wait for the lock. What a call does to the seat is told here.
+#[derive(Drop)]
+pub struct Desk<'d> {
+    definitions: &'d [Definition],
+    seat_count: u32,
+    slots: Vec<Slot<'d>>,
+}
+
+impl<'d> Model for Desk<'d> {
+    ghost use Rattle.std.specs.Prelude.{◌<◌, ◌≤◌, vec_len};
+    ghost use Rattle.saga_desk.specs.Desk.{Desk};
+
+    ghost Value = { Desk };
+
+    ghost view = { λ d. record { shelf = d.definitions.now; seats = d.seat_count; shards = vec_len d.slots } };
+
+    ghost invariant = { λ d. (0 < vec_len d.slots) × (vec_len d.slots ≤ 16) × (0 < d.seat_count) × (d.seat_count ≤ 16) };
+}
+
+impl<'d> Desk<'d> {
+    /// A desk with so many shards, numbered from 0 on, and its seats, numbered likewise. Shard `s` numbers its sagas `s`,
+    /// `s + shards` and so on.
+    pub fn open(
+        alloc: Global,
+        shelf: &'d [Definition],
+        seats: u32,
+        shards: u32,
+    ) -> Result<(Desk<'d>, Vec<Seat>), AllocError>
+        requires seats { (0 < seats) × (seats ≤ 16) }
+        requires shards { (0 < shards) × (shards ≤ 16) }
+        ensures desk { IfOk result (λ opened. opened.0 ≡ record { shelf = shelf.entry.now; seats = seats; shards = shards }) }
+        ensures seats { IfOk result (λ opened. AreFirstSeats seats opened.1.items) }
+    {
+        let mut slots = Vec::with_capacity(alloc, shards as usize)?;
+        for shard in 0..shards {
+            slots.push_reserved(Slot::new(Shard::new(alloc, shelf, shard, shards)));
+        }
+        let mut all = Vec::with_capacity(alloc, seats as usize)?;
+        for number in 0..seats {
+            all.push_reserved(Seat::new(alloc, number));
+        }
+        let desk = Desk {
+            definitions: shelf,
+            seat_count: seats,
+            slots,
+        };
+        Ok((desk, all))
+    }
+
+    /// How many shards there are. Takes no memory.
+    pub fn shards(&self) -> u32
+        ensures { result ≡ self.now.shards }
+    {
+        self.slots.len() as u32
+    }
+
+    /// Opens a saga on a shard by a definition on the shelf, and gives its number.
+    pub fn open_saga<R: Wait>(
+        &self,
+        rt: &R,
+        seat: &mut Seat,
+        shard: u32,
+        definition: u32,
+    ) -> Result<u32, OpenRefusal>
+        requires { shard < self.now.shards }
+        ensures ok { IfOk result (λ saga. GainsOn shard seat.old seat.new (mark.Open saga definition)) }
+        ensures err { OnErr result (seat.new ≡ seat.old) }
+    {
+        self.slots[shard as usize].open_saga(rt, seat, shard, definition)
+    }
+
+    /// Claims the first task of the first shard that has one, beginning at the shard of the seat's number modulo
+    /// `shards()` and going round. Settled: each shard was settled when it was looked at. Idle: none had a task, and one
+    /// at least was not settled. A claim also takes all memory that its end needs.
+    pub fn claim<R: Wait>(&self, rt: &R, seat: &mut Seat) -> Result<Claim<'d>, AllocError>
+        ensures ok { IfOk result (λ claim. Claims seat.old seat.new claim) }
+        ensures err { OnErr result (seat.new ≡ seat.old) }
+    {
+        let count = self.slots.len();
+        let begin = seat.number() as usize % count;
+        let mut settled = true;
+        for turn in 0..count {
+            match self.slots[(begin + turn) % count].claim(rt, seat)? {
+                Claim::Settled => {}
+                Claim::Idle => settled = false,
+                claim => return Ok(claim),
+            }
+        }
+        if settled {
+            return Ok(Claim::Settled);
+        }
+        Ok(Claim::Idle)
+    }
+
+    /// The action or the compensation of a job ended: done, or failed, to be tried again while the step has tries left.
+    /// Takes no memory. A refusal hands the job back: OtherSeat where another seat claimed it or this one has no claim
+    /// outstanding, and then what the saga's book answers.
+    pub fn report<R: Wait>(
+        &self,
+        rt: &R,
+        seat: &mut Seat,
+        job: Job<'d>,
+        outcome: Outcome,
+    ) -> Result<(), ReportRefused<'d>>
+        ensures own { OnOk result (HasClaimed job.entry.seat seat.old) }
+        ensures ok { OnOk result (GainsEnd seat.old seat.new job.entry outcome) }
+        ensures err { IfErr result (λ refused. seat.new ≡ seat.old) }
+        ensures back { IfErr result (λ refused. refused.job ≡ job.entry) }
+        ensures why { IfErr result (λ refused. EndIsRefused job.entry.seat seat.old (λ why. Unit {0}) refused.why) }
+    {
+        let mut locked = self.slots[self.place_of(job.saga())].shard.lock(rt);
+        let shard: &mut Shard<'d> = &mut *locked;
+        shard.report(seat, job, outcome)
+    }
+
+    /// A planning ends by an answer: a verdict on the saga's present case is adopted. Takes no memory. A refusal hands job
+    /// and verdict back, with the cause as [`Desk::report`].
+    pub fn adopt<R: Wait>(
+        &self,
+        rt: &R,
+        seat: &mut Seat,
+        job: PlanJob,
+        verdict: Verdict<'d>,
+    ) -> Result<(), AdoptionRefused<'d>>
+        ensures own { OnOk result (HasClaimed job.seat seat.old) }
+        ensures ok { OnOk result (Gains seat.old seat.new (mark.Adopt job.saga) (seat.old.claims - 1)) }
+        ensures err { IfErr result (λ refused. seat.new ≡ seat.old) }
+        ensures back { IfErr result (λ refused. (refused.job ≡ job) × (refused.verdict ≡ verdict.entry)) }
+        ensures why { IfErr result (λ refused. EndIsRefused job.seat seat.old (λ why. Unit {0}) refused.why) }
+    {
+        let mut locked = self.slots[self.place_of(job.saga())].shard.lock(rt);
+        let shard: &mut Shard<'d> = &mut *locked;
+        shard.adopt(seat, job, verdict)
+    }
+
+    /// A planning ends without an answer. Takes no memory. A refusal hands the job back, with the cause as
+    /// [`Desk::report`].
+    pub fn give_back<R: Wait>(
+        &self,
+        rt: &R,
+        seat: &mut Seat,
+        job: PlanJob,
+    ) -> Result<(), GiveBackRefused>
+        ensures own { OnOk result (HasClaimed job.seat seat.old) }
+        ensures ok { OnOk result (Gains seat.old seat.new (mark.DropPlan job.saga) (seat.old.claims - 1)) }
+        ensures err { IfErr result (λ refused. seat.new ≡ seat.old) }
+        ensures back { IfErr result (λ refused. refused.job ≡ job) }
+        ensures why { IfErr result (λ refused. EndIsRefused job.seat seat.old (λ why. Unit {0}) refused.why) }
+    {
+        let mut locked = self.slots[self.place_of(job.saga())].shard.lock(rt);
+        let shard: &mut Shard<'d> = &mut *locked;
+        shard.give_back(seat, job)
+    }
+
+    /// A saga is aborted.
+    pub fn abort<R: Wait>(&self, rt: &R, seat: &mut Seat, saga: u32) -> Result<(), SagaRefusal>
+        ensures ok { OnOk result (Gains seat.old seat.new (mark.Abort saga) seat.old.claims) }
+        ensures err { OnErr result (seat.new ≡ seat.old) }
+    {
+        let mut locked = self.slots[self.place_of(saga)].shard.lock(rt);
+        let shard: &mut Shard<'d> = &mut *locked;
+        shard.abort(seat, saga)
+    }
+
+    /// The place of the shard that has the sagas of such a number.
+    fn place_of(&self, saga: u32) -> usize
+        ensures { result < self.now.shards }
+    {
+        saga as usize % self.slots.len()
+    }
+}
