@@ -63,11 +63,7 @@ fn perform(rt: &HostRuntime, book: &mut Book, task: Task, load: Load) -> Result<
 }
 
 /// Opens the sagas of a load and drives them to their end. Gives the history, and the book's time.
-pub fn drive(
-    rt: &HostRuntime,
-    shelf: &[Definition],
-    load: Load,
-) -> Result<(Vec<Event>, Duration)> {
+pub fn drive(rt: &HostRuntime, shelf: &[Definition], load: Load) -> Result<(Vec<Event>, Duration)> {
     let start = Instant::now(rt)?;
     let mut others = Duration::ZERO;
     let mut book = Book::new(rt.alloc(), shelf, 0, 1);

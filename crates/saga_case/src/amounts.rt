@@ -61,13 +61,19 @@ impl Amounts {
         ensures { IfOk result (λ own. own ≡ amounts.now) }
     {
         if let Some(list) = in_two_bytes(alloc, amounts)? {
-            return Ok(Amounts { amounts: Widths::Two(list) });
+            return Ok(Amounts {
+                amounts: Widths::Two(list),
+            });
         }
         if let Some(list) = in_four_bytes(alloc, amounts)? {
-            return Ok(Amounts { amounts: Widths::Four(list) });
+            return Ok(Amounts {
+                amounts: Widths::Four(list),
+            });
         }
         let list = Vec::from_slice(alloc, amounts)?;
-        Ok(Amounts { amounts: Widths::Eight(list) })
+        Ok(Amounts {
+            amounts: Widths::Eight(list),
+        })
     }
 
     /// How many there are.

@@ -355,7 +355,10 @@ fn misses_are_counted(rt: HostRuntime) -> Result<(), Fail> {
     let shelf = shelf_of(alloc, RETRIED.sample)?;
     assert_eq!(rt; shelf.len(), 1);
     let mut book = Book::new(alloc, &shelf, 0, 1);
-    assert_eq!(rt; first_wrong(alloc, &mut book, &shelf[0], RETRIED.calls)?, None);
+    assert_eq!(rt;
+        first_wrong(alloc, &mut book, &shelf[0], RETRIED.calls)?,
+        None
+    );
     assert!(rt; book.misses(0, 0) == Some(2));
     assert!(rt; book.undo_misses(0, 0) == Some(0));
     assert!(rt; book.misses(0, 1) == None);
