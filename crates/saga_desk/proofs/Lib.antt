@@ -1,5 +1,5 @@
 -- Lemmas on desks.
-mod MergeLemmas
-mod RestLemmas
+pub mod MergeLemmas
+pub mod RestLemmas
 mod StepLemmas
 mod FinishLemmas

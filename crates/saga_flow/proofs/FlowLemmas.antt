@@ -15,14 +15,14 @@ use Rattle.saga_flow.specs.Reached.{Reaches, HasUnbounded, IsPath}
 use Rattle.saga_flow.specs.Residual.{Joins, Leads, Carries, IsResidual}
 use Rattle.saga_flow.specs.Rounds.{IsTrail, IsReachedIn}
 use Rattle.saga_flow.specs.Listed.{turned, IsEndless, LeadsEndless}
-use Rattle.saga_flow.specs.Search.{mark_at, IsSearchTree, IsHomeStep}
+use Rattle.saga_flow.specs.Search.{mark_at, IsSearchTree, IsBeforeGoal, IsHomeStep}
 use Rattle.saga_flow.specs.Progress.{IsProgress}
 use Rattle.saga_flow.proofs.StepLemmas.{leads_turned, from_turned_twice, to_turned_twice}
 use Rattle.saga_flow.proofs.NetLemmas.{AreEnds, AreEnds-from_test}
 use Rattle.saga_flow.proofs.TotalLemmas.{total-same, total-none}
 use Rattle.saga_flow.proofs.RoundLemmas.{open_count_le}
 use Rattle.saga_flow.proofs.LeastCut.{value_le_sum, closed_greatest, reached_in_closed}
-use Rattle.saga_flow.proofs.TreeLemmas.{marked_reached, reached_marked, tree_passes}
+use Rattle.saga_flow.proofs.TreeLemmas.{marked_reached, reached_marked, tree_passes, no_goal, unmarked_goal}
 
 -- each amount of the empty flow is 0
 empty_at : (n k : ℕ) → get_or {A = ℕ} (replicate n 0) k 0 ≡ 0
@@ -85,10 +85,10 @@ pub progress_small : (nodes : ℕ) (arcs : List Arc) (on : List ℕ) (value roun
 progress_small nodes arcs on value rounds net apart progress =
     omega (arith, net.bounded, value_le_sum nodes arcs on value net.two (AreEnds-from_test nodes arcs net.ends) apart progress.flow progress.worth)
 
-module _ (nodes : ℕ) (arcs : List Arc) (on : List ℕ) (marks : List (Option Mark)) (tree : IsSearchTree nodes arcs (Carries arcs on 1) 0 marks) where
+module _ (nodes : ℕ) (arcs : List Arc) (on : List ℕ) (marks : List (Option Mark)) (tree : IsSearchTree nodes arcs (Carries arcs on 1) 0 None marks) where
   marked_at : (v : ℕ) (o : Option Mark) → mark_at marks v ≡ o → is_some o ≡ true → Reaches (IsResidual arcs on) 0 v
   marked_at v None at test = absurd (true≢false (sym test))
-  marked_at v (Some m) at test = marked_reached nodes arcs (Carries arcs on 1) 0 marks tree v m at
+  marked_at v (Some m) at test = marked_reached nodes arcs (Carries arcs on 1) 0 None marks tree v m at
 
   -- the marked nodes are those that the source reaches
   pub marks_sound : (v : ℕ) → is_some (mark_at marks v) ≡ true → Reaches (IsResidual arcs on) 0 v
@@ -96,7 +96,7 @@ module _ (nodes : ℕ) (arcs : List Arc) (on : List ℕ) (marks : List (Option M
 
   pub marks_whole : (v : ℕ) → Reaches (IsResidual arcs on) 0 v → is_some (mark_at marks v) ≡ true
   marks_whole v r =
-      let mark = reached_marked nodes arcs (Carries arcs on 1) 0 marks tree v r in
+      let mark = reached_marked nodes arcs (Carries arcs on 1) 0 None marks tree (no_goal marks) v r in
       ap is_some mark.1
 
 -- the nodes that a search has not marked
@@ -104,16 +104,16 @@ abbrev pub unmarked : List (Option Mark) → ℕ → Bool
 unmarked marks v = not (is_some (mark_at marks v))
 
 -- no step of the other direction leads from a node without a mark to one with
-pub unmarked_closed : (nodes : ℕ) (arcs : List Arc) (passes : Step → Type 0) (start : ℕ) (marks : List (Option Mark)) → IsSearchTree nodes arcs passes start marks → (s : Step) (u v : ℕ) → Leads arcs s v u → passes s → unmarked marks u ≡ true → unmarked marks v ≡ true
-unmarked_closed nodes arcs passes start marks tree s u v lead pass none = at_mark (mark_at marks v) refl
+pub unmarked_closed : (nodes : ℕ) (arcs : List Arc) (passes : Step → Type 0) (start : ℕ) (goal : Option ℕ) (marks : List (Option Mark)) → IsSearchTree nodes arcs passes start goal marks → ((depth : ℕ) → IsBeforeGoal goal marks depth) → (s : Step) (u v : ℕ) → Leads arcs s v u → passes s → unmarked marks u ≡ true → unmarked marks v ≡ true
+unmarked_closed nodes arcs passes start goal marks tree whole s u v lead pass none = at_mark (mark_at marks v) refl
   where
     at_mark : (o : Option Mark) → mark_at marks v ≡ o → unmarked marks v ≡ true
     at_mark None at = ap (λ o. not (is_some o)) at
     at_mark (Some m) at =
-        let seen = tree.near s v u m lead pass at in
+        let seen = tree.near s v u m lead pass at (whole m.depth) in
         absurd (true≢false (sym none ∙ ap (λ o. not (is_some o)) seen.1))
 
-module _ (nodes : ℕ) (arcs : List Arc) (on : List ℕ) (marks : List (Option Mark)) (tree : IsSearchTree nodes arcs (λ s. Carries arcs on 1 (turned s)) 1 marks) (none : is_some (mark_at marks 0) ≡ false) where
+module _ (nodes : ℕ) (arcs : List Arc) (on : List ℕ) (marks : List (Option Mark)) (tree : IsSearchTree nodes arcs (λ s. Carries arcs on 1 (turned s)) 1 (Some 0) marks) (none : is_some (mark_at marks 0) ≡ false) where
   unmarked_source : unmarked marks 0 ≡ true
   unmarked_source = ap not none
 
@@ -122,7 +122,7 @@ module _ (nodes : ℕ) (arcs : List Arc) (on : List ℕ) (marks : List (Option M
 
   no_step_out : (u v : ℕ) → IsResidual arcs on u v → unmarked marks u ≡ true → unmarked marks v ≡ true
   no_step_out u v (s, opened) =
-      unmarked_closed nodes arcs (λ t. Carries arcs on 1 (turned t)) 1 marks tree (turned s) u v (leads_turned arcs s u v opened.0) (to_turned_twice (Carries arcs on 1) s opened.1)
+      unmarked_closed nodes arcs (λ t. Carries arcs on 1 (turned t)) 1 (Some 0) marks tree (unmarked_goal marks none) (turned s) u v (leads_turned arcs s u v opened.0) (to_turned_twice (Carries arcs on 1) s opened.1)
 
   -- where the source has no mark the sink is not reached, and the flow is a greatest
   pub unmarked_apart : Reaches (IsResidual arcs on) 0 1 → ⊥
@@ -138,19 +138,19 @@ endless_step : (arcs : List Arc) (u v : ℕ) → HasUnbounded arcs u v → (s : 
 endless_step arcs u v (k, a, at, from, to, cap) = (record { arc = k; forward = true }, ((a, at, (from, to)), (refl, (a, at, cap))))
 
 -- where a search backward along unbounded arcs did not mark the source, no path of them leads to the sink
-pub endless_apart : (nodes : ℕ) (arcs : List Arc) (marks : List (Option Mark)) → IsSearchTree nodes arcs (λ s. IsEndless arcs (turned s)) 1 marks → is_some (mark_at marks 0) ≡ false → Reaches (HasUnbounded arcs) 0 1 → ⊥
+pub endless_apart : (nodes : ℕ) (arcs : List Arc) (marks : List (Option Mark)) → IsSearchTree nodes arcs (λ s. IsEndless arcs (turned s)) 1 (Some 0) marks → is_some (mark_at marks 0) ≡ false → Reaches (HasUnbounded arcs) 0 1 → ⊥
 endless_apart nodes arcs marks tree none r =
     true≢false (sym (reached_in_closed (HasUnbounded arcs) (unmarked marks) 0 1 (ap not none) closed r) ∙ ap (λ o. not (is_some o)) tree.root)
   where
     closed : (u v : ℕ) → HasUnbounded arcs u v → unmarked marks u ≡ true → unmarked marks v ≡ true
     closed u v arc =
         let step = endless_step arcs u v arc in
-        unmarked_closed nodes arcs (λ t. IsEndless arcs (turned t)) 1 marks tree (turned step.0) u v (leads_turned arcs step.0 u v step.1.0) (to_turned_twice (IsEndless arcs) step.0 step.1.1)
+        unmarked_closed nodes arcs (λ t. IsEndless arcs (turned t)) 1 (Some 0) marks tree (unmarked_goal marks none) (turned step.0) u v (leads_turned arcs step.0 u v step.1.0) (to_turned_twice (IsEndless arcs) step.0 step.1.1)
 
 -- a step home of such a search is along an unbounded arc
-pub home_endless : (nodes : ℕ) (arcs : List Arc) (marks : List (Option Mark)) → IsSearchTree nodes arcs (λ s. IsEndless arcs (turned s)) 1 marks → (s : Step) (u v : ℕ) → IsHomeStep arcs marks s u v → LeadsEndless arcs s u v
+pub home_endless : (nodes : ℕ) (arcs : List Arc) (marks : List (Option Mark)) → IsSearchTree nodes arcs (λ s. IsEndless arcs (turned s)) 1 (Some 0) marks → (s : Step) (u v : ℕ) → IsHomeStep arcs marks s u v → LeadsEndless arcs s u v
 home_endless nodes arcs marks tree s u v (lead, step) =
-    (lead, from_turned_twice (IsEndless arcs) s (tree_passes nodes arcs (λ t. IsEndless arcs (turned t)) 1 marks tree (turned s) v u step))
+    (lead, from_turned_twice (IsEndless arcs) s (tree_passes nodes arcs (λ t. IsEndless arcs (turned t)) 1 (Some 0) marks tree (turned s) v u step))
 
 joins_along : (way : Bool) (a : Arc) (u v : ℕ) → way ≡ true → Joins way a u v → (a.from ≡ u) × (a.to ≡ v)
 joins_along true a u v p joins = joins

@@ -8,6 +8,7 @@ pub mod AmountLemmas
 pub mod LevelLemmas
 pub mod RoundLemmas
 pub mod ListLemmas
+pub mod AdjacencyLemmas
 pub mod SearchLemmas
 pub mod VisitLemmas
 pub mod TreeLemmas

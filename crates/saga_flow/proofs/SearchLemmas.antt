@@ -4,12 +4,12 @@ use Rattle.std.specs.Prelude.{slice_get, is_some, count_by}
 use Rattle.std.proofs.lemmas.Bool.{true≢false, cases_eq, cases_lt}
 use Rattle.std.proofs.lemmas.List.{get_or_read, length_push, length-replicate, get_or-replicate, get_or_past}
 use Rattle.std.proofs.lemmas.List.Sums.{sum_by-set, sum_by-cons, count_by-le-length}
-use Rattle.std.proofs.lemmas.Option.{none-some, same_Some, slice_get_within}
+use Rattle.std.proofs.lemmas.Option.{none-some, same_Some, slice_get_within, slice_get-get_or}
 use Rattle.saga_flow.specs.declared.nets.Arc.{Arc}
 use Rattle.saga_flow.specs.declared.steps.Step.{Step}
 use Rattle.saga_flow.specs.declared.searching.Mark.{Mark}
 use Rattle.saga_flow.specs.Residual.{Leads}
-use Rattle.saga_flow.specs.Search.{mark_at, depth_of, depth_at, IsSeen, IsFound, IsSearch, IsSearchTree}
+use Rattle.saga_flow.specs.Search.{mark_at, depth_of, depth_at, IsSeen, IsFound, IsSearch, IsSearchTree, HasGoal, IsBeforeGoal}
 use Rattle.saga_flow.proofs.ListLemmas.{slice_get-append, slice_get-pushed, slice_get-push_cases}
 
 -- a node with a mark is one of the nodes
@@ -161,17 +161,30 @@ module _ (nodes : ℕ) (arcs : List Arc) (passes : Step → Type 0) (start : ℕ
     top = λ x v m at mark. omega (arith, search.top u v m now mark, search.sorted next (next + 1) u x (omega arith) now at);
   }
 
-  -- all are done
-  pub search_end : length order ≤ next → IsSearchTree nodes arcs passes start marks
-  search_end all = record {
+  -- all are done, or the goal is found
+  pub search_end : (goal : Option ℕ) → (length order ≤ next) ⊎ HasGoal goal marks → IsSearchTree nodes arcs passes start goal marks
+  search_end goal ends = record {
     sized = search.sized;
     root = search.root;
     shallow = λ v m at. omega (arith, search.shallow v m at, search.counted, count_by-le-length is_some marks, search.sized);
-    near = λ s u v m lead pass at.
+    near = λ s u v m lead pass at before.
         let place = search.listed u m at in
-        rw (ap depth_of at) at (search.done place.0 u s v (omega (arith, slice_get_within order place.0 u place.1)) place.1 lead pass);
+        let early : place.0 < next = before_next u m place.0 at place.1 before ends in
+        rw (ap depth_of at) at (search.done place.0 u s v early place.1 lead pass);
     back = search.back;
   }
+    where
+      before_next : (u : ℕ) (m : Mark) (j : ℕ) → mark_at marks u ≡ Some m → slice_get order j ≡ Some u → IsBeforeGoal goal marks m.depth → (length order ≤ next) ⊎ HasGoal goal marks → j < next
+      before_next u m j at there before (inl all) = omega (arith, all, slice_get_within order j u there)
+      before_next u m j at there before (inr (g, n, is, marked)) =
+          elim (cases_lt j next) [
+            | inl less ↦ less
+            | inr more ↦
+                (let short : next < length order = omega (arith, more, slice_get_within order j u there) in
+                let x : ℕ = get_or order next 0 in
+                let here : slice_get order next ≡ Some x = slice_get-get_or order next 0 short in
+                absurd (omega (arith, before g n is marked, search.top x g n here marked, search.sorted next j x u more here there, ap depth_of at)))
+          ]
 
 -- no mark is counted among none
 count_none : (n : ℕ) → count_by is_some (replicate {A = Option Mark} n None) ≡ 0
@@ -241,6 +254,21 @@ some_read marks v read short same test =
     some_at : (o : Option Mark) → is_some o ≡ true → (m : Mark) × (o ≡ Some m)
     some_at None t = absurd (true≢false (sym t))
     some_at (Some m) t = (m, refl)
+
+-- what is not refuted to be seen is seen
+pub seen_stable : (marks : List (Option Mark)) (v most : ℕ) → ((IsSeen marks v most → ⊥) → ⊥) → IsSeen marks v most
+seen_stable marks v most unrefuted = at_mark (mark_at marks v) refl
+  where
+    at_mark : (o : Option Mark) → mark_at marks v ≡ o → IsSeen marks v most
+    at_mark None at = absurd (unrefuted (λ seen. none-some seen.0 (sym at ∙ seen.1)))
+    at_mark (Some m) at =
+        elim (cases_lt most m.depth) [
+          | inl deeper ↦
+              absurd (unrefuted (λ seen.
+              let same : seen.0 ≡ m = same_Some _ _ (sym seen.1 ∙ at) in
+              omega (arith, deeper, seen.2, ap (λ (n : Mark). n.depth) same)))
+          | inr low ↦ (m, at, low)
+        ]
 
 -- fewer nodes were found than there are
 pub order_le : (nodes : ℕ) (arcs : List Arc) (passes : Step → Type 0) (start : ℕ) (marks : List (Option Mark)) (order : List ℕ) (next : ℕ) → IsSearch nodes arcs passes start marks order next → length order ≤ nodes

@@ -1,6 +1,7 @@
 -- What a finished search says: which nodes are reached, that its depths are levels, and where its marks lead back to.
 use Rattle.std.proofs.Common.{◌≡◌, ◌≢◌, ℕ, zero, suc, ◌+◌, ◌-◌, ◌<◌, ◌≤◌, List, Option, [], ◌∷◌, ◌++◌, Some, None, length, refl, sym, ap, ◌∙◌, inl, inr, arith}
-use Rattle.std.proofs.lemmas.Bool.{cases_eq}
+use Rattle.std.specs.Prelude.{is_some, false}
+use Rattle.std.proofs.lemmas.Bool.{true≢false, cases_eq, cases_lt}
 use Rattle.std.proofs.lemmas.Option.{none-some, same_Some}
 use Rattle.saga_flow.specs.declared.nets.Arc.{Arc}
 use Rattle.saga_flow.specs.declared.steps.Step.{Step}
@@ -9,7 +10,7 @@ use Rattle.saga_flow.specs.Residual.{Leads}
 use Rattle.saga_flow.specs.Reached.{Reaches, here, next}
 use Rattle.saga_flow.specs.Rounds.{IsTrail}
 use Rattle.saga_flow.specs.Listed.{turned}
-use Rattle.saga_flow.specs.Search.{mark_at, depth_of, depth_at, IsSearchTree, by_of, IsTree, IsTreeStep, IsHomeStep, far_of, far_in}
+use Rattle.saga_flow.specs.Search.{mark_at, depth_of, depth_at, IsSearchTree, by_of, IsTree, IsTreeStep, IsHomeStep, IsBeforeGoal, far_of, far_in}
 use Rattle.saga_flow.proofs.StepLemmas.{leads_same, leads_turned, from_turned_twice, to_turned_twice}
 use Rattle.saga_flow.specs.Residual.{Carries, IsOpen}
 use Rattle.saga_flow.specs.Levels.{Nears, IsLevelled}
@@ -19,7 +20,7 @@ use Rattle.saga_flow.proofs.LevelLemmas.{trail_push}
 abbrev pub HasStep : List Arc → (Step → Type 0) → ℕ → ℕ → Type 0
 HasStep arcs passes from to = (s : Step) × (Leads arcs s from to × passes s)
 
-module _ (nodes : ℕ) (arcs : List Arc) (passes : Step → Type 0) (start : ℕ) (marks : List (Option Mark)) (tree : IsSearchTree nodes arcs passes start marks) where
+module _ (nodes : ℕ) (arcs : List Arc) (passes : Step → Type 0) (start : ℕ) (goal : Option ℕ) (marks : List (Option Mark)) (tree : IsSearchTree nodes arcs passes start goal marks) where
   -- a node with a mark is reached
   reached_below : (n v : ℕ) (m : Mark) → m.depth < n → mark_at marks v ≡ Some m → Reaches (HasStep arcs passes) start v
   reached_below zero v m low at = absurd (omega arith)
@@ -34,12 +35,12 @@ module _ (nodes : ℕ) (arcs : List Arc) (passes : Step → Type 0) (start : ℕ
   pub marked_reached : (v : ℕ) (m : Mark) → mark_at marks v ≡ Some m → Reaches (HasStep arcs passes) start v
   marked_reached v m at = reached_below (m.depth + 1) v m (omega arith) at
 
-  -- a node that is reached has a mark
-  pub reached_marked : (v : ℕ) → Reaches (HasStep arcs passes) start v → (m : Mark) × (mark_at marks v ≡ Some m)
-  reached_marked v here = (record { depth = 0; by = None }, tree.root)
-  reached_marked v (next {mid} r step) =
-      let before = reached_marked mid r in
-      let seen = tree.near step.0 mid v before.0 step.1.0 step.1.1 before.1 in
+  -- a node that is reached has a mark, where the goal has none
+  pub reached_marked : ((depth : ℕ) → IsBeforeGoal goal marks depth) → (v : ℕ) → Reaches (HasStep arcs passes) start v → (m : Mark) × (mark_at marks v ≡ Some m)
+  reached_marked whole v here = (record { depth = 0; by = None }, tree.root)
+  reached_marked whole v (next {mid} r step) =
+      let before = reached_marked whole mid r in
+      let seen = tree.near step.0 mid v before.0 step.1.0 step.1.1 before.1 (whole before.0.depth) in
       (seen.0, seen.1)
 
   -- its marks lead back
@@ -72,15 +73,31 @@ module _ (nodes : ℕ) (arcs : List Arc) (passes : Step → Type 0) (start : ℕ
       at_mark None at = rw at (omega (arith, tree.sized))
       at_mark (Some m) at = rw at (omega (arith, tree.shallow v m at))
 
-  -- a passing step leads at most one farther
-  pub far_step : (s : Step) (u v : ℕ) → Leads arcs s u v → passes s → far_in marks v ≤ far_in marks u + 1
-  far_step s u v lead pass = at_mark (mark_at marks u) refl
+  -- a passing step leads at most one farther, or to a node at least as far as the goal
+  pub far_step : (s : Step) (u v : ℕ) → Leads arcs s u v → passes s → ((m : Mark) → mark_at marks u ≡ Some m → IsBeforeGoal goal marks m.depth) → far_in marks v ≤ far_in marks u + 1
+  far_step s u v lead pass before = at_mark (mark_at marks u) refl
     where
       at_mark : (o : Option Mark) → mark_at marks u ≡ o → far_in marks v ≤ far_in marks u + 1
       at_mark None at = rw at (omega (arith, far_le v, tree.sized))
       at_mark (Some m) at =
-          let seen = tree.near s u v m lead pass at in
+          let seen = tree.near s u v m lead pass at (before m at) in
           rw (at, seen.1) seen.2
+
+-- a search without a goal has none before it; nor has one whose goal, the source, has no mark
+pub no_goal : (marks : List (Option Mark)) (depth : ℕ) → IsBeforeGoal None marks depth
+no_goal marks depth v m is at = absurd (none-some v is)
+
+pub unmarked_goal : (marks : List (Option Mark)) → is_some (mark_at marks 0) ≡ false → (depth : ℕ) → IsBeforeGoal (Some 0) marks depth
+unmarked_goal marks none depth v m is at =
+    let same : 0 ≡ v = same_Some _ _ is in
+    absurd (true≢false (sym (ap is_some (ap (mark_at marks) same ∙ at)) ∙ none))
+
+-- a node is before the source where it is at least two nearer
+pub before_source : (marks : List (Option Mark)) (depth : ℕ) → depth + 1 < far_in marks 0 → IsBeforeGoal (Some 0) marks depth
+before_source marks depth nearer v m is at =
+    let same : 0 ≡ v = same_Some _ _ is in
+    let far : far_in marks 0 ≡ m.depth = ap (far_of (length marks)) (ap (mark_at marks) same ∙ at) in
+    omega (arith, nearer, far)
 
 -- one step further: what the mark at hand says, and the trail with its step turned round
 pub home_more : (arcs : List Arc) (marks : List (Option Mark)) (start first node next_node : ℕ) (s : Step) (steps : List Step) → IsTree arcs start marks → (m : Mark) × (mark_at marks node ≡ Some m) → by_of (mark_at marks node) ≡ Some s → (to : ℕ) × Leads arcs s next_node to → IsTrail (IsHomeStep arcs marks) first steps node → IsTrail (IsHomeStep arcs marks) first (steps ++ turned s ∷ []) next_node × ((p : Mark) × (mark_at marks next_node ≡ Some p)) × (depth_at marks node ≡ depth_at marks next_node + 1)
@@ -100,26 +117,31 @@ home_more arcs marks start first node next_node s steps tree marked by leads tra
       ap depth_of tree_step.1.2 ∙ tree_step.1.5 ∙ ap (λ x. x + 1) (sym (ap depth_of above)),
     )
 
--- a search backward from the sink, over the steps that lead on in the residual network
-module _ (nodes : ℕ) (arcs : List Arc) (on : List ℕ) (marks : List (Option Mark)) (tree : IsSearchTree nodes arcs (λ s. Carries arcs on 1 (turned s)) 1 marks) where
+-- a search backward from the sink to the source, over the steps that lead on in the residual network
+module _ (nodes : ℕ) (arcs : List Arc) (on : List ℕ) (marks : List (Option Mark)) (tree : IsSearchTree nodes arcs (λ s. Carries arcs on 1 (turned s)) 1 (Some 0) marks) where
   -- a step home is open and leads one nearer
   pub home_nears : (s : Step) (u v : ℕ) → IsHomeStep arcs marks s u v → Nears arcs on (far_in marks) s u v
   home_nears s u v (lead, step) =
-      let pass = tree_passes nodes arcs (λ t. Carries arcs on 1 (turned t)) 1 marks tree (turned s) v u step in
+      let pass = tree_passes nodes arcs (λ t. Carries arcs on 1 (turned t)) 1 (Some 0) marks tree (turned s) v u step in
       ((lead, from_turned_twice (Carries arcs on 1) s pass), ap (far_of (length marks)) step.1.2 ∙ step.1.5 ∙ ap (λ x. x + 1) (sym (ap (far_of (length marks)) step.1.4)))
 
-  -- an open step leads at most one nearer
-  pub near_step : (s : Step) (u v : ℕ) → IsOpen arcs on s u v → far_in marks u ≤ far_in marks v + 1
-  near_step s u v step =
-      far_step nodes arcs (λ t. Carries arcs on 1 (turned t)) 1 marks tree (turned s) v u (leads_turned arcs s u v step.0) (to_turned_twice (Carries arcs on 1) s step.1)
+  -- an open step leads at most one nearer, from all nodes nearer than the source
+  pub near_step : (s : Step) (u v : ℕ) → IsOpen arcs on s u v → far_in marks v + 1 < far_in marks 0 → far_in marks u ≤ far_in marks v + 1
+  near_step s u v step nearer =
+      far_step nodes arcs (λ t. Carries arcs on 1 (turned t)) 1 (Some 0) marks tree (turned s) v u (leads_turned arcs s u v step.0) (to_turned_twice (Carries arcs on 1) s step.1)
+      (λ m at. before_source marks m.depth (omega (arith, nearer, ap (far_of (length marks)) at)))
 
   -- so how much nearer than the source a node is makes levels
   pub near_levelled : IsLevelled arcs on (λ v. far_in marks 0 - far_in marks v)
   near_levelled = record {
     source = omega arith;
-    near = λ s u v step. omega (arith, near_step s u v step);
+    near = λ s u v step.
+        elim (cases_lt (far_in marks v + 1) (far_in marks 0)) [
+          | inl nearer ↦ omega (arith, near_step s u v step nearer)
+          | inr farther ↦ omega (arith, farther)
+        ];
   }
 
   -- at most as high as there are nodes
   pub near_low : far_in marks 0 - far_in marks 1 ≤ nodes
-  near_low = omega (arith, far_le nodes arcs (λ t. Carries arcs on 1 (turned t)) 1 marks tree 0)
+  near_low = omega (arith, far_le nodes arcs (λ t. Carries arcs on 1 (turned t)) 1 (Some 0) marks tree 0)

@@ -4,6 +4,7 @@ pub mod Residual
 pub mod Reached
 pub mod Rounds
 pub mod Listed
+pub mod Adjacency
 pub mod Search
 pub mod Pushes
 pub mod Levels

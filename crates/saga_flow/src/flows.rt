@@ -6,7 +6,7 @@ ghost use Rattle.saga_flow.specs.Residual.{IsResidual};
 ghost use Rattle.saga_flow.specs.Rounds.{IsReachedIn};
 
 use crate::gates::{Backward, Residual};
-use crate::listed::lists_of;
+use crate::graphs::graph_of;
 use crate::nets::Net;
 use crate::phases::run_phase;
 use crate::rounds::Progress;
@@ -53,29 +53,22 @@ pub fn largest_counted(alloc: Global, net: &Net) -> Result<(Flow, u64), AllocErr
     ensures by_value { IfOk result (λ r. r.1 ≤ r.0.value) }
     ensures by_size { IfOk result (λ r. r.1 ≤ net.now.nodes * length net.now.arcs) }
 {
-    let arcs = net.arcs();
-    let lists = lists_of(alloc, net.nodes() as usize, arcs)?;
+    let graph = graph_of(alloc, net)?;
     let mut progress = Progress {
-        on: vec![in alloc; 0u64; arcs.len()]?,
+        on: vec![in alloc; 0u64; graph.arcs.len()]?,
         value: 0,
         rounds: 0,
     };
     loop {
         let open = Residual {
-            arcs,
+            arcs: graph.arcs,
             on: progress.on.as_slice(),
         };
-        let marks = search(alloc, arcs, lists.as_slice(), &Backward { gate: &open }, 1)?;
+        let marks = search(alloc, &graph, &Backward { gate: &open }, 1, Some(0))?;
         if marks[0].is_none() {
             break;
         }
-        run_phase(
-            alloc,
-            arcs,
-            lists.as_slice(),
-            marks.as_slice(),
-            &mut progress,
-        )?;
+        run_phase(alloc, &graph, marks.as_slice(), &mut progress)?;
     }
     let Progress { on, value, rounds } = progress;
     Ok((Flow { value, on }, rounds))

@@ -5,10 +5,11 @@
 //! no other exceeds, and `reach` what the source still reaches, which is the source's side of a least cut.
 #![tactic(auto)]
 
+mod adjacency;
 mod chains;
 mod flows;
 mod gates;
-mod listed;
+mod graphs;
 mod nets;
 mod phases;
 mod pushes;

@@ -4,7 +4,7 @@ ghost use Rattle.saga_flow.specs.Reached.{HasUnbounded, Reaches};
 use crate::chains::path_home;
 use crate::flows::Flow;
 use crate::gates::{Backward, Residual};
-use crate::listed::lists_of;
+use crate::graphs::graph_of;
 use crate::nets::Net;
 use crate::rounds::{Progress, add_round};
 use crate::searching::search;
@@ -14,24 +14,23 @@ use std::alloc::{AllocError, Global};
 pub fn plain_largest(alloc: Global, net: &Net) -> Result<(Flow, u64), AllocError>
     requires apart { Reaches (HasUnbounded net.now.arcs) 0 1 → ⊥ }
 {
-    let arcs = net.arcs();
-    let lists = lists_of(alloc, net.nodes() as usize, arcs)?;
+    let graph = graph_of(alloc, net)?;
     let mut progress = Progress {
-        on: vec![in alloc; 0u64; arcs.len()]?,
+        on: vec![in alloc; 0u64; graph.arcs.len()]?,
         value: 0,
         rounds: 0,
     };
     loop {
         let open = Residual {
-            arcs,
+            arcs: graph.arcs,
             on: progress.on.as_slice(),
         };
-        let marks = search(alloc, arcs, lists.as_slice(), &Backward { gate: &open }, 1)?;
+        let marks = search(alloc, &graph, &Backward { gate: &open }, 1, Some(0))?;
         if marks[0].is_none() {
             break;
         }
-        let path = path_home(alloc, arcs, marks.as_slice())?;
-        add_round(arcs, path.as_slice(), &mut progress);
+        let path = path_home(alloc, graph.arcs, marks.as_slice())?;
+        add_round(graph.arcs, path.as_slice(), &mut progress);
     }
     let Progress { on, value, rounds } = progress;
     Ok((Flow { value, on }, rounds))

@@ -8,7 +8,7 @@ ghost use Rattle.saga_flow.specs.Rounds.{IsTrail};
 use crate::chains::path_home;
 use crate::flows::Flow;
 use crate::gates::{Backward, Endless, Residual};
-use crate::listed::lists_of;
+use crate::graphs::graph_of;
 use crate::nets::{Arc, Net};
 use crate::searching::{Mark, search};
 use crate::steps::Step;
@@ -23,13 +23,12 @@ pub fn reach(alloc: Global, net: &Net, flow: &Flow) -> Result<Vec<bool>, AllocEr
     ensures sized { IfOk result (λ r. length r.items ≡ net.now.nodes) }
     ensures exact { IfOk result (λ r. (node : ℕ) → node < net.now.nodes → (IsTrue (slice_index_or r.items node false) ↔ Reaches (IsResidual net.now.arcs flow.now.on.items) 0 node)) }
 {
-    let arcs = net.arcs();
-    let lists = lists_of(alloc, net.nodes() as usize, arcs)?;
+    let graph = graph_of(alloc, net)?;
     let open = Residual {
-        arcs,
+        arcs: graph.arcs,
         on: flow.on.as_slice(),
     };
-    let marks = search(alloc, arcs, lists.as_slice(), &open, 0)?;
+    let marks = search(alloc, &graph, &open, 0, None)?;
     are_marked(alloc, marks.as_slice())
 }
 
@@ -48,21 +47,14 @@ pub fn unbounded_path(alloc: Global, net: &Net) -> Result<Option<Vec<u32>>, Allo
     ensures some { IfOk result (λ path. IfSome path (λ nodes. (rest : List ℕ) × (nodes.items ≡ 0 ∷ rest) × IsPath (HasUnbounded net.now.arcs) nodes.items 1)) }
     ensures none { IfOk result (λ path. IfNone path (Reaches (HasUnbounded net.now.arcs) 0 1 → ⊥)) }
 {
-    let arcs = net.arcs();
-    let lists = lists_of(alloc, net.nodes() as usize, arcs)?;
-    let endless = Endless { arcs };
-    let marks = search(
-        alloc,
-        arcs,
-        lists.as_slice(),
-        &Backward { gate: &endless },
-        1,
-    )?;
+    let graph = graph_of(alloc, net)?;
+    let endless = Endless { arcs: graph.arcs };
+    let marks = search(alloc, &graph, &Backward { gate: &endless }, 1, Some(0))?;
     if marks[0].is_none() {
         return Ok(None);
     }
-    let steps = path_home(alloc, arcs, marks.as_slice())?;
-    Ok(Some(nodes_of(alloc, arcs, steps.as_slice())?))
+    let steps = path_home(alloc, graph.arcs, marks.as_slice())?;
+    Ok(Some(nodes_of(alloc, graph.arcs, steps.as_slice())?))
 }
 
 /// The source, and where each step leads.

@@ -72,3 +72,11 @@ pub record IsReport (shelf : List Contents) (histories : List (List Event)) (tex
   pub in_order : AreInOrder histories entries
   pub phases : PhasesAreTold shelf histories
   pub text_is : text ≡ text_of shelf histories entries
+
+-- the report, with how many sagas it tells to be stuck
+pub record IsCountedReport (shelf : List Contents) (histories : List (List Event)) (text : List ℕ) (stuck : ℕ) : Type 0 where
+  pub entries : List Entry
+  pub in_order : AreInOrder histories entries
+  pub phases : PhasesAreTold shelf histories
+  pub text_is : text ≡ text_of shelf histories entries
+  pub stuck_are : stuck ≡ count_by (λ e. is_stuck (phase_at shelf histories e)) entries

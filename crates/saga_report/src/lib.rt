@@ -11,4 +11,4 @@ mod sagas;
 #[cfg(test)]
 mod tests;
 
-pub use reports::report;
+pub use reports::{CountedReport, report, report_counted};

@@ -4,7 +4,7 @@ ghost use Rattle.std.specs.Option.{option_copied};
 ghost use Rattle.saga_history.specs.declared.events.Event.{Event};
 ghost use Rattle.saga_history.specs.Changes.{changes, past};
 ghost use Rattle.saga_report.specs.Tells.{AreFollowed, IsKept};
-ghost use Rattle.saga_report.specs.Reports.{IsReport, is_ended, is_stuck, phase_at, text_at};
+ghost use Rattle.saga_report.specs.Reports.{IsCountedReport, IsReport, is_ended, is_stuck, phase_at, text_at};
 
 use crate::entries::ordered_entries;
 use crate::follow::follow;
@@ -87,16 +87,25 @@ fn events_of(histories: &[&[Event]]) -> u128
     total
 }
 
-/// The report of the sagas that histories open, by the definitions of a shelf, in time linear in the events.
+/// A report, and how many sagas it tells to be stuck.
+#[derive(Debug, Drop)]
+pub struct CountedReport {
+    pub text: String,
+    pub stuck: usize,
+}
+
+/// The report of the sagas that histories open, by the definitions of a shelf, with the number of stuck ones, in time linear
+/// in the events.
 ///
 /// The sagas stand in ascending order of their numbers, those of one number in the order of their histories. Of a saga
 /// that was opened with no definition of the shelf, which no legal history has, neither name nor steps are told.
-pub fn report(
+pub fn report_counted(
     alloc: Global,
     shelf: &[Definition],
     histories: &[&[Event]],
-) -> Result<String, AllocError>
-    ensures { IfOk result (λ text. IsReport shelf.now (map (λ h. h.now) histories.now) (string_bytes text)) }
+) -> Result<CountedReport, AllocError>
+    ensures { IfOk result (λ report. IsCountedReport shelf.now (map (λ h. h.now) histories.now)
+        (string_bytes report.text) report.stuck) }
 {
     let ordered = ordered_entries(alloc, histories)?;
     let entries = ordered.as_slice();
@@ -110,5 +119,16 @@ pub fn report(
         stuck += is_stuck(phase) as usize;
     }
     push_total(&mut text, entries.len(), ended, stuck, events_of(histories))?;
-    Ok(text)
+    Ok(CountedReport { text, stuck })
+}
+
+/// The text of [`report_counted`] alone.
+pub fn report(
+    alloc: Global,
+    shelf: &[Definition],
+    histories: &[&[Event]],
+) -> Result<String, AllocError>
+    ensures { IfOk result (λ text. IsReport shelf.now (map (λ h. h.now) histories.now) (string_bytes text)) }
+{
+    Ok(report_counted(alloc, shelf, histories)?.text)
 }

@@ -5,3 +5,4 @@ pub mod Questions
 pub mod Table
 pub mod Scripts
 pub mod Progress
+pub mod Jobs

@@ -1,6 +1,7 @@
 -- A search backward from the sink tells whether there is a further round, or the flow is a greatest one.
-use Rattle.std.proofs.Common.{◌≡◌, ◌<◌, false, not, length, ap, ◌∙◌, arith}
+use Rattle.std.proofs.Common.{◌≡◌, ◌<◌, Some, false, not, length, ap, ◌∙◌, arith}
 use Rattle.std.specs.Prelude.{is_some}
+use Rattle.saga_flow.specs.Network.{IsNetwork}
 use Rattle.saga_flow.specs.Residual.{Carries}
 use Rattle.saga_flow.specs.Listed.{turned}
 use Rattle.saga_flow.specs.Search.{IsSearchTree, mark_at}
@@ -12,35 +13,39 @@ use Rattle.saga_flow.proofs.flows.largest_counted.Goals as goal
 use Rattle.saga_flow.proofs.flows.largest_counted.Goals.{In_ok-marks, Then-is_none}
 
 -- the search was over the net
-tree : (c : In_ok-marks) → IsSearchTree c.args.net.now.nodes c.args.net.now.arcs (λ s. Carries c.args.net.now.arcs c.loop-progress.progress.on.items 1 (turned s)) 1 c.in_ok-marks.marks.items
+tree : (c : In_ok-marks) → IsSearchTree c.args.net.now.nodes c.args.net.now.arcs (λ s. Carries c.args.net.now.arcs c.loop-progress.progress.on.items 1 (turned s)) 1 (Some 0) c.in_ok-marks.marks.items
 tree c =
-    let nodes : length c.as_slice-in-loop-progress.result.now ≡ c.args.net.now.nodes = ap length c.as_slice-in-loop-progress.ensures.value ∙ c.in_ok-lists.ensures.sized ∙ c.nodes.ensures.value in
-    let found : IsSearchTree (length c.as_slice-in-loop-progress.result.now) c.arcs-arcs.result.now (λ s. Carries c.arcs-arcs.result.now c.as_slice.result.now 1 (turned s)) 1 c.in_ok-marks.marks.items = c.in_ok-marks.ensures in
-    rw (nodes, c.arcs-arcs.ensures.value, c.as_slice.ensures.value) at found
+    let g = c.in_ok-graph.graph in
+    let found : IsSearchTree g.nodes g.arcs.now (λ s. Carries g.arcs.now c.as_slice.result.now 1 (turned s)) 1 (Some 0) c.in_ok-marks.marks.items = c.in_ok-marks.ensures in
+    rw (c.in_ok-graph.ensures.nodes, c.in_ok-graph.ensures.arcs, c.as_slice.ensures.value) at found
+
+sound : (c : In_ok-marks) → IsNetwork c.args.net.now
+sound c = rw (c.in_ok-graph.ensures.nodes, c.in_ok-graph.ensures.arcs) at c.in_ok-graph.graph.net
 
 pub loop-progress-init : goal.loop-progress-init
 loop-progress-init c =
     let net = c.args.net.now in
+    let two : 1 < net.nodes = omega (arith, c.in_ok-graph.graph.net.two, c.in_ok-graph.ensures.nodes) in
     let empty = c.in_ok-vec.ensures.items_if_clones_equal (λ y e. e) in
-    record { progress = rw empty (rw (← c.arcs-arcs.ensures.value) (progress_start net.nodes c.arcs-arcs.result.now c.arcs-arcs.ensures.sound.two)); small = omega arith }
+    record { progress = rw empty (rw c.in_ok-graph.ensures.arcs (progress_start net.nodes net.arcs two)); small = omega arith }
 
 pub run_phase-requires-clause-tree : goal.run_phase-requires-clause-tree
 run_phase-requires-clause-tree c =
-    let found : IsSearchTree (length c.as_slice-in-loop-progress.result.now) c.arcs-arcs.result.now (λ s. Carries c.arcs-arcs.result.now c.as_slice.result.now 1 (turned s)) 1 c.in_ok-marks.marks.items = c.in_ok-marks.ensures in
-    rw (c.as_slice-in-loop-progress-2.ensures.value, c.as_slice-in-loop-progress-3.ensures.value) (rw (c.as_slice-in-loop-progress.ensures.value, c.as_slice.ensures.value) at found)
+    let g = c.in_ok-graph.graph in
+    let found : IsSearchTree g.nodes g.arcs.now (λ s. Carries g.arcs.now c.as_slice.result.now 1 (turned s)) 1 (Some 0) c.in_ok-marks.marks.items = c.in_ok-marks.ensures in
+    rw c.as_slice-in-loop-progress.ensures.value (rw c.as_slice.ensures.value at found)
 
 pub loop-progress-preserved : goal.loop-progress-preserved
 loop-progress-preserved c =
     let net = c.args.net.now in
     let new = c.run_phase.new.progress in
-    let nodes : length c.as_slice-in-loop-progress-2.result.now ≡ net.nodes = ap length c.as_slice-in-loop-progress-2.ensures.value ∙ c.in_ok-lists.ensures.sized ∙ c.nodes.ensures.value in
-    let progress : IsProgress net.nodes net.arcs new.on.items new.value new.rounds = rw (nodes, c.arcs-arcs.ensures.value) at c.in_ok-run_phase.ensures.progress in
-    record { progress = progress; small = progress_small net.nodes net.arcs new.on.items new.value new.rounds c.arcs-arcs.ensures.sound c.requires.apart progress }
+    let progress : IsProgress net.nodes net.arcs new.on.items new.value new.rounds = rw (c.in_ok-graph.ensures.nodes, c.in_ok-graph.ensures.arcs) at c.in_ok-run_phase.ensures.progress in
+    record { progress = progress; small = progress_small net.nodes net.arcs new.on.items new.value new.rounds (sound (goal.at.loop-progress-preserved c).In_ok-marks) c.requires.apart progress }
 
 -- the source has no mark
-unmarked_source : (c : Then-is_none) → IsSearchTree c.args.net.now.nodes c.args.net.now.arcs (λ s. Carries c.args.net.now.arcs c.loop-progress.progress.on.items 1 (turned s)) 1 c.in_ok-marks.marks.items → is_some (mark_at c.in_ok-marks.marks.items 0) ≡ false
+unmarked_source : (c : Then-is_none) → IsSearchTree c.args.net.now.nodes c.args.net.now.arcs (λ s. Carries c.args.net.now.arcs c.loop-progress.progress.on.items 1 (turned s)) 1 (Some 0) c.in_ok-marks.marks.items → is_some (mark_at c.in_ok-marks.marks.items 0) ≡ false
 unmarked_source c t =
-    let short : 0 < length c.in_ok-marks.marks.items = omega (arith, t.sized, c.arcs-arcs.ensures.sound.two) in
+    let short : 0 < length c.in_ok-marks.marks.items = omega (arith, t.sized, c.in_ok-graph.graph.net.two, c.in_ok-graph.ensures.nodes) in
     ap is_some (none_read c.in_ok-marks.marks.items 0 c.index.result.now short c.index.ensures (c.is_none.ensures ∙ ap not c.if-is_none.true))
 
 pub returns-clause-greatest : goal.returns-clause-greatest
@@ -49,7 +54,7 @@ returns-clause-greatest c =
     let at = goal.at.returns-clause-greatest c in
     let progress = c.loop-progress.invariant.progress in
     let t = tree at.In_ok-marks in
-    unmarked_greatest net.nodes net.arcs c.loop-progress.progress.on.items c.in_ok-marks.marks.items t (unmarked_source at.Then-is_none t) c.loop-progress.progress.value (AreEnds-from_test net.nodes net.arcs c.arcs-arcs.ensures.sound.ends) progress.flow progress.worth
+    unmarked_greatest net.nodes net.arcs c.loop-progress.progress.on.items c.in_ok-marks.marks.items t (unmarked_source at.Then-is_none t) c.loop-progress.progress.value (AreEnds-from_test net.nodes net.arcs (sound at.In_ok-marks).ends) progress.flow progress.worth
 
 pub returns-clause-cut : goal.returns-clause-cut
 returns-clause-cut c =

@@ -6,9 +6,9 @@ use Rattle.saga_flow.proofs.phases.next_path.Given as goal
 
 abbrev pub invariant-loop-node : goal.invariant-loop-node
 invariant-loop-node l = record {
-  inside : l.node < length l.lists;
-  left : vec_len l.left ≡ length l.lists;
-  trail : IsTrail (Nears l.arcs l.on (far_in l.marks)) 0 l.path.items l.node;
+  inside : l.node < l.graph.nodes;
+  left : vec_len l.left ≡ l.graph.nodes;
+  trail : IsTrail (Nears l.graph.arcs.now l.on (far_in l.marks)) 0 l.path.items l.node;
 }
 
 abbrev pub decreases-loop-node : goal.decreases-loop-node

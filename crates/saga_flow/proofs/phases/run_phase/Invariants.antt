@@ -1,4 +1,4 @@
-use Rattle.std.proofs.Common.{◌≡◌, ◌<◌, ◌-◌, ◌^◌, length, vec_len}
+use Rattle.std.proofs.Common.{◌≡◌, ◌<◌, ◌-◌, ◌^◌, vec_len}
 use Rattle.saga_flow.specs.Levels.{IsLevelled}
 use Rattle.saga_flow.specs.Search.{far_in}
 use Rattle.saga_flow.specs.Progress.{IsProgress}
@@ -6,9 +6,9 @@ use Rattle.saga_flow.proofs.phases.run_phase.Given as goal
 
 abbrev pub invariant-loop-path : goal.invariant-loop-path
 invariant-loop-path l = record {
-  progress : IsProgress (length l.lists) l.arcs l.progress.on.items l.progress.value l.progress.rounds;
-  levelled : IsLevelled l.arcs l.progress.on.items (λ v. far_in l.marks 0 - far_in l.marks v);
-  left : vec_len l.left ≡ length l.lists;
+  progress : IsProgress (l.graph.nodes) l.graph.arcs.now l.progress.on.items l.progress.value l.progress.rounds;
+  levelled : IsLevelled l.graph.arcs.now l.progress.on.items (λ v. far_in l.marks 0 - far_in l.marks v);
+  left : vec_len l.left ≡ l.graph.nodes;
   small : l.progress.value < 2 ^ 63;
   more : l.fn.progress.value < l.progress.value;
 }

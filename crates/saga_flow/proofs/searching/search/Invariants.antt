@@ -1,10 +1,9 @@
-use Rattle.std.proofs.Common.{length, ◌-◌}
-use Rattle.saga_flow.specs.Search.{IsSearch}
+use Rattle.std.proofs.Common.{◌-◌}
+use Rattle.saga_flow.specs.Search.{IsSearching}
 use Rattle.saga_flow.proofs.searching.search.Given as goal
 
 abbrev pub invariant-loop-next : goal.invariant-loop-next
-invariant-loop-next g l =
-    IsSearch (length l.lists) l.arcs (g.G.Gate.passes l.gate) l.start l.marks.items l.order.items l.next
+invariant-loop-next g l = IsSearching l.graph.nodes l.graph.arcs.now (g.G.Gate.passes l.gate) l.start l.found l.next
 
 abbrev pub decreases-loop-next : goal.decreases-loop-next
-decreases-loop-next g l = length l.lists - l.next
+decreases-loop-next g l = l.graph.nodes - l.next

@@ -1,0 +1,25 @@
+//! A script acts: what it tells of a job is what it answers.
+use crate::scripts::Script;
+use saga_desk::Job;
+use saga_history::Outcome;
+use saga_work::Actor;
+
+impl Actor for Script {
+    ghost use Rattle.saga_script.specs.Jobs.{MayAnswer, MayAskAbort};
+
+    ghost may = { λ script job outcome. MayAnswer script job outcome };
+
+    ghost may_abort = { λ script job. MayAskAbort script job };
+
+    fn run(&self, job: &Job<'_>) -> Outcome {
+        self.outcome(job.saga(), job.name(), job.is_undo(), job.attempt())
+    }
+
+    fn undo(&self, job: &Job<'_>) -> Outcome {
+        self.outcome(job.saga(), job.name(), job.is_undo(), job.attempt())
+    }
+
+    fn asks_abort(&self, job: &Job<'_>) -> bool {
+        self.asks_abort(job.saga(), job.name(), job.is_undo(), job.attempt())
+    }
+}

@@ -1,0 +1,9 @@
+use Rattle.saga_work.specs.Added.{Adds}
+use Rattle.saga_work.specs.Answered.{IsWork}
+use Rattle.saga_work.proofs.workers.work.Given as goal
+
+abbrev pub invariant-loop : goal.invariant-loop
+invariant-loop g l =
+    (goal.iterator-loop g).can_next l.iterator' ×
+    (goal.iterator-loop g).is_finite l.iterator' ×
+    Adds (IsWork (g.A.Actor.may l.actor) (g.A.Actor.may_abort l.actor)) l.fn.seat l.seat

@@ -1,0 +1,17 @@
+-- What seats gained.
+use Rattle.std.specs.Prelude.{◌≡◌, ℕ, ◌<◌, List, ◌++◌, All, length, slice_index_or}
+use Rattle.saga_history.specs.declared.events.Mark.{Mark}
+use Rattle.saga_desk.specs.Seat.{Seat}
+use Rattle.saga_desk.specs.declared.receipts.Receipt.{Receipt}
+
+-- the seat has its receipts and then others, and this holds of their marks
+pub record Adds (P : Mark → Type 0) (before after : Seat) : Type 0 where
+  pub number : after.number ≡ before.number
+  pub added : List Receipt
+  pub receipts : after.receipts ≡ before.receipts ++ added
+  pub marks : All (λ (r : Receipt). P r.mark) added
+
+-- each of the seats, which stand beside something else
+abbrev pub EachAdds : {S : Type 0} → (Mark → Type 0) → List Seat → List (Seat × S) → Type 0
+EachAdds {S} P seats done =
+    (i : ℕ) (s : Seat) (d : S) → i < length seats → Adds P (slice_index_or seats i s) (slice_index_or done i (s, d)).0

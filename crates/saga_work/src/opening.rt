@@ -1,0 +1,61 @@
+//! Opening what a run was asked for.
+ghost use Rattle.std.specs.Prelude.{◌≡◌, ◌<◌, ◌≤◌, [], All, IfOk, OnOk, length};
+ghost use Rattle.saga_work.specs.Asked.{AreOpened, IsOpening, OpensAll};
+
+use crate::faults::RunFault;
+use saga_core::OpenRefusal;
+use saga_def::Definition;
+use saga_desk::{Desk, Seat};
+use std::alloc::Global;
+use std::sync::Wait;
+
+fn open_fault(saga: usize, why: OpenRefusal) -> RunFault {
+    match why {
+        OpenRefusal::OutOfMemory => RunFault::OutOfMemory,
+        why => RunFault::Open(saga, why),
+    }
+}
+
+/// Opens each definition that is asked for, the j-th on shard j modulo their number.
+fn open_all<R: Wait>(
+    rt: &R,
+    desk: &Desk<'_>,
+    shards: u32,
+    seat: &mut Seat,
+    asks: &[u32],
+) -> Result<(), RunFault>
+    requires shards { desk.now.shards ≡ shards }
+    requires some { 0 < shards }
+    requires empty { seat.old.receipts ≡ [] }
+    ensures all { OnOk result (OpensAll shards asks.now seat.new.receipts) }
+    ensures only { OnOk result (All IsOpening seat.new.receipts) }
+{
+    for j in 0..asks.len() {
+        let shard = (j % shards as usize) as u32;
+        if let Err(why) = desk.open_saga(rt, seat, shard, asks[j]) {
+            return Err(open_fault(j, why));
+        }
+    }
+    Ok(())
+}
+
+/// A desk with its seats, the first of which has opened what is asked for.
+pub fn opened<'d, R: Wait>(
+    rt: &R,
+    alloc: Global,
+    shelf: &'d [Definition],
+    asks: &[u32],
+    workers: u32,
+    shards: u32,
+) -> Result<(Desk<'d>, Vec<Seat>), RunFault>
+    requires workers { (0 < workers) × (workers ≤ 16) }
+    requires shards { (0 < shards) × (shards ≤ 16) }
+    ensures desk { IfOk result (λ r. r.0 ≡ record { shelf = shelf.entry.now; seats = workers; shards = shards }) }
+    ensures seats { IfOk result (λ r. AreOpened shards asks.now r.1.items) }
+{
+    let Ok((desk, mut seats)) = Desk::open(alloc, shelf, workers, shards) else {
+        return Err(RunFault::OutOfMemory);
+    };
+    open_all(rt, &desk, shards, &mut seats[0], asks)?;
+    Ok((desk, seats))
+}

@@ -1,0 +1,218 @@
+//! Workers.
+ghost use Rattle.std.specs.Prelude.{◌≡◌, IfOk, length, true};
+ghost use Rattle.saga_work.specs.Added.{Adds, EachAdds};
+ghost use Rattle.saga_work.specs.Answered.{EndsPlan, IsAbortOf, IsWork};
+
+use crate::actors::Actor;
+use crate::bells::Bell;
+use crate::faults::Stop;
+use saga_case::Case;
+use saga_check::verify;
+use saga_core::{AdoptRefusal, SagaRefusal};
+use saga_desk::{AdoptionRefused, Claim, Desk, EndRefusal, Job, PlanJob, Seat};
+use saga_history::Outcome;
+use saga_plan::plan;
+use std::alloc::{AllocError, Global};
+use std::sync::Wait;
+use std::thread::{self, Threads};
+
+/// Whether a worker goes on after what it claimed, or ends, with a stop if it has one.
+#[derive(Clone, Copy)]
+enum Course {
+    Goes,
+    Ends(Option<Stop>),
+}
+
+/// Aborts a saga. That it is over, or was aborted before, is passed over.
+fn abort<R: Wait>(rt: &R, desk: &Desk<'_>, seat: &mut Seat, saga: u32) -> Option<Stop>
+    ensures { Adds (IsAbortOf saga) seat.old seat.new }
+{
+    match desk.abort(rt, seat, saga) {
+        Ok(()) => None,
+        Err(SagaRefusal::NotNow) => None,
+        Err(SagaRefusal::OutOfMemory) => Some(Stop::OutOfMemory),
+        Err(SagaRefusal::NoSuchSaga) => Some(Stop::Refused),
+    }
+}
+
+/// What the actor answers to a job.
+fn outcome_of<A: Actor>(actor: &A, job: &Job<'_>) -> Outcome
+    ensures { A.may actor.now job.now result }
+{
+    if job.is_undo() {
+        actor.undo(job)
+    } else {
+        actor.run(job)
+    }
+}
+
+/// Whether the saga shall be aborted after a job that ended so.
+fn aborts_after<A: Actor>(actor: &A, job: &Job<'_>, outcome: Outcome) -> bool
+    ensures { result ≡ true → A.may_abort actor.now job.now }
+{
+    match outcome {
+        Outcome::Done => actor.asks_abort(job),
+        Outcome::Failed => false,
+    }
+}
+
+/// Lets the actor do a job, and reports what it answers.
+fn perform<'d, R: Wait, A: Actor>(
+    rt: &R,
+    desk: &Desk<'d>,
+    seat: &mut Seat,
+    actor: &A,
+    job: Job<'d>,
+) -> Option<Stop>
+    ensures { Adds (IsWork (A.may actor.now) (A.may_abort actor.now)) seat.old seat.new }
+{
+    let outcome = outcome_of(actor, &job);
+    let aborts = aborts_after(actor, &job, outcome);
+    let saga = job.saga();
+    match desk.report(rt, seat, job, outcome) {
+        Err(_) => Some(Stop::Refused),
+        Ok(()) => {
+            if aborts {
+                abort(rt, desk, seat, saga)
+            } else {
+                None
+            }
+        }
+    }
+}
+
+/// Gives a plan back, after which the worker has this stop or none.
+fn give_back<R: Wait>(
+    rt: &R,
+    desk: &Desk<'_>,
+    seat: &mut Seat,
+    job: PlanJob,
+    stop: Option<Stop>,
+) -> Option<Stop>
+    ensures { Adds (EndsPlan job.saga) seat.old seat.new }
+{
+    match desk.give_back(rt, seat, job) {
+        Ok(()) => stop,
+        Err(_) => Some(Stop::Refused),
+    }
+}
+
+/// Plans how a saga shall end, and has that adopted. A plan that came too late is given back.
+fn settle<'d, R: Wait>(
+    rt: &R,
+    alloc: Global,
+    desk: &Desk<'d>,
+    seat: &mut Seat,
+    job: PlanJob,
+    case: Case<'d>,
+) -> Option<Stop>
+    ensures { Adds (EndsPlan job.saga) seat.old seat.new }
+{
+    let Ok(answer) = plan(alloc, &case) else {
+        return give_back(rt, desk, seat, job, Some(Stop::OutOfMemory));
+    };
+    let Ok(verdict) = verify(case, answer) else {
+        unreachable!()
+    };
+    match desk.adopt(rt, seat, job, verdict) {
+        Ok(()) => None,
+        Err(refused) => {
+            let AdoptionRefused { job, why, .. } = refused;
+            match why {
+                EndRefusal::Book(AdoptRefusal::Stale) => give_back(rt, desk, seat, job, None),
+                _ => Some(Stop::Refused),
+            }
+        }
+    }
+}
+
+/// Goes on, or ends with a stop.
+fn after(stop: Option<Stop>) -> Course {
+    match stop {
+        None => Course::Goes,
+        stop => Course::Ends(stop),
+    }
+}
+
+/// Claims once, and does what was claimed. Rings when it is done.
+fn take_turn<R: Wait, A: Actor>(
+    rt: &R,
+    alloc: Global,
+    desk: &Desk<'_>,
+    bell: &Bell,
+    seat: &mut Seat,
+    actor: &A,
+) -> Course
+    ensures { Adds (IsWork (A.may actor.now) (A.may_abort actor.now)) seat.old seat.new }
+{
+    let seen = bell.count();
+    match desk.claim(rt, seat) {
+        Err(_) => Course::Ends(Some(Stop::OutOfMemory)),
+        Ok(Claim::Settled) => Course::Ends(None),
+        Ok(Claim::Idle) => {
+            bell.wait_past(rt, seen);
+            Course::Goes
+        }
+        Ok(Claim::Run(job)) => {
+            let stop = perform(rt, desk, seat, actor, job);
+            bell.ring(rt);
+            after(stop)
+        }
+        Ok(Claim::Undo(job)) => {
+            let stop = perform(rt, desk, seat, actor, job);
+            bell.ring(rt);
+            after(stop)
+        }
+        Ok(Claim::Plan(job, case)) => {
+            let stop = settle(rt, alloc, desk, seat, job, case);
+            bell.ring(rt);
+            after(stop)
+        }
+    }
+}
+
+/// Works at a seat: claims and does what is to be done, until each saga of the desk is ended or stuck. Gives the seat back,
+/// and why it stopped before that, if it did.
+///
+/// The seat gains no opening. Each end of a step that it gains is one that the actor may answer to a job at that step, and
+/// each abort one for which it may ask. A worker that finds no memory for a plan gives the plan back and stops.
+pub fn work<R: Wait, A: Actor>(
+    rt: &R,
+    alloc: Global,
+    desk: &Desk<'_>,
+    bell: &Bell,
+    seat: Seat,
+    actor: &A,
+) -> (Seat, Option<Stop>)
+    ensures { Adds (IsWork (A.may actor.now) (A.may_abort actor.now)) seat result.0 }
+{
+    let mut seat = seat;
+    for _ in rt.forever() {
+        if let Course::Ends(stop) = take_turn(rt, alloc, desk, bell, &mut seat, actor) {
+            bell.ring(rt);
+            return (seat, stop);
+        }
+    }
+    unreachable!()
+}
+
+/// Works each seat, on a thread of its own where the system grants one, and gives the seats back in their order.
+pub fn work_all<R: Threads + Wait + Sync, A: Actor + Sync>(
+    rt: &R,
+    alloc: Global,
+    desk: &Desk<'_>,
+    bell: &Bell,
+    seats: Vec<Seat>,
+    actor: &A,
+) -> Result<Vec<(Seat, Option<Stop>)>, AllocError>
+    ensures len { IfOk result (λ done. length done.items ≡ length seats.items) }
+    ensures each { IfOk result (λ done. EachAdds (IsWork (A.may actor.now) (A.may_abort actor.now)) seats.items done.items) }
+{
+    thread::map_vec(
+        rt,
+        seats,
+        &|seat: Seat| -> (Seat, Option<Stop>)
+            ensures { Adds (IsWork (A.may actor.entry.now) (A.may_abort actor.entry.now)) seat result.0 }
+        { work(rt, alloc, desk, bell, seat, actor) },
+    )
+}
