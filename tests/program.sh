@@ -116,6 +116,7 @@ expect 1 'no over-capacity' '' $none check "$work/greatest.toml" "$work/greatest
 trip=$examples/trip.toml
 case=$examples/trip.case.json
 answer=$examples/trip.answer.json
+log=$examples/trip.log
 expect 1 'no wrong-value' '' $none check $examples/server.toml $examples/server.case.json <(sed 's/"leave":\[2/"leave":[1/; s/"stand":\[9/"stand":[8/' $examples/server.answer.json)
 expect 3 '' 'sagas: answer: kind' $none check $trip $case $case
 expect 3 '' 'sagas: definition: not-toml' $none check $case $case $answer
@@ -127,6 +128,59 @@ expect 4 '' 'sagas: cannot read x' $none plan x y
 expect 3 '' 'sagas: definition: not-toml' $none plan $case $answer
 expect 3 '' 'sagas: case: unknown-key' $none plan $trip $answer
 
+# audits
+expect 0 'yes sagas 1 ended 1 stuck 0 events 13' '' $none audit $log $trip
+expect 0 'yes sagas 1 ended 1 stuck 0 events 13' '' $none audit $log $trip $examples/order.toml
+expect 0 'yes sagas 0 ended 0 stuck 0 events 0' '' $none audit $none $trip
+expect 1 'no 6 not-taken' '' $none audit $log $examples/order.toml $trip
+expect 1 'no 13 not-taken' '' $none audit <(cat $log; grep '"fail"' $log) $trip
+expect 1 'no 12 not-right' '' $none audit <(sed 's/"kept":\[0,1\]/"kept":[0]/' $log) $trip
+expect 3 '' 'sagas: log: line 14: not-json' $none audit <(head -c -5 $log) $trip
+expect 3 '' 'sagas: log: line 1: kind' $none audit $case $case
+expect 3 '' 'sagas: definition 1: not-toml' $none audit $log $trip $case $case
+expect 4 '' "sagas: cannot read $work/none" $none audit "$work/none" x
+expect 4 '' 'sagas: cannot read x' $none audit $case $trip x y
+expect 4 '' "sagas: cannot read $examples" $none audit $examples $trip
+many=()
+for ((i = 0; i < 64; i++)); do many+=("$trip"); done
+expect 0 'yes sagas 1 ended 1 stuck 0 events 13' '' $none audit $log "${many[@]}"
+expect 3 '' 'sagas: too many definitions' $none audit $case "${many[@]}" $case
+
+# runs
+# ran STATUS REPORT AUDIT WORDS.. DEF: what a run prints, and what an audit of its log says.
+ran() {
+  local status=$1 report=$2 audit=$3 got
+  shift 3
+  rm -f "$work/log"
+  expect "$status" "$report" '' $none run --log "$work/log" "$@"
+  expect 0 "$audit" '' $none audit "$work/log" "${@: -1}"
+}
+
+order=$examples/order.toml
+ran 0 $'saga 0 trip ended\n   0 committed flight\n   1 committed car\n   2 failed    hotel\n   3 waiting   tour\nplans 1 cost 38\nsagas 1 ended 1 stuck 0 events 13' \
+  'yes sagas 1 ended 1 stuck 0 events 13' --script $examples/trip.script $trip
+runs=$((runs + 1))
+cmp "$work/log" $log || { wrong=$((wrong + 1)); echo "wrong: the log of the trip is not examples/trip.log"; }
+ran 0 $'saga 0 trip ended\n*   2 committed hotel\n*plans 0 cost none\nsagas 1 ended 1 stuck 0 events 13' \
+  'yes sagas 1 ended 1 stuck 0 events 13' --script $examples/trip.retry.script $trip
+ran 0 $'saga 0 order ended aborted\n*sagas 1 ended 1 stuck 0 *' 'yes sagas 1 ended 1 stuck 0 *' --script $examples/order.abort.script $order
+ran 0 $'saga 0 order ended\n*fixed *charge\n*sagas 1 ended 1 stuck 0 *' 'yes sagas 1 ended 1 stuck 0 *' --script $examples/order.undo.script $order
+ran 0 $'saga 0 order ended\n*plans 0 cost none\nsagas 1 ended 1 stuck 0 events 9' 'yes sagas 1 ended 1 stuck 0 events 9' $order
+rm -f "$work/log"
+expect 0 $'saga 0 trip ended\n*saga 1 order ended\n*sagas 2 ended 2 stuck 0 events 22' '' \
+  $none run --workers 2 --shards 2 --script $examples/trip.script --log "$work/log" $trip $order
+expect 0 'yes sagas 2 ended 2 stuck 0 events 22' '' $none audit "$work/log" $trip $order
+expect 1 $'saga 0 two stuck\n*sagas 1 ended 0 stuck 1 *' '' $none run --script <(echo '0 b run fail') <(sed '/^---/,$d' crates/saga_tool/stdin)
+expect 4 $'saga 0 order ended\n*' 'sagas: cannot write /dev/full' $none run --log /dev/full $order
+expect 4 $'saga 0 order ended\n*' "sagas: cannot write $work/none/log" $none run --log "$work/none/log" $order
+expect 4 '' "sagas: cannot read $work/none" $none run --script "$work/none" --log "$work/new" x
+expect 4 '' 'sagas: cannot read x' $none run --script $trip --log "$work/new" $case x
+expect 3 '' 'sagas: script: line 1' $none run --script $trip --log "$work/new" $case
+expect 3 '' 'sagas: script: line 2' $none run --script <(printf '\n0 a run\n') $case
+expect 3 '' 'sagas: definition 1: not-toml' $none run --log "$work/new" $trip $case $case
+expect 3 '' 'sagas: too many definitions' $none run --script $trip --log "$work/new" $case "${many[@]}"
+expect 3 '' 'sagas: script: too-long' $none run --script /dev/zero $case
+
 # words
 usage='*Usage: sagas check <DEF> <CASE> <ANSWER>*'
 expect 2 '' "$usage" $none check $trip
@@ -135,18 +189,25 @@ expect 2 '' "$usage" $none check --version
 expect 2 '' '*Usage: sagas plan <DEF> <CASE>*' $none plan $trip
 expect 2 '' '*Usage: sagas plan <DEF> <CASE>*' $none plan $trip $case $answer
 expect 2 '' '*--workers*Usage: sagas plan <DEF> <CASE>*' $none plan --workers 2 $trip $case
+expect 2 '' '*Usage: sagas audit <LOG> <DEF>*' $none audit
+expect 2 '' '*Usage: sagas audit <LOG> <DEF>*' $none audit $log
+expect 2 '' '*--workers*Usage: sagas audit <LOG> <DEF>*' $none audit --workers 2 $log $trip
 expect 2 '' 'error: *' $none chekc
 expect 2 '' 'error: *' $none chekc $trip
 expect 2 '' 'error: *' $none chekc $trip $case
 expect 2 '' 'error: *' $none chekc --help
-expect 2 '' 'error: *' $none run $trip
+expect 2 '' '*Usage: sagas run *<DEF>*' $none run
+expect 2 '' '*--workers*' $none run --workers 17 $trip
+expect 2 '' '*--shards*' $none run --shards 0 $trip
+expect 0 '*Usage: sagas run *<DEF>*Status: 0*' '' $none run --help
 expect 2 '' 'error: *--x*' $none --x
 expect 2 '' 'error: invalid UTF-8*' $none plan $'\xff.toml' $case
 expect 2 '' 'error: invalid UTF-8*' $none $'\xff'
 expect 0 '*Usage: sagas check <DEF> <CASE> <ANSWER>*Status: 0*' '' $none check --help
 expect 0 '*Usage: sagas check <DEF> <CASE> <ANSWER>*Status: 0*' '' $none check $trip $case $answer --help
 expect 0 '*Usage: sagas plan <DEF> <CASE>*Status: 0*' '' $none plan --help
-expect 0 '*Usage: sagas <COMMAND>*check DEF CASE ANSWER: *plan DEF CASE: *Status: 0*' '' $none --help
+expect 0 '*Usage: sagas audit <LOG> <DEF>*Status: 0*' '' $none audit --help
+expect 0 '*Usage: sagas <COMMAND>*check DEF CASE ANSWER: *plan DEF CASE: *run * DEF..: *audit LOG DEF..: *Status: 0*' '' $none --help
 expect 0 'sagas 0.1.0' '' $none --version
 expect 3 '' 'sagas: input: parts' $none
 
@@ -195,7 +256,16 @@ expect 0 'blocked' '' "$work/long.txt"
 printf ' ' >>"$work/long.txt"
 expect 3 '' 'sagas: input: too-long' "$work/long.txt"
 
+head -c -1 $log >"$work/short.log"
+padded "$work/short.log" 67108864 ' ' >"$work/long.log"
+expect 0 'yes sagas 1 ended 1 stuck 0 events 13' '' $none audit "$work/long.log" $trip
+printf ' ' >>"$work/long.log"
+expect 3 '' 'sagas: log: too-long' $none audit "$work/long.log" $case
+expect 3 '' 'sagas: definition 1: too-long' $none audit $log $trip "$work/long.toml"
+
 # files that never end
+expect 3 '' 'sagas: log: too-long' $none audit /dev/zero $trip
+expect 3 '' 'sagas: definition 0: too-long' $none audit $log /dev/zero
 expect 3 '' 'sagas: definition: too-long' $none plan /dev/zero $case
 expect 3 '' 'sagas: case: too-long' $none plan $trip /dev/zero
 expect 3 '' 'sagas: answer: too-long' $none check $trip $case /dev/zero
@@ -217,9 +287,19 @@ unwritten() {
 }
 
 unwritten 4 'sagas: cannot write -' check $trip $case $answer
+unwritten 4 'sagas: cannot write -' audit $log $trip
+unwritten 4 'sagas: cannot write -' audit $log $examples/order.toml
+unwritten 3 'sagas: log: line 1: kind' audit $case $trip
+unwritten 4 'sagas: cannot write -' run --log "$work/new" $trip
 unwritten 4 'sagas: cannot write -' --help
 unwritten 3 'sagas: definition: not-toml' check $case $case $answer
 unwritten 4 'sagas: cannot read x' plan x y
+
+runs=$((runs + 1))
+if [ -e "$work/new" ]; then
+  wrong=$((wrong + 1))
+  echo "wrong: a log was written where there are no books, or no report"
+fi
 
 echo "program: $runs runs, $wrong wrong"
 [ "$wrong" = 0 ]

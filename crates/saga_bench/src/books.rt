@@ -5,6 +5,8 @@ use saga_core::Book;
 use saga_def::Definition;
 use saga_history::{Event, Outcome, Task};
 use saga_plan::plan;
+use std::alloc::{Alloc, Global};
+use std::rt::Clock;
 use std::time::{Duration, Instant};
 
 /// The most tasks of one saga: each of its steps run and compensated, and the plans.
@@ -20,7 +22,7 @@ pub struct Load {
 }
 
 /// Plans how a saga shall end, and adopts that. Gives how long planning and judging took, which is not the book's time.
-fn settle(rt: &HostRuntime, book: &mut Book, saga: u32) -> Result<Duration> {
+fn settle(rt: &(impl Clock + Alloc<A = Global>), book: &mut Book, saga: u32) -> Result<Duration> {
     let Ok(case) = book.take_plan(saga) else {
         bail!("no case");
     };
@@ -35,7 +37,12 @@ fn settle(rt: &HostRuntime, book: &mut Book, saga: u32) -> Result<Duration> {
 }
 
 /// Does a task. Gives the time that is not the book's.
-fn perform(rt: &HostRuntime, book: &mut Book, task: Task, load: Load) -> Result<Duration> {
+fn perform(
+    rt: &(impl Clock + Alloc<A = Global>),
+    book: &mut Book,
+    task: Task,
+    load: Load,
+) -> Result<Duration> {
     match task {
         Task::Run(saga, step) => {
             for _ in 0..load.misses {
@@ -63,7 +70,11 @@ fn perform(rt: &HostRuntime, book: &mut Book, task: Task, load: Load) -> Result<
 }
 
 /// Opens the sagas of a load and drives them to their end. Gives the history, and the book's time.
-pub fn drive(rt: &HostRuntime, shelf: &[Definition], load: Load) -> Result<(Vec<Event>, Duration)> {
+pub fn drive(
+    rt: &(impl Clock + Alloc<A = Global>),
+    shelf: &[Definition],
+    load: Load,
+) -> Result<(Vec<Event>, Duration)> {
     let start = Instant::now(rt)?;
     let mut others = Duration::ZERO;
     let mut book = Book::new(rt.alloc(), shelf, 0, 1);

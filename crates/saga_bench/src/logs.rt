@@ -18,7 +18,8 @@ pub struct Times {
     pub values: Duration,
 }
 
-fn events_of(alloc: Global, text: &[u8]) -> Result<Vec<Event>> {
+/// The events of a log's text.
+pub fn events_of(alloc: Global, text: &[u8]) -> Result<Vec<Event>> {
     match read_log(alloc, text) {
         Ok(events) => Ok(events),
         Err(LogFault::BadLine { line, .. }) => bail!("a fault in line {line}"),

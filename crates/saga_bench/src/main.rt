@@ -8,10 +8,13 @@
 //! any, and prints how many events that made; `audit` takes the same and between them the number of workers and how often
 //! each step is missed before, and prints how many events were audited and how many sagas are ended; `desk`
 //! takes a case and how many sagas are driven by 16 seats on 16 shards, and prints how many receipts their end compares;
+//! `run` takes a case, how many sagas of its definition are run, by how many workers, on how many shards, and the word `log`
+//! where their log is written and audited, and prints how many events that made;
 //! `log` takes a log and prints how many events it has. The second word, if
 //! any, is the file. On standard error stand the seconds that each of many runs took, a line a run; of a log, those of
 //! reading, of writing, and of reading the lines to JSON values alone, a line each; of an audit, those of the book's calls,
-//! of one thread and of the workers, a line each.
+//! of one thread and of the workers, a line each; of a run, those of a book alone, of the run, and, where there is a log, of
+//! writing it, and of reading and auditing it, a line each.
 #![tactic(auto)]
 
 ghost use Rattle.saga_flow.specs.Network.{IsNetwork};
@@ -24,6 +27,7 @@ mod desks;
 mod dimacs;
 mod logs;
 mod numbers;
+mod runs;
 
 use crate::audits::{ended, history_of};
 use crate::books::{Load, drive};
@@ -32,6 +36,7 @@ use crate::desks::time_desk;
 use crate::dimacs::{Network, read_network};
 use crate::logs::time_log;
 use crate::numbers::number;
+use crate::runs::{Crew, time_runs};
 use anyhow::{Result, bail, ensure};
 use saga_case::{Answer, Case};
 use saga_def::{Definition, Step};
@@ -222,7 +227,16 @@ fn main(rt: HostRuntime) -> Result<()> {
             let sagas = number(words.next().as_deref())?;
             time_desk(&rt, text.as_str(), sagas)
         }
+        Some("run") => {
+            let crew = Crew {
+                sagas: number(words.next().as_deref())?,
+                workers: number(words.next().as_deref())?,
+                shards: number(words.next().as_deref())?,
+                logs: words.next().as_deref() == Some("log"),
+            };
+            time_runs(&rt, text.as_str(), crew)
+        }
         Some("log") => time_logs(&rt, text.as_str()),
-        _ => bail!("flow, plan, build, order, book, audit, desk or log?"),
+        _ => bail!("flow, plan, build, order, book, audit, desk, run or log?"),
     }
 }

@@ -8,10 +8,12 @@ use Rattle.clap.specs.declared.error.Error.{Error}
 use Rattle.clap.specs.declared.error.kind.ErrorKind.TheVariants as kind
 use Rattle.clap.proofs.OnLiterals.{clap_on_literals}
 use Rattle.saga_tool.specs.declared.forms.Name.{Name}
-use Rattle.saga_tool.specs.declared.forms.Name.TheVariants.{Check, Plan}
+use Rattle.saga_tool.specs.declared.forms.Name.TheVariants.{Check, Plan, Run, Audit}
 use Rattle.saga_tool.specs.declared.words.WordsFault.{WordsFault}
 use Rattle.saga_tool.specs.declared.words.WordsFault.TheVariants.{Usage, Help, OutOfMemory}
 use Rattle.saga_tool.specs.declared.replies.Reply.{Reply}
+use Rattle.saga_tool.specs.declared.responses.Response.{Response}
+use Rattle.saga_tool.specs.Responses.{IsAlone}
 use Rattle.saga_tool.specs.Forms.{app_by, outline_for, word_for}
 use Rattle.saga_tool.specs.Outside.{FileGives}
 use Rattle.saga_tool.specs.Program.{IsHelp, IsTold, RepliesToWords}
@@ -51,11 +53,13 @@ made_fault kinds error OutOfMemory has made = tt
 
 -- the command of a word
 abbrev name_of : Text → Name
-name_of word = if bytes_eq word (codes "check") then Check else Plan
+name_of word = if bytes_eq word (codes "check") then Check else (if bytes_eq word (codes "plan") then Plan else (if bytes_eq word (codes "run") then Run else Audit))
 
 back : (name : Name) → name_of (word_for name) ≡ name
 back Check = refl
 back Plan = refl
+back Run = refl
+back Audit = refl
 
 -- a word names one command
 same_name : (a b : Name) → word_for a ≡ word_for b → a ≡ b
@@ -89,6 +93,8 @@ help_kinds = refl
 no_command : (name : Name) (rest : List Text) → help_words ≡ word_for name ∷ rest → ⊥
 no_command Check rest e = let bad : true ≡ false = ap (λ (l : List Text). bytes_eq (slice_index_or l 0 []) (codes "--help")) e in cc
 no_command Plan rest e = let bad : true ≡ false = ap (λ (l : List Text). bytes_eq (slice_index_or l 0 []) (codes "--help")) e in cc
+no_command Run rest e = let bad : true ≡ false = ap (λ (l : List Text). bytes_eq (slice_index_or l 0 []) (codes "--help")) e in cc
+no_command Audit rest e = let bad : true ≡ false = ap (λ (l : List Text). bytes_eq (slice_index_or l 0 []) (codes "--help")) e in cc
 
 told_help : (fault : WordsFault) (reply : Reply) → IsFaultOf (kind.DisplayHelp ∷ []) fault → IsTold fault reply → IsHelp reply
 told_help (Usage error) reply of told = elim of.1 [
@@ -99,8 +105,11 @@ told_help (Help error) reply of told = told
 told_help OutOfMemory reply of told = elim told [ ]
 
 -- what is replied to such words is help
-pub is_help : (gives : FileGives) (reply : Reply) → RepliesToWords gives help_words reply → IsHelp reply
-is_help gives reply replies = elim replies [
+pub is_help : (gives : FileGives) (response : Response) → RepliesToWords gives help_words response → IsAlone IsHelp response
+is_help gives response replies = elim replies [
   | inl r ↦ absurd (no_command r.found.name r.is.rest r.is.named)
-  | inr r ↦ told_help r.fault reply (subst (λ (k : Kinds). IsFaultOf k r.fault) help_kinds (r.is.of_other no_command)) r.told
+  | inr r ↦ record {
+    replies = told_help r.fault response.reply (subst (λ (k : Kinds). IsFaultOf k r.fault) help_kinds (r.is.of_other no_command)) r.told.replies;
+    none = r.told.none;
+  }
 ]

@@ -3,4 +3,7 @@ mod TableLemmas
 mod MatchLemmas
 mod CountLemmas
 mod FaultLemmas
+mod ListLemmas
+mod ShelfLemmas
+mod RunLemmas
 mod ReplyLemmas

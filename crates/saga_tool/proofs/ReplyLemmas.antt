@@ -1,13 +1,22 @@
 -- A command replies to its files.
-use Rattle.std.proofs.Common.{◌≡◌, ◌<◌, ◌≤◌, List, [], ◌∷◌, length, map, slice_index_or, inl, inr, sym, subst, arith}
-use Rattle.std.specs.Prelude.{Result}
+use Rattle.std.proofs.Common.{◌≡◌, ℕ, ◌-◌, ◌<◌, ◌≤◌, List, [], ◌∷◌, length, map, take, drop, get_or, slice_index_or, inl, inr, sym, subst, arith, length-drop}
+use Rattle.std.specs.Prelude.{Option, Result, Err, option_map}
 use Rattle.std.specs.Borrow.{Bor}
+use Rattle.std.proofs.lemmas.List.{take_all}
+use Rattle.saga_tool.specs.declared.arguments.Given.{Given}
 use Rattle.saga_tool.specs.declared.forms.Name.{Name}
-use Rattle.saga_tool.specs.declared.forms.Name.TheVariants.{Check, Plan}
-use Rattle.saga_tool.specs.declared.replies.Reply.{Reply}
+use Rattle.saga_tool.specs.declared.forms.Name.TheVariants.{Check, Plan, Run, Audit}
+use Rattle.saga_tool.specs.declared.responses.Response.{Response}
 use Rattle.saga_tool.specs.declared.program.Stop.{Stop}
+use Rattle.saga_tool.specs.declared.program.Stop.TheVariants.{Unreadable, OutOfMemory}
+use Rattle.saga_tool.specs.declared.outside.FileFault.TheVariants as file
+use Rattle.saga_tool.specs.declared.runs.RunReply.{RunReply}
+use Rattle.saga_tool.specs.Limits.{max_definition}
 use Rattle.saga_tool.specs.Outside.{Text, FileGives}
-use Rattle.saga_tool.specs.Program.{ChecksFiles, PlansFiles, CommandReplies, Ends, IsReplyOf}
+use Rattle.saga_tool.specs.Runs.{IsRunReply}
+use Rattle.saga_tool.specs.Responses.{IsAlone}
+use Rattle.saga_tool.specs.Program.{AreGiven, IsFirstUnreadable, IsUnreadable, ChecksFiles, PlansFiles, RunsFiles, AuditsFiles, IsScript, CommandReplies, Ends, IsResponseOf, StopsBy}
+use Rattle.saga_tool.proofs.ListLemmas.{text_here}
 
 abbrev Files : Type 0
 Files = List (Bor Text)
@@ -16,42 +25,97 @@ abbrev now_of : Files → List Text
 now_of = map (λ s. s.now)
 
 -- the three files of a check, and the two of a plan, are those of the list
-three : (gives : FileGives) (files : Files) (r : Result Reply Stop) (d : Bor Text) → 3 ≤ length files → length files < 4
+three : (gives : FileGives) (given : Given) (files : Files) (r : Result Response Stop) (d : Bor Text) → 3 ≤ length files → length files < 4
     → Ends (ChecksFiles gives (slice_index_or files 0 d).now (slice_index_or files 1 d).now (slice_index_or files 2 d).now) r
-    → Ends (CommandReplies gives Check (now_of files)) r
-three gives [] r d least most ends = absurd (omega (arith, least))
-three gives (a ∷ []) r d least most ends = absurd (omega (arith, least))
-three gives (a ∷ b ∷ []) r d least most ends = absurd (omega (arith, least))
-three gives (a ∷ b ∷ c ∷ []) r d least most ends = ends
-three gives (a ∷ b ∷ c ∷ e ∷ more) r d least most ends = absurd (omega (arith, most))
+    → Ends (CommandReplies gives given Check (now_of files)) r
+three gives given [] r d least most ends = absurd (omega (arith, least))
+three gives given (a ∷ []) r d least most ends = absurd (omega (arith, least))
+three gives given (a ∷ b ∷ []) r d least most ends = absurd (omega (arith, least))
+three gives given (a ∷ b ∷ c ∷ []) r d least most ends = ends
+three gives given (a ∷ b ∷ c ∷ e ∷ more) r d least most ends = absurd (omega (arith, most))
 
-two : (gives : FileGives) (files : Files) (r : Result Reply Stop) (d : Bor Text) → 2 ≤ length files → length files < 3
+two : (gives : FileGives) (given : Given) (files : Files) (r : Result Response Stop) (d : Bor Text) → 2 ≤ length files → length files < 3
     → Ends (PlansFiles gives (slice_index_or files 0 d).now (slice_index_or files 1 d).now) r
-    → Ends (CommandReplies gives Plan (now_of files)) r
-two gives [] r d least most ends = absurd (omega (arith, least))
-two gives (a ∷ []) r d least most ends = absurd (omega (arith, least))
-two gives (a ∷ b ∷ []) r d least most ends = ends
-two gives (a ∷ b ∷ c ∷ more) r d least most ends = absurd (omega (arith, most))
+    → Ends (CommandReplies gives given Plan (now_of files)) r
+two gives given [] r d least most ends = absurd (omega (arith, least))
+two gives given (a ∷ []) r d least most ends = absurd (omega (arith, least))
+two gives given (a ∷ b ∷ []) r d least most ends = ends
+two gives given (a ∷ b ∷ c ∷ more) r d least most ends = absurd (omega (arith, most))
 
-pub check_replies : (gives : FileGives) (name : Name) (files shown : Files) (r : Result Reply Stop) (d : Bor Text) → name ≡ Check → shown ≡ files
+pub check_replies : (gives : FileGives) (given : Given) (name : Name) (files shown : Files) (r : Result Response Stop) (d : Bor Text) → name ≡ Check → shown ≡ files
     → 3 ≤ length shown → length shown < 4
     → Ends (ChecksFiles gives (slice_index_or shown 0 d).now (slice_index_or shown 1 d).now (slice_index_or shown 2 d).now) r
-    → Ends (CommandReplies gives name (now_of files)) r
-check_replies gives name files shown r d is same least most ends =
-    subst (λ (n : Name). Ends (CommandReplies gives n (now_of files)) r) (sym is)
-    (subst (λ (fs : Files). Ends (CommandReplies gives Check (now_of fs)) r) same (three gives shown r d least most ends))
+    → Ends (CommandReplies gives given name (now_of files)) r
+check_replies gives given name files shown r d is same least most ends =
+    subst (λ (n : Name). Ends (CommandReplies gives given n (now_of files)) r) (sym is)
+    (subst (λ (fs : Files). Ends (CommandReplies gives given Check (now_of fs)) r) same (three gives given shown r d least most ends))
 
-pub plan_replies : (gives : FileGives) (name : Name) (files shown : Files) (r : Result Reply Stop) (d : Bor Text) → name ≡ Plan → shown ≡ files
+pub plan_replies : (gives : FileGives) (given : Given) (name : Name) (files shown : Files) (r : Result Response Stop) (d : Bor Text) → name ≡ Plan → shown ≡ files
     → 2 ≤ length shown → length shown < 3
     → Ends (PlansFiles gives (slice_index_or shown 0 d).now (slice_index_or shown 1 d).now) r
-    → Ends (CommandReplies gives name (now_of files)) r
-plan_replies gives name files shown r d is same least most ends =
-    subst (λ (n : Name). Ends (CommandReplies gives n (now_of files)) r) (sym is)
-    (subst (λ (fs : Files). Ends (CommandReplies gives Plan (now_of fs)) r) same (two gives shown r d least most ends))
+    → Ends (CommandReplies gives given name (now_of files)) r
+plan_replies gives given name files shown r d is same least most ends =
+    subst (λ (n : Name). Ends (CommandReplies gives given n (now_of files)) r) (sym is)
+    (subst (λ (fs : Files). Ends (CommandReplies gives given Plan (now_of fs)) r) same (two gives given shown r d least most ends))
 
--- the reply of a command that ended
-pub its_reply : (Replies : Reply → Type 0) (ended : Result Reply Stop) (reply : Reply) → Ends Replies ended → IsReplyOf ended reply → Replies reply
-its_reply Replies ended reply ends is = elim is [
+-- the definitions of a run are its files
+pub run_replies : (gives : FileGives) (given : Given) (name : Name) (r : Result Response Stop) → name ≡ Run
+    → Ends (RunsFiles gives (option_map (λ (s : Bor Text). s.now) given.script) (now_of given.files.items) given.shards (option_map (λ (s : Bor Text). s.now) given.log)) r
+    → Ends (CommandReplies gives given name (now_of given.files.items)) r
+run_replies gives given name r is ends = subst (λ (n : Name). Ends (CommandReplies gives given n (now_of given.files.items)) r) (sym is) ends
+
+-- a run, one of whose definitions cannot be read
+pub run_unread : (gives : FileGives) (script : Option Text) (lines : Text) (defs : List Text) (shards : ℕ) (log : Option Text) (stop : Stop)
+    → IsScript gives script lines → StopsBy (IsFirstUnreadable gives max_definition defs) stop → Ends (RunsFiles gives script defs shards log) (Err stop)
+run_unread gives script lines defs shards log (Unreadable response) is stops = inl (lines, is, inr stops)
+run_unread gives script lines defs shards log OutOfMemory is stops = tt
+
+-- the reply to a run of the same texts
+pub run_shown : (texts same : List Text) (script lines : Text) (shards count : ℕ) (shown : RunReply) → IsRunReply texts script shards shown
+    → texts ≡ same → script ≡ lines → shards ≡ count → IsRunReply same lines count shown
+run_shown texts same script lines shards count shown r texts_are script_is shards_are =
+    subst (λ (t : List Text). IsRunReply t lines count shown) texts_are
+    (subst (λ (s : Text). IsRunReply texts s count shown) script_is (subst (λ (n : ℕ). IsRunReply texts script n shown) shards_are r))
+
+-- the log and the definitions of an audit: the first file, and the others
+first_and_rest : (gives : FileGives) (given : Given) (files : Files) (r : Result Response Stop) (d : Bor Text) → 1 ≤ length files
+    → Ends (AuditsFiles gives (slice_index_or files 0 d).now (now_of (drop 1 files))) r
+    → Ends (CommandReplies gives given Audit (now_of files)) r
+first_and_rest gives given [] r d least ends = absurd (omega (arith, least))
+first_and_rest gives given (a ∷ more) r d least ends = ends
+
+all_others : (files : Files) → take (length files - 1) (drop 1 files) ≡ drop 1 files
+all_others files = take_all (length files - 1) (drop 1 files) (omega (arith, length-drop 1 files))
+
+pub audit_replies : (gives : FileGives) (given : Given) (name : Name) (files shown : Files) (r : Result Response Stop) (d : Bor Text) → name ≡ Audit → shown ≡ files
+    → 1 ≤ length shown
+    → Ends (AuditsFiles gives (slice_index_or shown 0 d).now (now_of (take (length shown - 1) (drop 1 shown)))) r
+    → Ends (CommandReplies gives given name (now_of files)) r
+audit_replies gives given name files shown r d is same least ends =
+    subst (λ (n : Name). Ends (CommandReplies gives given n (now_of files)) r) (sym is)
+    (subst (λ (fs : Files). Ends (CommandReplies gives given Audit (now_of fs)) r) same
+    (first_and_rest gives given shown r d least (subst (λ (fs : Files). Ends (AuditsFiles gives (slice_index_or shown 0 d).now (now_of fs)) r) (all_others shown) ends)))
+
+-- the first file that cannot be read
+pub first_unreadable : (gives : FileGives) (limit : ℕ) (paths : Files) (i : ℕ) (d : Bor Text) (texts : List Text) (stop : Stop) → i < length paths
+    → AreGiven gives limit (take i (now_of paths)) texts
+    → StopsBy (λ response. gives (get_or paths i d).now limit (Err file.Unreadable) × IsAlone (IsUnreadable (get_or paths i d).now) response) stop
+    → StopsBy (IsFirstUnreadable gives limit (now_of paths)) stop
+first_unreadable gives limit paths i d texts (Unreadable response) lt before stops = record {
+  place = i;
+  path = (get_or paths i d).now;
+  texts = texts;
+  here = text_here paths i d lt;
+  before = before;
+  fails = stops.0;
+  says = stops.1;
+}
+first_unreadable gives limit paths i d texts OutOfMemory lt before stops = tt
+
+-- the response of a command that ended
+pub its_response : (Replies : Response → Type 0) (ended : Result Response Stop) (response : Response) → Ends Replies ended → IsResponseOf ended response
+    → Replies response
+its_response Replies ended response ends is = elim is [
   | inl e ↦ subst (Ends Replies) e ends
   | inr e ↦ subst (Ends Replies) e ends
 ]

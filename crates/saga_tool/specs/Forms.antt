@@ -9,7 +9,7 @@ use Rattle.saga_tool.specs.declared.forms.Kind.TheVariants.{File, Files, Path, N
 use Rattle.saga_tool.specs.declared.forms.Parameter.{Parameter}
 use Rattle.saga_tool.specs.declared.forms.Form.{Form}
 use Rattle.saga_tool.specs.declared.forms.Name.{Name}
-use Rattle.saga_tool.specs.declared.forms.Name.TheVariants.{Check, Plan}
+use Rattle.saga_tool.specs.declared.forms.Name.TheVariants.{Check, Plan, Run, Audit}
 
 -- a required file, any number of files, an option with a path, an option with a number from 1 to 16, by default 1
 abbrev pub rule_by : Kind → Text → Rule
@@ -60,6 +60,8 @@ app_by o = fold added (bare_app o.title) o.arguments
 abbrev pub word_for : Name → Text
 word_for Check = codes "check"
 word_for Plan = codes "plan"
+word_for Run = codes "run"
+word_for Audit = codes "audit"
 
 abbrev pub outline_for : Name → Outline
 outline_for Check = record {
@@ -69,4 +71,13 @@ outline_for Check = record {
 outline_for Plan = record {
   title = codes "sagas plan";
   arguments = argument File (codes "DEF") ∷ argument File (codes "CASE") ∷ [];
+}
+outline_for Run = record {
+  title = codes "sagas run";
+  arguments = argument Number (codes "workers") ∷ argument Number (codes "shards") ∷ argument Path (codes "script") ∷ argument Path (codes "log")
+      ∷ argument File (codes "DEF") ∷ argument Files (codes "MORE") ∷ [];
+}
+outline_for Audit = record {
+  title = codes "sagas audit";
+  arguments = argument File (codes "LOG") ∷ argument File (codes "DEF") ∷ argument Files (codes "MORE") ∷ [];
 }

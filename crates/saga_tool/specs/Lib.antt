@@ -8,6 +8,10 @@ pub mod Limits
 pub mod Outcomes
 pub mod Lines
 pub mod Replies
+pub mod Responses
 pub mod Answers
+pub mod Shelves
+pub mod Audits
+pub mod Runs
 pub mod Outside
 pub mod Program

@@ -1,4 +1,4 @@
--- The limits, as numbers of bytes.
+-- The limits, as numbers of bytes where nothing else is said.
 use Rattle.std.specs.Prelude.{ℕ}
 
 abbrev pub max_definition : ℕ
@@ -7,6 +7,16 @@ max_definition = 1048576
 -- of a case, and of an answer
 abbrev pub max_certificate : ℕ
 max_certificate = 67108864
+
+abbrev pub max_script : ℕ
+max_script = 1048576
+
+abbrev pub max_log : ℕ
+max_log = 67108864
+
+-- how many definitions a shelf has at most
+abbrev pub max_shelf : ℕ
+max_shelf = 64
 
 -- of standard input
 abbrev pub max_input : ℕ

@@ -19,6 +19,10 @@ FileGives = Text → InputGives
 abbrev pub Prints : Type 1
 Prints = Text → Bool → Type 0
 
+-- the file of a path has this text, or could not be written
+abbrev pub Writes : Type 1
+Writes = Text → Text → Bool → Type 0
+
 -- a text went to standard error, as far as that could be written
 abbrev pub Complains : Type 1
 Complains = Text → Type 0
@@ -30,6 +34,7 @@ pub record World : Type 1 where
   -- standard input is a terminal
   pub has_terminal : Bool
   pub prints : Prints
+  pub writes : Writes
   pub complains : Complains
 
 -- want of memory is told apart from every other error
@@ -47,5 +52,6 @@ system_world is_terminal = record {
   input_gives = λ limit given. IsWithin limit given;
   has_terminal = is_terminal;
   prints = λ text written. ⊤;
+  writes = λ path text written. ⊤;
   complains = λ text. ⊤;
 }

@@ -24,3 +24,9 @@ pub record IsBadInput (line : List ℕ) (reply : Reply) : Type 0 where
   pub out : string_bytes reply.out ≡ []
   pub err : string_bytes reply.err ≡ line
   pub status : reply.status ≡ 3
+
+-- these texts on standard output and standard error, and this status
+pub record IsReplyWith (out err : List ℕ) (status : ℕ) (reply : Reply) : Type 0 where
+  pub out_is : string_bytes reply.out ≡ out
+  pub err_is : string_bytes reply.err ≡ err
+  pub status_is : reply.status ≡ status

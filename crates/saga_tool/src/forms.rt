@@ -31,10 +31,12 @@ pub struct Parameter<'a> {
 pub enum Name {
     Check,
     Plan,
+    Run,
+    Audit,
 }
 
 /// The commands, as help lists them.
-pub const NAMES: [Name; 2] = [Name::Check, Name::Plan];
+pub const NAMES: [Name; 4] = [Name::Check, Name::Plan, Name::Run, Name::Audit];
 
 /// A row of the table.
 #[derive(Clone, Copy, Debug)]
@@ -70,6 +72,55 @@ const ANSWER: Parameter<'static> = Parameter {
     help: "the plan or the chain, a JSON file",
 };
 
+const LOG: Parameter<'static> = Parameter {
+    kind: Kind::File,
+    name: "LOG",
+    shown: "LOG",
+    help: "the log of a run, a JSON object a line",
+};
+
+const WORKERS: Parameter<'static> = Parameter {
+    kind: Kind::Number,
+    name: "workers",
+    shown: "N",
+    help: "how many workers, from 1 to 16",
+};
+
+const SHARDS: Parameter<'static> = Parameter {
+    kind: Kind::Number,
+    name: "shards",
+    shown: "S",
+    help: "how many books the sagas are kept in, from 1 to 16: as many as workers run best",
+};
+
+const SCRIPT: Parameter<'static> = Parameter {
+    kind: Kind::Path,
+    name: "script",
+    shown: "F",
+    help: "a file that tells how actions and compensations end; what it does not tell succeeds",
+};
+
+const WRITTEN: Parameter<'static> = Parameter {
+    kind: Kind::Path,
+    name: "log",
+    shown: "F",
+    help: "the file to write the log to, after the report is printed",
+};
+
+const FIRST: Parameter<'static> = Parameter {
+    kind: Kind::File,
+    name: "DEF",
+    shown: "DEF",
+    help: "the first definition of the shelf, a TOML file",
+};
+
+const MORE: Parameter<'static> = Parameter {
+    kind: Kind::Files,
+    name: "MORE",
+    shown: "DEF",
+    help: "the further definitions, 64 in all at most",
+};
+
 /// The row of a command.
 pub fn form_of(name: Name) -> Form<'static>
     ensures word { result.word.now ≡ word_for name }
@@ -90,6 +141,20 @@ pub fn form_of(name: Name) -> Form<'static>
             about: "Plans how a saga shall end: prints a plan of least cost, or a chain of steps that shows that no set of steps is allowed",
             parameters: &[DEFINITION, CASE],
         },
+        Name::Run => Form {
+            word: "run",
+            title: "sagas run",
+            brief: "runs sagas by a script",
+            about: "Runs each definition once, in order, as sagas 0, 1 and so on: prints how each saga and each of its steps ended",
+            parameters: &[WORKERS, SHARDS, SCRIPT, WRITTEN, FIRST, MORE],
+        },
+        Name::Audit => Form {
+            word: "audit",
+            title: "sagas audit",
+            brief: "judges the log of a run",
+            about: "Audits the log of a run: prints `yes sagas A ended B stuck C events D`, or `no P REASON` for the event of place P, from 0, that was not allowed",
+            parameters: &[LOG, FIRST, MORE],
+        },
     }
 }
 
@@ -101,6 +166,8 @@ pub fn named(word: &str) -> Option<Name>
     match word {
         "check" => Some(Name::Check),
         "plan" => Some(Name::Plan),
+        "run" => Some(Name::Run),
+        "audit" => Some(Name::Audit),
         _ => None,
     }
 }

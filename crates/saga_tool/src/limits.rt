@@ -3,5 +3,14 @@
 /// The most bytes of a case or answer.
 pub const MAX_CERTIFICATE: usize = 67_108_864;
 
+/// The most bytes of a log.
+pub const MAX_LOG: usize = 67_108_864;
+
+/// The most definitions of an audit.
+pub const MAX_SHELF: usize = 64;
+
+/// How many threads audit.
+pub const AUDITORS: u32 = 4;
+
 /// The most bytes of standard input.
 pub const MAX_INPUT: usize = 1_048_576;

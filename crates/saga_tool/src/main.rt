@@ -1,10 +1,11 @@
-//! The program `sagas`: finds the cheapest way to end a saga in which a step has failed, and judges such plans.
+//! The program `sagas`: runs sagas, finds the cheapest way to end one in which a step has failed, and judges such plans.
 //!
 //! The work is done by functions over bytes, and by `run` over whatever outside it is given. `main` hands it the system
 //! and the words.
 #![tactic(auto)]
 
 mod arguments;
+mod audits;
 mod forms;
 mod limits;
 mod outcomes;
@@ -12,6 +13,9 @@ mod outside;
 mod parts;
 mod program;
 mod replies;
+mod responses;
+mod runs;
+mod shelves;
 #[cfg(test)]
 mod tests;
 mod texts;
@@ -19,9 +23,12 @@ mod words;
 
 use crate::outside::{Outside, System};
 use crate::program::{run, without_words};
+use std::alloc::Global;
 use std::env;
 use std::io::{self, IsTerminal};
 use std::process::ExitCode;
+use std::sync::Wait;
+use std::thread::Threads;
 
 /// The words after the program's name.
 fn words_of(rt: &HostRuntime) -> io::Result<Vec<String>> {
@@ -33,10 +40,14 @@ fn words_of(rt: &HostRuntime) -> io::Result<Vec<String>> {
 }
 
 /// The status of a run on the words of the command line.
-fn status_of(rt: &HostRuntime, outside: &impl Outside) -> io::Result<u8> {
-    let words = words_of(rt)?;
-    let words: Vec<&str> = words.iter().map(|word| word.as_str()).collect(rt.alloc())?;
-    Ok(run(outside, rt.alloc(), &words))
+fn status_of<R: Threads + Wait + Sync>(
+    rt: &R,
+    outside: &impl Outside,
+    alloc: Global,
+    words: &[String],
+) -> io::Result<u8> {
+    let words: Vec<&str> = words.iter().map(|word| word.as_str()).collect(alloc)?;
+    Ok(run(rt, outside, alloc, &words))
 }
 
 fn main(rt: HostRuntime) -> ExitCode {
@@ -44,8 +55,12 @@ fn main(rt: HostRuntime) -> ExitCode {
         rt: &rt,
         is_terminal: rt.stdin().is_terminal(),
     };
-    match status_of(&rt, &system) {
-        Ok(status) => ExitCode::from(status),
-        Err(error) => ExitCode::from(without_words(&system, &error)),
-    }
+    let status = match words_of(&rt) {
+        Ok(words) => status_of(&rt, &system, rt.alloc(), &words),
+        Err(error) => Err(error),
+    };
+    ExitCode::from(match status {
+        Ok(status) => status,
+        Err(error) => without_words(&system, &error),
+    })
 }

@@ -7,13 +7,18 @@ ghost use Rattle.saga_tool.specs.Suited.{is_suited};
 use crate::arguments::read_by;
 use crate::forms::{Form, Kind, Name, Parameter};
 use crate::outside::{FileFault, Outside};
-use crate::program::{respond, run};
-use crate::texts::{check_input, check_text, plan_text};
+use crate::program::{respond, run, show};
+use crate::replies::Reply;
+use crate::responses::{Log, Response};
+use crate::runs::RunReply;
+use crate::texts::{audit_text, check_input, check_text, plan_text, run_text};
 use crate::words::{WordsFault, read_words};
 use saga_read::read_up_to;
 use std::alloc::Global;
 use std::cell::RefCell;
+use std::sync::Wait;
 use std::test::Fail;
+use std::thread::Threads;
 
 const TWO: &str =
     "format = 1\nname = \"two\"\n\n[[step]]\nname = \"b\"\n\n[[step]]\nname = \"c\"\nneeds = [\"b\"]\nskip = \"never\"\n";
@@ -423,12 +428,407 @@ fn one_input(rt: HostRuntime) -> Result<(), Fail> {
     Ok(())
 }
 
+/// Three steps in a chain, of which the first two cost less to undo than to keep.
+const JOURNEY: &str =
+    "format = 1\nname = \"trip\"\nstep = [{ name = \"a\", undo = 1, keep = 5 }, { name = \"b\", needs = [\"a\"], undo = 2, keep = 5 }, { name = \"c\", needs = [\"b\"] }]\n";
+
+/// The journey in which the last step fails, but for the last line.
+const JOURNEY_LOG: &str = concat!(
+    "{\"def\":0,\"event\":\"open\",\"saga\":0}\n",
+    "{\"event\":\"start_run\",\"saga\":0,\"step\":0}\n",
+    "{\"event\":\"commit\",\"saga\":0,\"step\":0}\n",
+    "{\"event\":\"start_run\",\"saga\":0,\"step\":1}\n",
+    "{\"event\":\"commit\",\"saga\":0,\"step\":1}\n",
+    "{\"event\":\"start_run\",\"saga\":0,\"step\":2}\n",
+    "{\"event\":\"fail\",\"saga\":0,\"step\":2}\n",
+    "{\"event\":\"start_plan\",\"saga\":0}\n",
+    "{\"answer\":{\"cost\":3,\"kept\":[],\"kind\":\"plan\",\"leave\":[1,2,0],\"links\":[0,0],\"stand\":[1,2,0]},\"event\":\"adopt\",\"saga\":0}\n",
+    "{\"event\":\"start_undo\",\"saga\":0,\"step\":1}\n",
+    "{\"event\":\"undone\",\"saga\":0,\"step\":1}\n",
+    "{\"event\":\"start_undo\",\"saga\":0,\"step\":0}\n",
+);
+
+const JOURNEY_END: &str = "{\"event\":\"undone\",\"saga\":0,\"step\":0}\n";
+
+/// The step that must not be left out, and fails.
+const STUCK_LOG: &str = concat!(
+    "{\"def\":0,\"event\":\"open\",\"saga\":0}\n",
+    "{\"event\":\"start_run\",\"saga\":0,\"step\":0}\n",
+    "{\"event\":\"fail\",\"saga\":0,\"step\":0}\n",
+    "{\"event\":\"start_plan\",\"saga\":0}\n",
+    "{\"answer\":{\"chain\":[0],\"kind\":\"blocked\"},\"event\":\"adopt\",\"saga\":0}\n",
+);
+
+/// The same step, which may be left out.
+const FREE: &str = "format = 1\nname = \"one\"\nstep = [{ name = \"a\" }]\n";
+
+/// Two sagas, in which a step ends twice, and one that did not begin.
+const TWO_SAGAS_LOG: &str = concat!(
+    "{\"def\":0,\"event\":\"open\",\"saga\":0}\n",
+    "{\"def\":0,\"event\":\"open\",\"saga\":1}\n",
+    "{\"event\":\"start_run\",\"saga\":1,\"step\":0}\n",
+    "{\"event\":\"commit\",\"saga\":1,\"step\":0}\n",
+    "{\"event\":\"commit\",\"saga\":1,\"step\":0}\n",
+    "{\"event\":\"commit\",\"saga\":0,\"step\":0}\n",
+);
+
+/// A step that is tried three times.
+const RETRY: &str = "format = 2\nname = \"retry\"\nstep = [{ name = \"a\", tries = 3 }]\n";
+
+const RETRY_START: &str =
+    "{\"format\":2}\n{\"def\":0,\"event\":\"open\",\"saga\":0}\n{\"event\":\"start_run\",\"saga\":0,\"step\":0}\n";
+
+const MISSED: &str = "{\"event\":\"missed\",\"saga\":0,\"step\":0}\n";
+
+const AGAIN: &str = "{\"event\":\"start_run\",\"saga\":0,\"step\":0}\n";
+
+const DONE_AT_LAST: &str = "{\"event\":\"commit\",\"saga\":0,\"step\":0}";
+
+/// A log in pieces, definitions, what is printed to standard output or standard error, and the status.
+struct AuditRow(
+    &'static [&'static str],
+    &'static [&'static str],
+    &'static str,
+    u8,
+);
+
+const AUDITS: [AuditRow; 18] = [
+    AuditRow(
+        &[JOURNEY_LOG, JOURNEY_END],
+        &[JOURNEY],
+        "yes sagas 1 ended 1 stuck 0 events 13\n",
+        0,
+    ),
+    AuditRow(
+        &[JOURNEY_LOG, "{\"event\":\"undone\",\"saga\":0,\"step"],
+        &[JOURNEY],
+        "sagas: log: line 13: not-json\n",
+        3,
+    ),
+    AuditRow(
+        &[JOURNEY_LOG, JOURNEY_END, JOURNEY_END],
+        &[JOURNEY],
+        "no 13 not-taken\n",
+        1,
+    ),
+    AuditRow(
+        &[STUCK_LOG],
+        &[ONE],
+        "yes sagas 1 ended 0 stuck 1 events 5\n",
+        0,
+    ),
+    AuditRow(&[STUCK_LOG], &[FREE], "no 4 not-right\n", 1),
+    AuditRow(&[], &[ONE], "yes sagas 0 ended 0 stuck 0 events 0\n", 0),
+    AuditRow(&[TWO_SAGAS_LOG], &[ONE], "no 4 not-taken\n", 1),
+    AuditRow(
+        &["{\"event\":\"commit\",\"saga\":0,\"step\":0}"],
+        &[ONE],
+        "no 0 no-such-saga\n",
+        1,
+    ),
+    AuditRow(
+        &["{\"def\":7,\"event\":\"open\",\"saga\":0}"],
+        &[ONE],
+        "no 0 no-such-definition\n",
+        1,
+    ),
+    AuditRow(
+        &["{\"def\":0,\"event\":\"open\",\"saga\":4294967296}"],
+        &[ONE],
+        "sagas: log: line 1: bad-type\n",
+        3,
+    ),
+    AuditRow(
+        &[RETRY_START, MISSED, AGAIN, MISSED, AGAIN, DONE_AT_LAST],
+        &[RETRY],
+        "yes sagas 1 ended 1 stuck 0 events 7\n",
+        0,
+    ),
+    AuditRow(
+        &[
+            RETRY_START,
+            "{\"event\":\"fail\",\"saga\":0,\"step\":0}\n",
+            AGAIN,
+            MISSED,
+            AGAIN,
+            DONE_AT_LAST,
+        ],
+        &[RETRY],
+        "no 2 not-taken\n",
+        1,
+    ),
+    AuditRow(
+        &["{\"format\":3}\n"],
+        &[ONE],
+        "sagas: log: line 1: bad-type\n",
+        3,
+    ),
+    AuditRow(&["x"], &["x = "], "sagas: log: line 1: not-json\n", 3),
+    AuditRow(
+        &[STUCK_LOG],
+        &[ONE, CYCLE, "x = "],
+        "sagas: definition 1: cycle\n",
+        3,
+    ),
+    AuditRow(
+        &[STUCK_LOG],
+        &[ONE; 64],
+        "yes sagas 1 ended 0 stuck 1 events 5\n",
+        0,
+    ),
+    AuditRow(&["x"], &["x = "; 65], "sagas: too many definitions\n", 3),
+    AuditRow(&["x"], &["x = "; 64], "sagas: log: line 1: not-json\n", 3),
+];
+
+/// What is replied to an audit of a log of these pieces, one after another.
+fn audited<R: Threads + Sync>(
+    rt: &R,
+    alloc: Global,
+    pieces: &[&str],
+    definitions: &[&str],
+) -> Result<Reply, Fail> {
+    let mut log = String::new(alloc);
+    for piece in pieces {
+        log.push_str(piece)?;
+    }
+    let mut texts = Vec::new(alloc);
+    for definition in definitions {
+        texts.push(definition.as_bytes())?;
+    }
+    Ok(audit_text(rt, alloc, log.as_bytes(), &texts)?)
+}
+
+#[test]
+fn audits(rt: HostRuntime) -> Result<(), Fail> {
+    for AuditRow(log, definitions, line, status) in &AUDITS {
+        let reply = audited(&rt, rt.alloc(), log, definitions)?;
+        let (shown, other) = if *status == 3 {
+            (&reply.err, &reply.out)
+        } else {
+            (&reply.out, &reply.err)
+        };
+        assert_eq!(rt; shown.as_str(), *line);
+        assert!(rt; other.is_empty());
+        assert_eq!(rt; reply.status, *status, "{line}");
+    }
+    Ok(())
+}
+
+/// A run of definitions by a script: workers and shards, what is printed to standard output or standard error, the status,
+/// and what an audit of the log says, where there is one.
+struct TextsRow(
+    &'static [&'static str],
+    &'static str,
+    u32,
+    &'static str,
+    u8,
+    &'static str,
+);
+
+/// Two tries, of which none succeeds.
+const RETRY_TWICE: &str = "format = 2\nname = \"retry\"\nstep = [{ name = \"a\", tries = 2 }]\n";
+
+const RUNS_OF_TEXTS: [TextsRow; 13] = [
+    TextsRow(
+        &[JOURNEY],
+        "0 c run fail\n",
+        1,
+        "saga 0 trip ended\n   0 undone    a\n   1 undone    b\n   2 failed    c\nplans 1 cost 3\nsagas 1 ended 1 stuck 0 events 13\n",
+        0,
+        "yes sagas 1 ended 1 stuck 0 events 13\n",
+    ),
+    TextsRow(
+        &[JOURNEY],
+        "0 c run fail\n0 b undo fail\n",
+        1,
+        "saga 0 trip ended\n   0 committed a\n   1 fixed     b\n   2 failed    c\nplans 2 cost 10\nsagas 1 ended 1 stuck 0 events 13\n",
+        0,
+        "yes sagas 1 ended 1 stuck 0 events 13\n",
+    ),
+    TextsRow(
+        &[ONE],
+        "0 a run fail\n",
+        1,
+        "saga 0 one stuck\n   0 failed    a\nplans 1 cost blocked\nsagas 1 ended 0 stuck 1 events 5\n",
+        1,
+        "yes sagas 1 ended 0 stuck 1 events 5\n",
+    ),
+    TextsRow(
+        &[JOURNEY, JOURNEY],
+        "0 c run fail",
+        2,
+        "saga 0 trip ended\n   0 undone    a\n   1 undone    b\n   2 failed    c\nplans 1 cost 3\nsaga 1 trip ended\n   0 committed a\n   1 committed b\n   2 committed c\nplans 0 cost none\nsagas 2 ended 2 stuck 0 events 20\n",
+        0,
+        "yes sagas 2 ended 2 stuck 0 events 20\n",
+    ),
+    TextsRow(
+        &[RETRY],
+        "0 a run fail 1\n0 a run fail 2\n",
+        1,
+        "saga 0 retry ended\n   0 committed a\nplans 0 cost none\nsagas 1 ended 1 stuck 0 events 7\n",
+        0,
+        "yes sagas 1 ended 1 stuck 0 events 7\n",
+    ),
+    TextsRow(
+        &[RETRY_TWICE],
+        "0 a run fail 1\n0 a run fail 2\n",
+        1,
+        "saga 0 retry ended\n   0 failed    a\nplans 1 cost 0\nsagas 1 ended 1 stuck 0 events 7\n",
+        0,
+        "yes sagas 1 ended 1 stuck 0 events 7\n",
+    ),
+    TextsRow(
+        &[JOURNEY],
+        "0 a run abort\n",
+        1,
+        "saga 0 trip ended aborted\n   0 undone    a\n   1 waiting   b\n   2 waiting   c\nplans 1 cost 1\nsagas 1 ended 1 stuck 0 events 8\n",
+        0,
+        "yes sagas 1 ended 1 stuck 0 events 8\n",
+    ),
+    TextsRow(
+        &[FREE],
+        "",
+        16,
+        "saga 0 one ended\n   0 committed a\nplans 0 cost none\nsagas 1 ended 1 stuck 0 events 3\n",
+        0,
+        "yes sagas 1 ended 1 stuck 0 events 3\n",
+    ),
+    TextsRow(
+        &[JOURNEY],
+        "0 c run maybe",
+        1,
+        "sagas: script: line 1\n",
+        3,
+        "",
+    ),
+    TextsRow(
+        &["x = "],
+        "\n0 c run\n",
+        1,
+        "sagas: script: line 2\n",
+        3,
+        "",
+    ),
+    TextsRow(
+        &[ONE, CYCLE, "x = "],
+        "",
+        1,
+        "sagas: definition 1: cycle\n",
+        3,
+        "",
+    ),
+    TextsRow(
+        &["x = "; 65],
+        "maybe",
+        1,
+        "sagas: too many definitions\n",
+        3,
+        "",
+    ),
+    TextsRow(&["x = "; 64], "maybe", 1, "sagas: script: line 1\n", 3, ""),
+];
+
+/// What is replied to a run with as many shards as workers.
+fn ran<R: Threads + Wait + Sync>(
+    rt: &R,
+    alloc: Global,
+    definitions: &[&str],
+    script: &str,
+    workers: u32,
+) -> Result<RunReply, Fail>
+    requires { (0 < workers) × (workers ≤ 16) }
+{
+    let mut texts = Vec::new(alloc);
+    for definition in definitions {
+        texts.push(definition.as_bytes())?;
+    }
+    Ok(run_text(rt, alloc, &texts, script.as_bytes(), workers, workers)?)
+}
+
+/// What an audit says of the log of a run, where there is one.
+fn audit_of<R: Threads + Sync>(
+    rt: &R,
+    alloc: Global,
+    log: &Option<String>,
+    definitions: &[&str],
+) -> Result<String, Fail> {
+    match log {
+        Some(log) => Ok(audited(rt, alloc, &[log.as_str()], definitions)?.out),
+        None => Ok(String::new(alloc)),
+    }
+}
+
+#[test]
+fn runs_of_texts(rt: HostRuntime) -> Result<(), Fail> {
+    let alloc = rt.alloc();
+    for TextsRow(definitions, script, workers, line, status, audit) in &RUNS_OF_TEXTS {
+        let count = if *workers == 0 || *workers > 16 {
+            1
+        } else {
+            *workers
+        };
+        let RunReply { reply, log } = ran(&rt, alloc, definitions, script, count)?;
+        let (shown, other) = if *status == 3 {
+            (&reply.err, &reply.out)
+        } else {
+            (&reply.out, &reply.err)
+        };
+        assert_eq!(rt; shown.as_str(), *line);
+        assert!(rt; other.is_empty());
+        assert_eq!(rt; reply.status, *status, "{line}");
+        assert_eq!(rt; audit_of(&rt, alloc, &log, definitions)?.as_str(), *audit);
+    }
+    Ok(())
+}
+
+/// Whether a log is there, and begins so.
+fn begins(log: &Option<String>, start: &str) -> bool {
+    match log {
+        Some(log) => log.as_str().starts_with(start),
+        None => false,
+    }
+}
+
+/// Whether a log is there, and ends so.
+fn ends(log: &Option<String>, end: &str) -> bool {
+    match log {
+        Some(log) => log.as_str().ends_with(end),
+        None => false,
+    }
+}
+
+#[test]
+fn logs_of_runs(rt: HostRuntime) -> Result<(), Fail> {
+    let alloc = rt.alloc();
+    let stuck = ran(&rt, alloc, &[ONE], "0 a run fail\n", 1)?;
+    assert!(rt; begins(&stuck.log, STUCK_LOG) && ends(&stuck.log, STUCK_LOG));
+    let retried = ran(&rt, alloc, &[RETRY], "0 a run fail 1\n", 1)?;
+    assert!(rt; begins(&retried.log, RETRY_START));
+    assert!(rt;
+        ends(
+            &retried.log,
+            "{\"event\":\"commit\",\"saga\":0,\"step\":0}\n"
+        )
+    );
+    let refused = ran(&rt, alloc, &["x = "], "", 1)?;
+    assert!(rt; refused.log.is_none());
+    Ok(())
+}
+
 #[test]
 fn words(rt: HostRuntime) -> Result<(), Fail> {
-    let table: [(&[&str], Name, &[&str]); 3] = [
+    let table: [(&[&str], Name, &[&str]); 7] = [
         (&["check", "a", "b", "c"], Name::Check, &["a", "b", "c"]),
         (&["plan", "d", "e"], Name::Plan, &["d", "e"]),
         (&["plan", "--", "-d", "e"], Name::Plan, &["-d", "e"]),
+        (&["run", "d"], Name::Run, &["d"]),
+        (&["run", "d", "e", "f"], Name::Run, &["d", "e", "f"]),
+        (&["audit", "l", "d"], Name::Audit, &["l", "d"]),
+        (
+            &["audit", "l", "d", "e", "f"],
+            Name::Audit,
+            &["l", "d", "e", "f"],
+        ),
     ];
     for (words, name, files) in &table {
         match read_words(rt.alloc(), words) {
@@ -447,7 +847,7 @@ fn words(rt: HostRuntime) -> Result<(), Fail> {
 #[test]
 fn no_words(rt: HostRuntime) -> Result<(), Fail> {
     let alloc = rt.alloc();
-    let table: [(&[&str], bool); 17] = [
+    let table: [(&[&str], bool); 25] = [
         (&["check", "a"], false),
         (&["check", "a", "b", "c", "d"], false),
         (&["check", "a", "b", "c", "--help"], true),
@@ -458,6 +858,14 @@ fn no_words(rt: HostRuntime) -> Result<(), Fail> {
         (&["plan", "a", "b", "c"], false),
         (&["plan", "--workers", "2", "a", "b"], false),
         (&["plan", "-h"], true),
+        (&["run"], false),
+        (&["run", "--workers", "2"], false),
+        (&["run", "--workers", "17", "d"], false),
+        (&["run", "--version"], false),
+        (&["run", "d", "--help"], true),
+        (&["audit"], false),
+        (&["audit", "l"], false),
+        (&["audit", "l", "d", "e", "--help"], true),
         (&["chekc"], false),
         (&["chekc", "a"], false),
         (&["chekc", "a", "b"], false),
@@ -580,6 +988,7 @@ struct Made {
     input: Result<&'static str, FileFault>,
     is_terminal: bool,
     takes_output: bool,
+    takes_log: bool,
     shown: RefCell<String>,
 }
 
@@ -589,6 +998,7 @@ impl Made {
             input: Err(FileFault::Unreadable),
             is_terminal: false,
             takes_output: true,
+            takes_log: true,
             shown: RefCell::new(String::new(alloc)),
         }
     }
@@ -617,6 +1027,9 @@ impl Outside for Made {
             "trip" => bytes_of(alloc, TRIP, limit),
             "done" => bytes_of(alloc, DONE, limit),
             "plan" => bytes_of(alloc, PLAN, limit),
+            "one" => bytes_of(alloc, ONE, limit),
+            "stuck" => bytes_of(alloc, STUCK_LOG, limit),
+            "fails" => bytes_of(alloc, "0 a run fail\n", limit),
             "memory" => Err(FileFault::OutOfMemory),
             _ => Err(FileFault::Unreadable),
         }
@@ -640,6 +1053,14 @@ impl Outside for Made {
         self.takes_output
     }
 
+    fn write_file(&self, path: &str, text: &str) -> bool {
+        if self.takes_log {
+            self.show("log: ", path);
+            self.show("\n", text);
+        }
+        self.takes_log
+    }
+
     fn complain(&self, text: &str) {
         self.show("err: ", text);
     }
@@ -648,7 +1069,7 @@ impl Outside for Made {
 /// Words, what is shown, and the status.
 struct RunRow(&'static [&'static str], &'static str, u8);
 
-const RUNS: [RunRow; 9] = [
+const RUNS: [RunRow; 22] = [
     RunRow(&["check", "trip", "done", "plan"], "out: least 1\n", 0),
     RunRow(
         &["check", "trip", "done", "done"],
@@ -685,6 +1106,89 @@ const RUNS: [RunRow; 9] = [
         "err: sagas: out of memory\n",
         4,
     ),
+    RunRow(
+        &["audit", "stuck", "one"],
+        "out: yes sagas 1 ended 0 stuck 1 events 5\n",
+        0,
+    ),
+    RunRow(
+        &["audit", "stuck", "trip", "one"],
+        "out: no 4 not-right\n",
+        1,
+    ),
+    RunRow(
+        &["audit", "done", "done"],
+        "err: sagas: log: line 1: kind\n",
+        3,
+    ),
+    RunRow(
+        &["audit", "no log", "no definition"],
+        "err: sagas: cannot read no log\n",
+        4,
+    ),
+    RunRow(
+        &["audit", "done", "one", "no definition", "no other"],
+        "err: sagas: cannot read no definition\n",
+        4,
+    ),
+    RunRow(
+        &["audit", "stuck", "one", "memory", "no definition"],
+        "err: sagas: out of memory\n",
+        4,
+    ),
+    RunRow(
+        &["run", "trip"],
+        "out: saga 0 trip ended\n   0 committed a\n   1 committed b\nplans 0 cost none\nsagas 1 ended 1 stuck 0 events 5\n",
+        0,
+    ),
+    RunRow(
+        &[
+            "run",
+            "--log",
+            "l",
+            "--workers",
+            "2",
+            "one",
+            "--shards",
+            "3",
+            "--script",
+            "fails",
+        ],
+        "out: saga 0 one stuck\n   0 failed    a\nplans 1 cost blocked\nsagas 1 ended 0 stuck 1 events 5\nlog: l\n{\"def\":0,\"event\":\"open\",\"saga\":0}\n{\"event\":\"start_run\",\"saga\":0,\"step\":0}\n{\"event\":\"fail\",\"saga\":0,\"step\":0}\n{\"event\":\"start_plan\",\"saga\":0}\n{\"answer\":{\"chain\":[0],\"kind\":\"blocked\"},\"event\":\"adopt\",\"saga\":0}\n",
+        1,
+    ),
+    RunRow(
+        &[
+            "run",
+            "--log",
+            "l",
+            "--script",
+            "no script",
+            "no definition",
+        ],
+        "err: sagas: cannot read no script\n",
+        4,
+    ),
+    RunRow(
+        &["run", "--script", "done", "one", "no definition"],
+        "err: sagas: cannot read no definition\n",
+        4,
+    ),
+    RunRow(
+        &["run", "--log", "l", "--script", "done", "done"],
+        "err: sagas: script: line 1\n",
+        3,
+    ),
+    RunRow(
+        &["run", "--log", "l", "one", "done"],
+        "err: sagas: definition 1: not-toml\n",
+        3,
+    ),
+    RunRow(
+        &["run", "--script", "memory", "no definition"],
+        "err: sagas: out of memory\n",
+        4,
+    ),
     RunRow(&[], "err: sagas: cannot read -\n", 4),
 ];
 
@@ -692,7 +1196,7 @@ const RUNS: [RunRow; 9] = [
 fn runs(rt: HostRuntime) -> Result<(), Fail> {
     for RunRow(words, shown, status) in &RUNS {
         let made = Made::new(rt.alloc());
-        assert_eq!(rt; run(&made, rt.alloc(), words), *status, "{words:?}");
+        assert_eq!(rt; run(&rt, &made, rt.alloc(), words), *status, "{words:?}");
         match made.shown.try_borrow() {
             Ok(text) => assert_eq!(rt; text.as_str(), *shown, "{words:?}"),
             Err(_) => assert!(rt; false),
@@ -701,27 +1205,103 @@ fn runs(rt: HostRuntime) -> Result<(), Fail> {
     Ok(())
 }
 
+/// Words, whether the log can be written, whether standard output can, what is shown, and the status.
+struct UnwrittenRow(&'static [&'static str], bool, bool, &'static str, u8);
+
+const UNWRITTEN: [UnwrittenRow; 6] = [
+    UnwrittenRow(
+        &["check", "trip", "done", "plan"],
+        true,
+        false,
+        "err: sagas: cannot write -\n",
+        4,
+    ),
+    UnwrittenRow(
+        &["check", "trip", "done", "done"],
+        true,
+        false,
+        "err: sagas: answer: kind\n",
+        3,
+    ),
+    UnwrittenRow(
+        &["--version"],
+        true,
+        false,
+        "err: sagas: cannot write -\n",
+        4,
+    ),
+    UnwrittenRow(
+        &["run", "--log", "l", "one"],
+        true,
+        false,
+        "err: sagas: cannot write -\n",
+        4,
+    ),
+    UnwrittenRow(
+        &["run", "--log", "l", "--script", "fails", "one"],
+        false,
+        true,
+        "out: saga 0 one stuck\n   0 failed    a\nplans 1 cost blocked\nsagas 1 ended 0 stuck 1 events 5\nerr: sagas: cannot write l\n",
+        4,
+    ),
+    UnwrittenRow(
+        &["run", "--log", "l", "done"],
+        false,
+        false,
+        "err: sagas: definition 0: not-toml\n",
+        3,
+    ),
+];
+
 #[test]
-fn an_output_that_takes_no_more(rt: HostRuntime) -> Result<(), Fail> {
-    let table: [(&[&str], u8, &str); 3] = [
-        (
-            &["check", "trip", "done", "plan"],
-            4,
-            "err: sagas: cannot write -\n",
-        ),
-        (
-            &["check", "trip", "done", "done"],
-            3,
-            "err: sagas: answer: kind\n",
-        ),
-        (&["--version"], 4, "err: sagas: cannot write -\n"),
-    ];
-    for (words, status, shown) in &table {
+fn what_cannot_be_written(rt: HostRuntime) -> Result<(), Fail> {
+    for UnwrittenRow(words, takes_log, takes_output, shown, status) in &UNWRITTEN {
         let mut made = Made::new(rt.alloc());
-        made.takes_output = false;
-        assert_eq!(rt; run(&made, rt.alloc(), words), *status, "{words:?}");
+        made.takes_log = *takes_log;
+        made.takes_output = *takes_output;
+        assert_eq!(rt; run(&rt, &made, rt.alloc(), words), *status, "{words:?}");
         match made.shown.try_borrow() {
             Ok(text) => assert_eq!(rt; text.as_str(), *shown, "{words:?}"),
+            Err(_) => assert!(rt; false),
+        }
+    }
+    Ok(())
+}
+
+/// A run that stopped, with a report and a log.
+fn stopped(alloc: Global) -> Result<Response, Fail> {
+    Ok(Response {
+        reply: Reply {
+            out: String::from_str(alloc, "report\n")?,
+            err: String::from_str(alloc, "sagas: stopped: refused\n")?,
+            status: 4,
+        },
+        log: Some(Log {
+            path: String::from_str(alloc, "l")?,
+            text: String::from_str(alloc, "log\n")?,
+        }),
+    })
+}
+
+#[test]
+fn a_run_that_stopped(rt: HostRuntime) -> Result<(), Fail> {
+    let stop = "err: sagas: stopped: refused\n";
+    let table: [(bool, bool, &str); 3] = [
+        (true, true, "out: report\nlog: l\nlog\n"),
+        (true, false, "out: report\n"),
+        (false, true, ""),
+    ];
+    for (takes_output, takes_log, before) in &table {
+        let mut made = Made::new(rt.alloc());
+        made.takes_output = *takes_output;
+        made.takes_log = *takes_log;
+        let response = stopped(rt.alloc())?;
+        assert_eq!(rt; show(&made, rt.alloc(), &response)?, 4);
+        match made.shown.try_borrow() {
+            Ok(text) => {
+                assert_eq!(rt; text.len(), before.len() + stop.len());
+                assert!(rt; text.as_str().starts_with(*before) && text.as_str().ends_with(stop));
+            }
             Err(_) => assert!(rt; false),
         }
     }
@@ -732,10 +1312,10 @@ fn an_output_that_takes_no_more(rt: HostRuntime) -> Result<(), Fail> {
 fn without_words(rt: HostRuntime) -> Result<(), Fail> {
     let mut made = Made::new(rt.alloc());
     made.input = Ok("---\n---\n");
-    let reply = respond(&made, rt.alloc(), [].as_slice())?;
+    let Response { reply, log: _log } = respond(&rt, &made, rt.alloc(), [].as_slice())?;
     assert_eq!(rt; reply.err.as_str(), "sagas: definition: bad-format\n");
     made.is_terminal = true;
-    let reply = respond(&made, rt.alloc(), [].as_slice())?;
+    let Response { reply, log: _log } = respond(&rt, &made, rt.alloc(), [].as_slice())?;
     assert_eq!(rt; reply.status, 0);
     assert!(rt; reply.err.is_empty());
     assert!(rt; reply.out.as_str().starts_with("Coordinates sagas"));

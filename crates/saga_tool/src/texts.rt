@@ -1,14 +1,20 @@
 //! The program's work, over bytes.
-ghost use Rattle.std.specs.Prelude.{◌↔◌, ◌<◌, IfOk, IsTrue, length};
+ghost use Rattle.std.specs.Prelude.{◌↔◌, ◌<◌, ◌≤◌, IfOk, IsTrue, length, map};
 ghost use Rattle.saga_tool.specs.Answers.{IsCheckReply, IsPlanReply, IsInputReply};
+ghost use Rattle.saga_tool.specs.Audits.{IsAuditReply};
 ghost use Rattle.saga_tool.specs.Limits.{max_input};
+ghost use Rattle.saga_tool.specs.Runs.{IsRunReply};
 ghost use Rattle.saga_tool.specs.Replies.{IsBadInput};
 
+use crate::audits::{audit_outcome, reply_to_audit};
 use crate::limits::MAX_INPUT;
 use crate::outcomes::{Question, outcome_of};
 use crate::parts::parts_of;
 use crate::replies::{Reply, reply_to};
+use crate::runs::{RunReply, reply_to_run, run_outcome};
 use std::alloc::{AllocError, Global};
+use std::sync::Wait;
+use std::thread::Threads;
 
 /// Judges an answer to a case of a definition: `least N` where the plan is least and costs `N`, `blocked` where no set
 /// of steps is allowed, `no FAULT` where the answer is not right; a fault of a text goes to standard error.
@@ -60,4 +66,37 @@ pub fn check_input(alloc: Global, input: &[u8]) -> Result<Reply, AllocError>
         None => bad_input(alloc, "sagas: input: parts\n"),
         Some(parts) => check_text(alloc, parts.definition, parts.case, parts.answer),
     }
+}
+
+/// Audits a log over a shelf of definitions: `yes` with numbers where its history is legal, else `no` with the place, from
+/// 0, of the first event that was not allowed, and why; a fault of a text goes to standard error.
+pub fn audit_text<R: Threads + Sync>(
+    rt: &R,
+    alloc: Global,
+    log: &[u8],
+    definitions: &[&[u8]],
+) -> Result<Reply, AllocError>
+    ensures { IfOk result (IsAuditReply log.now (map (λ t. t.now) definitions.now)) }
+{
+    let outcome = audit_outcome(rt, alloc, log, definitions)?;
+    reply_to_audit(alloc, &outcome)
+}
+
+/// Runs each definition once, in order, as sagas 0, 1 and so on, by a script that tells how actions and compensations end:
+/// the report, with status 1 where a saga is stuck, and the log of the histories, one after the other. A fault of a text goes
+/// to standard error, and then nothing is run; a run that stopped tells so there, with status 4, beside its report.
+pub fn run_text<R: Threads + Wait + Sync>(
+    rt: &R,
+    alloc: Global,
+    definitions: &[&[u8]],
+    script: &[u8],
+    workers: u32,
+    shards: u32,
+) -> Result<RunReply, AllocError>
+    requires workers { (0 < workers) × (workers ≤ 16) }
+    requires shards { (0 < shards) × (shards ≤ 16) }
+    ensures { IfOk result (IsRunReply (map (λ t. t.now) definitions.now) script.now shards) }
+{
+    let outcome = run_outcome(rt, alloc, definitions, script, workers, shards)?;
+    reply_to_run(alloc, outcome)
 }

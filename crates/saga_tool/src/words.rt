@@ -4,7 +4,7 @@ ghost use Rattle.clap.specs.Words.{app_of};
 ghost use Rattle.saga_tool.specs.Command.{IsCommand, IsTaken, IsMadeOf, IsWordsFault, IsOther, may_be_option, sagas_app};
 
 use crate::arguments::{Given, STATUSES, read_by};
-use crate::forms::{Form, NAMES, Name, form_of, named};
+use crate::forms::{Form, Kind, NAMES, Name, form_of, named};
 use clap::error::ErrorKind;
 use clap::{Arg, ArgAction, Command, Error};
 use std::alloc::{AllocError, Global};
@@ -13,7 +13,7 @@ use std::convert::From;
 const VERSION: &str = "0.1.0";
 
 const ABOUT: &str =
-    "Coordinates sagas: finds the cheapest way to end a saga in which a step has failed, and judges such plans
+    "Coordinates sagas: runs them, finds the cheapest way to end a saga in which a step has failed, and judges such plans
 
 Without words, a definition, a case and an answer are read from standard input, with lines --- between them, and judged";
 
@@ -53,8 +53,20 @@ impl From<Error> for WordsFault {
 fn push_line(lines: &mut String, form: &Form<'_>) -> Result<(), AllocError> {
     lines.push_str(form.word)?;
     for parameter in form.parameters {
-        lines.push_str(" ")?;
-        lines.push_str(parameter.shown)?;
+        match parameter.kind {
+            Kind::Files => lines.push_str("..")?,
+            Kind::File => {
+                lines.push_str(" ")?;
+                lines.push_str(parameter.shown)?;
+            }
+            Kind::Path | Kind::Number => {
+                lines.push_str(" [--")?;
+                lines.push_str(parameter.name)?;
+                lines.push_str(" ")?;
+                lines.push_str(parameter.shown)?;
+                lines.push_str("]")?;
+            }
+        }
     }
     lines.push_str(": ")?;
     lines.push_str(form.brief)?;

@@ -7,3 +7,9 @@ returns-in-Check-clause-outline c = ap outline_for (sym c.in-Check.is)
 
 pub returns-in-Plan-clause-outline : goal.returns-in-Plan-clause-outline
 returns-in-Plan-clause-outline c = ap outline_for (sym c.in-Plan.is)
+
+pub returns-in-Run-clause-outline : goal.returns-in-Run-clause-outline
+returns-in-Run-clause-outline c = ap outline_for (sym c.in-Run.is)
+
+pub returns-in-Audit-clause-outline : goal.returns-in-Audit-clause-outline
+returns-in-Audit-clause-outline c = ap outline_for (sym c.in-Audit.is)

@@ -9,4 +9,4 @@ returns g c =
     let gives = (g.W.Outside.world c.args.outside.now).file_gives in
     let is : map (λ s. s.now) c.as_slice.result.now ≡ codes "--help" ∷ [] = search rules in
     IfOk-weaker c.on_words.result _ _
-    (λ reply r. is_help gives reply (subst (λ (words : List (List ℕ)). RepliesToWords gives words reply) is r)) c.on_words.ensures
+    (λ response r. is_help gives response (subst (λ (words : List (List ℕ)). RepliesToWords gives words response) is r)) c.on_words.ensures

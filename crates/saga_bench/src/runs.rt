@@ -1,0 +1,162 @@
+//! Timing of whole runs: sagas that workers drive to their end, the log of what they did, and the audit of that log.
+ghost use Rattle.std.specs.Prelude.{◌≡◌};
+
+use crate::audits::ended;
+use crate::books::{Load, drive};
+use crate::logs::events_of;
+use crate::{BOOK_TIMES, shelf_of, show};
+use anyhow::{Result, bail, ensure};
+use saga_core::Book;
+use saga_def::Definition;
+use saga_desk::Job;
+use saga_history::{Event, Outcome};
+use saga_log::write_log;
+use saga_work::{Actor, run_all};
+use std::alloc::{Alloc, AllocError, Global};
+use std::rt::Clock;
+use std::sync::Wait;
+use std::thread::Threads;
+use std::time::Instant;
+
+/// What is run: so many sagas of one definition, by so many workers on so many shards, and whether their log is written and
+/// audited.
+#[derive(Clone, Copy)]
+pub struct Crew {
+    pub sagas: u32,
+    pub workers: u32,
+    pub shards: u32,
+    pub logs: bool,
+}
+
+/// Has each step done at once.
+struct Ready;
+
+impl Actor for Ready {
+    ghost use Rattle.saga_history.specs.declared.tasks.Outcome.{Outcome};
+
+    ghost may = { λ ready job outcome. outcome ≡ Outcome.Done };
+
+    ghost may_abort = { λ ready job. ⊥ };
+
+    fn run(&self, job: &Job<'_>) -> Outcome {
+        let _ = job;
+        Outcome::Done
+    }
+
+    fn undo(&self, job: &Job<'_>) -> Outcome {
+        let _ = job;
+        Outcome::Done
+    }
+}
+
+/// Asks for the first definition of a shelf so often.
+fn asks_of(alloc: Global, sagas: u32) -> Result<Vec<u32>, AllocError> {
+    let mut asks = Vec::new(alloc);
+    for _ in 0..sagas {
+        asks.push(0)?;
+    }
+    Ok(asks)
+}
+
+/// The books of a run in which each saga is ended.
+fn books_of<'d, R: Threads + Wait + Sync>(
+    rt: &R,
+    alloc: Global,
+    shelf: &'d [Definition],
+    asks: &[u32],
+    crew: Crew,
+) -> Result<Vec<Book<'d>>> {
+    let Crew {
+        workers,
+        shards,
+        ..
+    } = crew;
+    ensure!(0 < workers && workers <= 16, "1 to 16 workers");
+    ensure!(0 < shards && shards <= 16, "1 to 16 shards");
+    match run_all(rt, alloc, shelf, asks, workers, shards, &Ready) {
+        Ok(run) => {
+            ensure!(run.stopped.is_none(), "stopped");
+            Ok(run.books)
+        }
+        Err(fault) => bail!("{}", fault.word()),
+    }
+}
+
+/// How many events books have.
+fn events_in(books: &[Book<'_>]) -> usize {
+    let mut events = 0usize;
+    for book in books {
+        events = events.saturating_add(book.history().len());
+    }
+    events
+}
+
+/// The log of the histories of books, one after the other.
+fn log_of(alloc: Global, books: Vec<Book<'_>>) -> Result<String, AllocError> {
+    let mut events: Vec<Event> = Vec::new(alloc);
+    for book in books {
+        let mut history = book.into_history();
+        events.append(&mut history)?;
+    }
+    write_log(alloc, &events)
+}
+
+/// Writes the log of books and audits it. Shows how long each took.
+fn time_log_of<R: Threads + Sync + Clock + Eprint + Alloc<A = Global>>(
+    rt: &R,
+    shelf: &[Definition],
+    crew: Crew,
+    books: Vec<Book<'_>>,
+) -> Result<()> {
+    let start = Instant::now(rt)?;
+    let log = log_of(rt.alloc(), books)?;
+    show(rt, start.elapsed(rt)?)?;
+    let start = Instant::now(rt)?;
+    let events = events_of(rt.alloc(), log.as_bytes())?;
+    let count = ended(rt, rt.alloc(), None, shelf, &events)?;
+    show(rt, start.elapsed(rt)?)?;
+    ensure!(count == crew.sagas as usize, "not all ended");
+    Ok(())
+}
+
+/// Lets a book alone and then workers drive the sagas, each of which is asked for. Shows how long each took, and gives how
+/// many events there were.
+fn time_once<R: Threads + Wait + Sync + Clock + Eprint + Alloc<A = Global>>(
+    rt: &R,
+    shelf: &[Definition],
+    asks: &[u32],
+    crew: Crew,
+) -> Result<usize> {
+    let load = Load {
+        sagas: crew.sagas,
+        misses: 0,
+        fails: None,
+    };
+    let (alone, took) = drive(rt, shelf, load)?;
+    show(rt, took)?;
+    let start = Instant::now(rt)?;
+    let books = books_of(rt, rt.alloc(), shelf, asks, crew)?;
+    show(rt, start.elapsed(rt)?)?;
+    let events = events_in(&books);
+    ensure!(events == alone.len(), "not as many events as alone");
+    if crew.logs {
+        time_log_of(rt, shelf, crew, books)?;
+    }
+    Ok(events)
+}
+
+/// Times runs of sagas of a case's definition.
+pub fn time_runs<R: Threads + Wait + Sync + Clock + Print + Eprint + Alloc<A = Global>>(
+    rt: &R,
+    text: &str,
+    crew: Crew,
+) -> Result<()> {
+    let shelf = shelf_of(rt.alloc(), text, 0)?;
+    let asks = asks_of(rt.alloc(), crew.sagas)?;
+    let mut events = 0;
+    for _ in 0..BOOK_TIMES {
+        events = time_once(rt, &shelf, &asks, crew)?;
+    }
+    println!(rt; "events {events}")?;
+    Ok(())
+}

@@ -1,0 +1,10 @@
+use Rattle.std.proofs.Common.{rules, inl, inr, map}
+use Rattle.saga_tool.proofs.program.audit.Goals as goal
+
+pub returns : goal.returns
+returns g c =
+    inl (
+      c.in_ok-log.log.items,
+      c.in_ok-log.ensures.text,
+      inl (map (λ t. t.items) c.in_ok-texts.texts.items, c.in_ok-texts.ensures.texts, search rules),
+    )

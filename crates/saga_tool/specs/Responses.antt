@@ -1,0 +1,25 @@
+-- What the program answers to words.
+use Rattle.std.specs.Prelude.{List, ℕ, Option, Some, None, ◌≡◌}
+use Rattle.std.specs.String.{string_bytes}
+use Rattle.saga_tool.specs.declared.replies.Reply.{Reply}
+use Rattle.saga_tool.specs.declared.responses.Log.{Log}
+use Rattle.saga_tool.specs.declared.responses.Response.{Response}
+
+-- a reply without a log
+abbrev pub alone : Reply → Response
+alone reply = record { reply = reply; log = None }
+
+pub record IsAlone (Replies : Reply → Type 0) (response : Response) : Type 0 where
+  pub replies : Replies response.reply
+  pub none : response.log ≡ None
+
+-- a text for the file of a path
+pub record IsLogOf (path text : List ℕ) (log : Log) : Type 0 where
+  pub path_is : string_bytes log.path ≡ path
+  pub text_is : string_bytes log.text ≡ text
+
+-- the log for a file, where there are both
+abbrev pub IsLogFor : Option (List ℕ) → Option (List ℕ) → Option Log → Type 0
+IsLogFor (Some path) (Some text) (Some log) = IsLogOf path text log
+IsLogFor (Some path) (Some text) None = ⊥
+IsLogFor path text log = log ≡ None
