@@ -178,6 +178,8 @@ expect 4 '' 'sagas: cannot read x' $none run --script $trip --log "$work/new" $c
 expect 3 '' 'sagas: script: line 1' $none run --script $trip --log "$work/new" $case
 expect 3 '' 'sagas: script: line 2' $none run --script <(printf '\n0 a run\n') $case
 expect 3 '' 'sagas: definition 1: not-toml' $none run --log "$work/new" $trip $case $case
+printf 'format = 2\nname = "retry"\nstep = [{ name = "a", tries = 10 }]\n' >"$work/tries.toml"
+expect 3 '' 'sagas: definition 0: tries-out-of-range' $none run "$work/tries.toml"
 expect 3 '' 'sagas: too many definitions' $none run --script $trip --log "$work/new" $case "${many[@]}"
 expect 3 '' 'sagas: script: too-long' $none run --script /dev/zero $case
 

@@ -1,5 +1,5 @@
 -- What a script tells of the events of books.
-use Rattle.std.proofs.Common.{◌≡◌, ◌∙◌, ℕ, Bool, List, ap, sym}
+use Rattle.std.proofs.Common.{◌∙◌, ℕ, Bool, List, ap, sym}
 use Rattle.saga_history.specs.declared.events.Mark.{Mark}
 use Rattle.saga_history.specs.declared.events.Mark.TheVariants as mark
 use Rattle.saga_history.specs.declared.tasks.Outcome.{Outcome}

@@ -5,7 +5,6 @@ use Rattle.std.specs.String.{string_bytes}
 use Rattle.saga_def.specs.Contents.{Contents}
 use Rattle.saga_text.specs.Faults.{word_of as text_word_of}
 use Rattle.saga_core.specs.Book.{Book}
-use Rattle.saga_core.specs.declared.refusals.OpenRefusal.TheVariants as opening
 use Rattle.saga_desk.specs.Finish.{AreOfShards, HeadlineHolds, MergesAreLegal, events_of}
 use Rattle.saga_log.specs.Logs.{log_text}
 use Rattle.saga_report.specs.Reports.{IsCountedReport}
@@ -14,7 +13,6 @@ use Rattle.saga_script.specs.declared.faults.ScriptFault.TheVariants as bad
 use Rattle.saga_script.specs.Jobs.{IsTold, IsAbortTold}
 use Rattle.saga_script.specs.Scripts.{statements_of}
 use Rattle.saga_script.specs.Statements.{Statement}
-use Rattle.saga_work.specs.declared.faults.RunFault.{RunFault}
 use Rattle.saga_work.specs.declared.faults.RunFault.TheVariants as fault
 use Rattle.saga_work.specs.declared.faults.Stop.{Stop}
 use Rattle.saga_work.specs.Asked.{AreAnswered, AreOpenedAsAsked, IsOver}

@@ -1,5 +1,5 @@
 -- The definitions of several texts.
-use Rattle.std.specs.Prelude.{ℕ, List, ◌∷◌, [], Option, Some, take, slice_get, Ok, Err, ◌≡◌, ◌≢◌}
+use Rattle.std.specs.Prelude.{ℕ, List, Some, take, slice_get, Ok, Err, ◌≡◌, ◌≢◌}
 use Rattle.std.specs.List.{AllZip}
 use Rattle.saga_def.specs.Contents.{Contents}
 use Rattle.saga_text.specs.declared.faults.TextFault.{TextFault}

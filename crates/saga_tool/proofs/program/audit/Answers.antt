@@ -1,4 +1,4 @@
-use Rattle.std.proofs.Common.{rules, inl, inr, map}
+use Rattle.std.proofs.Common.{rules, inl, map}
 use Rattle.saga_tool.proofs.program.audit.Goals as goal
 
 pub returns : goal.returns

@@ -1,4 +1,4 @@
-use Rattle.saga_tool.proofs.ReplyLemmas.{check_replies, plan_replies, run_replies, audit_replies}
+use Rattle.saga_tool.proofs.ReplyLemmas.{check_replies, plan_replies, audit_replies}
 use Rattle.saga_tool.proofs.program.on_command.Goals as goal
 
 pub returns-in-Check-len3 : goal.returns-in-Check-len3

@@ -1,4 +1,4 @@
-use Rattle.std.proofs.Common.{inl, inr, map, rules}
+use Rattle.std.proofs.Common.{inl, map}
 use Rattle.std.proofs.lemmas.Result.{IfOk-weaker}
 use Rattle.saga_tool.specs.Program.{CommandReplies}
 use Rattle.saga_tool.proofs.ReplyLemmas.{its_response}

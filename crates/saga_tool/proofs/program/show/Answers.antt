@@ -1,4 +1,4 @@
-use Rattle.std.proofs.Common.{◌≡◌, ◌++◌, inr, codes, map, option_map, rules, subst, Some, Option, List, ℕ, Bor}
+use Rattle.std.proofs.Common.{◌≡◌, ◌++◌, inr, codes, option_map, rules, subst, Some, Option, List, ℕ, Bor}
 use Rattle.saga_tool.specs.Lines.{line_feed}
 use Rattle.saga_tool.specs.Program.{WritesBut}
 use Rattle.saga_tool.proofs.program.show.Goals as goal

@@ -1,4 +1,4 @@
-use Rattle.std.proofs.Common.{◌≡◌, ◌∙◌, ℕ, arith, ap, length, refl, subst, sym, List}
+use Rattle.std.proofs.Common.{◌∙◌, ℕ, arith, ap, length, refl, subst, sym, List}
 use Rattle.std.specs.Borrow.{Bor}
 use Rattle.std.specs.List.{range_with_len}
 use Rattle.std.specs.String.{string_bytes}
