@@ -1,4 +1,4 @@
--- The open steps of a case's network, kind by kind.
+-- The residual arcs of a case's network, kind by kind.
 use Rattle.std.proofs.Common.{ℕ, ◌≡◌, ◌<◌, ◌+◌, ◌-◌, ◌∙◌, Bool, true, false, List, Some, length, get_or, sym, subst, refl, arith, inl, inr}
 use Rattle.std.specs.Prelude.{slice_get}
 use Rattle.std.proofs.lemmas.Bool.{cases_lt}
@@ -6,7 +6,7 @@ use Rattle.std.proofs.lemmas.Option.{slice_get_within, same_Some}
 use Rattle.saga_def.specs.declared.steps.Need.{Need}
 use Rattle.saga_case.specs.Terms.{Terms}
 use Rattle.saga_flow.specs.declared.nets.Arc.{Arc}
-use Rattle.saga_flow.specs.declared.steps.Step.{Step}
+use Rattle.saga_flow.specs.declared.residual_arcs.ResidualArc.{ResidualArc}
 use Rattle.saga_flow.specs.Flows.{IsWithin}
 use Rattle.saga_flow.specs.Residual.{Joins, HasRoom, IsOpen}
 use Rattle.saga_closure.specs.CaseNet.{leave_arc, stand_arc, link_arc, cap_of, network_of}
@@ -38,7 +38,7 @@ each_at t P leaves stands links k a at =
       ]
     ]
 
--- what an open step asks of the arc that it is over
+-- what a residual arc asks of the arc that it is over
 abbrev pub OpenOver : (ℕ → ℕ → Type 0) → List ℕ → ℕ → Arc → Type 0
 OpenOver P on k a = (way : Bool) (u v : ℕ) → Joins way a u v → HasRoom way a.cap (get_or on k 0) 1 → P u v
 
@@ -61,12 +61,12 @@ module _ (t : Terms) (on : List ℕ) (P : ℕ → ℕ → Type 0)
   over_link k lt true u v joins room = subst (λ a. P a v) joins.0 (subst (P (2 + (need_at t k).step)) joins.1 (link k lt))
   over_link k lt false u v joins room = subst (λ a. P a v) joins.0 (subst (P (2 + (need_at t k).on)) joins.1 (unlink k lt room))
 
-  pub each_open : (s : Step) (u v : ℕ) → IsOpen (network_of t).arcs on s u v → P u v
+  pub each_open : (s : ResidualArc) (u v : ℕ) → IsOpen (network_of t).arcs on s u v → P u v
   each_open s u v ((a, at, joins), (b, at_b, room)) =
       let same : b ≡ a = same_Some _ _ (sym at_b ∙ at) in
       each_at t (OpenOver P on) over_leave over_stand over_link s.arc a at s.forward u v joins (rw same at room)
 
--- the kinds of open steps
+-- the kinds of residual arcs
 pub opens_leave : (t : Terms) (on : List ℕ) (v : ℕ) → v < t.count → IsWithin (get_or on v 0 + 1) (cap_of (t.leave v)) → IsOpen (network_of t).arcs on (record { arc = v; forward = true }) 0 (2 + v)
 opens_leave t on v lt room = ((leave_arc t v, leave_at t v lt, (refl, refl)), (leave_arc t v, leave_at t v lt, room))
 

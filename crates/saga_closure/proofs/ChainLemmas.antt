@@ -10,7 +10,7 @@ use Rattle.saga_def.specs.declared.steps.Price.TheVariants as price
 use Rattle.saga_case.specs.Terms.{Terms}
 use Rattle.saga_case.specs.Right.{IsRightChain}
 use Rattle.saga_flow.specs.declared.nets.Cap.TheVariants as cap
-use Rattle.saga_flow.specs.declared.steps.Step.{Step}
+use Rattle.saga_flow.specs.declared.residual_arcs.ResidualArc.{ResidualArc}
 use Rattle.saga_flow.specs.Reached.{HasUnbounded, Reaches, here, next}
 use Rattle.saga_flow.specs.Residual.{IsOpen, IsResidual}
 use Rattle.saga_closure.specs.Capacities.{endless, price_of, room_of, room_at, terms_by, AreCapacities}
@@ -86,7 +86,7 @@ back_turned t on goal v chain back goes =
     }
 
 -- a step between steps is along a need where no arc carries anything
-pub needs_open : (t : Terms) (on : List ℕ) (s : Step) (u v : ℕ) → ((k : ℕ) → get_or on k 0 ≡ 0) → IsOpen (network_of t).arcs on s (2 + u) (2 + v) → NeedsDirectly t.needs u v
+pub needs_open : (t : Terms) (on : List ℕ) (s : ResidualArc) (u v : ℕ) → ((k : ℕ) → get_or on k 0 ≡ 0) → IsOpen (network_of t).arcs on s (2 + u) (2 + v) → NeedsDirectly t.needs u v
 needs_open t on s u v empty step = elim (goes_by t on u v (s, step)) [
   | inl (k, lt, from, to) ↦ has_need t.needs k u v (slice_get-get_or t.needs k no_need lt ∙ ap Some (rw (← from, ← to) refl))
   | inr (k, lt, from, to, some) ↦ absurd (omega (arith, some, empty (t.count + (t.count + k))))

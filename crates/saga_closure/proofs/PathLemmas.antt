@@ -5,7 +5,7 @@ use Rattle.std.proofs.lemmas.Bool.{cases_lt, ne_eqb}
 use Rattle.std.proofs.lemmas.List.{reverse-append, get_or_default}
 use Rattle.saga_def.specs.Rules.{AreKnown}
 use Rattle.saga_case.specs.Terms.{Terms}
-use Rattle.saga_flow.specs.declared.steps.Step.{Step}
+use Rattle.saga_flow.specs.declared.residual_arcs.ResidualArc.{ResidualArc}
 use Rattle.saga_flow.specs.declared.nets.Arc.{Arc}
 use Rattle.saga_flow.specs.Residual.{Joins, Leads, IsOpen}
 use Rattle.saga_flow.specs.Rounds.{IsTrail}
@@ -24,7 +24,7 @@ level_at depth level v =
     let e : 2 + v - 2 ≡ v = omega arith in
     rw (ne_eqb (2 + v) 0 (λ q. omega (arith, q)), ne_eqb (2 + v) 1 (λ q. omega (arith, q)), e) refl
 
-module _ (t : Terms) (on level : List ℕ) (by : List Step) (order : List ℕ) (first end next depth : ℕ) (known : AreKnown t.needs t.count) (search : IsSearch t on level by order first end next depth depth) where
+module _ (t : Terms) (on level : List ℕ) (by : List ResidualArc) (order : List ℕ) (first end next depth : ℕ) (known : AreKnown t.needs t.count) (search : IsSearch t on level by order first end next depth depth) where
   lv : ℕ → ℕ
   lv = node_level depth level
 
@@ -60,26 +60,26 @@ module _ (t : Terms) (on level : List ℕ) (by : List Step) (order : List ℕ) (
   low = omega (arith, search.deep, search.bounds, order_few t on level by order first end next depth depth search)
 
 -- a step that is one level up climbs
-pub climbs : (t : Terms) (on level : List ℕ) (depth u v : ℕ) (s : Step) → IsOpen (network_of t).arcs on s (2 + u) (2 + v) → get_or level v 0 ≡ get_or level u 0 + 1 → get_or level v 0 ≤ depth → Climbs (network_of t).arcs on (node_level depth level) s (2 + u) (2 + v)
+pub climbs : (t : Terms) (on level : List ℕ) (depth u v : ℕ) (s : ResidualArc) → IsOpen (network_of t).arcs on s (2 + u) (2 + v) → get_or level v 0 ≡ get_or level u 0 + 1 → get_or level v 0 ≤ depth → Climbs (network_of t).arcs on (node_level depth level) s (2 + u) (2 + v)
 climbs t on level depth u v s step up few = (step, omega (arith, level_at depth level u, level_at depth level v))
 
-pub climbs_in : (t : Terms) (on level : List ℕ) (depth v : ℕ) (s : Step) → IsOpen (network_of t).arcs on s 0 (2 + v) → get_or level v 0 ≡ 0 → Climbs (network_of t).arcs on (node_level depth level) s 0 (2 + v)
+pub climbs_in : (t : Terms) (on level : List ℕ) (depth v : ℕ) (s : ResidualArc) → IsOpen (network_of t).arcs on s 0 (2 + v) → get_or level v 0 ≡ 0 → Climbs (network_of t).arcs on (node_level depth level) s 0 (2 + v)
 climbs_in t on level depth v s step zero_level = (step, omega (arith, level_at depth level v))
 
-pub climbs_out : (t : Terms) (on level : List ℕ) (depth v : ℕ) (s : Step) → IsOpen (network_of t).arcs on s (2 + v) 1 → get_or level v 0 ≡ depth → Climbs (network_of t).arcs on (node_level depth level) s (2 + v) 1
+pub climbs_out : (t : Terms) (on level : List ℕ) (depth v : ℕ) (s : ResidualArc) → IsOpen (network_of t).arcs on s (2 + v) 1 → get_or level v 0 ≡ depth → Climbs (network_of t).arcs on (node_level depth level) s (2 + v) 1
 climbs_out t on level depth v s step at = (step, omega (arith, level_at depth level v))
 
 -- a trail that is put together from its end
-pub trail_one : (R : Step → ℕ → ℕ → Type 0) (path : List Step) (s : Step) (from to : ℕ) → path ≡ [] → R s from to → IsTrail R from (reverse (path ++ s ∷ [])) to
+pub trail_one : (R : ResidualArc → ℕ → ℕ → Type 0) (path : List ResidualArc) (s : ResidualArc) (from to : ℕ) → path ≡ [] → R s from to → IsTrail R from (reverse (path ++ s ∷ [])) to
 trail_one R path s from to is step = rw is (to, step, refl)
 
-pub trail_front : (R : Step → ℕ → ℕ → Type 0) (path : List Step) (s : Step) (from mid to : ℕ) → R s from mid → IsTrail R mid (reverse path) to → IsTrail R from (reverse (path ++ s ∷ [])) to
+pub trail_front : (R : ResidualArc → ℕ → ℕ → Type 0) (path : List ResidualArc) (s : ResidualArc) (from mid to : ℕ) → R s from mid → IsTrail R mid (reverse path) to → IsTrail R from (reverse (path ++ s ∷ [])) to
 trail_front R path s from mid to step trail = rw (reverse-append path (s ∷ [])) (mid, step, trail)
 
-pub trail_back : (R : Step → ℕ → ℕ → Type 0) (path : List Step) (s : Step) (from to : ℕ) → IsTrail R from (reverse (path ++ s ∷ [])) to → (mid : ℕ) × R s from mid × IsTrail R mid (reverse path) to
+pub trail_back : (R : ResidualArc → ℕ → ℕ → Type 0) (path : List ResidualArc) (s : ResidualArc) (from to : ℕ) → IsTrail R from (reverse (path ++ s ∷ [])) to → (mid : ℕ) × R s from mid × IsTrail R mid (reverse path) to
 trail_back R path s from to trail = rw (reverse-append path (s ∷ [])) at trail
 
--- how a step over a need leads
+-- how the residual arc of a need leads
 abbrev pub JoinsLink : Terms → ℕ → Arc → Type 0
 JoinsLink t k a = (way : Bool) (x y : ℕ) → Joins way a x y → (2 * t.count ≤ k ⊎ (x ≡ 0) ⊎ (y ≡ 0) ⊎ (x ≡ 1) ⊎ (y ≡ 1)) × (2 * t.count ≤ k → (k < t.count + (t.count + length t.needs)) × (x ≡ 2 + cond way (need_at t (k - 2 * t.count)).step (need_at t (k - 2 * t.count)).on) × (y ≡ 2 + cond way (need_at t (k - 2 * t.count)).on (need_at t (k - 2 * t.count)).step))
 
@@ -103,7 +103,7 @@ joins_link t = each_at t (JoinsLink t) over_leave over_stand over_link
         (inl (omega arith), λ le. (omega arith, rw e (sym joins.0), rw e (sym joins.1)))
 
 -- a step between steps is over a need
-pub is_link : (t : Terms) (s : Step) (u v : ℕ) → Leads (network_of t).arcs s (2 + u) (2 + v) → (2 * t.count ≤ s.arc) × (s.arc < t.count + (t.count + length t.needs)) × (u ≡ tail_of t s) × (v ≡ head_of t s)
+pub is_link : (t : Terms) (s : ResidualArc) (u v : ℕ) → Leads (network_of t).arcs s (2 + u) (2 + v) → (2 * t.count ≤ s.arc) × (s.arc < t.count + (t.count + length t.needs)) × (u ≡ tail_of t s) × (v ≡ head_of t s)
 is_link t s u v (a, at, joins) =
     let one = joins_link t s.arc a at s.forward (2 + u) (2 + v) joins in
     let far : 2 * t.count ≤ s.arc = elim one.0 [ inl le ↦ le | inr rest ↦ elim rest [ inl q ↦ absurd (omega arith) | inr rest ↦ elim rest [ inl q ↦ absurd (omega arith) | inr rest ↦ elim rest [ inl q ↦ absurd (omega arith) | inr q ↦ absurd (omega arith) ] ] ] ] in
@@ -111,13 +111,13 @@ is_link t s u v (a, at, joins) =
     (far, two.0, omega (arith, two.1), omega (arith, two.2))
 
 -- and one over a need leads to its head
-pub link_head : (t : Terms) (s : Step) (x y : ℕ) → Leads (network_of t).arcs s x y → 2 * t.count ≤ s.arc → (s.arc < t.count + (t.count + length t.needs)) × (y ≡ 2 + head_of t s)
+pub link_head : (t : Terms) (s : ResidualArc) (x y : ℕ) → Leads (network_of t).arcs s x y → 2 * t.count ≤ s.arc → (s.arc < t.count + (t.count + length t.needs)) × (y ≡ 2 + head_of t s)
 link_head t s x y (a, at, joins) far =
     let two = (joins_link t s.arc a at s.forward x y joins).1 far in
     (two.0, two.2)
 
 -- a step above the lowest level came from one a level lower
-pub came_from : (t : Terms) (on level : List ℕ) (by : List Step) (order : List ℕ) (first end next depth dried v : ℕ) (s : Step) → IsSearch t on level by order first end next depth dried → v < t.count → 0 < get_or level v 0 → get_or level v 0 ≤ depth → s ≡ get_or by v s → (tail_of t s < t.count) × IsOpen (network_of t).arcs on s (2 + tail_of t s) (2 + v) × (get_or level v 0 ≡ get_or level (tail_of t s) 0 + 1) × (2 * t.count ≤ s.arc) × (s.arc < t.count + (t.count + length t.needs))
+pub came_from : (t : Terms) (on level : List ℕ) (by : List ResidualArc) (order : List ℕ) (first end next depth dried v : ℕ) (s : ResidualArc) → IsSearch t on level by order first end next depth dried → v < t.count → 0 < get_or level v 0 → get_or level v 0 ≤ depth → s ≡ get_or by v s → (tail_of t s < t.count) × IsOpen (network_of t).arcs on s (2 + tail_of t s) (2 + v) × (get_or level v 0 ≡ get_or level (tail_of t s) 0 + 1) × (2 * t.count ≤ s.arc) × (s.arc < t.count + (t.count + length t.needs))
 came_from t on level by order first end next depth dried v s search lt some few read = from (search.back v lt (omega (arith, few, depth_few t on level by order first end next depth dried search)))
   where
     same : s ≡ get_or by v no_step
@@ -131,7 +131,7 @@ came_from t on level by order first end next depth dried v s search lt some few 
         (rw link.2 at u_lt, subst (λ x. IsOpen (network_of t).arcs on s (2 + x) (2 + v)) link.2 step', up ∙ ap (λ x. get_or level x 0 + 1) link.2, link.0, link.1)
 
 -- one of the lowest level can get more from the source
-pub came_in : (t : Terms) (on level : List ℕ) (by : List Step) (order : List ℕ) (first end next depth dried v : ℕ) → IsSearch t on level by order first end next depth dried → v < t.count → get_or level v 0 ≡ 0 → IsOpen (network_of t).arcs on (record { arc = v; forward = true }) 0 (2 + v)
+pub came_in : (t : Terms) (on level : List ℕ) (by : List ResidualArc) (order : List ℕ) (first end next depth dried v : ℕ) → IsSearch t on level by order first end next depth dried → v < t.count → get_or level v 0 ≡ 0 → IsOpen (network_of t).arcs on (record { arc = v; forward = true }) 0 (2 + v)
 came_in t on level by order first end next depth dried v search lt is = from (search.back v lt (omega arith))
   where
     from : CameBy t on level by v → IsOpen (network_of t).arcs on (record { arc = v; forward = true }) 0 (2 + v)
@@ -139,14 +139,14 @@ came_in t on level by order first end next depth dried v search lt is = from (se
     from (inr (u, u_lt, step, up)) = absurd (omega arith)
 
 -- where a climbing trail begins is below its end
-pub trail_low : (t : Terms) (on level : List ℕ) (depth h : ℕ) (steps : List Step) → IsTrail (Climbs (network_of t).arcs on (node_level depth level)) (2 + h) steps 1 → get_or level h 0 ≤ depth
+pub trail_low : (t : Terms) (on level : List ℕ) (depth h : ℕ) (steps : List ResidualArc) → IsTrail (Climbs (network_of t).arcs on (node_level depth level)) (2 + h) steps 1 → get_or level h 0 ≤ depth
 trail_low t on level depth h [] trail = absurd (omega (arith, trail))
 trail_low t on level depth h (s ∷ steps) trail =
     let climb = rising_climbs (network_of t).arcs (node_level depth level) (s ∷ steps) (2 + h) 1 (climbing_rises (network_of t).arcs on (node_level depth level) (s ∷ steps) (2 + h) 1 trail) in
     omega (arith, climb, level_at depth level h)
 
 -- the last step that was put in front is taken off again
-pub trail_pop : (t : Terms) (on level : List ℕ) (depth v : ℕ) (path before : List Step) (s : Step) → AreKnown t.needs t.count → path ≡ before ++ s ∷ [] → IsTrail (Climbs (network_of t).arcs on (node_level depth level)) (2 + v) (reverse path) 1 → 2 * t.count ≤ s.arc → (s.arc < t.count + (t.count + length t.needs)) × (get_or level (head_of t s) 0 ≤ depth) × IsTrail (Climbs (network_of t).arcs on (node_level depth level)) (2 + head_of t s) (reverse before) 1
+pub trail_pop : (t : Terms) (on level : List ℕ) (depth v : ℕ) (path before : List ResidualArc) (s : ResidualArc) → AreKnown t.needs t.count → path ≡ before ++ s ∷ [] → IsTrail (Climbs (network_of t).arcs on (node_level depth level)) (2 + v) (reverse path) 1 → 2 * t.count ≤ s.arc → (s.arc < t.count + (t.count + length t.needs)) × (get_or level (head_of t s) 0 ≤ depth) × IsTrail (Climbs (network_of t).arcs on (node_level depth level)) (2 + head_of t s) (reverse before) 1
 trail_pop t on level depth v path before s known is trail far =
     let parts = trail_back (Climbs (network_of t).arcs on (node_level depth level)) before s (2 + v) 1 (rw is at trail) in
     let link = link_head t s (2 + v) parts.0 parts.1.0.0 far in

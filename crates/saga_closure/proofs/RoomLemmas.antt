@@ -9,7 +9,7 @@ use Rattle.saga_def.specs.declared.steps.Price.TheVariants as price
 use Rattle.saga_case.specs.Terms.{Terms}
 use Rattle.saga_flow.specs.declared.nets.Arc.{Arc}
 use Rattle.saga_flow.specs.declared.nets.Cap.{Cap}
-use Rattle.saga_flow.specs.declared.steps.Step.{Step}
+use Rattle.saga_flow.specs.declared.residual_arcs.ResidualArc.{ResidualArc}
 use Rattle.saga_flow.specs.Flows.{IsWithin}
 use Rattle.saga_flow.specs.Residual.{HasRoom, Carries}
 use Rattle.saga_closure.specs.CaseNet.{cap_of, network_of}
@@ -37,7 +37,7 @@ pub stand_room : (t : Terms) (caps on : List ℕ) (v : ℕ) → AreCapacities t 
 stand_room t caps on v capacities lt =
     rw (capacities.stand v lt) (room_is (t.stand v) (get_or on (t.count + v) 0) (λ a e. capacities.stand_small v a lt e))
 
-module _ (t : Terms) (caps on : List ℕ) (capacities : AreCapacities t caps) (s : Step) where
+module _ (t : Terms) (caps on : List ℕ) (capacities : AreCapacities t caps) (s : ResidualArc) where
   -- the room of an arc of a price
   arc_room : (k : ℕ) (a : Arc) → slice_get (network_of t).arcs k ≡ Some a → k < length caps → IsRoom a.cap (get_or on k 0) (room_at caps on k)
   arc_room = each_at t (λ k a. k < length caps → IsRoom a.cap (get_or on k 0) (room_at caps on k))

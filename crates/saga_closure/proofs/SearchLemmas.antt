@@ -4,13 +4,13 @@ use Rattle.std.proofs.lemmas.Bool.{cases_eq}
 use Rattle.std.proofs.lemmas.List.{length-append, get_or_push, get_or_append_left}
 use Rattle.std.proofs.lemmas.List.Sums.{count_by-le-length}
 use Rattle.saga_case.specs.Terms.{Terms}
-use Rattle.saga_flow.specs.declared.steps.Step.{Step}
+use Rattle.saga_flow.specs.declared.residual_arcs.ResidualArc.{ResidualArc}
 use Rattle.saga_flow.specs.Residual.{IsOpen}
 use Rattle.saga_closure.specs.CaseNet.{network_of}
 use Rattle.saga_closure.specs.Layers.{none, no_step, is_level, GoesOut, Goes, CameBy, IsSearch}
 use Rattle.saga_closure.proofs.StartLemmas.{count_more}
 
-module _ (t : Terms) (on level : List ℕ) (by : List Step) (order : List ℕ) (first end next depth dried : ℕ) (search : IsSearch t on level by order first end next depth dried) where
+module _ (t : Terms) (on level : List ℕ) (by : List ResidualArc) (order : List ℕ) (first end next depth dried : ℕ) (search : IsSearch t on level by order first end next depth dried) where
   pub order_few : length order ≤ t.count
   order_few = omega (arith, search.counted, count_by-le-length is_level level, search.sized)
 
@@ -18,7 +18,7 @@ module _ (t : Terms) (on level : List ℕ) (by : List Step) (order : List ℕ) (
   depth_few = omega (arith, search.deep, search.bounds, order_few, search.few_steps)
 
   -- one more step has a level
-  module _ (u w : ℕ) (s : Step) (inside : w < t.count) (fresh : get_or level w 0 ≡ none) (from : u < t.count) (up : get_or level u 0 ≡ depth) (opened : IsOpen (network_of t).arcs on s (2 + u) (2 + w)) where
+  module _ (u w : ℕ) (s : ResidualArc) (inside : w < t.count) (fresh : get_or level w 0 ≡ none) (from : u < t.count) (up : get_or level u 0 ≡ depth) (opened : IsOpen (network_of t).arcs on s (2 + u) (2 + w)) where
     short : w < length level
     short = omega (arith, search.sized)
 

@@ -4,7 +4,7 @@ use Rattle.std.specs.List.{count_by}
 use Rattle.std.proofs.lemmas.Bool.{cases_eq}
 use Rattle.std.proofs.lemmas.List.{length-append, get_or_push, get_or_append_left, length-replicate, get_or-replicate}
 use Rattle.std.proofs.lemmas.List.Sums.{sum_by-set}
-use Rattle.saga_flow.specs.declared.steps.Step.{Step}
+use Rattle.saga_flow.specs.declared.residual_arcs.ResidualArc.{ResidualArc}
 use Rattle.saga_closure.specs.Layers.{none, is_level, IsStart, IsLabelled}
 use Rattle.saga_closure.specs.declared.searching.Found.{Found}
 
@@ -20,7 +20,7 @@ count_none : (n : ℕ) → 0 ≡ count_by is_level (replicate n none)
 count_none zero = refl
 count_none (suc n) = count_none n
 
-pub start_none : (room : ℕ → ℕ) (count : ℕ) (by : List Step) (order : List ℕ) → length by ≡ count → order ≡ [] → IsStart room count (replicate count none) by order 0
+pub start_none : (room : ℕ → ℕ) (count : ℕ) (by : List ResidualArc) (order : List ℕ) → length by ≡ count → order ≡ [] → IsStart room count (replicate count none) by order 0
 start_none room count by order sized is = rw is (record {
   sized = length-replicate count none;
   by_sized = sized;
@@ -30,7 +30,7 @@ start_none room count by order sized is = rw is (record {
   later = λ v le lt. get_or-replicate count v none 0 lt;
 })
 
-module _ (room : ℕ → ℕ) (count : ℕ) (level : List ℕ) (by : List Step) (order : List ℕ) (k : ℕ) (so_far : IsStart room count level by order k) (lt : k < count) where
+module _ (room : ℕ → ℕ) (count : ℕ) (level : List ℕ) (by : List ResidualArc) (order : List ℕ) (k : ℕ) (so_far : IsStart room count level by order k) (lt : k < count) where
   pub start_shut : room k ≡ 0 → IsStart room count level by order (k + 1)
   start_shut shut = record {
     sized = so_far.sized;
@@ -44,7 +44,7 @@ module _ (room : ℕ → ℕ) (count : ℕ) (level : List ℕ) (by : List Step) 
     later = λ v le h. so_far.later v (omega arith) h;
   }
 
-  pub start_more : (s : Step) → 0 < room k → IsStart room count (set level k 0) (set by k s) (order ++ k ∷ []) (k + 1)
+  pub start_more : (s : ResidualArc) → 0 < room k → IsStart room count (set level k 0) (set by k s) (order ++ k ∷ []) (k + 1)
   start_more s goes =
       let short : k < length level = omega (arith, so_far.sized) in
       let sized' : length (order ++ k ∷ []) ≡ length order + 1 = length-append order (k ∷ []) in
@@ -74,6 +74,6 @@ module _ (room : ℕ → ℕ) (count : ℕ) (level : List ℕ) (by : List Step) 
         later = λ v le h. get_or-set_other level k v 0 0 (λ q. absurd (omega (arith, q))) ∙ so_far.later v (omega arith) h;
       }
 
-pub start_labelled : (room : ℕ → ℕ) (count : ℕ) (old new : Found) (k : ℕ) (s : Step) → IsStart room count old.level.items old.by.items old.order.items k → k < count → 0 < room k → IsLabelled old new k 0 s → IsStart room count new.level.items new.by.items new.order.items (k + 1)
+pub start_labelled : (room : ℕ → ℕ) (count : ℕ) (old new : Found) (k : ℕ) (s : ResidualArc) → IsStart room count old.level.items old.by.items old.order.items k → k < count → 0 < room k → IsLabelled old new k 0 s → IsStart room count new.level.items new.by.items new.order.items (k + 1)
 start_labelled room count old new k s so_far lt goes labelled =
     rw (labelled.level, labelled.by, labelled.order) (start_more room count old.level.items old.by.items old.order.items k so_far lt s goes)

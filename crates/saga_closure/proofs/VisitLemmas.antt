@@ -1,11 +1,11 @@
--- A visit: the open steps out of a step are entries of its lists.
+-- A visit: the residual arcs out of a step are entries of its lists.
 use Rattle.std.proofs.Common.{ℕ, ◌≡◌, ◌<◌, ◌≤◌, ◌+◌, ◌∙◌, ◌⊎◌, true, List, Some, length, get_or, ap, subst, refl, arith, inl, inr}
 use Rattle.std.proofs.lemmas.Bool.{cases_eq}
 use Rattle.std.specs.Prelude.{slice_get}
 use Rattle.std.proofs.lemmas.Option.{slice_get-get_or}
 use Rattle.saga_def.specs.Neighbours.{a_need}
 use Rattle.saga_case.specs.Terms.{Terms}
-use Rattle.saga_flow.specs.declared.steps.Step.{Step}
+use Rattle.saga_flow.specs.declared.residual_arcs.ResidualArc.{ResidualArc}
 use Rattle.saga_flow.specs.Flows.{IsWithin}
 use Rattle.saga_flow.specs.Residual.{IsOpen}
 use Rattle.saga_closure.specs.CaseNet.{network_of, cap_of}
@@ -74,14 +74,14 @@ pub record IsVisitMore (t : Terms) (on : List ℕ) (old new : Found) (first end 
   pub lower : (x : ℕ) → get_or new.level.items x 0 ≤ get_or old.level.items x 0
   pub here : get_or new.level.items w 0 ≡ depth + 1
 
-pub visit_at : (t : Terms) (on level : List ℕ) (by : List Step) (order : List ℕ) (first end next depth v : ℕ) → IsVisit t on level by order first end next depth v → (v < t.count) × (get_or level v 0 ≡ depth) × (next < length order)
+pub visit_at : (t : Terms) (on level : List ℕ) (by : List ResidualArc) (order : List ℕ) (first end next depth v : ℕ) → IsVisit t on level by order first end next depth v → (v < t.count) × (get_or level v 0 ≡ depth) × (next < length order)
 visit_at t on level by order first end next depth v visit = (
   rw visit.at at (visit.search.inside next (omega (arith, visit.less, visit.search.bounds))),
   rw visit.at at (visit.search.here next (omega (arith, visit.search.bounds)) visit.less),
   omega (arith, visit.less, visit.search.bounds),
 )
 
-pub visit_labelled : (t : Terms) (on : List ℕ) (old new : Found) (first end next depth v w : ℕ) (s : Step) → IsVisit t on old.level.items old.by.items old.order.items first end next depth v → w < t.count → get_or old.level.items w 0 ≡ none → IsOpen (network_of t).arcs on s (2 + v) (2 + w) → IsLabelled old new w (depth + 1) s → IsVisitMore t on old new first end next depth v w
+pub visit_labelled : (t : Terms) (on : List ℕ) (old new : Found) (first end next depth v w : ℕ) (s : ResidualArc) → IsVisit t on old.level.items old.by.items old.order.items first end next depth v → w < t.count → get_or old.level.items w 0 ≡ none → IsOpen (network_of t).arcs on s (2 + v) (2 + w) → IsLabelled old new w (depth + 1) s → IsVisitMore t on old new first end next depth v w
 visit_labelled t on old new first end next depth v w s visit lt fresh step labelled =
     let at = visit_at t on old.level.items old.by.items old.order.items first end next depth v visit in
     record {
@@ -94,7 +94,7 @@ visit_labelled t on old new first end next depth v w s visit lt fresh step label
       here = rw labelled.level (label_here t on old.level.items old.by.items old.order.items first end next depth (depth + 1) visit.search v w s lt fresh at.0 at.1 step);
     }
 
-pub visit_levels : (t : Terms) (on level : List ℕ) (by : List Step) (order : List ℕ) (first end next depth v w : ℕ) → IsVisit t on level by order first end next depth v → w < t.count → (get_or level w 0 ≡ none → ⊥) → get_or level w 0 ≤ depth + 1
+pub visit_levels : (t : Terms) (on level : List ℕ) (by : List ResidualArc) (order : List ℕ) (first end next depth v w : ℕ) → IsVisit t on level by order first end next depth v → w < t.count → (get_or level w 0 ≡ none → ⊥) → get_or level w 0 ≤ depth + 1
 visit_levels t on level by order first end next depth v w visit lt old = elim (visit.search.levels w lt) [ inl few ↦ few | inr is ↦ absurd (old is) ]
 
 -- one entry more is looked at
@@ -108,7 +108,7 @@ pub needs_lower : (t : Terms) (old new : List ℕ) (v most : ℕ) → AreNeedsUp
 needs_lower t old new v most seen lower a needs = omega (arith, lower a, seen a needs)
 
 -- the whole visit
-pub visit_end : (t : Terms) (on level : List ℕ) (by : List Step) (order : List ℕ) (first end next depth v : ℕ) → IsVisit t on level by order first end next depth v → AreNeedsUpTo t level v (depth + 1) → AreCarryingUpTo t on level v (depth + 1) → IsSearch t on level by order first end (next + 1) depth (depth + 1)
+pub visit_end : (t : Terms) (on level : List ℕ) (by : List ResidualArc) (order : List ℕ) (first end next depth v : ℕ) → IsVisit t on level by order first end next depth v → AreNeedsUpTo t level v (depth + 1) → AreCarryingUpTo t on level v (depth + 1) → IsSearch t on level by order first end (next + 1) depth (depth + 1)
 visit_end t on level by order first end next depth v visit free carrying =
     next_more t on level by order first end next depth (depth + 1) visit.search visit.less (λ w lt goes. each w (goes_by t on (get_or order next 0) w goes))
   where
@@ -120,7 +120,7 @@ visit_end t on level by order first end next depth v visit free carrying =
     each w (inr (k, lt, from, to, some)) = carrying k w (needed k w v lt to (from ∙ visit.at)) some
 
 -- the search begins
-pub search_start : (t : Terms) (caps on level : List ℕ) (by : List Step) (order : List ℕ) → AreCapacities t caps → t.count ≤ 1024 → IsStart (λ v. room_at caps on v) t.count level by order t.count → IsSearch t on level by order 0 (length order) 0 0 0
+pub search_start : (t : Terms) (caps on level : List ℕ) (by : List ResidualArc) (order : List ℕ) → AreCapacities t caps → t.count ≤ 1024 → IsStart (λ v. room_at caps on v) t.count level by order t.count → IsSearch t on level by order 0 (length order) 0 0 0
 search_start t caps on level by order capacities few start = record {
   sized = start.sized;
   by_sized = start.by_sized;

@@ -1,6 +1,6 @@
 -- What a search knows, and the paths that it gives, over a residual network.
 use Rattle.std.specs.Prelude.{ℕ, List, ◌+◌}
-use Rattle.saga_flow.specs.declared.steps.Step.{Step}
+use Rattle.saga_flow.specs.declared.residual_arcs.ResidualArc.{ResidualArc}
 use Rattle.saga_flow.specs.Levels.{Climbs}
 use Rattle.saga_flow.specs.Rounds.{IsTrail}
 use Rattle.saga_closure.specs.declared.nets.Residual.{Residual}
@@ -26,6 +26,6 @@ IsSearching r f l next = IsSearch (terms_in r.net.now) r.on.now f.level.items f.
 abbrev pub IsVisiting : Residual → Found → Layer → ℕ → ℕ → Type 0
 IsVisiting r f l next v = IsVisit (terms_in r.net.now) r.on.now f.level.items f.by.items f.order.items l.first l.end next l.depth v
 
--- open steps from the source to the sink, each a level up
-abbrev pub IsClimb : Residual → ℕ → List ℕ → List Step → Type 0
+-- residual arcs from the source to the sink, each a level up
+abbrev pub IsClimb : Residual → ℕ → List ℕ → List ResidualArc → Type 0
 IsClimb r depth level path = IsTrail (Climbs (arcs_in r.net.now) r.on.now (node_level depth level)) 0 path 1

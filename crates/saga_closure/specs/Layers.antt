@@ -4,7 +4,7 @@ use Rattle.std.specs.List.{count_by}
 use Rattle.saga_def.specs.Neighbours.{a_need}
 use Rattle.saga_def.specs.Order.{NeedsDirectly}
 use Rattle.saga_case.specs.Terms.{Terms}
-use Rattle.saga_flow.specs.declared.steps.Step.{Step}
+use Rattle.saga_flow.specs.declared.residual_arcs.ResidualArc.{ResidualArc}
 use Rattle.saga_flow.specs.Residual.{IsOpen, IsResidual}
 use Rattle.saga_closure.specs.CaseNet.{network_of}
 use Rattle.saga_closure.specs.declared.searching.Found.{Found}
@@ -28,18 +28,18 @@ GoesOut t on v = IsResidual (network_of t).arcs on (2 + v) 1
 abbrev pub Goes : Terms → List ℕ → ℕ → ℕ → Type 0
 Goes t on v w = IsResidual (network_of t).arcs on (2 + v) (2 + w)
 
-abbrev pub no_step : Step
+abbrev pub no_step : ResidualArc
 no_step = record { arc = 0; forward = 0 == 1 }
 
--- how a step came by its level: from the source, or by an open step from one a level lower
-abbrev pub CameBy : Terms → List ℕ → List ℕ → List Step → ℕ → Type 0
+-- how a step came by its level: from the source, or by a residual arc from one a level lower
+abbrev pub CameBy : Terms → List ℕ → List ℕ → List ResidualArc → ℕ → Type 0
 CameBy t on level by v =
     ((slice_index level v ≡ 0) × GoesIn t on v)
     ⊎ ((u : ℕ) × (u < t.count) × IsOpen (network_of t).arcs on (slice_index_or by v no_step) (2 + u) (2 + v) × (slice_index level v ≡ slice_index level u + 1))
 
 -- a search on the way: the layers before `depth` are done, that of `depth` stands in `order` from `first` to `end`, and its
 -- first ones, to `next`, are done; those found from them follow. No step of a level below `dried` sends more to the sink
-pub record IsSearch (t : Terms) (on level : List ℕ) (by : List Step) (order : List ℕ) (first end next depth dried : ℕ) : Type 0 where
+pub record IsSearch (t : Terms) (on level : List ℕ) (by : List ResidualArc) (order : List ℕ) (first end next depth dried : ℕ) : Type 0 where
   pub sized : length level ≡ t.count
   pub by_sized : length by ≡ t.count
   pub few_steps : t.count ≤ 1024
@@ -60,7 +60,7 @@ pub record IsSearch (t : Terms) (on level : List ℕ) (by : List Step) (order : 
   pub back : (v : ℕ) → v < t.count → slice_index level v < none → CameBy t on level by v
 
 -- one step more has a level
-pub record IsLabelled (old new : Found) (v depth : ℕ) (s : Step) : Type 0 where
+pub record IsLabelled (old new : Found) (v depth : ℕ) (s : ResidualArc) : Type 0 where
   pub level : new.level.items ≡ slice_set old.level.items v depth
   pub by : new.by.items ≡ slice_set old.by.items v s
   pub order : new.order.items ≡ old.order.items ++ v ∷ []
@@ -71,7 +71,7 @@ node_level depth level node =
     if node == 0 then 0 else (if node == 1 then depth + 2 else min (slice_index level (node - 2)) (depth + 1) + 1)
 
 -- the steps of which a test is positive, of the first so many, are labelled 0
-pub record IsStart (room : ℕ → ℕ) (count : ℕ) (level : List ℕ) (by : List Step) (order : List ℕ) (so_far : ℕ) : Type 0 where
+pub record IsStart (room : ℕ → ℕ) (count : ℕ) (level : List ℕ) (by : List ResidualArc) (order : List ℕ) (so_far : ℕ) : Type 0 where
   pub sized : length level ≡ count
   pub by_sized : length by ≡ count
   pub inside : (j : ℕ) → j < length order → (slice_index order j < so_far) × (slice_index level (slice_index order j) ≡ 0)
@@ -93,7 +93,7 @@ abbrev pub IsUpTo : (ℕ → Type 0) → List ℕ → List ℕ → ℕ → ℕ �
 IsUpTo passes entries level most count = (e : ℕ) → e < count → passes e → slice_index level (slice_index entries e) ≤ most
 
 -- a visit of the step that stands next in the order
-pub record IsVisit (t : Terms) (on level : List ℕ) (by : List Step) (order : List ℕ) (first end next depth v : ℕ) : Type 0 where
+pub record IsVisit (t : Terms) (on level : List ℕ) (by : List ResidualArc) (order : List ℕ) (first end next depth v : ℕ) : Type 0 where
   pub search : IsSearch t on level by order first end next depth (depth + 1)
   pub less : next < end
   pub at : slice_index order next ≡ v

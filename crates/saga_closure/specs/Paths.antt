@@ -2,7 +2,7 @@
 use Rattle.std.specs.Prelude.{ℕ, if◌then◌else◌, slice_index_or, ◌*◌, ◌-◌}
 use Rattle.saga_def.specs.declared.steps.Need.{Need}
 use Rattle.saga_case.specs.Terms.{Terms}
-use Rattle.saga_flow.specs.declared.steps.Step.{Step}
+use Rattle.saga_flow.specs.declared.residual_arcs.ResidualArc.{ResidualArc}
 
 abbrev pub no_need : Need
 no_need = record { step = 0; on = 0 }
@@ -10,9 +10,9 @@ no_need = record { step = 0; on = 0 }
 abbrev pub need_at : Terms → ℕ → Need
 need_at t k = slice_index_or t.needs k no_need
 
--- where a step over a need leaves, and where it leads
-abbrev pub tail_of : Terms → Step → ℕ
+-- which step the residual arc of a need leaves, and to which it leads
+abbrev pub tail_of : Terms → ResidualArc → ℕ
 tail_of t s = if s.forward then (need_at t (s.arc - 2 * t.count)).step else (need_at t (s.arc - 2 * t.count)).on
 
-abbrev pub head_of : Terms → Step → ℕ
+abbrev pub head_of : Terms → ResidualArc → ℕ
 head_of t s = if s.forward then (need_at t (s.arc - 2 * t.count)).on else (need_at t (s.arc - 2 * t.count)).step

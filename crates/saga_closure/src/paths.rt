@@ -7,33 +7,33 @@ ghost use Rattle.saga_closure.specs.Paths.{tail_of, head_of};
 
 use crate::nets::{ClosureNet, Residual};
 use crate::searching::{Found, Goal};
-use saga_flow::Step;
+use saga_flow::ResidualArc;
 use std::alloc::AllocError;
 
-/// The saga's step where a step over a need leaves.
-pub fn tail(net: &ClosureNet, step: Step) -> u16
-    requires far { 2 * (terms_in net.now).count ≤ step.arc }
-    requires inside { step.arc < (terms_in net.now).count + ((terms_in net.now).count + length (terms_in net.now).needs) }
-    ensures is { result ≡ tail_of (terms_in net.now) step }
+/// The saga's step that the residual arc of a need leaves.
+pub fn tail(net: &ClosureNet, over: ResidualArc) -> u16
+    requires far { 2 * (terms_in net.now).count ≤ over.arc }
+    requires inside { over.arc < (terms_in net.now).count + ((terms_in net.now).count + length (terms_in net.now).needs) }
+    ensures is { result ≡ tail_of (terms_in net.now) over }
     ensures inside { result < (terms_in net.now).count }
 {
-    let need = net.definition.need(step.arc - 2 * net.definition.steps());
-    if step.forward {
+    let need = net.definition.need(over.arc - 2 * net.definition.steps());
+    if over.forward {
         need.step as u16
     } else {
         need.on as u16
     }
 }
 
-/// The saga's step to which a step over a need leads.
-pub fn head(net: &ClosureNet, step: Step) -> u16
-    requires far { 2 * (terms_in net.now).count ≤ step.arc }
-    requires inside { step.arc < (terms_in net.now).count + ((terms_in net.now).count + length (terms_in net.now).needs) }
-    ensures is { result ≡ head_of (terms_in net.now) step }
+/// The saga's step to which the residual arc of a need leads.
+pub fn head(net: &ClosureNet, over: ResidualArc) -> u16
+    requires far { 2 * (terms_in net.now).count ≤ over.arc }
+    requires inside { over.arc < (terms_in net.now).count + ((terms_in net.now).count + length (terms_in net.now).needs) }
+    ensures is { result ≡ head_of (terms_in net.now) over }
     ensures inside { result < (terms_in net.now).count }
 {
-    let need = net.definition.need(step.arc - 2 * net.definition.steps());
-    if step.forward {
+    let need = net.definition.need(over.arc - 2 * net.definition.steps());
+    if over.forward {
         need.on as u16
     } else {
         need.step as u16
@@ -45,14 +45,14 @@ pub fn path_to(
     residual: &Residual,
     found: &Found,
     goal: Goal,
-    path: &mut Vec<Step>,
+    path: &mut Vec<ResidualArc>,
 ) -> Result<(), AllocError>
     requires { IsAtGoal (terms_in residual.now.net.now) residual.now.on.now found.now goal }
     ensures { OnOk result (IsClimb residual.now goal.depth found.now.level.items path.new.items) }
 {
     path.clear();
     let count = residual.net.definition.steps();
-    path.push(Step {
+    path.push(ResidualArc {
         arc: count + goal.step as usize,
         forward: true,
     })?;
@@ -62,7 +62,7 @@ pub fn path_to(
         path.push(by)?;
         v = tail(residual.net, by);
     }
-    path.push(Step {
+    path.push(ResidualArc {
         arc: v as usize,
         forward: true,
     })?;

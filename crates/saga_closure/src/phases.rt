@@ -10,10 +10,10 @@ ghost use Rattle.saga_closure.specs.Largest.{IsOnTheWay};
 
 use crate::nets::{ClosureNet, Residual};
 use crate::paths::path_to;
-use crate::pushes::add_round;
+use crate::pushes::augment;
 use crate::searching::{Found, Goal};
 use crate::walking::{put_back, walk_back};
-use saga_flow::{Progress, Step};
+use saga_flow::{Progress, ResidualArc};
 use std::alloc::{AllocError, Global};
 
 /// Sends over a step to the sink, along each path that is found to rise a level at each step, what it carries.
@@ -23,7 +23,7 @@ fn send_to(
     depth: u16,
     goal: u16,
     left: &mut Vec<usize>,
-    path: &mut Vec<Step>,
+    path: &mut Vec<ResidualArc>,
     progress: &mut Progress,
 ) -> Result<(), AllocError>
     requires network { IsNetwork (network_of (terms_in net.now)) }
@@ -53,7 +53,7 @@ fn send_to(
         left,
         path,
     )? {
-        add_round(net, path.as_slice(), progress);
+        augment(net, path.as_slice(), progress);
         put_back(net, path.as_slice(), left.as_mut_slice());
     }
     Ok(())
@@ -93,7 +93,7 @@ pub fn run_phase(
         on: progress.on.as_slice(),
     };
     path_to(&residual, found, goal, &mut path)?;
-    add_round(net, path.as_slice(), progress);
+    augment(net, path.as_slice(), progress);
     let mut left = degrees(alloc, net)?;
     for j in goal.first..found.order.len() {
         let to = found.order[j];

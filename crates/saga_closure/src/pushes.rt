@@ -8,10 +8,10 @@ ghost use Rattle.saga_closure.specs.Nets.{arcs_in};
 use crate::capacities::ENDLESS;
 use crate::nets::{ClosureNet, Residual};
 use crate::rooms::room;
-use saga_flow::{Progress, Step, push};
+use saga_flow::{Progress, ResidualArc, push};
 
 /// One round: the greatest amount that a path carries goes along it.
-pub fn add_round(net: &ClosureNet, path: &[Step], progress: &mut Progress)
+pub fn augment(net: &ClosureNet, path: &[ResidualArc], progress: &mut Progress)
     requires sized { length progress.old.on.items ≡ length (arcs_in net.now) }
     requires carries { All (Carries (arcs_in net.now) progress.old.on.items 1) path.now }
     requires once { NoArcTwice path.now }
@@ -25,7 +25,7 @@ pub fn add_round(net: &ClosureNet, path: &[Step], progress: &mut Progress)
 }
 
 /// Sends along a path the greatest amount that it carries, and answers it.
-fn push_most(net: &ClosureNet, path: &[Step], on: &mut [u64]) -> u64
+fn push_most(net: &ClosureNet, path: &[ResidualArc], on: &mut [u64]) -> u64
     requires sized { length on.old ≡ length (arcs_in net.now) }
     requires carries { All (Carries (arcs_in net.now) on.old 1) path.now }
     requires once { NoArcTwice path.now }
@@ -38,15 +38,15 @@ fn push_most(net: &ClosureNet, path: &[Step], on: &mut [u64]) -> u64
 }
 
 /// The greatest amount that a path carries, where that is below 2^63.
-fn most_along(residual: &Residual, path: &[Step]) -> u64
+fn most_along(residual: &Residual, path: &[ResidualArc]) -> u64
     requires carries { All (Carries (arcs_in residual.now.net.now) residual.now.on.now 1) path.now }
     ensures some { 0 < result }
     ensures carries { All (Carries (arcs_in residual.now.net.now) residual.now.on.now result) path.now }
     ensures most { result < 2 ^ 63 → All (Carries (arcs_in residual.now.net.now) residual.now.on.now (result + 1)) path.now → ⊥ }
 {
     let mut least = ENDLESS;
-    for step in path {
-        least = least.min(room(residual, *step));
+    for over in path {
+        least = least.min(room(residual, *over));
     }
     least
 }

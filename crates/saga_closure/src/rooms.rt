@@ -1,4 +1,4 @@
-//! How much more goes over a step of a residual network.
+//! How much more goes over an arc of a residual network.
 ghost use Rattle.std.specs.Prelude.{◌≡◌, ◌<◌, ◌+◌, ◌^◌, length};
 ghost use Rattle.saga_flow.specs.Residual.{Carries};
 ghost use Rattle.saga_closure.specs.Capacities.{room_at};
@@ -6,7 +6,7 @@ ghost use Rattle.saga_closure.specs.Nets.{arcs_in};
 
 use crate::capacities::ENDLESS;
 use crate::nets::Residual;
-use saga_flow::Step;
+use saga_flow::ResidualArc;
 
 /// How much more goes along an arc from the source or to the sink; 2^63 stands for any amount.
 pub fn room_along(residual: &Residual, arc: usize) -> u64
@@ -21,17 +21,17 @@ pub fn room_along(residual: &Residual, arc: usize) -> u64
     }
 }
 
-/// How much a step carries; 2^63 stands for any amount.
-pub fn room(residual: &Residual, step: Step) -> u64
-    requires carries { Carries (arcs_in residual.now.net.now) residual.now.on.now 1 step }
+/// How much a residual arc carries; 2^63 stands for any amount.
+pub fn room(residual: &Residual, over: ResidualArc) -> u64
+    requires carries { Carries (arcs_in residual.now.net.now) residual.now.on.now 1 over }
     ensures some { 0 < result }
-    ensures carries { Carries (arcs_in residual.now.net.now) residual.now.on.now result step }
-    ensures most { result < 2 ^ 63 → Carries (arcs_in residual.now.net.now) residual.now.on.now (result + 1) step → ⊥ }
+    ensures carries { Carries (arcs_in residual.now.net.now) residual.now.on.now result over }
+    ensures most { result < 2 ^ 63 → Carries (arcs_in residual.now.net.now) residual.now.on.now (result + 1) over → ⊥ }
 {
-    if !step.forward {
-        residual.on[step.arc]
-    } else if step.arc < residual.net.caps.len() {
-        room_along(residual, step.arc)
+    if !over.forward {
+        residual.on[over.arc]
+    } else if over.arc < residual.net.caps.len() {
+        room_along(residual, over.arc)
     } else {
         ENDLESS
     }

@@ -7,22 +7,22 @@ ghost use Rattle.saga_closure.specs.Outs.{IsOut, AreDry};
 
 use crate::nets::Residual;
 use crate::rooms::room_along;
-use saga_flow::Step;
+use saga_flow::ResidualArc;
 use std::alloc::{AllocError, Global};
 
 /// The level of a step that is not reached.
 pub const NONE: u16 = 65535;
 
-/// What a search found: for each step its level and by which step over an arc it was reached, and the steps in order.
+/// What a search found: for each step its level and the residual arc by which it was reached, and the steps in order.
 #[derive(Drop)]
 pub struct Found {
     pub level: Vec<u16>,
-    pub by: Vec<Step>,
+    pub by: Vec<ResidualArc>,
     pub order: Vec<u16>,
 }
 
 /// Gives a step a level.
-fn label(found: &mut Found, v: u16, level: u16, by: Step) -> Result<(), AllocError>
+fn label(found: &mut Found, v: u16, level: u16, by: ResidualArc) -> Result<(), AllocError>
     requires level { v < length found.old.level.items }
     requires by { v < length found.old.by.items }
     ensures { OnOk result (IsLabelled found.old found.new v level by) }
@@ -54,7 +54,7 @@ fn start(alloc: Global, residual: &Residual) -> Result<Found, AllocError>
     ensures { IfOk result (IsStarted residual.now) }
 {
     let count = residual.net.definition.steps();
-    let none = Step {
+    let none = ResidualArc {
         arc: 0,
         forward: false,
     };
@@ -98,7 +98,7 @@ fn visit_needs(
     for e in 0..steps.len() {
         let u = steps[e];
         if found.level[u as usize] == NONE {
-            let by = Step {
+            let by = ResidualArc {
                 arc: links + places[e] as usize,
                 forward: true,
             };
@@ -130,7 +130,7 @@ fn visit_dependants(
         if residual.on[arc] > 0 {
             let u = steps[e];
             if found.level[u as usize] == NONE {
-                let by = Step {
+                let by = ResidualArc {
                     arc,
                     forward: false,
                 };
@@ -141,7 +141,7 @@ fn visit_dependants(
     Ok(())
 }
 
-/// Labels what open steps lead to from the step that stands next.
+/// Labels what residual arcs lead to from the step that stands next.
 fn visit(
     residual: &Residual,
     layer: Layer,

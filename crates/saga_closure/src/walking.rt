@@ -7,15 +7,15 @@ ghost use Rattle.saga_closure.specs.Nets.{terms_in, arcs_in};
 use crate::nets::{ClosureNet, Residual};
 use crate::paths::head;
 use crate::rooms::room_along;
-use saga_flow::Step;
+use saga_flow::ResidualArc;
 use std::alloc::AllocError;
 
-/// A step over an arc from a step a level lower, and how many entries are left to be tried.
+/// A residual arc from a step a level lower, and how many entries are left to be tried.
 #[derive(Clone, Copy)]
 pub struct Back {
     pub left: usize,
     pub from: u16,
-    pub by: Step,
+    pub by: ResidualArc,
 }
 
 /// Whether a level is one lower than another.
@@ -25,25 +25,45 @@ fn is_just_below(level: u16, far: u16) -> bool
     level < far && far - level == 1
 }
 
-/// From one of the last `left` steps that need `v`.
-fn dependant_before(net: &ClosureNet, level: &[u16], v: u16, left: usize) -> Option<Back>
-    requires level { length level.now ≡ (terms_in net.now).count }
-    requires inside { v < (terms_in net.now).count }
-    ensures before { IfSome result (λ b. b.left < left) }
-    ensures inside { IfSome result (λ b. b.from < (terms_in net.now).count) }
-    ensures opened { IfSome result (λ b. (on : List ℕ) → IsOpen (arcs_in net.now) on b.by (2 + b.from) (2 + v)) }
+/// Whether a walk may still come from a step to the source: one to which the source can send more, or one with entries left.
+fn is_alive(residual: &Residual, level: &[u16], left: &[usize], v: u16) -> bool
+    requires level { length level.now ≡ (terms_in residual.now.net.now).count }
+    requires left { length left.now ≡ (terms_in residual.now.net.now).count }
+    requires inside { v < (terms_in residual.now.net.now).count }
+{
+    if level[v as usize] == 0 {
+        room_along(residual, v as usize) > 0
+    } else {
+        left[v as usize] > 0
+    }
+}
+
+/// From one of the last `many` steps that need `v`.
+fn dependant_before(
+    residual: &Residual,
+    level: &[u16],
+    left: &[usize],
+    v: u16,
+    many: usize,
+) -> Option<Back>
+    requires level { length level.now ≡ (terms_in residual.now.net.now).count }
+    requires left { length left.now ≡ (terms_in residual.now.net.now).count }
+    requires inside { v < (terms_in residual.now.net.now).count }
+    ensures before { IfSome result (λ b. b.left < many) }
+    ensures inside { IfSome result (λ b. b.from < (terms_in residual.now.net.now).count) }
+    ensures opened { IfSome result (λ b. (on : List ℕ) → IsOpen (arcs_in residual.now.net.now) on b.by (2 + b.from) (2 + v)) }
     ensures lower { IfSome result (λ b. slice_index level.now v ≡ slice_index level.now b.from + 1) }
 {
-    let definition = net.definition;
+    let definition = residual.net.definition;
     let links = 2 * definition.steps();
     let steps = definition.needed_by(v);
     let places = definition.places_on(v);
     let far = level[v as usize];
-    let many = left.min(steps.len());
+    let many = many.min(steps.len());
     for e in steps.len() - many..steps.len() {
         let u = steps[e];
-        if is_just_below(level[u as usize], far) {
-            let by = Step {
+        if is_just_below(level[u as usize], far) && is_alive(residual, level, left, u) {
+            let by = ResidualArc {
                 arc: links + places[e] as usize,
                 forward: true,
             };
@@ -57,11 +77,18 @@ fn dependant_before(net: &ClosureNet, level: &[u16], v: u16, left: usize) -> Opt
     None
 }
 
-/// From one of the last `left` steps that `v` needs, back over a need that carries something.
-fn need_before(residual: &Residual, level: &[u16], v: u16, left: usize) -> Option<Back>
+/// From one of the last `many` steps that `v` needs, back over a need that carries something.
+fn need_before(
+    residual: &Residual,
+    level: &[u16],
+    left: &[usize],
+    v: u16,
+    many: usize,
+) -> Option<Back>
     requires level { length level.now ≡ (terms_in residual.now.net.now).count }
+    requires left { length left.now ≡ (terms_in residual.now.net.now).count }
     requires inside { v < (terms_in residual.now.net.now).count }
-    ensures before { IfSome result (λ b. b.left < left) }
+    ensures before { IfSome result (λ b. b.left < many) }
     ensures inside { IfSome result (λ b. b.from < (terms_in residual.now.net.now).count) }
     ensures opened { IfSome result (λ b. IsOpen (arcs_in residual.now.net.now) residual.now.on.now b.by (2 + b.from) (2 + v)) }
     ensures lower { IfSome result (λ b. slice_index level.now v ≡ slice_index level.now b.from + 1) }
@@ -71,12 +98,15 @@ fn need_before(residual: &Residual, level: &[u16], v: u16, left: usize) -> Optio
     let steps = definition.needs_of(v);
     let places = definition.places_of(v);
     let far = level[v as usize];
-    let many = left.min(steps.len());
+    let many = many.min(steps.len());
     for e in steps.len() - many..steps.len() {
         let u = steps[e];
         let arc = links + places[e] as usize;
-        if residual.on[arc] > 0 && is_just_below(level[u as usize], far) {
-            let by = Step {
+        if residual.on[arc] > 0
+            && is_just_below(level[u as usize], far)
+            && is_alive(residual, level, left, u)
+        {
+            let by = ResidualArc {
                 arc,
                 forward: false,
             };
@@ -90,18 +120,25 @@ fn need_before(residual: &Residual, level: &[u16], v: u16, left: usize) -> Optio
     None
 }
 
-/// From one of the last `left` neighbours of `v`: first those that need it, then those that it needs.
-fn step_before(residual: &Residual, level: &[u16], v: u16, left: usize) -> Option<Back>
+/// From one of the last `many` neighbours of `v`: first those that need it, then those that it needs.
+fn step_before(
+    residual: &Residual,
+    level: &[u16],
+    left: &[usize],
+    v: u16,
+    many: usize,
+) -> Option<Back>
     requires level { length level.now ≡ (terms_in residual.now.net.now).count }
+    requires left { length left.now ≡ (terms_in residual.now.net.now).count }
     requires inside { v < (terms_in residual.now.net.now).count }
-    ensures before { IfSome result (λ b. b.left < left) }
+    ensures before { IfSome result (λ b. b.left < many) }
     ensures inside { IfSome result (λ b. b.from < (terms_in residual.now.net.now).count) }
     ensures opened { IfSome result (λ b. IsOpen (arcs_in residual.now.net.now) residual.now.on.now b.by (2 + b.from) (2 + v)) }
     ensures lower { IfSome result (λ b. slice_index level.now v ≡ slice_index level.now b.from + 1) }
 {
     let needs = residual.net.definition.needs_of(v).len();
-    if left > needs {
-        if let Some(back) = dependant_before(residual.net, level, v, left - needs) {
+    if many > needs {
+        if let Some(back) = dependant_before(residual, level, left, v, many - needs) {
             return Some(Back {
                 left: back.left + needs,
                 from: back.from,
@@ -109,10 +146,10 @@ fn step_before(residual: &Residual, level: &[u16], v: u16, left: usize) -> Optio
             });
         }
     }
-    need_before(residual, level, v, left.min(needs))
+    need_before(residual, level, left, v, many.min(needs))
 }
 
-/// Looks for a path of open steps from the source over `goal` to the sink that rises a level at each step.
+/// Looks for a path of residual arcs from the source over `goal` to the sink that rises a level with each.
 ///
 /// `left` has for each step how many of its neighbours are still to be tried, and `path` is written over.
 pub fn walk_back(
@@ -121,7 +158,7 @@ pub fn walk_back(
     depth: u16,
     goal: u16,
     left: &mut Vec<usize>,
-    path: &mut Vec<Step>,
+    path: &mut Vec<ResidualArc>,
 ) -> Result<bool, AllocError>
     requires level { length level.now ≡ (terms_in residual.now.net.now).count }
     requires goal { goal < (terms_in residual.now.net.now).count }
@@ -135,13 +172,13 @@ pub fn walk_back(
     if room_along(residual, count + goal as usize) == 0 {
         return Ok(false);
     }
-    path.push(Step {
+    path.push(ResidualArc {
         arc: count + goal as usize,
         forward: true,
     })?;
     let mut v = goal;
     while level[v as usize] > 0 || room_along(residual, v as usize) == 0 {
-        match step_before(residual, level, v, left[v as usize]) {
+        match step_before(residual, level, left.as_slice(), v, left[v as usize]) {
             Some(back) => {
                 left[v as usize] = back.left;
                 path.push(back.by)?;
@@ -151,17 +188,17 @@ pub fn walk_back(
                 left[v as usize] = 0;
                 match path.pop() {
                     None => return Ok(false),
-                    Some(step) => {
-                        if step.arc < 2 * count {
+                    Some(over) => {
+                        if over.arc < 2 * count {
                             return Ok(false);
                         }
-                        v = head(residual.net, step);
+                        v = head(residual.net, over);
                     }
                 }
             }
         }
     }
-    path.push(Step {
+    path.push(ResidualArc {
         arc: v as usize,
         forward: true,
     })?;
@@ -169,15 +206,15 @@ pub fn walk_back(
     Ok(true)
 }
 
-/// After a round the steps of its path are tried again.
-pub fn put_back(net: &ClosureNet, path: &[Step], left: &mut [usize])
+/// After an augmentation the arcs of its path are tried again.
+pub fn put_back(net: &ClosureNet, path: &[ResidualArc], left: &mut [usize])
     requires left { length left.old ≡ (terms_in net.now).count }
     requires steps { All (λ s. s.arc < length (arcs_in net.now)) path.now }
 {
     let links = 2 * net.definition.steps();
-    for step in path {
-        if step.arc >= links {
-            let untried = &mut left[head(net, *step) as usize];
+    for over in path {
+        if over.arc >= links {
+            let untried = &mut left[head(net, *over) as usize];
             *untried = untried.saturating_add(1);
         }
     }

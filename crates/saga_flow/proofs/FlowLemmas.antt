@@ -7,17 +7,17 @@ use Rattle.std.proofs.lemmas.Option.{same_Some, slice_get_within, get_or_from_sl
 use Rattle.saga_flow.specs.declared.nets.Arc.{Arc}
 use Rattle.saga_flow.specs.declared.nets.Cap.{Cap}
 use Rattle.saga_flow.specs.declared.nets.Cap.TheVariants.{Of, Unbounded}
-use Rattle.saga_flow.specs.declared.steps.Step.{Step}
-use Rattle.saga_flow.specs.declared.searching.Mark.{Mark}
+use Rattle.saga_flow.specs.declared.residual_arcs.ResidualArc.{ResidualArc}
 use Rattle.saga_flow.specs.Network.{IsNetwork}
 use Rattle.saga_flow.specs.Flows.{out_of, into, IsWithin, IsFlow, HasValue, IsGreatest}
 use Rattle.saga_flow.specs.Reached.{Reaches, HasUnbounded, IsPath}
 use Rattle.saga_flow.specs.Residual.{Joins, Leads, Carries, IsResidual}
 use Rattle.saga_flow.specs.Rounds.{IsTrail, IsReachedIn}
 use Rattle.saga_flow.specs.Listed.{turned, IsEndless, LeadsEndless}
-use Rattle.saga_flow.specs.Search.{mark_at, IsSearchTree, IsBeforeGoal, IsHomeStep}
+use Rattle.saga_flow.specs.Search.{IsSearchTree, IsBeforeGoal, IsHomeArc}
 use Rattle.saga_flow.specs.Progress.{IsProgress}
-use Rattle.saga_flow.proofs.StepLemmas.{leads_turned, from_turned_twice, to_turned_twice}
+use Rattle.saga_flow.specs.Marks.{Mark, mark_at}
+use Rattle.saga_flow.proofs.ResidualArcLemmas.{leads_turned, from_turned_twice, to_turned_twice}
 use Rattle.saga_flow.proofs.NetLemmas.{AreEnds, AreEnds-from_test}
 use Rattle.saga_flow.proofs.TotalLemmas.{total-same, total-none}
 use Rattle.saga_flow.proofs.RoundLemmas.{open_count_le}
@@ -103,8 +103,8 @@ module _ (nodes : ℕ) (arcs : List Arc) (on : List ℕ) (marks : List (Option M
 abbrev pub unmarked : List (Option Mark) → ℕ → Bool
 unmarked marks v = not (is_some (mark_at marks v))
 
--- no step of the other direction leads from a node without a mark to one with
-pub unmarked_closed : (nodes : ℕ) (arcs : List Arc) (passes : Step → Type 0) (start : ℕ) (goal : Option ℕ) (marks : List (Option Mark)) → IsSearchTree nodes arcs passes start goal marks → ((depth : ℕ) → IsBeforeGoal goal marks depth) → (s : Step) (u v : ℕ) → Leads arcs s v u → passes s → unmarked marks u ≡ true → unmarked marks v ≡ true
+-- no residual arc of the other direction leads from a node without a mark to one with
+pub unmarked_closed : (nodes : ℕ) (arcs : List Arc) (passes : ResidualArc → Type 0) (start : ℕ) (goal : Option ℕ) (marks : List (Option Mark)) → IsSearchTree nodes arcs passes start goal marks → ((depth : ℕ) → IsBeforeGoal goal marks depth) → (s : ResidualArc) (u v : ℕ) → Leads arcs s v u → passes s → unmarked marks u ≡ true → unmarked marks v ≡ true
 unmarked_closed nodes arcs passes start goal marks tree whole s u v lead pass none = at_mark (mark_at marks v) refl
   where
     at_mark : (o : Option Mark) → mark_at marks v ≡ o → unmarked marks v ≡ true
@@ -133,8 +133,8 @@ module _ (nodes : ℕ) (arcs : List Arc) (on : List ℕ) (marks : List (Option M
   unmarked_greatest value ends flow worth =
       closed_greatest (unmarked marks) nodes arcs on value ends flow worth unmarked_source marked_sink no_step_out
 
--- an unbounded arc is a step along it
-endless_step : (arcs : List Arc) (u v : ℕ) → HasUnbounded arcs u v → (s : Step) × (Leads arcs s u v × IsEndless arcs s)
+-- an unbounded arc is a residual arc along it
+endless_step : (arcs : List Arc) (u v : ℕ) → HasUnbounded arcs u v → (s : ResidualArc) × (Leads arcs s u v × IsEndless arcs s)
 endless_step arcs u v (k, a, at, from, to, cap) = (record { arc = k; forward = true }, ((a, at, (from, to)), (refl, (a, at, cap))))
 
 -- where a search backward along unbounded arcs did not mark the source, no path of them leads to the sink
@@ -147,8 +147,8 @@ endless_apart nodes arcs marks tree none r =
         let step = endless_step arcs u v arc in
         unmarked_closed nodes arcs (λ t. IsEndless arcs (turned t)) 1 (Some 0) marks tree (unmarked_goal marks none) (turned step.0) u v (leads_turned arcs step.0 u v step.1.0) (to_turned_twice (IsEndless arcs) step.0 step.1.1)
 
--- a step home of such a search is along an unbounded arc
-pub home_endless : (nodes : ℕ) (arcs : List Arc) (marks : List (Option Mark)) → IsSearchTree nodes arcs (λ s. IsEndless arcs (turned s)) 1 (Some 0) marks → (s : Step) (u v : ℕ) → IsHomeStep arcs marks s u v → LeadsEndless arcs s u v
+-- a residual arc home of such a search is along an unbounded arc
+pub home_endless : (nodes : ℕ) (arcs : List Arc) (marks : List (Option Mark)) → IsSearchTree nodes arcs (λ s. IsEndless arcs (turned s)) 1 (Some 0) marks → (s : ResidualArc) (u v : ℕ) → IsHomeArc arcs marks s u v → LeadsEndless arcs s u v
 home_endless nodes arcs marks tree s u v (lead, step) =
     (lead, from_turned_twice (IsEndless arcs) s (tree_passes nodes arcs (λ t. IsEndless arcs (turned t)) 1 (Some 0) marks tree (turned s) v u step))
 
@@ -156,14 +156,14 @@ joins_along : (way : Bool) (a : Arc) (u v : ℕ) → way ≡ true → Joins way 
 joins_along true a u v p joins = joins
 joins_along false a u v p joins = absurd (true≢false (sym p))
 
-pub endless_arc : (arcs : List Arc) (s : Step) (u v : ℕ) → LeadsEndless arcs s u v → HasUnbounded arcs u v
+pub endless_arc : (arcs : List Arc) (s : ResidualArc) (u v : ℕ) → LeadsEndless arcs s u v → HasUnbounded arcs u v
 endless_arc arcs s u v ((a, at, joins), (way, (b, at_b, cap))) =
     let same : b ≡ a = same_Some _ _ (sym at_b ∙ at) in
     let ends = joins_along s.forward a u v way joins in
     (s.arc, a, at, ends.0, ends.1, rw same at cap)
 
 -- and the node that it leads to is the arc's
-pub endless_head : (arcs : List Arc) (s : Step) (u v : ℕ) (d : Arc) → LeadsEndless arcs s u v → (get_or arcs s.arc d).to ≡ v
+pub endless_head : (arcs : List Arc) (s : ResidualArc) (u v : ℕ) (d : Arc) → LeadsEndless arcs s u v → (get_or arcs s.arc d).to ≡ v
 endless_head arcs s u v d ((a, at, joins), (way, b)) =
     ap (λ (c : Arc). c.to) (get_or_from_slice_get arcs s.arc a d at) ∙ (joins_along s.forward a u v way joins).1
 
@@ -173,17 +173,17 @@ path_push R [] u v path step = absurd path
 path_push R (x ∷ []) u v path step = (rw path step, refl)
 path_push R (x ∷ y ∷ path) u v (first, rest) step = (first, path_push R (y ∷ path) u v rest step)
 
--- the nodes of the first steps of a trail
-pub record IsWalk (arcs : List Arc) (nodes : List ℕ) (rest : List Step) : Type 0 where
+-- the nodes of the first residual arcs of a trail
+pub record IsWalk (arcs : List Arc) (nodes : List ℕ) (rest : List ResidualArc) : Type 0 where
   pub first : (others : List ℕ) × (nodes ≡ 0 ∷ others)
   pub at : ℕ
   pub path : IsPath (HasUnbounded arcs) nodes at
   pub trail : IsTrail (LeadsEndless arcs) at rest 1
 
-pub walk_start : (arcs : List Arc) (nodes : List ℕ) (steps : List Step) → nodes ≡ 0 ∷ [] → IsTrail (LeadsEndless arcs) 0 steps 1 → IsWalk arcs nodes steps
+pub walk_start : (arcs : List Arc) (nodes : List ℕ) (steps : List ResidualArc) → nodes ≡ 0 ∷ [] → IsTrail (LeadsEndless arcs) 0 steps 1 → IsWalk arcs nodes steps
 walk_start arcs nodes steps is trail = rw is (record { first = ([], refl); at = 0; path = refl; trail = trail })
 
-pub walk_more : (arcs : List Arc) (nodes : List ℕ) (s : Step) (rest : List Step) (d : Arc) → IsWalk arcs nodes (s ∷ rest) → IsWalk arcs (nodes ++ (get_or arcs s.arc d).to ∷ []) rest
+pub walk_more : (arcs : List Arc) (nodes : List ℕ) (s : ResidualArc) (rest : List ResidualArc) (d : Arc) → IsWalk arcs nodes (s ∷ rest) → IsWalk arcs (nodes ++ (get_or arcs s.arc d).to ∷ []) rest
 walk_more arcs nodes s rest d walk =
     let step = walk.trail in
     let head = endless_head arcs s walk.at step.0 d step.1 in
@@ -194,11 +194,11 @@ walk_more arcs nodes s rest d walk =
       trail = step.2;
     })
 
--- a step of a trail is over an arc of the net
-pub walk_within : (arcs : List Arc) (nodes : List ℕ) (s : Step) (rest : List Step) → IsWalk arcs nodes (s ∷ rest) → s.arc < length arcs
+-- a residual arc of a trail is over an arc of the net
+pub walk_within : (arcs : List Arc) (nodes : List ℕ) (s : ResidualArc) (rest : List ResidualArc) → IsWalk arcs nodes (s ∷ rest) → s.arc < length arcs
 walk_within arcs nodes s rest walk = slice_get_within arcs s.arc _ walk.trail.1.0.1
 
-pub walk_end : (arcs : List Arc) (nodes : List ℕ) (rest : List Step) → rest ≡ [] → IsWalk arcs nodes rest → IsPath (HasUnbounded arcs) nodes 1
+pub walk_end : (arcs : List Arc) (nodes : List ℕ) (rest : List ResidualArc) → rest ≡ [] → IsWalk arcs nodes rest → IsPath (HasUnbounded arcs) nodes 1
 walk_end arcs nodes rest none walk =
     let ends : walk.at ≡ 1 = rw none at walk.trail in
     rw ends at walk.path

@@ -8,7 +8,7 @@ use Rattle.std.proofs.lemmas.Option.{slice_get_within, same_Some}
 use Rattle.saga_flow.specs.declared.nets.Arc.{Arc}
 use Rattle.saga_flow.specs.declared.nets.Cap.{Cap}
 use Rattle.saga_flow.specs.declared.nets.Cap.TheVariants.{Of, Unbounded}
-use Rattle.saga_flow.specs.declared.steps.Step.{Step}
+use Rattle.saga_flow.specs.declared.residual_arcs.ResidualArc.{ResidualArc}
 use Rattle.saga_flow.specs.Network.{bound_of, bound_sum}
 use Rattle.saga_flow.specs.Flows.{total, IsWithin, IsFlow, HasValue, IsGreatest}
 use Rattle.saga_flow.specs.Residual.{Joins, HasRoom, IsOpen, IsResidual}
@@ -68,8 +68,8 @@ cut_le_sum S arcs = sum_by-le-sum_by _ _ arcs (λ a. share_le (leaves S a) (boun
     share_le true x = omega arith
     share_le false x = omega arith
 
--- the arc of an open step, with what the step says of it
-pub arc_of : (arcs : List Arc) (on : List ℕ) (s : Step) (from to : ℕ) → IsOpen arcs on s from to → (a : Arc) × (slice_get arcs s.arc ≡ Some a) × Joins s.forward a from to × HasRoom s.forward a.cap (get_or on s.arc 0) 1
+-- the arc of an open residual arc, with what the residual arc says of it
+pub arc_of : (arcs : List Arc) (on : List ℕ) (s : ResidualArc) (from to : ℕ) → IsOpen arcs on s from to → (a : Arc) × (slice_get arcs s.arc ≡ Some a) × Joins s.forward a from to × HasRoom s.forward a.cap (get_or on s.arc 0) 1
 arc_of arcs on s from to (lead, carry) =
     let same : carry.0 ≡ lead.0 = same_Some _ _ (sym carry.1 ∙ lead.1) in
     (lead.0, lead.1, lead.2, rw same at carry.2)
@@ -100,7 +100,7 @@ module _ (S : ℕ → Bool) (nodes : ℕ) (arcs : List Arc) (on : List ℕ) (val
       let same = total-tight (λ (b : Arc) x. 0) (λ (b : Arc) x. cond (enters S b) x 0) arcs on (λ j b q. omega arith) (omega (arith, total-none arcs on, leaving_le_bound S arcs on flow cut, value_across S nodes arcs on value cut.source cut.sink ends flow worth)) k a at short in
       sym (rw into_it at same)
 
-  -- no step of the residual network leads out of the cut
+  -- no arc of the residual network leads out of the cut
   no_way_out : (k : ℕ) (a : Arc) (way : Bool) (from to : ℕ) → slice_get arcs k ≡ Some a → Joins way a from to → HasRoom way a.cap (get_or on k 0) 1 → S from ≡ true → S to ≡ false → ⊥
   no_way_out k a true from to at joins room inside outside =
       let begins : S a.from ≡ true = ap S joins.0 ∙ inside in
@@ -124,7 +124,7 @@ module _ (S : ℕ → Bool) (nodes : ℕ) (arcs : List Arc) (on : List ℕ) (val
   reached_in_cut node here = cut.source
   reached_in_cut node (next {mid} r e) = stays_in_cut mid node e (reached_in_cut mid r)
 
--- a set that holds the source and not the sink, and that no step of the residual network leaves
+-- a set that holds the source and not the sink, and that no arc of the residual network leaves
 module _ (S : ℕ → Bool) (nodes : ℕ) (arcs : List Arc) (on : List ℕ) (value : ℕ) (ends : AreEnds nodes arcs) (flow : IsFlow arcs on) (worth : HasValue arcs on value) (source : S 0 ≡ true) (sink : S 1 ≡ false) (closed : (from to : ℕ) → IsResidual arcs on from to → S from ≡ true → S to ≡ true) where
   -- each arc that leaves it is bounded and full
   pub closed_full : (k : ℕ) (a : Arc) → slice_get arcs k ≡ Some a → leaves S a ≡ true → (a.cap ≡ Unbounded → ⊥) × (get_or on k 0 ≡ bound_of a.cap)
@@ -194,7 +194,7 @@ module _ (S : ℕ → Bool) (nodes : ℕ) (arcs : List Arc) (on : List ℕ) (val
   pub reached_greatest : IsGreatest arcs value
   reached_greatest = closed_greatest S nodes arcs on value ends flow worth (whole 0 here) no_sink no_step_out
 
--- what is reached from a member of a set that no step leaves is a member
+-- what is reached from a member of a set that no residual arc leaves is a member
 pub reached_in_closed : (R : ℕ → ℕ → Type 0) (S : ℕ → Bool) (from to : ℕ) → S from ≡ true → ((u v : ℕ) → R u v → S u ≡ true → S v ≡ true) → Reaches R from to → S to ≡ true
 reached_in_closed R S from to inside closed here = inside
 reached_in_closed R S from to inside closed (next {mid} r step) = closed mid to step (reached_in_closed R S from mid inside closed r)

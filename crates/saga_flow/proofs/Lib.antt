@@ -2,13 +2,14 @@ pub mod NetLemmas
 pub mod TotalLemmas
 pub mod CutLemmas
 pub mod LeastCut
-pub mod StepLemmas
+pub mod ResidualArcLemmas
 pub mod PushLemmas
 pub mod AmountLemmas
 pub mod LevelLemmas
 pub mod RoundLemmas
 pub mod ListLemmas
 pub mod AdjacencyLemmas
+pub mod MarkLemmas
 pub mod SearchLemmas
 pub mod VisitLemmas
 pub mod TreeLemmas

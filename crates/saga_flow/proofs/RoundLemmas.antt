@@ -8,7 +8,7 @@ use Rattle.std.proofs.lemmas.Option.{slice_get_within, same_Some}
 use Rattle.saga_flow.specs.declared.nets.Arc.{Arc}
 use Rattle.saga_flow.specs.declared.nets.Cap.{Cap}
 use Rattle.saga_flow.specs.declared.nets.Cap.TheVariants.{Of, Unbounded}
-use Rattle.saga_flow.specs.declared.steps.Step.{Step}
+use Rattle.saga_flow.specs.declared.residual_arcs.ResidualArc.{ResidualArc}
 use Rattle.saga_flow.specs.declared.rounds.Progress.{Progress}
 use Rattle.saga_flow.specs.Network.{IsNetwork}
 use Rattle.saga_flow.specs.Reached.{Reaches, HasUnbounded}
@@ -44,7 +44,7 @@ open_count_le level (a ∷ arcs) [] = omega arith
 open_count_le level (a ∷ arcs) (x ∷ on) =
     omega (arith, open_count_le level arcs on, up_le (eqb (level a.to) (level a.from + 1)) (eqb (level a.from) (level a.to + 1)) a.cap x)
 
--- what an arc counts that a rising step is over
+-- what an arc counts that a rising residual arc is over
 up_along : (level : ℕ → ℕ) (a : Arc) (from to x : ℕ) → Joins true a from to → level to ≡ level from + 1 → up_share (level a.from) (level a.to) a.cap x ≡ along_share a.cap x
 up_along level a from to x joins up =
     let rise : level a.to ≡ level a.from + 1 = ap level joins.1 ∙ up ∙ ap (λ y. level y + 1) (sym joins.0) in
@@ -66,7 +66,7 @@ along_more : (cap : Cap) (x more : ℕ) → along_share cap (x + more) ≤ along
 along_more (Of c) x more = test_le (x + more) c x c (λ h. omega arith)
 along_more Unbounded x more = omega arith
 
--- after a step up its arc counts no more than before
+-- after a residual arc up its arc counts no more than before
 moved_le : (level : ℕ → ℕ) (a : Arc) (way : Bool) (from to x more : ℕ) → Joins way a from to → level to ≡ level from + 1 → up_share (level a.from) (level a.to) a.cap (moved way x more) ≤ up_share (level a.from) (level a.to) a.cap x
 moved_le level a true from to x more joins up =
     rw (up_along level a from to x joins up, up_along level a from to (x + more) joins up) (along_more a.cap x more)
@@ -88,7 +88,7 @@ back_full x more some room full =
       | inr more_than ↦ rw (le-ltb 0 (x - more) (omega arith), lt-ltb 0 x (omega arith)) (omega arith)
     ]
 
--- and where the step carries no more than that, it counts one less
+-- and where the residual arc carries no more than that, it counts one less
 moved_full : (level : ℕ → ℕ) (a : Arc) (way : Bool) (from to x more : ℕ) → Joins way a from to → level to ≡ level from + 1 → 0 < more → HasRoom way a.cap x more → (HasRoom way a.cap x (more + 1) → ⊥) → up_share (level a.from) (level a.to) a.cap (moved way x more) + 1 ≤ up_share (level a.from) (level a.to) a.cap x
 moved_full level a true from to x more joins up some room full =
     rw (up_along level a from to x joins up, up_along level a from to (x + more) joins up) (along_full a.cap x more some room full)
@@ -102,8 +102,8 @@ room_cases true Unbounded x more = inl tt
 room_cases false cap x more = elim (cases_lt x more) [ inl less ↦ inr (λ h. omega arith) | inr fits ↦ inl fits ]
 
 module _ (level : ℕ → ℕ) (arcs : List Arc) where
-  -- a step up lowers the count or keeps it
-  count_shifted : (on : List ℕ) (s : Step) (from to more : ℕ) → length on ≡ length arcs → Rises arcs level s from to → open_count level arcs (shifted on s more) ≤ open_count level arcs on
+  -- a residual arc up lowers the count or keeps it
+  count_shifted : (on : List ℕ) (s : ResidualArc) (from to more : ℕ) → length on ≡ length arcs → Rises arcs level s from to → open_count level arcs (shifted on s more) ≤ open_count level arcs on
   count_shifted on s from to more sized rise =
       let lead = rise.0 in
       let short : s.arc < length on = omega (arith, slice_get_within arcs s.arc lead.0 lead.1) in
@@ -113,8 +113,8 @@ module _ (level : ℕ → ℕ) (arcs : List Arc) where
         moved_le level lead.0 s.forward from to (get_or on s.arc 0) more lead.2 rise.1,
       )
 
-  -- a full step up lowers it
-  count_shifted_full : (on : List ℕ) (s : Step) (from to more : ℕ) → length on ≡ length arcs → Rises arcs level s from to → 0 < more → Carries arcs on more s → (Carries arcs on (more + 1) s → ⊥) → open_count level arcs (shifted on s more) + 1 ≤ open_count level arcs on
+  -- a full residual arc up lowers it
+  count_shifted_full : (on : List ℕ) (s : ResidualArc) (from to more : ℕ) → length on ≡ length arcs → Rises arcs level s from to → 0 < more → Carries arcs on more s → (Carries arcs on (more + 1) s → ⊥) → open_count level arcs (shifted on s more) + 1 ≤ open_count level arcs on
   count_shifted_full on s from to more sized rise some carry full =
       let lead = rise.0 in
       let short : s.arc < length on = omega (arith, slice_get_within arcs s.arc lead.0 lead.1) in
@@ -125,13 +125,13 @@ module _ (level : ℕ → ℕ) (arcs : List Arc) where
         moved_full level lead.0 s.forward from to (get_or on s.arc 0) more lead.2 rise.1 some (rw same at carry.2) (λ room. full (lead.0, lead.1, room)),
       )
 
-  count_pushed : (on : List ℕ) (steps : List Step) (from to more : ℕ) → length on ≡ length arcs → IsTrail (Rises arcs level) from steps to → open_count level arcs (pushed on steps more) ≤ open_count level arcs on
+  count_pushed : (on : List ℕ) (steps : List ResidualArc) (from to more : ℕ) → length on ≡ length arcs → IsTrail (Rises arcs level) from steps to → open_count level arcs (pushed on steps more) ≤ open_count level arcs on
   count_pushed on [] from to more sized trail = omega arith
   count_pushed on (s ∷ steps) from to more sized (mid, step, trail) =
       omega (arith, count_shifted on s from mid more sized step, count_pushed (shifted on s more) steps mid to more (length-shifted on s more ∙ sized) trail)
 
   -- a push of all that a rising trail carries lowers the count
-  count_pushed_full : (on : List ℕ) (steps : List Step) (from to more : ℕ) → length on ≡ length arcs → IsTrail (Rises arcs level) from steps to → NoArcTwice steps → 0 < more → All (Carries arcs on more) steps → (All (Carries arcs on (more + 1)) steps → ⊥) → open_count level arcs (pushed on steps more) + 1 ≤ open_count level arcs on
+  count_pushed_full : (on : List ℕ) (steps : List ResidualArc) (from to more : ℕ) → length on ≡ length arcs → IsTrail (Rises arcs level) from steps to → NoArcTwice steps → 0 < more → All (Carries arcs on more) steps → (All (Carries arcs on (more + 1)) steps → ⊥) → open_count level arcs (pushed on steps more) + 1 ≤ open_count level arcs on
   count_pushed_full on [] from to more sized trail once some carry full = absurd (full (λ k d h. absurd (omega arith)))
   count_pushed_full on (s ∷ steps) from to more sized (mid, step, trail) once some carry full =
       let lead = step.0 in
@@ -163,7 +163,7 @@ rounds_le_size nodes arcs on rounds budget =
     omega (arith, most, budget.spent)
 
 -- a push of all that a trail carries, which rises by some levels, is one round more
-pub budget_more : (nodes : ℕ) (arcs : List Arc) (on : List ℕ) (rounds : ℕ) (own : ℕ → ℕ) (steps : List Step) (more : ℕ) → length on ≡ length arcs → IsBudgeted nodes arcs on rounds → IsLevelled arcs on own → own 1 ≤ nodes → IsTrail (Rises arcs own) 0 steps 1 → IsChain arcs on steps → 0 < more → All (Carries arcs on more) steps → (All (Carries arcs on (more + 1)) steps → ⊥) → IsBudgeted nodes arcs (pushed on steps more) (rounds + 1)
+pub budget_more : (nodes : ℕ) (arcs : List Arc) (on : List ℕ) (rounds : ℕ) (own : ℕ → ℕ) (steps : List ResidualArc) (more : ℕ) → length on ≡ length arcs → IsBudgeted nodes arcs on rounds → IsLevelled arcs on own → own 1 ≤ nodes → IsTrail (Rises arcs own) 0 steps 1 → IsChain arcs on steps → 0 < more → All (Carries arcs on more) steps → (All (Carries arcs on (more + 1)) steps → ⊥) → IsBudgeted nodes arcs (pushed on steps more) (rounds + 1)
 budget_more nodes arcs on rounds own steps more sized budget levelled low rising chain some carry full =
     let climb = rising_climbs arcs own steps 0 1 rising in
     let once = rising_once arcs own steps 0 1 rising in
@@ -192,7 +192,7 @@ budget_more nodes arcs on rounds own steps more sized budget levelled low rising
         omega (arith, most)
 
 -- one round more
-pub progress_more : (nodes : ℕ) (arcs : List Arc) (on : List ℕ) (value rounds : ℕ) (own : ℕ → ℕ) (steps : List Step) (amount : ℕ) → IsProgress nodes arcs on value rounds → IsLevelled arcs on own → own 1 ≤ nodes → IsTrail (Rises arcs own) 0 steps 1 → IsChain arcs on steps → 0 < amount → All (Carries arcs on amount) steps → (All (Carries arcs on (amount + 1)) steps → ⊥) → IsProgress nodes arcs (pushed on steps amount) (value + amount) (rounds + 1)
+pub progress_more : (nodes : ℕ) (arcs : List Arc) (on : List ℕ) (value rounds : ℕ) (own : ℕ → ℕ) (steps : List ResidualArc) (amount : ℕ) → IsProgress nodes arcs on value rounds → IsLevelled arcs on own → own 1 ≤ nodes → IsTrail (Rises arcs own) 0 steps 1 → IsChain arcs on steps → 0 < amount → All (Carries arcs on amount) steps → (All (Carries arcs on (amount + 1)) steps → ⊥) → IsProgress nodes arcs (pushed on steps amount) (value + amount) (rounds + 1)
 progress_more nodes arcs on value rounds own steps amount progress levelled low rising chain some carry full =
     let once = rising_once arcs own steps 0 1 rising in
     let leading = trail_by (IsOpen arcs on) (Leads arcs) steps 0 1 (λ s u v step. step.0) chain in
@@ -215,7 +215,7 @@ progress_more nodes arcs on value rounds own steps amount progress levelled low 
     }
 
 -- every amount that a trail carries fits with the value
-pub progress_fits : (nodes : ℕ) (arcs : List Arc) (on : List ℕ) (value rounds : ℕ) (steps : List Step) → IsNetwork (record { nodes = nodes; arcs = arcs }) → (Reaches (HasUnbounded arcs) 0 1 → ⊥) → IsProgress nodes arcs on value rounds → IsChain arcs on steps → NoArcTwice steps → (amount : ℕ) → All (Carries arcs on amount) steps → value + amount < 2 ^ 63
+pub progress_fits : (nodes : ℕ) (arcs : List Arc) (on : List ℕ) (value rounds : ℕ) (steps : List ResidualArc) → IsNetwork (record { nodes = nodes; arcs = arcs }) → (Reaches (HasUnbounded arcs) 0 1 → ⊥) → IsProgress nodes arcs on value rounds → IsChain arcs on steps → NoArcTwice steps → (amount : ℕ) → All (Carries arcs on amount) steps → value + amount < 2 ^ 63
 progress_fits nodes arcs on value rounds steps net apart progress chain once amount carry =
     let leading = trail_by (IsOpen arcs on) (Leads arcs) steps 0 1 (λ s u v step. step.0) chain in
     omega (
@@ -227,7 +227,7 @@ progress_fits nodes arcs on value rounds steps net apart progress chain once amo
     )
 
 -- a round along a trail that rises by some levels leads on, and keeps the levels
-pub round_more : (nodes : ℕ) (arcs : List Arc) (old new : Progress) (own : ℕ → ℕ) (steps : List Step) → IsProgress nodes arcs old.on.items old.value old.rounds → IsLevelled arcs old.on.items own → own 1 ≤ nodes → IsTrail (Rises arcs own) 0 steps 1 → IsChain arcs old.on.items steps → AddsRound arcs steps old new → IsProgress nodes arcs new.on.items new.value new.rounds × IsLevelled arcs new.on.items own × (old.value < new.value)
+pub round_more : (nodes : ℕ) (arcs : List Arc) (old new : Progress) (own : ℕ → ℕ) (steps : List ResidualArc) → IsProgress nodes arcs old.on.items old.value old.rounds → IsLevelled arcs old.on.items own → own 1 ≤ nodes → IsTrail (Rises arcs own) 0 steps 1 → IsChain arcs old.on.items steps → AddsRound arcs steps old new → IsProgress nodes arcs new.on.items new.value new.rounds × IsLevelled arcs new.on.items own × (old.value < new.value)
 round_more nodes arcs old new own steps progress levelled low rising chain round = (
   rw (round.push.adds, round.value, round.rounds) (progress_more nodes arcs old.on.items old.value old.rounds own steps round.amount progress levelled low rising chain round.push.some round.push.carries round.push.most),
   rw round.push.adds (record { source = levelled.source; near = near_pushed arcs old.on.items own steps 0 1 round.amount rising levelled.near }),

@@ -2,14 +2,14 @@
 use Rattle.std.proofs.Common.{◌≡◌, ◌≢◌, ℕ, zero, suc, ◌+◌, ◌<◌, ◌≤◌, true, false, cond, List, Option, [], ◌∷◌, ◌++◌, ◌⊎◌, Some, None, length, get_or, set, replicate, refl, sym, ap, ◌∙◌, inl, inr, arith, get_or-set_same, get_or-set_other, length-set}
 use Rattle.std.specs.Prelude.{slice_get, is_some, count_by}
 use Rattle.std.proofs.lemmas.Bool.{true≢false, cases_eq, cases_lt}
-use Rattle.std.proofs.lemmas.List.{get_or_read, length_push, length-replicate, get_or-replicate, get_or_past}
+use Rattle.std.proofs.lemmas.List.{length_push, length-replicate, get_or-replicate, get_or_past}
 use Rattle.std.proofs.lemmas.List.Sums.{sum_by-set, sum_by-cons, count_by-le-length}
 use Rattle.std.proofs.lemmas.Option.{none-some, same_Some, slice_get_within, slice_get-get_or}
 use Rattle.saga_flow.specs.declared.nets.Arc.{Arc}
-use Rattle.saga_flow.specs.declared.steps.Step.{Step}
-use Rattle.saga_flow.specs.declared.searching.Mark.{Mark}
+use Rattle.saga_flow.specs.declared.residual_arcs.ResidualArc.{ResidualArc}
 use Rattle.saga_flow.specs.Residual.{Leads}
-use Rattle.saga_flow.specs.Search.{mark_at, depth_of, depth_at, IsSeen, IsFound, IsSearch, IsSearchTree, HasGoal, IsBeforeGoal}
+use Rattle.saga_flow.specs.Search.{IsSeen, IsFound, IsSearch, IsSearchTree, HasGoal, IsBeforeGoal}
+use Rattle.saga_flow.specs.Marks.{Mark, depth_at, depth_of, mark_at}
 use Rattle.saga_flow.proofs.ListLemmas.{slice_get-append, slice_get-pushed, slice_get-push_cases}
 
 -- a node with a mark is one of the nodes
@@ -20,7 +20,7 @@ mark_within marks v m at =
       | inr more ↦ absurd (none-some m (sym (get_or_past marks v None more) ∙ at))
     ]
 
-module _ (nodes : ℕ) (arcs : List Arc) (passes : Step → Type 0) (start : ℕ) (marks : List (Option Mark)) (order : List ℕ) (next u v : ℕ) (s : Step) (search : IsSearch nodes arcs passes start marks order next) (now : slice_get order next ≡ Some u) (lead : Leads arcs s u v) (pass : passes s) (inside : v < nodes) (fresh : mark_at marks v ≡ None) where
+module _ (nodes : ℕ) (arcs : List Arc) (passes : ResidualArc → Type 0) (start : ℕ) (marks : List (Option Mark)) (order : List ℕ) (next u v : ℕ) (s : ResidualArc) (search : IsSearch nodes arcs passes start marks order next) (now : slice_get order next ≡ Some u) (lead : Leads arcs s u v) (pass : passes s) (inside : v < nodes) (fresh : mark_at marks v ≡ None) where
   abbrev after : List (Option Mark)
   after = set marks v (Some (record { depth = depth_at marks u + 1; by = Some s }))
 
@@ -135,13 +135,13 @@ module _ (nodes : ℕ) (arcs : List Arc) (passes : Step → Type 0) (start : ℕ
   pub seen_new : IsSeen (set marks v (Some (record { depth = depth_at marks u + 1; by = Some s }))) v (depth_at marks u + 1)
   seen_new = (record { depth = depth_at marks u + 1; by = Some s }, at_new, omega arith)
 
-module _ (nodes : ℕ) (arcs : List Arc) (passes : Step → Type 0) (start : ℕ) (marks : List (Option Mark)) (order : List ℕ) (next : ℕ) (search : IsSearch nodes arcs passes start marks order next) where
+module _ (nodes : ℕ) (arcs : List Arc) (passes : ResidualArc → Type 0) (start : ℕ) (marks : List (Option Mark)) (order : List ℕ) (next : ℕ) (search : IsSearch nodes arcs passes start marks order next) where
   -- a node with a mark is seen from the node at hand
   pub seen_old : (u v : ℕ) (m : Mark) → slice_get order next ≡ Some u → mark_at marks v ≡ Some m → IsSeen marks v (depth_at marks u + 1)
   seen_old u v m now at = (m, at, search.top u v m now at)
 
   -- one node is done
-  pub search_done : (u : ℕ) → slice_get order next ≡ Some u → ((s : Step) (v : ℕ) → Leads arcs s u v → passes s → IsSeen marks v (depth_at marks u + 1)) → IsSearch nodes arcs passes start marks order (next + 1)
+  pub search_done : (u : ℕ) → slice_get order next ≡ Some u → ((s : ResidualArc) (v : ℕ) → Leads arcs s u v → passes s → IsSeen marks v (depth_at marks u + 1)) → IsSearch nodes arcs passes start marks order (next + 1)
   search_done u now all = record {
     sized = search.sized;
     root = search.root;
@@ -196,7 +196,7 @@ abbrev first_marks : ℕ → ℕ → List (Option Mark)
 first_marks nodes start = set (replicate nodes None) start (Some (record { depth = 0; by = None }))
 
 -- the start alone is marked
-pub search_start : (nodes : ℕ) (arcs : List Arc) (passes : Step → Type 0) (start : ℕ) → start < nodes → IsSearch nodes arcs passes start (set (replicate nodes None) start (Some (record { depth = 0; by = None }))) (start ∷ []) 0
+pub search_start : (nodes : ℕ) (arcs : List Arc) (passes : ResidualArc → Type 0) (start : ℕ) → start < nodes → IsSearch nodes arcs passes start (set (replicate nodes None) start (Some (record { depth = 0; by = None }))) (start ∷ []) 0
 search_start nodes arcs passes start inside = record {
   sized = length-set (replicate nodes None) start _ ∙ length-replicate nodes None;
   root = at_start;
@@ -238,22 +238,38 @@ search_start nodes arcs passes start inside = record {
               absurd (nothing v m unmarked))
         ]
 
--- a mark that was read and is none, or is there
-pub none_read : (marks : List (Option Mark)) (v : ℕ) (read : Option Mark) → v < length marks → read ≡ get_or marks v read → is_some read ≡ false → mark_at marks v ≡ None
-none_read marks v read short same test = sym (get_or_read marks v read short same None) ∙ none_at read test
+-- a node by the test for its mark
+pub none_marked : (marks : List (Option Mark)) (v : ℕ) → is_some (mark_at marks v) ≡ false → mark_at marks v ≡ None
+none_marked marks v test = none_at (mark_at marks v) test
   where
     none_at : (o : Option Mark) → is_some o ≡ false → o ≡ None
     none_at None t = refl
     none_at (Some m) t = absurd (true≢false t)
 
-pub some_read : (marks : List (Option Mark)) (v : ℕ) (read : Option Mark) → v < length marks → read ≡ get_or marks v read → is_some read ≡ true → (m : Mark) × (mark_at marks v ≡ Some m)
-some_read marks v read short same test =
-    let found = some_at read test in
-    (found.0, sym (get_or_read marks v read short same None) ∙ found.1)
+pub some_marked : (marks : List (Option Mark)) (v : ℕ) → is_some (mark_at marks v) ≡ true → (m : Mark) × (mark_at marks v ≡ Some m)
+some_marked marks v test = some_at (mark_at marks v) test
   where
     some_at : (o : Option Mark) → is_some o ≡ true → (m : Mark) × (o ≡ Some m)
     some_at None t = absurd (true≢false (sym t))
     some_at (Some m) t = (m, refl)
+
+-- where a node has no mark, fewer are marked than there are
+few_marked : (marks : List (Option Mark)) (v : ℕ) → v < length marks → mark_at marks v ≡ None → count_by is_some marks < length marks
+few_marked marks v short fresh =
+    let more = set marks v (Some (record { depth = 0; by = None })) in
+    let gained : count_by is_some more + cond (is_some (mark_at marks v)) 1 0 ≡ count_by is_some marks + 1 = sum_by-set (λ (o : Option Mark). cond (is_some o) 1 0) marks v (Some (record { depth = 0; by = None })) None short in
+    omega (arith, rw fresh at gained, count_by-le-length is_some more, length-set marks v (Some (record { depth = 0; by = None })))
+
+-- a node that is found from the one at hand is not as deep as there are nodes
+pub depth_less : (nodes : ℕ) (arcs : List Arc) (passes : ResidualArc → Type 0) (start : ℕ) (marks : List (Option Mark)) (order : List ℕ) (next u v : ℕ) → IsSearch nodes arcs passes start marks order next → slice_get order next ≡ Some u → v < nodes → mark_at marks v ≡ None → depth_at marks u + 1 < nodes
+depth_less nodes arcs passes start marks order next u v search now inside fresh =
+    let here = search.marked next u now in
+    omega (arith, search.shallow u here.0 here.1, ap depth_of here.1, search.counted, few_marked marks v (omega (arith, inside, search.sized)) fresh, search.sized)
+
+pub depth_within : (nodes : ℕ) (arcs : List Arc) (passes : ResidualArc → Type 0) (start : ℕ) (marks : List (Option Mark)) (order : List ℕ) (next u : ℕ) → IsSearch nodes arcs passes start marks order next → slice_get order next ≡ Some u → depth_at marks u < nodes
+depth_within nodes arcs passes start marks order next u search now =
+    let here = search.marked next u now in
+    omega (arith, search.shallow u here.0 here.1, ap depth_of here.1, search.counted, count_by-le-length is_some marks, search.sized)
 
 -- what is not refuted to be seen is seen
 pub seen_stable : (marks : List (Option Mark)) (v most : ℕ) → ((IsSeen marks v most → ⊥) → ⊥) → IsSeen marks v most
@@ -271,6 +287,6 @@ seen_stable marks v most unrefuted = at_mark (mark_at marks v) refl
         ]
 
 -- fewer nodes were found than there are
-pub order_le : (nodes : ℕ) (arcs : List Arc) (passes : Step → Type 0) (start : ℕ) (marks : List (Option Mark)) (order : List ℕ) (next : ℕ) → IsSearch nodes arcs passes start marks order next → length order ≤ nodes
+pub order_le : (nodes : ℕ) (arcs : List Arc) (passes : ResidualArc → Type 0) (start : ℕ) (marks : List (Option Mark)) (order : List ℕ) (next : ℕ) → IsSearch nodes arcs passes start marks order next → length order ≤ nodes
 order_le nodes arcs passes start marks order next search =
     omega (arith, search.counted, count_by-le-length is_some marks, search.sized)

@@ -1,26 +1,26 @@
--- Levels of nodes, and steps that lead one level up.
+-- Levels of nodes, and residual arcs that lead one level up.
 use Rattle.std.specs.Prelude.{ℕ, ◌≡◌, ◌+◌, ◌≤◌, List}
 use Rattle.saga_flow.specs.declared.nets.Arc.{Arc}
-use Rattle.saga_flow.specs.declared.steps.Step.{Step}
+use Rattle.saga_flow.specs.declared.residual_arcs.ResidualArc.{ResidualArc}
 use Rattle.saga_flow.specs.Residual.{Leads, IsOpen}
 
--- a step that leads one level up
-abbrev pub Rises : List Arc → (ℕ → ℕ) → Step → ℕ → ℕ → Type 0
+-- a residual arc that leads one level up
+abbrev pub Rises : List Arc → (ℕ → ℕ) → ResidualArc → ℕ → ℕ → Type 0
 Rises arcs level s from to = Leads arcs s from to × (level to ≡ level from + 1)
 
--- an open step that leads one level up
-abbrev pub Climbs : List Arc → List ℕ → (ℕ → ℕ) → Step → ℕ → ℕ → Type 0
+-- an open residual arc that leads one level up
+abbrev pub Climbs : List Arc → List ℕ → (ℕ → ℕ) → ResidualArc → ℕ → ℕ → Type 0
 Climbs arcs on level s from to = IsOpen arcs on s from to × (level to ≡ level from + 1)
 
--- no step of the residual network rises by more than one
+-- no arc of the residual network rises by more than one
 abbrev pub AreNear : List Arc → List ℕ → (ℕ → ℕ) → Type 0
-AreNear arcs on level = (s : Step) (from to : ℕ) → IsOpen arcs on s from to → level to ≤ level from + 1
+AreNear arcs on level = (s : ResidualArc) (from to : ℕ) → IsOpen arcs on s from to → level to ≤ level from + 1
 
 -- levels of the residual network
 pub record IsLevelled (arcs : List Arc) (on : List ℕ) (level : ℕ → ℕ) : Type 0 where
   pub source : level 0 ≡ 0
   pub near : AreNear arcs on level
 
--- an open step that leads one step nearer
-abbrev pub Nears : List Arc → List ℕ → (ℕ → ℕ) → Step → ℕ → ℕ → Type 0
+-- an open residual arc that leads one nearer
+abbrev pub Nears : List Arc → List ℕ → (ℕ → ℕ) → ResidualArc → ℕ → ℕ → Type 0
 Nears arcs on far s from to = IsOpen arcs on s from to × (far from ≡ far to + 1)

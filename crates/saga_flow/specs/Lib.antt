@@ -5,6 +5,7 @@ pub mod Reached
 pub mod Rounds
 pub mod Listed
 pub mod Adjacency
+pub mod Marks
 pub mod Search
 pub mod Pushes
 pub mod Levels

@@ -3,7 +3,7 @@ use Rattle.std.specs.Prelude.{ℕ, ◌≡◌, ◌+◌, ◌*◌, ◌≤◌, ◌==
 use Rattle.saga_flow.specs.declared.nets.Arc.{Arc}
 use Rattle.saga_flow.specs.declared.nets.Cap.{Cap}
 use Rattle.saga_flow.specs.declared.nets.Cap.TheVariants.{Of, Unbounded}
-use Rattle.saga_flow.specs.declared.steps.Step.{Step}
+use Rattle.saga_flow.specs.declared.residual_arcs.ResidualArc.{ResidualArc}
 use Rattle.saga_flow.specs.declared.rounds.Progress.{Progress}
 use Rattle.saga_flow.specs.Flows.{total, IsFlow, HasValue}
 use Rattle.saga_flow.specs.Rounds.{IsReachedIn}
@@ -45,7 +45,7 @@ pub record IsProgress (nodes : ℕ) (arcs : List Arc) (on : List ℕ) (value rou
   pub budget : IsBudgeted nodes arcs on rounds
 
 -- one round more: the greatest amount that a path carries went along it
-pub record AddsRound (arcs : List Arc) (path : List Step) (old new : Progress) : Type 0 where
+pub record AddsRound (arcs : List Arc) (path : List ResidualArc) (old new : Progress) : Type 0 where
   pub amount : ℕ
   pub push : IsPush arcs old.on.items path amount new.on.items
   pub value : new.value ≡ old.value + amount

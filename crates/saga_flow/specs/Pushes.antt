@@ -1,16 +1,16 @@
 -- What it is to send an amount along a path.
 use Rattle.std.specs.Prelude.{ℕ, ◌≡◌, ◌≢◌, ◌+◌, ◌<◌, ◌≤◌, ◌^◌, List, [], ◌∷◌, length, slice_index, Bool, true, false, All}
 use Rattle.saga_flow.specs.declared.nets.Arc.{Arc}
-use Rattle.saga_flow.specs.declared.steps.Step.{Step}
+use Rattle.saga_flow.specs.declared.residual_arcs.ResidualArc.{ResidualArc}
 use Rattle.saga_flow.specs.Residual.{Carries}
 use Rattle.saga_flow.specs.Rounds.{pushed}
 
--- none of these steps is over this arc
-abbrev pub AvoidsArc : ℕ → List Step → Type 0
-AvoidsArc k steps = All (λ (t : Step). t.arc ≢ k) steps
+-- none of these residual arcs is over this arc
+abbrev pub AvoidsArc : ℕ → List ResidualArc → Type 0
+AvoidsArc k steps = All (λ (t : ResidualArc). t.arc ≢ k) steps
 
--- no two steps are over one arc
-abbrev pub NoArcTwice : List Step → Type 0
+-- no two residual arcs are over one arc
+abbrev pub NoArcTwice : List ResidualArc → Type 0
 NoArcTwice [] = Unit {0}
 NoArcTwice (s ∷ steps) = AvoidsArc s.arc steps × NoArcTwice steps
 
@@ -19,12 +19,12 @@ abbrev pub FitsShift : Bool → ℕ → ℕ → Type 0
 FitsShift true x more = x + more < 2 ^ 64
 FitsShift false x more = more ≤ x
 
--- the step is over an arc of the list, whose amount can be raised or lowered by this
-abbrev pub CanShift : List ℕ → ℕ → Step → Type 0
+-- the residual arc is over an arc of the list, whose amount can be raised or lowered by this
+abbrev pub CanShift : List ℕ → ℕ → ResidualArc → Type 0
 CanShift on more s = (s.arc < length on) × FitsShift s.forward (slice_index on s.arc) more
 
 -- the greatest amount that a path carries went along it
-pub record IsPush (arcs : List Arc) (on : List ℕ) (steps : List Step) (more : ℕ) (after : List ℕ) : Type 0 where
+pub record IsPush (arcs : List Arc) (on : List ℕ) (steps : List ResidualArc) (more : ℕ) (after : List ℕ) : Type 0 where
   pub some : 0 < more
   pub carries : All (Carries arcs on more) steps
   pub most : All (Carries arcs on (more + 1)) steps → ⊥

@@ -1,34 +1,34 @@
 -- Rounds: how a flow is reached from the empty one by adding along shortest paths as much as they carry.
 use Rattle.std.specs.Prelude.{ℕ, ◌≡◌, ◌+◌, ◌-◌, ◌<◌, ◌≤◌, if◌then◌else◌, List, [], ◌∷◌, length, replicate, slice_index, slice_set, All}
 use Rattle.saga_flow.specs.declared.nets.Arc.{Arc}
-use Rattle.saga_flow.specs.declared.steps.Step.{Step}
+use Rattle.saga_flow.specs.declared.residual_arcs.ResidualArc.{ResidualArc}
 use Rattle.saga_flow.specs.Residual.{Carries, IsOpen}
 
--- the steps lead one after the other from one node to another
-abbrev pub IsTrail : (Step → ℕ → ℕ → Type 0) → ℕ → List Step → ℕ → Type 0
+-- the residual arcs lead one after the other from one node to another
+abbrev pub IsTrail : (ResidualArc → ℕ → ℕ → Type 0) → ℕ → List ResidualArc → ℕ → Type 0
 IsTrail R from [] to = from ≡ to
 IsTrail R from (s ∷ steps) to = (mid : ℕ) × R s from mid × IsTrail R mid steps to
 
--- open steps from source to sink
-abbrev pub IsChain : List Arc → List ℕ → List Step → Type 0
+-- open residual arcs from source to sink
+abbrev pub IsChain : List Arc → List ℕ → List ResidualArc → Type 0
 IsChain arcs on steps = IsTrail (IsOpen arcs on) 0 steps 1
 
--- the amounts after `more` went over one step
-abbrev pub shifted : List ℕ → Step → ℕ → List ℕ
+-- the amounts after `more` went over one residual arc
+abbrev pub shifted : List ℕ → ResidualArc → ℕ → List ℕ
 shifted on s more =
     slice_set on s.arc (if s.forward then slice_index on s.arc + more else slice_index on s.arc - more)
 
--- the amounts after `more` went over each of these steps
-abbrev pub pushed : List ℕ → List Step → ℕ → List ℕ
+-- the amounts after `more` went over each of these residual arcs
+abbrev pub pushed : List ℕ → List ResidualArc → ℕ → List ℕ
 pushed on [] more = on
 pushed on (s ∷ steps) more = pushed (shifted on s more) steps more
 
--- one round: along a chain with the fewest steps of all goes the greatest amount that it carries
+-- one round: along a chain with the fewest arcs of all goes the greatest amount that it carries
 pub record IsRound (arcs : List Arc) (on after : List ℕ) : Type 0 where
-  pub steps : List Step
+  pub steps : List ResidualArc
   pub more : ℕ
   pub chain : IsChain arcs on steps
-  pub fewest : (other : List Step) → IsChain arcs on other → length steps ≤ length other
+  pub fewest : (other : List ResidualArc) → IsChain arcs on other → length steps ≤ length other
   pub some : 0 < more
   pub carries : All (Carries arcs on more) steps
   pub most : All (Carries arcs on (more + 1)) steps → ⊥

@@ -39,7 +39,7 @@ pub fn largest(alloc: Global, net: &Net) -> Result<Flow, AllocError>
 
 /// The flow of `largest`, with the number of rounds in which it was reached from the empty one.
 ///
-/// In each round the greatest amount that it carries goes along a path that has the fewest steps of all from source to
+/// In each round the greatest amount that it carries goes along a path that has the fewest arcs of all from source to
 /// sink in the residual network, so there are at most as many rounds as the flow's value, and at most nodes times
 /// arcs. (The flow is Ford and Fulkerson's, the bound that of Edmonds and Karp, 1972; paths are found in phases as
 /// Dinic found them, 1970.)
@@ -65,10 +65,10 @@ pub fn largest_counted(alloc: Global, net: &Net) -> Result<(Flow, u64), AllocErr
             on: progress.on.as_slice(),
         };
         let marks = search(alloc, &graph, &Backward { gate: &open }, 1, Some(0))?;
-        if marks[0].is_none() {
+        if !marks.is_marked(0) {
             break;
         }
-        run_phase(alloc, &graph, marks.as_slice(), &mut progress)?;
+        run_phase(alloc, &graph, &marks, &mut progress)?;
     }
     let Progress { on, value, rounds } = progress;
     Ok((Flow { value, on }, rounds))

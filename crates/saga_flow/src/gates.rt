@@ -1,24 +1,24 @@
-//! Gates: which steps a search may take.
+//! Gates: which residual arcs a search may take.
 ghost use Rattle.std.specs.Prelude.{◌≡◌, ◌<◌, ℕ, ◌↔◌, IsTrue, length, slice_get, Some};
 
 use crate::nets::{Arc, Cap};
-use crate::steps::Step;
+use crate::residual_arcs::ResidualArc;
 
-/// What lets some steps pass.
+/// What lets some residual arcs pass.
 pub trait Gate {
-    ghost use Rattle.saga_flow.specs.declared.steps.Step.{Step};
+    ghost use Rattle.saga_flow.specs.declared.residual_arcs.ResidualArc.{ResidualArc};
 
     ghost count: { Self → ℕ };
 
-    ghost passes: { Self → Step → Type 0 };
+    ghost passes: { Self → ResidualArc → Type 0 };
 
-    /// Whether a step may be taken.
-    fn lets_pass(&self, step: Step) -> bool
-        requires { step.arc < count self.now }
-        ensures { IsTrue result ↔ passes self.now step };
+    /// Whether a residual arc may be taken.
+    fn lets_pass(&self, residual: ResidualArc) -> bool
+        requires { residual.arc < count self.now }
+        ensures { IsTrue result ↔ passes self.now residual };
 }
 
-/// The steps of the residual network: along an arc that has room left, against one that carries something.
+/// The arcs of the residual network: along an arc that has room left, against one that carries something.
 #[derive(Drop)]
 pub struct Residual<'a> {
     pub arcs: &'a [Arc],
@@ -33,10 +33,10 @@ impl Gate for Residual<'_> {
 
     ghost passes = { λ r s. Carries r.arcs.now r.on.now 1 s };
 
-    fn lets_pass(&self, step: Step) -> bool {
-        let carried = self.on[step.arc];
-        if step.forward {
-            match self.arcs[step.arc].cap {
+    fn lets_pass(&self, residual: ResidualArc) -> bool {
+        let carried = self.on[residual.arc];
+        if residual.forward {
+            match self.arcs[residual.arc].cap {
                 Cap::Of(most) => carried < most,
                 Cap::Unbounded => true,
             }
@@ -46,7 +46,7 @@ impl Gate for Residual<'_> {
     }
 }
 
-/// The steps along unbounded arcs.
+/// The residual arcs along unbounded arcs.
 #[derive(Drop)]
 pub struct Endless<'a> {
     pub arcs: &'a [Arc],
@@ -59,12 +59,12 @@ impl Gate for Endless<'_> {
 
     ghost passes = { λ r s. IsEndless r.arcs.now s };
 
-    fn lets_pass(&self, step: Step) -> bool {
-        step.forward && matches!(self.arcs[step.arc].cap, Cap::Unbounded)
+    fn lets_pass(&self, residual: ResidualArc) -> bool {
+        residual.forward && matches!(self.arcs[residual.arc].cap, Cap::Unbounded)
     }
 }
 
-/// The steps that another gate lets pass the other way.
+/// The residual arcs that another gate lets pass the other way.
 #[derive(Drop)]
 pub struct Backward<'a, G: Gate> {
     pub gate: &'a G,
@@ -77,7 +77,7 @@ impl<G: Gate> Gate for Backward<'_, G> {
 
     ghost passes = { λ b s. G.passes b.gate.now (turned s) };
 
-    fn lets_pass(&self, step: Step) -> bool {
-        self.gate.lets_pass(step.turned())
+    fn lets_pass(&self, residual: ResidualArc) -> bool {
+        self.gate.lets_pass(residual.turned())
     }
 }

@@ -1,5 +1,5 @@
-//! A net's graph as a search goes through it: the steps out of each node, along arcs and back against them.
-ghost use Rattle.std.specs.Prelude.{◌≡◌, ◌<◌, ◌^◌, IfOk, true, false};
+//! A net's graph as a search goes through it: the residual arcs out of each node, along arcs and back against them.
+ghost use Rattle.std.specs.Prelude.{◌≡◌, ◌+◌, ◌<◌, ◌^◌, IfOk, length, true, false};
 ghost use Rattle.saga_flow.specs.Network.{IsNetwork};
 ghost use Rattle.saga_flow.specs.Adjacency.{IsAdjacencyList};
 
@@ -14,10 +14,12 @@ pub struct Graph<'a> {
     pub arcs: &'a [Arc],
     out: AdjacencyList,
     into: AdjacencyList,
+    degrees: Vec<usize>,
     ghost small: { nodes < 2 ^ 32 },
     ghost net: { IsNetwork (record { nodes = nodes; arcs = arcs.now }) },
     ghost along: { IsAdjacencyList nodes arcs.now true out.starts.items out.arcs.items out.heads.items },
     ghost back: { IsAdjacencyList nodes arcs.now false into.starts.items into.arcs.items into.heads.items },
+    ghost counted: { length degrees.items ≡ nodes },
 }
 
 /// The graph of a net, made once for a call.
@@ -29,20 +31,47 @@ pub fn graph_of(alloc: Global, net: &Net) -> Result<Graph<'_>, AllocError>
     let arcs = net.arcs();
     let out = list_of(alloc, nodes, arcs, true)?;
     let into = list_of(alloc, nodes, arcs, false)?;
+    let degrees = degrees_of(alloc, nodes, &out, &into)?;
     Ok(Graph {
         nodes,
         arcs,
         out,
         into,
+        degrees,
     })
 }
 
+/// How many residual arcs leave each node.
+fn degrees_of(
+    alloc: Global,
+    nodes: usize,
+    out: &AdjacencyList,
+    into: &AdjacencyList,
+) -> Result<Vec<usize>, AllocError>
+    requires out { length out.now.starts.items ≡ nodes + 1 }
+    requires into { length into.now.starts.items ≡ nodes + 1 }
+    ensures { IfOk result (λ degrees. length degrees.items ≡ nodes) }
+{
+    let mut degrees = Vec::with_capacity(alloc, nodes)?;
+    for node in 0..nodes {
+        degrees.push(out.degree(node).saturating_add(into.degree(node)))?;
+    }
+    Ok(degrees)
+}
+
 impl Graph<'_> {
-    /// The steps along arcs, or those back against them, by the node that they leave.
+    /// The residual arcs along arcs, or those back against them, by the node that they leave.
     #[inline]
-    pub fn steps(&self, forward: bool) -> &AdjacencyList
+    pub fn adjacency(&self, forward: bool) -> &AdjacencyList
         ensures { IsAdjacencyList self.now.nodes self.now.arcs.now forward result.now.starts.items result.now.arcs.items result.now.heads.items }
     {
         if forward { &self.out } else { &self.into }
+    }
+
+    /// How many residual arcs leave each node.
+    pub fn degrees(&self) -> &[usize]
+        ensures { length result.now ≡ self.now.nodes }
+    {
+        self.degrees.as_slice()
     }
 }

@@ -10,20 +10,21 @@ mod chains;
 mod flows;
 mod gates;
 mod graphs;
+mod marks;
 mod nets;
 mod phases;
 mod pushes;
 mod reaching;
+mod residual_arcs;
 mod rounds;
 mod searching;
-mod steps;
 
 pub use flows::{Flow, largest, largest_counted};
 pub use nets::{Arc, Cap, Net};
 pub use pushes::push;
 pub use reaching::{reach, unbounded_path};
+pub use residual_arcs::ResidualArc;
 pub use rounds::Progress;
-pub use steps::Step;
 
 #[cfg(test)]
 mod plain;

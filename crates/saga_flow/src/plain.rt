@@ -6,7 +6,7 @@ use crate::flows::Flow;
 use crate::gates::{Backward, Residual};
 use crate::graphs::graph_of;
 use crate::nets::Net;
-use crate::rounds::{Progress, add_round};
+use crate::rounds::{Progress, augment};
 use crate::searching::search;
 use std::alloc::{AllocError, Global};
 
@@ -26,11 +26,11 @@ pub fn plain_largest(alloc: Global, net: &Net) -> Result<(Flow, u64), AllocError
             on: progress.on.as_slice(),
         };
         let marks = search(alloc, &graph, &Backward { gate: &open }, 1, Some(0))?;
-        if marks[0].is_none() {
+        if !marks.is_marked(0) {
             break;
         }
-        let path = path_home(alloc, graph.arcs, marks.as_slice())?;
-        add_round(graph.arcs, path.as_slice(), &mut progress);
+        let path = path_home(alloc, graph.arcs, &marks)?;
+        augment(graph.arcs, path.as_slice(), &mut progress);
     }
     let Progress { on, value, rounds } = progress;
     Ok((Flow { value, on }, rounds))

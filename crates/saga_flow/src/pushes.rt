@@ -5,15 +5,15 @@ ghost use Rattle.saga_flow.specs.Rounds.{pushed, shifted};
 ghost use Rattle.saga_flow.specs.Pushes.{CanShift, IsPush, NoArcTwice};
 
 use crate::nets::{Arc, Cap};
-use crate::steps::Step;
+use crate::residual_arcs::ResidualArc;
 
-/// More than any bounded step carries.
+/// More than any bounded residual arc carries.
 const ENDLESS: u64 = 1 << 63;
 
 /// Sends along a path the greatest amount that it carries, and answers it.
 ///
 /// (Ford and Fulkerson's augmentation.)
-pub fn push_most(arcs: &[Arc], path: &[Step], on: &mut [u64]) -> u64
+pub fn push_most(arcs: &[Arc], path: &[ResidualArc], on: &mut [u64]) -> u64
     requires sized { length on.old ≡ length arcs.now }
     requires carries { All (Carries arcs.now on.old 1) path.now }
     requires once { NoArcTwice path.now }
@@ -26,7 +26,7 @@ pub fn push_most(arcs: &[Arc], path: &[Step], on: &mut [u64]) -> u64
 }
 
 /// The greatest amount that a path carries, where that is below 2^63.
-fn most_along(arcs: &[Arc], path: &[Step], on: &[u64]) -> u64
+fn most_along(arcs: &[Arc], path: &[ResidualArc], on: &[u64]) -> u64
     requires sized { length on.now ≡ length arcs.now }
     requires carries { All (Carries arcs.now on.now 1) path.now }
     ensures some { 0 < result }
@@ -34,23 +34,23 @@ fn most_along(arcs: &[Arc], path: &[Step], on: &[u64]) -> u64
     ensures most { result < 2 ^ 63 → All (Carries arcs.now on.now (result + 1)) path.now → ⊥ }
 {
     let mut least = ENDLESS;
-    for step in path {
-        least = least.min(room(arcs, *step, on));
+    for residual in path {
+        least = least.min(room(arcs, *residual, on));
     }
     least
 }
 
-/// How much a step carries: 2^63 stands for any amount.
-fn room(arcs: &[Arc], step: Step, on: &[u64]) -> u64
+/// How much a residual arc carries: 2^63 stands for any amount.
+fn room(arcs: &[Arc], residual: ResidualArc, on: &[u64]) -> u64
     requires sized { length on.now ≡ length arcs.now }
-    requires carries { Carries arcs.now on.now 1 step }
+    requires carries { Carries arcs.now on.now 1 residual }
     ensures some { 0 < result }
-    ensures carries { Carries arcs.now on.now result step }
-    ensures most { result < 2 ^ 63 → Carries arcs.now on.now (result + 1) step → ⊥ }
+    ensures carries { Carries arcs.now on.now result residual }
+    ensures most { result < 2 ^ 63 → Carries arcs.now on.now (result + 1) residual → ⊥ }
 {
-    let carried = on[step.arc];
-    if step.forward {
-        match arcs[step.arc].cap {
+    let carried = on[residual.arc];
+    if residual.forward {
+        match arcs[residual.arc].cap {
             Cap::Of(most) => most - carried,
             Cap::Unbounded => ENDLESS,
         }
@@ -59,25 +59,25 @@ fn room(arcs: &[Arc], step: Step, on: &[u64]) -> u64
     }
 }
 
-/// Sends an amount over each step of a path.
-pub fn push(path: &[Step], on: &mut [u64], more: u64)
+/// Sends an amount over each residual arc of a path.
+pub fn push(path: &[ResidualArc], on: &mut [u64], more: u64)
     requires once { NoArcTwice path.now }
     requires fits { All (CanShift on.old more) path.now }
     ensures { on.new ≡ pushed on.old path.now more }
 {
-    for step in path {
-        shift(on, *step, more);
+    for residual in path {
+        shift(on, *residual, more);
     }
 }
 
-/// Sends an amount over one step.
-fn shift(on: &mut [u64], step: Step, more: u64)
-    requires { CanShift on.old more step }
-    ensures { on.new ≡ shifted on.old step more }
+/// Sends an amount over one residual arc.
+fn shift(on: &mut [u64], residual: ResidualArc, more: u64)
+    requires { CanShift on.old more residual }
+    ensures { on.new ≡ shifted on.old residual more }
 {
-    if step.forward {
-        on[step.arc] += more;
+    if residual.forward {
+        on[residual.arc] += more;
     } else {
-        on[step.arc] -= more;
+        on[residual.arc] -= more;
     }
 }

@@ -6,7 +6,7 @@ ghost use Rattle.saga_flow.specs.Progress.{AddsRound};
 
 use crate::nets::Arc;
 use crate::pushes::push_most;
-use crate::steps::Step;
+use crate::residual_arcs::ResidualArc;
 
 /// The amounts so far, one for each arc, their value, and the rounds in which they were reached.
 #[derive(Drop)]
@@ -17,7 +17,7 @@ pub struct Progress {
 }
 
 /// One round: the greatest amount that a path carries goes along it.
-pub fn add_round(arcs: &[Arc], path: &[Step], progress: &mut Progress)
+pub fn augment(arcs: &[Arc], path: &[ResidualArc], progress: &mut Progress)
     requires sized { length progress.old.on.items ≡ length arcs.now }
     requires carries { All (Carries arcs.now progress.old.on.items 1) path.now }
     requires once { NoArcTwice path.now }

@@ -129,8 +129,8 @@ fn check_textbook_net(rt: &impl Abort, alloc: Global) -> Result<(), AllocError> 
 fn check_steps_in_a_row(rt: &impl Abort, alloc: Global) -> Result<(), AllocError> {
     let mut arcs = Vec::new(alloc);
     arcs.push(bounded(0, 2, 5))?;
-    for step in 2..1025u32 {
-        arcs.push(unbounded(step, step + 1))?;
+    for residual in 2..1025u32 {
+        arcs.push(unbounded(residual, residual + 1))?;
     }
     arcs.push(bounded(1025, 1, 3))?;
     let net = net_of(rt, alloc, 1026, arcs.as_slice())?;
@@ -145,16 +145,16 @@ fn check_steps_in_a_row(rt: &impl Abort, alloc: Global) -> Result<(), AllocError
 /// 1,024 steps, each needing the one before it: each step but the last takes one unit in and could give two.
 fn check_steps_side_by_side(rt: &impl Abort, alloc: Global) -> Result<(), AllocError> {
     let mut arcs = Vec::new(alloc);
-    for step in 0..1023u32 {
-        arcs.push(bounded(0, 2 + step, 1))?;
+    for residual in 0..1023u32 {
+        arcs.push(bounded(0, 2 + residual, 1))?;
     }
     arcs.push(bounded(0, 1025, 0))?;
-    for step in 0..1023u32 {
-        arcs.push(bounded(2 + step, 1, 2))?;
+    for residual in 0..1023u32 {
+        arcs.push(bounded(2 + residual, 1, 2))?;
     }
     arcs.push(unbounded(1025, 1))?;
-    for step in 1..1024u32 {
-        arcs.push(unbounded(2 + step, 1 + step))?;
+    for residual in 1..1024u32 {
+        arcs.push(unbounded(2 + residual, 1 + residual))?;
     }
     let net = net_of(rt, alloc, 1026, arcs.as_slice())?;
     let (flow, rounds) = greatest(rt, alloc, &net)?;

@@ -18,22 +18,22 @@ climb c = rw c.as_slice-2.ensures.value (rw c.as_slice.ensures.value at c.in_ok-
 pub path_to-requires : goal.path_to-requires
 path_to-requires c = rw c.as_slice.ensures.value c.requires.at
 
-pub add_round-requires-clause-carries : goal.add_round-requires-clause-carries
-add_round-requires-clause-carries c =
+pub augment-requires-clause-carries : goal.augment-requires-clause-carries
+augment-requires-clause-carries c =
     let t : Terms = terms_in c.args.net.now in
-    let up = climb (goal.at.add_round-requires-clause-carries c).After-as_slice-2 in
+    let up = climb (goal.at.augment-requires-clause-carries c).After-as_slice-2 in
     climb_carries (network_of t).nodes _ _ _ _ up
 
-pub add_round-requires-clause-once : goal.add_round-requires-clause-once
-add_round-requires-clause-once c =
+pub augment-requires-clause-once : goal.augment-requires-clause-once
+augment-requires-clause-once c =
     let t : Terms = terms_in c.args.net.now in
-    let up = climb (goal.at.add_round-requires-clause-once c).After-as_slice-2 in
+    let up = climb (goal.at.augment-requires-clause-once c).After-as_slice-2 in
     climb_once (network_of t).nodes _ _ _ _ up
 
-pub add_round-requires-clause-fits : goal.add_round-requires-clause-fits
-add_round-requires-clause-fits c =
+pub augment-requires-clause-fits : goal.augment-requires-clause-fits
+augment-requires-clause-fits c =
     let t : Terms = terms_in c.args.net.now in
-    let up = climb (goal.at.add_round-requires-clause-fits c).After-as_slice-2 in
+    let up = climb (goal.at.augment-requires-clause-fits c).After-as_slice-2 in
     climb_fits (network_of t).nodes _ _ _ _ up _ _ c.requires.network c.requires.apart c.requires.progress
 
 pub loop-j-init : goal.loop-j-init
@@ -44,7 +44,7 @@ loop-j-init c =
     let at = c.requires.at in
     let begun = levelled t c.args.progress.now.on.items found.level.items found.by.items found.order.items c.args.goal.first (length found.order.items) c.args.goal.first c.args.goal.depth c.args.net.now.known at.search in
     let under = low t c.args.progress.now.on.items found.level.items found.by.items found.order.items c.args.goal.first (length found.order.items) c.args.goal.first c.args.goal.depth c.args.net.now.known at.search in
-    let after = climb_round (network_of t).nodes (network_of t).arcs c.args.progress.now c.add_round.new.progress (node_level c.args.goal.depth found.level.items) c.as_slice-2.result.now c.requires.network c.requires.apart c.requires.progress begun under up c.add_round.ensures in
+    let after = climb_round (network_of t).nodes (network_of t).arcs c.args.progress.now c.augment.new.progress (node_level c.args.goal.depth found.level.items) c.as_slice-2.result.now c.requires.network c.requires.apart c.requires.progress begun under up c.augment.ensures in
     record { left = c.in_ok-left.ensures; levelled = after.1; progress = after.0; small = after.3; more = after.2 }
 
 -- the step at hand stands in the layer

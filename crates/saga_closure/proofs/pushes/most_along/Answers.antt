@@ -5,16 +5,16 @@ use Rattle.saga_flow.proofs.AmountLemmas.{most_more}
 use Rattle.saga_closure.specs.Nets.{arcs_in}
 use Rattle.saga_closure.proofs.pushes.most_along.Goals as goal
 
-pub loop-step-preserved : goal.loop-step-preserved
-loop-step-preserved c =
+pub loop-over-preserved : goal.loop-over-preserved
+loop-over-preserved c =
     let path = c.args.path.now in
-    let i = c.loop-step.step-index in
-    rw c.min-least.ensures (most_more (arcs_in c.args.residual.now.net.now) c.args.residual.now.on.now path i c.loop-step.least c.room.result c.loop-step.invariant c.room.ensures.some
-    (λ d. rw (get_or_default path i d (record { arc = 0; forward = false }) c.loop-step-test.true) c.room.ensures.carries)
+    let i = c.loop-over.over-index in
+    rw c.min-least.ensures (most_more (arcs_in c.args.residual.now.net.now) c.args.residual.now.on.now path i c.loop-over.least c.room.result c.loop-over.invariant c.room.ensures.some
+    (λ d. rw (get_or_default path i d (record { arc = 0; forward = false }) c.loop-over-test.true) c.room.ensures.carries)
     (λ below all. c.room.ensures.most below (all (record { arc = 0; forward = false }))))
 
 pub room-requires : goal.room-requires
-room-requires c = record { carries = c.requires.carries c.loop-step.step-index (record { arc = 0; forward = false }) c.loop-step-test.true }
+room-requires c = record { carries = c.requires.carries c.loop-over.over-index (record { arc = 0; forward = false }) c.loop-over-test.true }
 
 pub returns-clause-carries : goal.returns-clause-carries
-returns-clause-carries c = λ k d lt. c.loop-step.invariant.carries k d (omega (arith, lt, c.loop-step-test.false))
+returns-clause-carries c = λ k d lt. c.loop-over.invariant.carries k d (omega (arith, lt, c.loop-over-test.false))

@@ -32,12 +32,12 @@ bounds-residual-arc c =
 pub bounds-level-u : goal.bounds-level-u
 bounds-level-u c = omega (arith, known (goal.at.bounds-level-u c).After-places_of-places c.loop-e.e (omega (arith, c.loop-e-test.true)), c.requires.level)
 
-pub returns-then-is_just_below-clause-inside : goal.returns-then-is_just_below-clause-inside
-returns-then-is_just_below-clause-inside c = known (goal.at.returns-then-is_just_below-clause-inside c).After-places_of-places c.loop-e.e (omega (arith, c.loop-e-test.true))
+pub returns-then-is_alive-clause-inside : goal.returns-then-is_alive-clause-inside
+returns-then-is_alive-clause-inside c = known (goal.at.returns-then-is_alive-clause-inside c).After-places_of-places c.loop-e.e (omega (arith, c.loop-e-test.true))
 
-pub returns-then-is_just_below-clause-opened : goal.returns-then-is_just_below-clause-opened
-returns-then-is_just_below-clause-opened c =
-    let at = (goal.at.returns-then-is_just_below-clause-opened c).After-places_of-places in
+pub returns-then-is_alive-clause-opened : goal.returns-then-is_alive-clause-opened
+returns-then-is_alive-clause-opened c =
+    let at = (goal.at.returns-then-is_alive-clause-opened c).After-places_of-places in
     let net = c.args.residual.now.net.now in
     let n : ℕ = length net.definition.now.steps in
     let place : ℕ = get_or c.places_of-places.result.now c.loop-e.e 0 in

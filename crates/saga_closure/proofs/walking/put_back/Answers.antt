@@ -5,4 +5,4 @@ use Rattle.saga_closure.proofs.ArcLemmas.{arcs_sized}
 use Rattle.saga_closure.proofs.walking.put_back.Goals as goal
 
 pub head-requires-clause-inside : goal.head-requires-clause-inside
-head-requires-clause-inside c = omega (arith, c.requires.steps c.loop-step.step-index (record { arc = 0; forward = false }) c.loop-step-test.true, arcs_sized (terms_in c.args.net.now))
+head-requires-clause-inside c = omega (arith, c.requires.steps c.loop-over.over-index (record { arc = 0; forward = false }) c.loop-over-test.true, arcs_sized (terms_in c.args.net.now))

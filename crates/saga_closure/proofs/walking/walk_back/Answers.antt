@@ -43,13 +43,13 @@ loop-v-preserved-in-Some c =
 pub head-v-requires-clause-inside : goal.head-v-requires-clause-inside
 head-v-requires-clause-inside c =
     let many : c.steps-count.result ≡ length c.args.residual.now.net.now.definition.now.steps = c.steps-count.ensures.count in
-    let popped = trail_pop (terms_in c.args.residual.now.net.now) c.args.residual.now.on.now c.args.level.now c.args.depth c.loop-v.v c.loop-v.path.items c.pop.new.self.items c.in-Some-pop.step c.args.residual.now.net.now.known c.in-Some-pop.ensures.items c.loop-v.invariant.trail (omega (arith, many, c.if-step-count.false)) in
+    let popped = trail_pop (terms_in c.args.residual.now.net.now) c.args.residual.now.on.now c.args.level.now c.args.depth c.loop-v.v c.loop-v.path.items c.pop.new.self.items c.in-Some-pop.over c.args.residual.now.net.now.known c.in-Some-pop.ensures.items c.loop-v.invariant.trail (omega (arith, many, c.if-over-count.false)) in
     popped.0
 
 pub loop-v-preserved : goal.loop-v-preserved
 loop-v-preserved c =
     let many : c.steps-count.result ≡ length c.args.residual.now.net.now.definition.now.steps = c.steps-count.ensures.count in
-    let popped = trail_pop (terms_in c.args.residual.now.net.now) c.args.residual.now.on.now c.args.level.now c.args.depth c.loop-v.v c.loop-v.path.items c.pop.new.self.items c.in-Some-pop.step c.args.residual.now.net.now.known c.in-Some-pop.ensures.items c.loop-v.invariant.trail (omega (arith, many, c.if-step-count.false)) in
+    let popped = trail_pop (terms_in c.args.residual.now.net.now) c.args.residual.now.on.now c.args.level.now c.args.depth c.loop-v.v c.loop-v.path.items c.pop.new.self.items c.in-Some-pop.over c.args.residual.now.net.now.known c.in-Some-pop.ensures.items c.loop-v.invariant.trail (omega (arith, many, c.if-over-count.false)) in
     record {
       inside = c.head-v.ensures.inside;
       low = rw c.head-v.ensures.is popped.1;

@@ -1,7 +1,7 @@
 use Rattle.std.proofs.Common.{◌≡◌, ◌<◌, ◌+◌, ◌*◌, length, vec_len, sum}
 use Rattle.saga_flow.specs.Levels.{Nears}
-use Rattle.saga_flow.specs.Search.{far_in}
 use Rattle.saga_flow.specs.Rounds.{IsTrail}
+use Rattle.saga_flow.specs.Marks.{far_in}
 use Rattle.saga_flow.proofs.phases.next_path.Given as goal
 
 abbrev pub invariant-loop-node : goal.invariant-loop-node

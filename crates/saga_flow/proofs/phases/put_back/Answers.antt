@@ -1,7 +1,7 @@
--- The tail of a step is one of the nodes.
+-- The tail of a residual arc is one of the nodes.
 use Rattle.std.proofs.Common.{◌<◌, arith}
 use Rattle.saga_flow.proofs.NetLemmas.{AreEnds-from_test}
-use Rattle.saga_flow.proofs.StepLemmas.{leads_nodes}
+use Rattle.saga_flow.proofs.ResidualArcLemmas.{leads_nodes}
 use Rattle.saga_flow.proofs.phases.put_back.Goals as goal
 use Rattle.saga_flow.proofs.phases.put_back.Goals.{After-tail-node}
 

@@ -1,8 +1,9 @@
--- The search's own path leads nearer at each step, and so does each that is found further; each is a round.
-use Rattle.std.proofs.Common.{◌-◌, arith}
+-- The search's own path leads nearer at each residual arc, and so does each that is found further; each is a round.
+use Rattle.std.proofs.Common.{◌-◌, ◌∙◌, arith}
 use Rattle.saga_flow.specs.Levels.{Nears, Climbs}
-use Rattle.saga_flow.specs.Search.{IsHomeStep, far_in}
+use Rattle.saga_flow.specs.Search.{IsHomeArc}
 use Rattle.saga_flow.specs.Rounds.{IsTrail}
+use Rattle.saga_flow.specs.Marks.{far_in}
 use Rattle.saga_flow.proofs.LevelLemmas.{trail_by}
 use Rattle.saga_flow.proofs.TreeLemmas.{home_nears, near_levelled, near_low}
 use Rattle.saga_flow.proofs.PathLemmas.{nears_climb}
@@ -15,7 +16,7 @@ first c =
     let arcs = c.args.graph.now.arcs.now in
     let on = c.args.progress.now.on.items in
     let marks = c.args.marks.now in
-    let nears = trail_by (IsHomeStep arcs marks) (Nears arcs on (far_in marks)) c.in_ok-path.path.items 0 1 (home_nears (c.args.graph.now.nodes) arcs on marks c.requires.tree) c.in_ok-path.ensures in
+    let nears = trail_by (IsHomeArc arcs marks) (Nears arcs on (far_in marks)) c.in_ok-path.path.items 0 1 (home_nears (c.args.graph.now.nodes) arcs on marks c.requires.tree) c.in_ok-path.ensures in
     rw c.as_slice.ensures.value (nears_climb arcs on (far_in marks) (far_in marks 0) c.in_ok-path.path.items 0 1 (omega arith) nears)
 
 further : (c : After-as_slice-in-loop-path-2) → IsTrail (Climbs c.args.graph.now.arcs.now c.loop-path.progress.on.items (λ v. far_in c.args.marks.now 0 - far_in c.args.marks.now v)) 0 c.as_slice-in-loop-path-2.result.now 1
@@ -26,17 +27,17 @@ further c =
     let nears : IsTrail (Nears arcs on (far_in marks)) 0 c.next_path.new.path.items 1 = rw c.as_slice-in-loop-path.ensures.value at (c.in_ok-next_path.ensures.found c.if-branch.true) in
     rw c.as_slice-in-loop-path-2.ensures.value (nears_climb arcs on (far_in marks) (far_in marks 0) c.next_path.new.path.items 0 1 (omega arith) nears)
 
-pub add_round-requires-clause-carries : goal.add_round-requires-clause-carries
-add_round-requires-clause-carries c =
-    climb_carries (c.args.graph.now.nodes) _ _ _ _ (first (goal.at.add_round-requires-clause-carries c).After-as_slice)
+pub augment-requires-clause-carries : goal.augment-requires-clause-carries
+augment-requires-clause-carries c =
+    climb_carries (c.args.graph.now.nodes) _ _ _ _ (first (goal.at.augment-requires-clause-carries c).After-as_slice)
 
-pub add_round-requires-clause-once : goal.add_round-requires-clause-once
-add_round-requires-clause-once c =
-    climb_once (c.args.graph.now.nodes) _ _ _ _ (first (goal.at.add_round-requires-clause-once c).After-as_slice)
+pub augment-requires-clause-once : goal.augment-requires-clause-once
+augment-requires-clause-once c =
+    climb_once (c.args.graph.now.nodes) _ _ _ _ (first (goal.at.augment-requires-clause-once c).After-as_slice)
 
-pub add_round-requires-clause-fits : goal.add_round-requires-clause-fits
-add_round-requires-clause-fits c =
-    climb_fits (c.args.graph.now.nodes) _ _ _ _ (first (goal.at.add_round-requires-clause-fits c).After-as_slice) _ _ c.args.graph.now.net c.requires.apart c.requires.progress
+pub augment-requires-clause-fits : goal.augment-requires-clause-fits
+augment-requires-clause-fits c =
+    climb_fits (c.args.graph.now.nodes) _ _ _ _ (first (goal.at.augment-requires-clause-fits c).After-as_slice) _ _ c.args.graph.now.net c.requires.apart c.requires.progress
 
 pub loop-path-init : goal.loop-path-init
 loop-path-init c =
@@ -44,20 +45,20 @@ loop-path-init c =
     let arcs = c.args.graph.now.arcs.now in
     let on = c.args.progress.now.on.items in
     let marks = c.args.marks.now in
-    let after = climb_round nodes arcs c.args.progress.now c.add_round.new.progress (λ v. far_in marks 0 - far_in marks v) c.as_slice.result.now c.args.graph.now.net c.requires.apart c.requires.progress (near_levelled nodes arcs on marks c.requires.tree) (near_low nodes arcs on marks c.requires.tree) (first (goal.at.loop-path-init c).After-as_slice) c.add_round.ensures in
-    record { progress = after.0; levelled = after.1; left = c.in_ok-left.ensures; small = after.3; more = after.2 }
+    let after = climb_round nodes arcs c.args.progress.now c.augment.new.progress (λ v. far_in marks 0 - far_in marks v) c.as_slice.result.now c.args.graph.now.net c.requires.apart c.requires.progress (near_levelled nodes arcs on marks c.requires.tree) (near_low nodes arcs on marks c.requires.tree) (first (goal.at.loop-path-init c).After-as_slice) c.augment.ensures in
+    record { progress = after.0; levelled = after.1; left = c.in_ok-left.ensures.len ∙ c.degrees.ensures; small = after.3; more = after.2 }
 
-pub add_round-requires-in-loop-path-clause-carries : goal.add_round-requires-in-loop-path-clause-carries
-add_round-requires-in-loop-path-clause-carries c =
-    climb_carries (c.args.graph.now.nodes) _ _ _ _ (further (goal.at.add_round-requires-in-loop-path-clause-carries c).After-as_slice-in-loop-path-2)
+pub augment-requires-in-loop-path-clause-carries : goal.augment-requires-in-loop-path-clause-carries
+augment-requires-in-loop-path-clause-carries c =
+    climb_carries (c.args.graph.now.nodes) _ _ _ _ (further (goal.at.augment-requires-in-loop-path-clause-carries c).After-as_slice-in-loop-path-2)
 
-pub add_round-requires-in-loop-path-clause-once : goal.add_round-requires-in-loop-path-clause-once
-add_round-requires-in-loop-path-clause-once c =
-    climb_once (c.args.graph.now.nodes) _ _ _ _ (further (goal.at.add_round-requires-in-loop-path-clause-once c).After-as_slice-in-loop-path-2)
+pub augment-requires-in-loop-path-clause-once : goal.augment-requires-in-loop-path-clause-once
+augment-requires-in-loop-path-clause-once c =
+    climb_once (c.args.graph.now.nodes) _ _ _ _ (further (goal.at.augment-requires-in-loop-path-clause-once c).After-as_slice-in-loop-path-2)
 
-pub add_round-requires-in-loop-path-clause-fits : goal.add_round-requires-in-loop-path-clause-fits
-add_round-requires-in-loop-path-clause-fits c =
-    climb_fits (c.args.graph.now.nodes) _ _ _ _ (further (goal.at.add_round-requires-in-loop-path-clause-fits c).After-as_slice-in-loop-path-2) _ _ c.args.graph.now.net c.requires.apart c.loop-path.invariant.progress
+pub augment-requires-in-loop-path-clause-fits : goal.augment-requires-in-loop-path-clause-fits
+augment-requires-in-loop-path-clause-fits c =
+    climb_fits (c.args.graph.now.nodes) _ _ _ _ (further (goal.at.augment-requires-in-loop-path-clause-fits c).After-as_slice-in-loop-path-2) _ _ c.args.graph.now.net c.requires.apart c.loop-path.invariant.progress
 
 pub put_back-requires-clause-steps : goal.put_back-requires-clause-steps
 put_back-requires-clause-steps c =
@@ -70,5 +71,5 @@ loop-path-preserved c =
     let arcs = c.args.graph.now.arcs.now in
     let marks = c.args.marks.now in
     let climb = further (goal.at.loop-path-preserved c).After-as_slice-in-loop-path-2 in
-    let after = climb_round nodes arcs c.loop-path.progress c.add_round-in-loop-path.new.progress (λ v. far_in marks 0 - far_in marks v) c.as_slice-in-loop-path-2.result.now c.args.graph.now.net c.requires.apart c.loop-path.invariant.progress c.loop-path.invariant.levelled (near_low nodes arcs c.args.progress.now.on.items marks c.requires.tree) climb c.add_round-in-loop-path.ensures in
+    let after = climb_round nodes arcs c.loop-path.progress c.augment-in-loop-path.new.progress (λ v. far_in marks 0 - far_in marks v) c.as_slice-in-loop-path-2.result.now c.args.graph.now.net c.requires.apart c.loop-path.invariant.progress c.loop-path.invariant.levelled (near_low nodes arcs c.args.progress.now.on.items marks c.requires.tree) climb c.augment-in-loop-path.ensures in
     record { progress = after.0; levelled = after.1; left = omega (arith, c.in_ok-next_path.ensures.left, c.loop-path.invariant.left); small = after.3; more = omega (arith, after.2, c.loop-path.invariant.more) }

@@ -1,7 +1,7 @@
 use Rattle.std.proofs.Common.{◌≡◌, ◌<◌, ◌-◌, ◌^◌, vec_len}
 use Rattle.saga_flow.specs.Levels.{IsLevelled}
-use Rattle.saga_flow.specs.Search.{far_in}
 use Rattle.saga_flow.specs.Progress.{IsProgress}
+use Rattle.saga_flow.specs.Marks.{far_in}
 use Rattle.saga_flow.proofs.phases.run_phase.Given as goal
 
 abbrev pub invariant-loop-path : goal.invariant-loop-path

@@ -1,4 +1,4 @@
--- The step at hand is the first of those that are left.
+-- The residual arc at hand is the first of those that are left.
 use Rattle.std.proofs.Common.{◌+◌, false, drop, get_or}
 use Rattle.std.proofs.lemmas.List.{drop_more}
 use Rattle.saga_flow.specs.Pushes.{CanShift}
@@ -8,10 +8,10 @@ use Rattle.saga_flow.proofs.pushes.push.Goals as goal
 
 pub shift-requires : goal.shift-requires
 shift-requires c =
-    let more = drop_more c.args.path.now c.loop-step.step-index (record { arc = 0; forward = false }) c.loop-step-test.true in
-    All-first (CanShift c.loop-step.on c.args.more) _ (drop (c.loop-step.step-index + 1) c.args.path.now) (rw more at c.loop-step.invariant.can)
+    let more = drop_more c.args.path.now c.loop-residual.residual-index (record { arc = 0; forward = false }) c.loop-residual-test.true in
+    All-first (CanShift c.loop-residual.on c.args.more) _ (drop (c.loop-residual.residual-index + 1) c.args.path.now) (rw more at c.loop-residual.invariant.can)
 
-pub loop-step-preserved : goal.loop-step-preserved
-loop-step-preserved c =
-    let more = drop_more c.args.path.now c.loop-step.step-index (record { arc = 0; forward = false }) c.loop-step-test.true in
-    rw c.shift.ensures (pushing_more c.args.on.now c.args.path.now c.args.more c.loop-step.on (get_or c.args.path.now c.loop-step.step-index (record { arc = 0; forward = false })) (drop (c.loop-step.step-index + 1) c.args.path.now) (rw more at c.loop-step.invariant))
+pub loop-residual-preserved : goal.loop-residual-preserved
+loop-residual-preserved c =
+    let more = drop_more c.args.path.now c.loop-residual.residual-index (record { arc = 0; forward = false }) c.loop-residual-test.true in
+    rw c.shift.ensures (pushing_more c.args.on.now c.args.path.now c.args.more c.loop-residual.on (get_or c.args.path.now c.loop-residual.residual-index (record { arc = 0; forward = false })) (drop (c.loop-residual.residual-index + 1) c.args.path.now) (rw more at c.loop-residual.invariant))

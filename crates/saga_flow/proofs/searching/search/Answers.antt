@@ -7,8 +7,8 @@ use Rattle.saga_flow.proofs.searching.search.Goals.{then-loop-next-test+else-not
 
 pub loop-next-init : goal.loop-next-init
 loop-next-init g c =
-    let marks_are : c.add_mark.new.found.marks.items ≡ set (replicate c.args.graph.now.nodes None) c.args.start (Some (record { depth = 0; by = None })) = c.in_ok-add_mark.ensures.marks ∙ ap (λ xs. set xs c.args.start (Some (record { depth = 0; by = None }))) c.in_ok-no_marks.ensures in
-    let order_is : c.add_mark.new.found.order.items ≡ c.args.start ∷ [] = c.in_ok-add_mark.ensures.order ∙ ap (λ xs. xs ++ c.args.start ∷ []) c.in_ok-with_capacity.ensures.items in
+    let marks_are : c.begin.new.self ≡ set (replicate c.args.graph.now.nodes None) c.args.start (Some (record { depth = 0; by = None })) = c.begin.ensures ∙ ap (λ xs. set xs c.args.start (Some (record { depth = 0; by = None }))) c.in_ok-none.ensures in
+    let order_is : c.push.new.self.items ≡ c.args.start ∷ [] = c.in_ok-push.ensures.items ∙ ap (λ xs. xs ++ c.args.start ∷ []) c.in_ok-with_capacity.ensures.items in
     rw (marks_are, order_is) (search_start c.args.graph.now.nodes c.args.graph.now.arcs.now (g.G.Gate.passes c.args.gate.now) c.args.start c.requires.start)
 
 pub returns : goal.returns
@@ -17,9 +17,9 @@ returns g c =
     let nodes = c.args.graph.now.nodes in
     elim c.loop-next-test.branch [
       | then-loop-next-test+else-not-is_found w ↦
-          (let goal_found : HasGoal c.args.goal found.marks.items = rw w.as_slice.ensures.value at (w.is_found.ensures w.if-not-is_found.false) in
-          search_end nodes c.args.graph.now.arcs.now (g.G.Gate.passes c.args.gate.now) c.args.start found.marks.items found.order.items c.loop-next.next c.loop-next.invariant c.args.goal (inr goal_found))
+          (let goal_found : HasGoal c.args.goal found.marks = w.is_found.ensures w.if-not-is_found.false in
+          search_end nodes c.args.graph.now.arcs.now (g.G.Gate.passes c.args.gate.now) c.args.start found.marks found.order.items c.loop-next.next c.loop-next.invariant c.args.goal (inr goal_found))
       | else-loop-next-test w ↦
           (let all : length found.order.items ≤ c.loop-next.next = omega (arith, w.loop-next-test.false, c.len.ensures, found.order.ok.0) in
-          search_end nodes c.args.graph.now.arcs.now (g.G.Gate.passes c.args.gate.now) c.args.start found.marks.items found.order.items c.loop-next.next c.loop-next.invariant c.args.goal (inl all))
+          search_end nodes c.args.graph.now.arcs.now (g.G.Gate.passes c.args.gate.now) c.args.start found.marks found.order.items c.loop-next.next c.loop-next.invariant c.args.goal (inl all))
     ]

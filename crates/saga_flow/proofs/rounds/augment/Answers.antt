@@ -1,6 +1,6 @@
 -- Every amount that the path carries fits with the value, so with each amount.
 use Rattle.std.proofs.Common.{arith}
-use Rattle.saga_flow.proofs.rounds.add_round.Goals as goal
+use Rattle.saga_flow.proofs.rounds.augment.Goals as goal
 
 pub push_most-requires-clause-carries : goal.push_most-requires-clause-carries
 push_most-requires-clause-carries c = rw c.as_mut_slice.ensures.value c.requires.carries

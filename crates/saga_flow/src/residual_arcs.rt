@@ -5,32 +5,32 @@ ghost use Rattle.saga_flow.specs.Listed.{turned};
 
 use crate::nets::Arc;
 
-/// A step over the arc with this number, along it or back against it.
+/// An arc of the residual network: over the net's arc with this number, along it or back against it.
 #[derive(Clone, Copy, Debug, PartialEq, Eq)]
-pub struct Step {
+pub struct ResidualArc {
     pub arc: usize,
     pub forward: bool,
 }
 
-impl Step {
-    /// The step over the same arc the other way.
+impl ResidualArc {
+    /// The residual arc over the same arc the other way.
     pub fn turned(self) -> Self
         ensures { result ≡ turned self }
     {
-        Step {
+        ResidualArc {
             arc: self.arc,
             forward: !self.forward,
         }
     }
 }
 
-/// The node that a step leaves.
-pub fn tail(arcs: &[Arc], step: Step) -> usize
-    requires { step.arc < length arcs.now }
-    ensures { (to : ℕ) × Leads arcs.now step result to }
+/// The node that a residual arc leaves.
+pub fn tail(arcs: &[Arc], residual: ResidualArc) -> usize
+    requires { residual.arc < length arcs.now }
+    ensures { (to : ℕ) × Leads arcs.now residual result to }
 {
-    let arc = arcs[step.arc];
-    if step.forward {
+    let arc = arcs[residual.arc];
+    if residual.forward {
         arc.from as usize
     } else {
         arc.to as usize

@@ -1,0 +1,130 @@
+//! The marks of a breadth-first search: how deep it found each node, and by which residual arc.
+ghost use Rattle.std.specs.Prelude.{◌≡◌, ◌==◌, ◌<◌, ◌↔◌, ℕ, List, Option, IfOk, IsTrue, None, Some, is_some, length, map, not, replicate, slice_set};
+ghost use Rattle.saga_flow.specs.Marks.{Mark, IsJustAbove, by_of, depth_at, far_in, mark_at, marks_of, no_depth};
+
+use crate::residual_arcs::ResidualArc;
+use std::alloc::{AllocError, Global};
+use std::marker::Model;
+
+/// What stands for the depth of a node that has no mark.
+const NO_DEPTH: u32 = u32::MAX;
+
+/// The mark of each node, in two flat lists, since a search asks at each arc how deep its head is.
+///
+/// Where a search began, the depth is 0, and the residual arc says nothing.
+#[derive(Drop)]
+pub struct Marks {
+    depths: Vec<u32>,
+    by: Vec<ResidualArc>,
+}
+
+impl Model for Marks {
+    ghost Value = { List (Option Mark) };
+
+    ghost view = { λ m. marks_of m.depths.items m.by.items };
+
+    ghost invariant = { λ m. length m.depths.items ≡ length m.by.items };
+}
+
+impl Marks {
+    /// No node is marked yet.
+    pub fn none(alloc: Global, nodes: usize) -> Result<Marks, AllocError>
+        ensures { IfOk result (λ marks. marks ≡ replicate nodes None) }
+    {
+        let no_arc = ResidualArc {
+            arc: 0,
+            forward: false,
+        };
+        Ok(Marks {
+            depths: vec![in alloc; NO_DEPTH; nodes]?,
+            by: vec![in alloc; no_arc; nodes]?,
+        })
+    }
+
+    /// Marks the node where a search begins.
+    pub fn begin(&mut self, node: usize)
+        requires { node < length self.old }
+        ensures { self.new ≡ slice_set self.old node (Some (record { depth = 0; by = None })) }
+    {
+        self.depths[node] = 0;
+    }
+
+    /// Marks a node, at this depth, as found by a residual arc.
+    pub fn set(&mut self, node: usize, depth: u32, by: ResidualArc)
+        requires node { node < length self.old }
+        requires below { 0 < depth }
+        requires depth { depth < no_depth }
+        ensures { self.new ≡ slice_set self.old node (Some (record { depth = depth; by = Some by })) }
+    {
+        self.depths[node] = depth;
+        self.by[node] = by;
+    }
+
+    /// Whether a node has a mark.
+    #[inline]
+    pub fn is_marked(&self, node: usize) -> bool
+        requires { node < length self.now }
+        ensures { result ≡ is_some (mark_at self.now node) }
+    {
+        self.depths[node] != NO_DEPTH
+    }
+
+    /// How deep a node stands; 0 where it has no mark.
+    pub fn depth(&self, node: usize) -> u32
+        requires { node < length self.now }
+        ensures { result ≡ depth_at self.now node }
+    {
+        let depth = self.depths[node];
+        if depth == NO_DEPTH { 0 } else { depth }
+    }
+
+    /// The last residual arc by which a search came to a node; none where it began.
+    pub fn by(&self, node: usize) -> Option<ResidualArc>
+        requires { node < length self.now }
+        ensures { result ≡ by_of (mark_at self.now node) }
+    {
+        let depth = self.depths[node];
+        if depth == 0 || depth == NO_DEPTH {
+            None
+        } else {
+            Some(self.by[node])
+        }
+    }
+
+    /// How far a node is from where the search began; the number of nodes where it has no mark.
+    pub fn far(&self, node: usize) -> usize
+        requires { node < length self.now }
+        ensures { result ≡ far_in self.now node }
+    {
+        let depth = self.depths[node];
+        if depth == NO_DEPTH {
+            self.depths.len()
+        } else {
+            depth as usize
+        }
+    }
+
+    /// Which nodes have a mark.
+    pub fn all(&self, alloc: Global) -> Result<Vec<bool>, AllocError>
+        ensures { IfOk result (λ r. r.items ≡ map is_some self.now) }
+    {
+        are_marks(alloc, self.depths.as_slice())
+    }
+
+    /// Whether a node has a mark one less deep than this.
+    #[inline]
+    pub fn is_nearer(&self, node: usize, far: usize) -> bool
+        requires { node < length self.now }
+        ensures { IsTrue result ↔ IsJustAbove self.now node far }
+    {
+        let depth = self.depths[node];
+        depth != NO_DEPTH && depth as usize + 1 == far
+    }
+}
+
+/// Which depths are those of marks.
+fn are_marks(alloc: Global, depths: &[u32]) -> Result<Vec<bool>, AllocError>
+    ensures { IfOk result (λ r. r.items ≡ map (λ d. not (d == no_depth)) depths.now) }
+{
+    depths.iter().map(|depth| *depth != NO_DEPTH).collect(alloc)
+}
