@@ -1,0 +1,62 @@
+"""Lists the words of specs/ that contracts of public calls cite and docs/DEFINITIONS.md does not have.
+
+A public call is a function that a crate's src/lib.rt exports, or a public method of a type that it exports; of the program
+those that the README names. Prints a line for each word that is missing, and ends with status 1 where there is one.
+"""
+import pathlib
+import re
+import sys
+
+ROOT = pathlib.Path(__file__).resolve().parent.parent
+PROGRAM = {"check_text", "check_input", "plan_text", "draw_text", "audit_text", "run_text", "read_words", "run"}
+
+# Programs that promise nothing, or nothing that others stand on.
+SILENT = {"saga_bench", "saga_trials", "saga_booking"}
+
+CITED = re.compile(r"ghost use Rattle\.(saga_\w+)\.specs\.([\w.]+)\.\{([^}]*)\}")
+EXPORTED = re.compile(r"^pub use (?:crate::)?[\w:]+::(?:\{([^}]*)\}|(\w+));", re.M)
+CALL = re.compile(r"^( *)pub (?:const )?fn (\w+)\b.*?(?:\n\1\{|;$)", re.M | re.S)
+IMPL = re.compile(r"^impl\b[^{]*?\b(?:for )?(\w+)(?:<[^>]*>)? \{(.*?)^\}", re.M | re.S)
+
+
+def exported(crate):
+    """The names that a library exports; of the program its text functions."""
+    library = crate / "src" / "lib.rt"
+    if not library.exists():
+        return PROGRAM
+    found = EXPORTED.findall(library.read_text(encoding="utf-8"))
+    return {name.strip() for many, one in found for name in (many or one).split(",")}
+
+
+def public_calls(text, names):
+    """The heads of the exported functions and of the public methods of exported types, each with its contract."""
+    for impl in IMPL.finditer(text):
+        if impl[1] in names:
+            yield from (call[0] for call in CALL.finditer(impl[2]))
+    yield from (call[0] for call in CALL.finditer(text) if not call[1] and call[2] in names)
+
+
+def cited(crate):
+    """The words of specs/ that stand in the contracts of a crate's public calls, each with its file."""
+    names = exported(crate)
+    for path in sorted((crate / "src").rglob("*.rt")):
+        text = path.read_text(encoding="utf-8")
+        words = {word.strip(): f"{spec[0]}/specs/{spec[1]}" for spec in CITED.findall(text) for word in spec[2].split(",") if word.strip()}
+        for head in public_calls(text, names):
+            yield from ((word, file) for word, file in words.items() if re.search(rf"(?<![\w.]){re.escape(word)}(?!\w)", head))
+
+
+def main():
+    known = set(re.findall(r"`([^`]+)`", (ROOT / "docs" / "DEFINITIONS.md").read_text(encoding="utf-8")))
+    crates = [crate for crate in sorted((ROOT / "crates").iterdir()) if crate.name not in SILENT]
+    words = {found for crate in crates for found in cited(crate)}
+    # What is a type or a constant of the code is read there.
+    missing = sorted((file, word) for word, file in words if word not in known and "/declared." not in file)
+    for file, word in missing:
+        print(f"docs/DEFINITIONS.md has no {word} ({file})")
+    print(f"definitions: {len(words)} words of public contracts, {len(missing)} missing")
+    return 1 if missing else 0
+
+
+if __name__ == "__main__":
+    sys.exit(main())
