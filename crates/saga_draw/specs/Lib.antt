@@ -1,0 +1,4 @@
+-- Drawings of definitions.
+pub mod Marks
+pub mod Lines
+pub mod Drawings
