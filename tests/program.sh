@@ -128,6 +128,23 @@ expect 4 '' 'sagas: cannot read x' $none plan x y
 expect 3 '' 'sagas: definition: not-toml' $none plan $case $answer
 expect 3 '' 'sagas: case: unknown-key' $none plan $trip $answer
 
+# drawings
+none_marked='*"hotel" \[shape=octagon *"tour" -> "hotel";*'
+expect 0 'digraph "trip" {*"flight" \[shape=box label="flight\\nundo never"\];*"car" -> "flight";*' '' $none draw $trip
+expect 0 "$none_marked" '' $none draw $trip $case
+expect 0 '*"flight" \[shape=box * peripheries=2 *, kept*"car" -> "flight" \[penwidth=2\];*' '' $none draw $trip $case $answer
+expect 0 '*"licence" -> "machine" \[penwidth=4\];*' '' $none draw $examples/licence.toml $examples/licence.case.json $examples/licence.answer.json
+expect 1 'no wrong-cost' '' $none draw $trip $case <(sed 's/38/39/' $answer)
+expect 3 '' 'sagas: definition: not-toml' $none draw $case $answer $case
+expect 3 '' 'sagas: case: unknown-key' $none draw $trip $answer $case
+expect 3 '' 'sagas: answer: kind' $none draw $trip $case $case
+expect 3 '' 'sagas: definition: too-long' $none draw /dev/zero
+expect 3 '' 'sagas: case: too-long' $none draw $trip /dev/zero $case
+expect 3 '' 'sagas: answer: too-long' $none draw $trip $case /dev/zero
+expect 4 '' 'sagas: cannot read x' $none draw x
+expect 4 '' 'sagas: cannot read x' $none draw $case x y
+expect 4 '' 'sagas: cannot read x' $none draw $case $case x
+
 # audits
 expect 0 'yes sagas 1 ended 1 stuck 0 events 13' '' $none audit $log $trip
 expect 0 'yes sagas 1 ended 1 stuck 0 events 13' '' $none audit $log $trip $examples/order.toml
@@ -194,6 +211,9 @@ expect 2 '' '*--workers*Usage: sagas plan <DEF> <CASE>*' $none plan --workers 2 
 expect 2 '' '*Usage: sagas audit <LOG> <DEF>*' $none audit
 expect 2 '' '*Usage: sagas audit <LOG> <DEF>*' $none audit $log
 expect 2 '' '*--workers*Usage: sagas audit <LOG> <DEF>*' $none audit --workers 2 $log $trip
+expect 2 '' '*Usage: sagas draw <DEF> *CASE*' $none draw
+expect 2 '' '*Usage: sagas draw <DEF> *CASE*' $none draw $trip $case $answer $answer
+expect 0 '*Usage: sagas draw <DEF> *CASE*Status: 0*' '' $none draw --help
 expect 2 '' 'error: *' $none chekc
 expect 2 '' 'error: *' $none chekc $trip
 expect 2 '' 'error: *' $none chekc $trip $case
@@ -209,7 +229,7 @@ expect 0 '*Usage: sagas check <DEF> <CASE> <ANSWER>*Status: 0*' '' $none check -
 expect 0 '*Usage: sagas check <DEF> <CASE> <ANSWER>*Status: 0*' '' $none check $trip $case $answer --help
 expect 0 '*Usage: sagas plan <DEF> <CASE>*Status: 0*' '' $none plan --help
 expect 0 '*Usage: sagas audit <LOG> <DEF>*Status: 0*' '' $none audit --help
-expect 0 '*Usage: sagas <COMMAND>*check DEF CASE ANSWER: *plan DEF CASE: *run * DEF..: *audit LOG DEF..: *Status: 0*' '' $none --help
+expect 0 '*Usage: sagas <COMMAND>*check DEF CASE ANSWER: *plan DEF CASE: *run * DEF..: *audit LOG DEF..: *draw DEF \[CASE\] \[ANSWER\]: *Status: 0*' '' $none --help
 expect 0 'sagas 0.1.0' '' $none --version
 expect 3 '' 'sagas: input: parts' $none
 
@@ -290,6 +310,7 @@ unwritten() {
 
 unwritten 4 'sagas: cannot write -' check $trip $case $answer
 unwritten 4 'sagas: cannot write -' audit $log $trip
+unwritten 4 'sagas: cannot write -' draw $trip
 unwritten 4 'sagas: cannot write -' audit $log $examples/order.toml
 unwritten 3 'sagas: log: line 1: kind' audit $case $trip
 unwritten 4 'sagas: cannot write -' run --log "$work/new" $trip

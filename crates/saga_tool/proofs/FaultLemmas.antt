@@ -8,7 +8,7 @@ use Rattle.clap.specs.declared.error.Error.{Error}
 use Rattle.clap.specs.declared.error.kind.ErrorKind.TheVariants as kind
 use Rattle.clap.proofs.OnLiterals.{clap_on_literals}
 use Rattle.saga_tool.specs.declared.forms.Name.{Name}
-use Rattle.saga_tool.specs.declared.forms.Name.TheVariants.{Check, Plan, Run, Audit}
+use Rattle.saga_tool.specs.declared.forms.Name.TheVariants.{Check, Plan, Run, Audit, Draw}
 use Rattle.saga_tool.specs.declared.words.WordsFault.{WordsFault}
 use Rattle.saga_tool.specs.declared.words.WordsFault.TheVariants.{Usage, Help, OutOfMemory}
 use Rattle.saga_tool.specs.declared.replies.Reply.{Reply}
@@ -53,13 +53,15 @@ made_fault kinds error OutOfMemory has made = tt
 
 -- the command of a word
 abbrev name_of : Text → Name
-name_of word = if bytes_eq word (codes "check") then Check else (if bytes_eq word (codes "plan") then Plan else (if bytes_eq word (codes "run") then Run else Audit))
+name_of word = if bytes_eq word (codes "check") then Check else (if bytes_eq word (codes "plan") then Plan else (if bytes_eq word (codes "run") then Run
+    else (if bytes_eq word (codes "audit") then Audit else Draw)))
 
 back : (name : Name) → name_of (word_for name) ≡ name
 back Check = refl
 back Plan = refl
 back Run = refl
 back Audit = refl
+back Draw = refl
 
 -- a word names one command
 same_name : (a b : Name) → word_for a ≡ word_for b → a ≡ b
@@ -95,6 +97,7 @@ no_command Check rest e = let bad : true ≡ false = ap (λ (l : List Text). byt
 no_command Plan rest e = let bad : true ≡ false = ap (λ (l : List Text). bytes_eq (slice_index_or l 0 []) (codes "--help")) e in cc
 no_command Run rest e = let bad : true ≡ false = ap (λ (l : List Text). bytes_eq (slice_index_or l 0 []) (codes "--help")) e in cc
 no_command Audit rest e = let bad : true ≡ false = ap (λ (l : List Text). bytes_eq (slice_index_or l 0 []) (codes "--help")) e in cc
+no_command Draw rest e = let bad : true ≡ false = ap (λ (l : List Text). bytes_eq (slice_index_or l 0 []) (codes "--help")) e in cc
 
 told_help : (fault : WordsFault) (reply : Reply) → IsFaultOf (kind.DisplayHelp ∷ []) fault → IsTold fault reply → IsHelp reply
 told_help (Usage error) reply of told = elim of.1 [

@@ -13,7 +13,7 @@ use Rattle.clap.specs.Values.{IsUnsignedIn}
 use Rattle.clap.specs.declared.parser.matches.Found.{Found}
 use Rattle.clap.proofs.WalkLemmas.{first_value-rows, raw_values-rows}
 use Rattle.saga_tool.specs.declared.forms.Kind.{Kind}
-use Rattle.saga_tool.specs.declared.forms.Kind.TheVariants.{File, Files, Path, Number}
+use Rattle.saga_tool.specs.declared.forms.Kind.TheVariants.{File, Optional, Files, Path, Number}
 use Rattle.saga_tool.specs.Forms.{Argument}
 use Rattle.saga_tool.specs.Given.{Holds, HoldsBy, IsNumber, files_by, has_number, is_number, number_of, one_or_none}
 
@@ -35,6 +35,7 @@ here : (rows : List Row) (kind : Kind) (n name : Text) → HoldsBy kind n rows �
     → (t : Text) × (one_of name rows ≡ Some t) × IsUnsignedIn 1 16 t
 here rows Number n name holds e = (holds.0, ap (λ (w : Text). one_of w rows) (sym ((bytes_eq-Decides n name).0 e)) ∙ holds.1, holds.2)
 here rows File n name holds e = cc
+here rows Optional n name holds e = cc
 here rows Files n name holds e = cc
 here rows Path n name holds e = cc
 

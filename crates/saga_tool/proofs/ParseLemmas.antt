@@ -31,7 +31,7 @@ use Rattle.clap.proofs.WalkLemmas.{first_value-rows, one_text-rows}
 use Rattle.std.proofs.lemmas.List.{append-nil, append_assoc}
 use Rattle.clap.specs.declared.builder.value_parser.ValueParser.TheVariants as parser
 use Rattle.saga_tool.specs.declared.forms.Kind.{Kind}
-use Rattle.saga_tool.specs.declared.forms.Kind.TheVariants.{File, Files, Path, Number}
+use Rattle.saga_tool.specs.declared.forms.Kind.TheVariants.{File, Optional, Files, Path, Number}
 use Rattle.saga_tool.specs.Forms.{Argument, Outline, added, app_by, bare_app, rule_by, rule_for}
 use Rattle.saga_tool.specs.Given.{Holds, HoldsBy}
 use Rattle.saga_tool.specs.Suited.{is_own, are_apart, is_suited}
@@ -369,6 +369,7 @@ holds_by c m st p k d lt Number name e =
     let some = has_value c m st p k d lt (record { set = ap (λ (r : Rule). r.action) e; one = ap (λ (r : Rule). r.range) e }) match in
     let read = value_read c m st p k d lt some (parser.Unsigned 1 16) (ap (λ (r : Rule). r.parser) e) in
     (read.0, sym (one_text-rows f name) ∙ (ap (one_text f) (sym id) ∙ read.1), read.2)
+holds_by c m st p k d lt Optional name e = tt
 holds_by c m st p k d lt Files name e = tt
 holds_by c m st p k d lt Path name e = tt
 

@@ -1,21 +1,21 @@
 -- A command replies to its files.
 use Rattle.std.proofs.Common.{◌≡◌, ℕ, ◌-◌, ◌<◌, ◌≤◌, List, [], ◌∷◌, length, map, take, drop, get_or, slice_index_or, inl, inr, sym, subst, arith, length-drop}
-use Rattle.std.specs.Prelude.{Option, Result, Err, option_map}
+use Rattle.std.specs.Prelude.{Option, Result, Err}
 use Rattle.std.specs.Borrow.{Bor}
 use Rattle.std.proofs.lemmas.List.{take_all}
 use Rattle.saga_tool.specs.declared.arguments.Given.{Given}
 use Rattle.saga_tool.specs.declared.forms.Name.{Name}
-use Rattle.saga_tool.specs.declared.forms.Name.TheVariants.{Check, Plan, Run, Audit}
+use Rattle.saga_tool.specs.declared.forms.Name.TheVariants.{Check, Plan, Audit, Draw}
 use Rattle.saga_tool.specs.declared.responses.Response.{Response}
-use Rattle.saga_tool.specs.declared.program.Stop.{Stop}
-use Rattle.saga_tool.specs.declared.program.Stop.TheVariants.{Unreadable, OutOfMemory}
+use Rattle.saga_tool.specs.declared.files.Stop.{Stop}
+use Rattle.saga_tool.specs.declared.files.Stop.TheVariants.{Unreadable, OutOfMemory}
 use Rattle.saga_tool.specs.declared.outside.FileFault.TheVariants as file
 use Rattle.saga_tool.specs.declared.runs.RunReply.{RunReply}
 use Rattle.saga_tool.specs.Limits.{max_definition}
 use Rattle.saga_tool.specs.Outside.{Text, FileGives}
 use Rattle.saga_tool.specs.Runs.{IsRunReply}
 use Rattle.saga_tool.specs.Responses.{IsAlone}
-use Rattle.saga_tool.specs.Program.{AreGiven, IsFirstUnreadable, IsUnreadable, ChecksFiles, PlansFiles, RunsFiles, AuditsFiles, IsScript, CommandReplies, Ends, IsResponseOf, StopsBy}
+use Rattle.saga_tool.specs.Program.{AreGiven, IsFirstUnreadable, IsUnreadable, ChecksFiles, PlansFiles, DrawsDefinition, DrawsCase, DrawsAnswer, RunsFiles, AuditsFiles, IsScript, CommandReplies, Ends, IsResponseOf, StopsBy}
 use Rattle.saga_tool.proofs.ListLemmas.{text_here}
 
 abbrev Files : Type 0
@@ -57,12 +57,6 @@ pub plan_replies : (gives : FileGives) (given : Given) (name : Name) (files show
 plan_replies gives given name files shown r d is same least most ends =
     subst (λ (n : Name). Ends (CommandReplies gives given n (now_of files)) r) (sym is)
     (subst (λ (fs : Files). Ends (CommandReplies gives given Plan (now_of fs)) r) same (two gives given shown r d least most ends))
-
--- the definitions of a run are its files
-pub run_replies : (gives : FileGives) (given : Given) (name : Name) (r : Result Response Stop) → name ≡ Run
-    → Ends (RunsFiles gives (option_map (λ (s : Bor Text). s.now) given.script) (now_of given.files.items) given.shards (option_map (λ (s : Bor Text). s.now) given.log)) r
-    → Ends (CommandReplies gives given name (now_of given.files.items)) r
-run_replies gives given name r is ends = subst (λ (n : Name). Ends (CommandReplies gives given n (now_of given.files.items)) r) (sym is) ends
 
 -- a run, one of whose definitions cannot be read
 pub run_unread : (gives : FileGives) (script : Option Text) (lines : Text) (defs : List Text) (shards : ℕ) (log : Option Text) (stop : Stop)

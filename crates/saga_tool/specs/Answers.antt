@@ -7,7 +7,7 @@ use Rattle.saga_tool.specs.declared.outcomes.Outcome.TheVariants.{Planned}
 use Rattle.serde_json.specs.Written.{compact_text}
 use Rattle.saga_cert.specs.Answers.{answer_form}
 use Rattle.saga_cert.specs.Reads.{ReadsAnswer}
-use Rattle.saga_tool.specs.Outcomes.{ComesTo, ChecksTo, PlansTo}
+use Rattle.saga_tool.specs.Outcomes.{ComesTo, ChecksTo, PlansTo, DrawsWith}
 use Rattle.saga_tool.specs.Lines.{line_feed}
 use Rattle.saga_tool.specs.Parts.{AreParts, HasNoParts}
 use Rattle.saga_tool.specs.Replies.{Shows, IsBadInput}
@@ -29,6 +29,12 @@ pub record IsPlanReply (definition case : List ℕ) (reply : Reply) : Type 0 whe
   pub comes : ComesTo PlansTo definition case outcome
   pub shows : Shows outcome reply
   pub read_back : IsReadBack outcome
+
+-- the reply shows what a drawing of a definition with these texts beside it comes to
+pub record IsDrawReply (beside : List (List ℕ)) (definition : List ℕ) (reply : Reply) : Type 0 where
+  pub outcome : Outcome
+  pub comes : DrawsWith beside definition outcome
+  pub shows : Shows outcome reply
 
 -- an input that is too long, or has no parts
 pub record IsTooLong (input : List ℕ) (reply : Reply) : Type 0 where

@@ -5,15 +5,16 @@ use Rattle.clap.specs.Walk.{Text}
 use Rattle.clap.specs.declared.builder.action.ArgAction.TheVariants.{Set, Append}
 use Rattle.clap.specs.declared.builder.value_parser.ValueParser.TheVariants as parser
 use Rattle.saga_tool.specs.declared.forms.Kind.{Kind}
-use Rattle.saga_tool.specs.declared.forms.Kind.TheVariants.{File, Files, Path, Number}
+use Rattle.saga_tool.specs.declared.forms.Kind.TheVariants.{File, Optional, Files, Path, Number}
 use Rattle.saga_tool.specs.declared.forms.Parameter.{Parameter}
 use Rattle.saga_tool.specs.declared.forms.Form.{Form}
 use Rattle.saga_tool.specs.declared.forms.Name.{Name}
-use Rattle.saga_tool.specs.declared.forms.Name.TheVariants.{Check, Plan, Run, Audit}
+use Rattle.saga_tool.specs.declared.forms.Name.TheVariants.{Check, Plan, Run, Audit, Draw}
 
--- a required file, any number of files, an option with a path, an option with a number from 1 to 16, by default 1
+-- a required file, one that may be left out, any number of files, an option with a path, an option with a number from 1 to 16, by default 1
 abbrev pub rule_by : Kind → Text → Rule
 rule_by File name = record (new_rule name) { required = true; action = Some Set; value_names = 1 }
+rule_by Optional name = record (new_rule name) { action = Some Set; value_names = 1 }
 rule_by Files name = record (new_rule name) { action = Some Append; value_names = 1 }
 rule_by Path name = record (new_rule name) { long = Some name; action = Some Set; value_names = 1 }
 rule_by Number name = record (new_rule name) {
@@ -62,6 +63,7 @@ word_for Check = codes "check"
 word_for Plan = codes "plan"
 word_for Run = codes "run"
 word_for Audit = codes "audit"
+word_for Draw = codes "draw"
 
 abbrev pub outline_for : Name → Outline
 outline_for Check = record {
@@ -80,4 +82,8 @@ outline_for Run = record {
 outline_for Audit = record {
   title = codes "sagas audit";
   arguments = argument File (codes "LOG") ∷ argument File (codes "DEF") ∷ argument Files (codes "MORE") ∷ [];
+}
+outline_for Draw = record {
+  title = codes "sagas draw";
+  arguments = argument File (codes "DEF") ∷ argument Optional (codes "CASE") ∷ argument Optional (codes "ANSWER") ∷ [];
 }

@@ -7,7 +7,7 @@ use Rattle.clap.specs.Words.{Row, all_of, first_of, one_of, matches_of, fault_of
 use Rattle.clap.specs.Values.{IsUnsignedIn}
 use Rattle.clap.specs.Walk.{Text}
 use Rattle.saga_tool.specs.declared.forms.Kind.{Kind}
-use Rattle.saga_tool.specs.declared.forms.Kind.TheVariants.{File, Files, Number}
+use Rattle.saga_tool.specs.declared.forms.Kind.TheVariants.{File, Optional, Files, Number}
 use Rattle.saga_tool.specs.declared.arguments.Given.{Given}
 use Rattle.saga_tool.specs.Forms.{Argument, Outline, app_by}
 
@@ -26,6 +26,7 @@ one_or_none (Some path) = path ∷ []
 
 abbrev pub files_by : Kind → Text → List Row → List Text
 files_by File name rows = one_or_none (first_of name rows)
+files_by Optional name rows = one_or_none (first_of name rows)
 files_by Files name rows = unwrap_or (all_of name rows) []
 files_by _ name rows = []
 
@@ -37,19 +38,29 @@ abbrev pub files_wanted : Kind → ℕ
 files_wanted File = 1
 files_wanted _ = 0
 
--- how many files a command wants
+-- how many files a command wants at least
 abbrev pub wanted : List Argument → ℕ
 wanted [] = 0
 wanted (a ∷ args) = files_wanted a.kind + wanted args
+
+abbrev pub files_room : Kind → ℕ
+files_room File = 1
+files_room Optional = 1
+files_room _ = 0
+
+-- how many it has names for
+abbrev pub room : List Argument → ℕ
+room [] = 0
+room (a ∷ args) = files_room a.kind + room args
 
 abbrev pub takes_more : Kind → Bool
 takes_more Files = true
 takes_more _ = false
 
--- as many files as are wanted; more only where the command takes more
+-- as many files as are wanted, and no more than there are names for, but where the command takes any number more
 pub record IsCount (args : List Argument) (n : ℕ) : Type 0 where
   pub enough : wanted args ≤ n
-  pub exact : list_any (λ a. takes_more a.kind) args ≡ false → n ≡ wanted args
+  pub few : list_any (λ a. takes_more a.kind) args ≡ false → n ≤ room args
 
 abbrev pub is_number : Kind → Bool
 is_number Number = true

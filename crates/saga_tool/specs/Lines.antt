@@ -1,6 +1,7 @@
 -- What is printed of an outcome, and the status.
 use Rattle.std.specs.Prelude.{ℕ, List, [], ◌∷◌, ◌++◌, codes}
 use Rattle.std.specs.Fmt.{decimal}
+use Rattle.std.specs.String.{string_bytes}
 use Rattle.saga_text.specs.Faults.{word_of as text_word_of}
 use Rattle.saga_cert.specs.declared.faults.CertFault.{CertFault}
 use Rattle.saga_cert.specs.declared.faults.CertFault.TheVariants.{Busy}
@@ -11,7 +12,7 @@ use Rattle.saga_case.specs.declared.answers.Answer.{Answer as TheAnswer}
 use Rattle.saga_case.specs.declared.answers.Answer.TheVariants as answer
 use Rattle.serde_json.specs.Written.{compact_text}
 use Rattle.saga_tool.specs.declared.outcomes.Outcome.{Outcome}
-use Rattle.saga_tool.specs.declared.outcomes.Outcome.TheVariants.{Definition, CaseTooLong, Case, AnswerTooLong, Answer, Refused, Least, Blocked, Planned}
+use Rattle.saga_tool.specs.declared.outcomes.Outcome.TheVariants.{Definition, CaseTooLong, Case, AnswerTooLong, Answer, Refused, Least, Blocked, Planned, Drawn}
 
 abbrev pub line_feed : List ℕ
 line_feed = 10 ∷ []
@@ -21,6 +22,7 @@ out_of (Least cost) = codes "least " ++ decimal cost ++ line_feed
 out_of Blocked = codes "blocked" ++ line_feed
 out_of (Refused fault) = codes "no " ++ check_word_of fault ++ line_feed
 out_of (Planned a) = compact_text (answer_form a) ++ line_feed
+out_of (Drawn text) = string_bytes text
 out_of outcome = []
 
 -- the number of a busy step
@@ -51,4 +53,5 @@ status_of (Least cost) = 0
 status_of Blocked = 0
 status_of (Refused fault) = 1
 status_of (Planned a) = status_of_answer a
+status_of (Drawn text) = 0
 status_of outcome = 3

@@ -4,7 +4,7 @@ use Rattle.std.specs.List.{AllZip}
 use Rattle.std.specs.declared.alloc.AllocError.{AllocError}
 use Rattle.std.specs.String.{string_bytes}
 use Rattle.saga_tool.specs.declared.forms.Name.{Name}
-use Rattle.saga_tool.specs.declared.forms.Name.TheVariants.{Check, Plan, Run, Audit}
+use Rattle.saga_tool.specs.declared.forms.Name.TheVariants.{Check, Plan, Run, Audit, Draw}
 use Rattle.saga_tool.specs.declared.outside.FileFault.{FileFault}
 use Rattle.saga_tool.specs.declared.outside.FileFault.TheVariants as file
 use Rattle.saga_tool.specs.declared.replies.Reply.{Reply}
@@ -12,14 +12,14 @@ use Rattle.saga_tool.specs.declared.responses.Log.{Log}
 use Rattle.saga_tool.specs.declared.responses.Response.{Response}
 use Rattle.saga_tool.specs.declared.runs.RunReply.{RunReply}
 use Rattle.saga_tool.specs.declared.arguments.Given.{Given}
-use Rattle.saga_tool.specs.declared.program.Stop.{Stop}
-use Rattle.saga_tool.specs.declared.program.Stop.TheVariants as stop
+use Rattle.saga_tool.specs.declared.files.Stop.{Stop}
+use Rattle.saga_tool.specs.declared.files.Stop.TheVariants as stop
 use Rattle.saga_tool.specs.declared.words.Words.{Words}
 use Rattle.saga_tool.specs.declared.words.WordsFault.{WordsFault}
 use Rattle.saga_tool.specs.declared.words.WordsFault.TheVariants.{Usage, Help, OutOfMemory}
 use Rattle.saga_tool.specs.Limits.{max_definition, max_certificate, max_script, max_log, max_input}
 use Rattle.saga_tool.specs.Lines.{line_feed}
-use Rattle.saga_tool.specs.Answers.{IsCheckReply, IsPlanReply, IsInputReply}
+use Rattle.saga_tool.specs.Answers.{IsCheckReply, IsPlanReply, IsDrawReply, IsInputReply}
 use Rattle.saga_tool.specs.Audits.{IsAuditReply}
 use Rattle.saga_tool.specs.Responses.{IsAlone, IsLogFor}
 use Rattle.saga_tool.specs.Runs.{IsRunReply}
@@ -83,6 +83,21 @@ abbrev pub PlansFiles : FileGives → Text → Text → Response → Type 0
 PlansFiles gives def case =
     AfterFile gives def max_definition (λ definition. AfterFile gives case max_certificate (λ states. IsAlone (IsPlanReply definition states)))
 
+-- the definition, the case where one is given, and then the answer where one is given
+abbrev pub DrawsDefinition : FileGives → Text → Response → Type 0
+DrawsDefinition gives def =
+    AfterFile gives def max_definition (λ definition. IsAlone (IsDrawReply [] definition))
+
+abbrev pub DrawsCase : FileGives → Text → Text → Response → Type 0
+DrawsCase gives def case =
+    AfterFile gives def max_definition (λ definition. AfterFile gives case max_certificate (λ states.
+    IsAlone (IsDrawReply (states ∷ []) definition)))
+
+abbrev pub DrawsAnswer : FileGives → Text → Text → Text → Response → Type 0
+DrawsAnswer gives def case answer =
+    AfterFile gives def max_definition (λ definition. AfterFile gives case max_certificate (λ states.
+    AfterFile gives answer max_certificate (λ judged. IsAlone (IsDrawReply (states ∷ judged ∷ []) definition))))
+
 -- the log before the definitions
 abbrev pub AuditsFiles : FileGives → Text → List Text → Response → Type 0
 AuditsFiles gives log defs =
@@ -106,6 +121,9 @@ CommandReplies gives given Check (def ∷ case ∷ answer ∷ []) response = Che
 CommandReplies gives given Plan (def ∷ case ∷ []) response = PlansFiles gives def case response
 CommandReplies gives given Run defs response =
     RunsFiles gives (option_map (λ s. s.now) given.script) defs given.shards (option_map (λ s. s.now) given.log) response
+CommandReplies gives given Draw (def ∷ []) response = DrawsDefinition gives def response
+CommandReplies gives given Draw (def ∷ case ∷ []) response = DrawsCase gives def case response
+CommandReplies gives given Draw (def ∷ case ∷ answer ∷ []) response = DrawsAnswer gives def case answer response
 CommandReplies gives given Audit (log ∷ defs) response = AuditsFiles gives log defs response
 CommandReplies gives given name files response = ⊥
 

@@ -25,6 +25,7 @@ fn arg_of<'a>(alloc: Global, parameter: &Parameter<'a>) -> Arg<'a>
         .help(parameter.help);
     match parameter.kind {
         Kind::File => arg.required(true).action(ArgAction::Set),
+        Kind::Optional => arg.action(ArgAction::Set),
         Kind::Files => arg.action(ArgAction::Append),
         Kind::Path => arg.long(parameter.name).action(ArgAction::Set),
         Kind::Number => arg
@@ -91,7 +92,7 @@ fn push_files<'a>(
         ++ files_by parameter.now.kind parameter.now.name.now (rows_of (found_of matches.now))) }
 {
     match parameter.kind {
-        Kind::File => {
+        Kind::File | Kind::Optional => {
             if let Some(path) = matches.get_str(parameter.name) {
                 files.push(path)?;
             }

@@ -7,6 +7,8 @@ ghost use Rattle.saga_tool.specs.Forms.{outline_of, outline_for, word_for};
 pub enum Kind {
     /// A file that has to be given.
     File,
+    /// A file that may be left out.
+    Optional,
     /// Any number of further files.
     Files,
     /// An option with a path.
@@ -33,10 +35,11 @@ pub enum Name {
     Plan,
     Run,
     Audit,
+    Draw,
 }
 
 /// The commands, as help lists them.
-pub const NAMES: [Name; 4] = [Name::Check, Name::Plan, Name::Run, Name::Audit];
+pub const NAMES: [Name; 5] = [Name::Check, Name::Plan, Name::Run, Name::Audit, Name::Draw];
 
 /// A row of the table.
 #[derive(Clone, Copy, Debug)]
@@ -70,6 +73,17 @@ const ANSWER: Parameter<'static> = Parameter {
     name: "ANSWER",
     shown: "ANSWER",
     help: "the plan or the chain, a JSON file",
+};
+
+/// For a command that takes them or not.
+const CASE_IF_ANY: Parameter<'static> = Parameter {
+    kind: Kind::Optional,
+    ..CASE
+};
+
+const ANSWER_IF_ANY: Parameter<'static> = Parameter {
+    kind: Kind::Optional,
+    ..ANSWER
 };
 
 const LOG: Parameter<'static> = Parameter {
@@ -155,6 +169,13 @@ pub fn form_of(name: Name) -> Form<'static>
             about: "Audits the log of a run: prints `yes sagas A ended B stuck C events D`, or `no P REASON` for the event of place P, from 0, that was not allowed",
             parameters: &[LOG, FIRST, MORE],
         },
+        Name::Draw => Form {
+            word: "draw",
+            title: "sagas draw",
+            brief: "draws one for Graphviz",
+            about: "Draws a saga: prints its steps and needs in Graphviz's language, with their states and what an answer marks where they are given, for `dot` to make a picture of",
+            parameters: &[DEFINITION, CASE_IF_ANY, ANSWER_IF_ANY],
+        },
     }
 }
 
@@ -168,6 +189,7 @@ pub fn named(word: &str) -> Option<Name>
         "plan" => Some(Name::Plan),
         "run" => Some(Name::Run),
         "audit" => Some(Name::Audit),
+        "draw" => Some(Name::Draw),
         _ => None,
     }
 }

@@ -6,6 +6,9 @@
 
 mod arguments;
 mod audits;
+mod commands;
+mod drawings;
+mod files;
 mod forms;
 mod limits;
 mod outcomes;
@@ -16,6 +19,7 @@ mod replies;
 mod responses;
 mod runs;
 mod shelves;
+mod showing;
 #[cfg(test)]
 mod tests;
 mod texts;

@@ -1,12 +1,13 @@
 //! What a question about a case comes to.
-ghost use Rattle.std.specs.Prelude.{◌↔◌, ◌<◌, IfOk, IsTrue, length};
-ghost use Rattle.saga_tool.specs.Outcomes.{ComesTo, AnswersTo, ChecksTo, JudgesTo};
+ghost use Rattle.std.specs.Prelude.{◌↔◌, ◌<◌, IfOk, IsTrue, MatchResult, length, option_map};
+ghost use Rattle.saga_tool.specs.Outcomes.{ComesTo, AnswersTo, ChecksTo, DrawsRight, DrawsTo, HoldsAnswer, JudgesTo, LacksAnswer, ShowsCase};
 ghost use Rattle.saga_tool.specs.Limits.{max_certificate};
 
 use crate::limits::MAX_CERTIFICATE;
 use saga_case::{Answer, Case};
 use saga_cert::{CertFault, read_answer, read_case};
 use saga_check::{CheckFault, judge};
+use saga_draw::draw;
 use saga_plan::plan;
 use saga_text::{TextFault, read_definition};
 use std::alloc::{AllocError, Global};
@@ -18,9 +19,11 @@ pub enum Question<'a> {
     Check(&'a [u8]),
     /// A right answer.
     Plan,
+    /// A drawing, with what the answer of this text marks, if one is given.
+    Draw(Option<&'a [u8]>),
 }
 
-/// What a question comes to: a fault of a text, what the judge says of an answer, or an answer.
+/// What a question comes to: a fault of a text, what the judge says of an answer, an answer, or a drawing.
 #[derive(Debug, Drop)]
 pub enum Outcome {
     Definition(TextFault),
@@ -36,6 +39,8 @@ pub enum Outcome {
     Blocked,
     /// The answer that was asked for.
     Planned(Answer),
+    /// The text of a drawing.
+    Drawn(String),
 }
 
 /// Whether a text has too many bytes for a case or an answer.
@@ -58,17 +63,58 @@ fn judged(case: &Case, answer: &Answer) -> Outcome
     }
 }
 
+/// The answer of a text, or what a question about it comes to where it holds none.
+fn answer_of(alloc: Global, text: &[u8]) -> Result<Result<Answer, Outcome>, AllocError>
+    ensures { IfOk result (λ given. MatchResult given (HoldsAnswer text.now) (LacksAnswer text.now)) }
+{
+    if is_too_long(text) {
+        return Ok(Err(Outcome::AnswerTooLong));
+    }
+    match read_answer(alloc, text) {
+        Ok(answer) => Ok(Ok(answer)),
+        Err(CertFault::OutOfMemory) => Err(AllocError),
+        Err(fault) => Ok(Err(Outcome::Answer(fault))),
+    }
+}
+
 /// What a check of the answer of a text comes to.
 fn checked(alloc: Global, case: &Case, answer: &[u8]) -> Result<Outcome, AllocError>
     ensures { IfOk result (ChecksTo answer.now case.now) }
 {
-    if is_too_long(answer) {
-        return Ok(Outcome::AnswerTooLong);
-    }
-    match read_answer(alloc, answer) {
+    match answer_of(alloc, answer)? {
         Ok(answer) => Ok(judged(case, &answer)),
-        Err(CertFault::OutOfMemory) => Err(AllocError),
-        Err(fault) => Ok(Outcome::Answer(fault)),
+        Err(outcome) => Ok(outcome),
+    }
+}
+
+/// The drawing of a case, with what an answer marks, if one is given.
+fn shown(alloc: Global, case: &Case, answer: Option<&Answer>) -> Result<Outcome, AllocError>
+    ensures { IfOk result (ShowsCase case.now (option_map (λ a. a.now) answer.entry)) }
+{
+    let text = draw(alloc, case.definition(), Some(case.states()), answer)?;
+    Ok(Outcome::Drawn(text))
+}
+
+/// The drawing of a case with what an answer marks, where the answer is right.
+fn shown_if_right(alloc: Global, case: &Case, answer: &Answer) -> Result<Outcome, AllocError>
+    ensures { IfOk result (DrawsRight case.now answer.now) }
+{
+    match judge(case, answer) {
+        Err(fault) => Ok(Outcome::Refused(fault)),
+        Ok(()) => shown(alloc, case, Some(answer)),
+    }
+}
+
+/// What a drawing of a case comes to.
+fn drawn(alloc: Global, case: &Case, answer: Option<&[u8]>) -> Result<Outcome, AllocError>
+    ensures { IfOk result (DrawsTo (option_map (λ t. t.now) answer.entry) case.now) }
+{
+    let Some(text) = answer else {
+        return shown(alloc, case, None);
+    };
+    match answer_of(alloc, text)? {
+        Ok(answer) => shown_if_right(alloc, case, &answer),
+        Err(outcome) => Ok(outcome),
     }
 }
 
@@ -79,6 +125,7 @@ fn answered(alloc: Global, case: &Case, question: Question<'_>) -> Result<Outcom
     match question {
         Question::Check(answer) => checked(alloc, case, answer),
         Question::Plan => Ok(Outcome::Planned(plan(alloc, case)?)),
+        Question::Draw(answer) => drawn(alloc, case, answer),
     }
 }
 

@@ -38,6 +38,7 @@ fn out(alloc: Global, outcome: &Outcome) -> Result<String, AllocError>
         Outcome::Least(cost) => format!(in alloc; "least {cost}\n"),
         Outcome::Blocked => String::from_str(alloc, "blocked\n"),
         Outcome::Planned(answer) => answer_line(alloc, answer),
+        Outcome::Drawn(text) => String::from_str(alloc, text.as_str()),
         Outcome::Refused(fault) => {
             let word = fault.word();
             format!(in alloc; "no {word}\n")
@@ -88,7 +89,10 @@ fn status(outcome: &Outcome) -> u8
     ensures { result ≡ status_of outcome.now }
 {
     match outcome {
-        Outcome::Least(_) | Outcome::Blocked | Outcome::Planned(Answer::Plan(_)) => 0,
+        Outcome::Least(_)
+        | Outcome::Blocked
+        | Outcome::Drawn(_)
+        | Outcome::Planned(Answer::Plan(_)) => 0,
         Outcome::Refused(_) | Outcome::Planned(Answer::Blocked(_)) => 1,
         _ => 3,
     }

@@ -1,12 +1,14 @@
 //! The program's work, over bytes.
 ghost use Rattle.std.specs.Prelude.{◌↔◌, ◌<◌, ◌≤◌, IfOk, IsTrue, length, map};
-ghost use Rattle.saga_tool.specs.Answers.{IsCheckReply, IsPlanReply, IsInputReply};
+ghost use Rattle.saga_tool.specs.Answers.{IsCheckReply, IsDrawReply, IsPlanReply, IsInputReply};
 ghost use Rattle.saga_tool.specs.Audits.{IsAuditReply};
 ghost use Rattle.saga_tool.specs.Limits.{max_input};
+ghost use Rattle.saga_tool.specs.Outcomes.{beside};
 ghost use Rattle.saga_tool.specs.Runs.{IsRunReply};
 ghost use Rattle.saga_tool.specs.Replies.{IsBadInput};
 
 use crate::audits::{audit_outcome, reply_to_audit};
+use crate::drawings::{Scene, drawing_of};
 use crate::limits::MAX_INPUT;
 use crate::outcomes::{Question, outcome_of};
 use crate::parts::parts_of;
@@ -36,6 +38,16 @@ pub fn plan_text(alloc: Global, definition: &[u8], case: &[u8]) -> Result<Reply,
     ensures { IfOk result (IsPlanReply definition.now case.now) }
 {
     let outcome = outcome_of(alloc, definition, case, Question::Plan)?;
+    reply_to(alloc, &outcome)
+}
+
+/// Draws a saga: the text of its picture in Graphviz's language, with its states and what an answer marks where they are
+/// given. An answer that is not right for its case is told as [`check_text`] tells it; a fault of a text goes to standard
+/// error.
+pub fn draw_text(alloc: Global, definition: &[u8], scene: Scene<'_>) -> Result<Reply, AllocError>
+    ensures { IfOk result (IsDrawReply (beside scene.entry) definition.now) }
+{
+    let outcome = drawing_of(alloc, definition, scene)?;
     reply_to(alloc, &outcome)
 }
 

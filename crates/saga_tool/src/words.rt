@@ -59,6 +59,11 @@ fn push_line(lines: &mut String, form: &Form<'_>) -> Result<(), AllocError> {
                 lines.push_str(" ")?;
                 lines.push_str(parameter.shown)?;
             }
+            Kind::Optional => {
+                lines.push_str(" [")?;
+                lines.push_str(parameter.shown)?;
+                lines.push_str("]")?;
+            }
             Kind::Path | Kind::Number => {
                 lines.push_str(" [--")?;
                 lines.push_str(parameter.name)?;

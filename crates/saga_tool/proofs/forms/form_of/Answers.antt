@@ -13,3 +13,6 @@ returns-in-Run-clause-outline c = ap outline_for (sym c.in-Run.is)
 
 pub returns-in-Audit-clause-outline : goal.returns-in-Audit-clause-outline
 returns-in-Audit-clause-outline c = ap outline_for (sym c.in-Audit.is)
+
+pub returns-in-Draw-clause-outline : goal.returns-in-Draw-clause-outline
+returns-in-Draw-clause-outline c = ap outline_for (sym c.in-Draw.is)

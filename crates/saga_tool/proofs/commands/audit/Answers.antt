@@ -1,5 +1,5 @@
 use Rattle.std.proofs.Common.{rules, inl, map}
-use Rattle.saga_tool.proofs.program.audit.Goals as goal
+use Rattle.saga_tool.proofs.commands.audit.Goals as goal
 
 pub returns : goal.returns
 returns g c =

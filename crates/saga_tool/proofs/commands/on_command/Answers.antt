@@ -1,5 +1,5 @@
 use Rattle.saga_tool.proofs.ReplyLemmas.{check_replies, plan_replies, audit_replies}
-use Rattle.saga_tool.proofs.program.on_command.Goals as goal
+use Rattle.saga_tool.proofs.commands.on_command.Goals as goal
 
 pub returns-in-Check-len3 : goal.returns-in-Check-len3
 returns-in-Check-len3 g c =

@@ -1,6 +1,6 @@
 use Rattle.std.proofs.Common.{rules, inr, subst, List, ℕ}
 use Rattle.saga_tool.specs.Program.{IsPrinted}
-use Rattle.saga_tool.proofs.program.write.Goals as goal
+use Rattle.saga_tool.proofs.showing.write.Goals as goal
 
 pub returns-else-write_file : goal.returns-else-write_file
 returns-else-write_file g c = inr (record {

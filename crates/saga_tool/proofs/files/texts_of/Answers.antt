@@ -2,7 +2,7 @@ use Rattle.std.proofs.Common.{◌≡◌, rules}
 use Rattle.std.specs.Prelude.{Ok, Err}
 use Rattle.saga_tool.proofs.ListLemmas.{text_here, zip_pushed}
 use Rattle.saga_tool.proofs.ReplyLemmas.{first_unreadable}
-use Rattle.saga_tool.proofs.program.texts_of.Goals as goal
+use Rattle.saga_tool.proofs.files.texts_of.Goals as goal
 
 pub returns-in_err-text-clause-stop : goal.returns-in_err-text-clause-stop
 returns-in_err-text-clause-stop g c =

@@ -1,6 +1,6 @@
 use Rattle.std.proofs.Common.{map, take}
 use Rattle.saga_tool.specs.Program.{AreGiven}
-use Rattle.saga_tool.proofs.program.texts_of.Given as goal
+use Rattle.saga_tool.proofs.files.texts_of.Given as goal
 
 abbrev pub invariant-loop-path : goal.invariant-loop-path
 invariant-loop-path g l =

@@ -4,7 +4,7 @@ use Rattle.std.specs.Borrow.{Bor}
 use Rattle.saga_tool.specs.Limits.{max_definition}
 use Rattle.saga_tool.specs.Program.{AreGiven, IsFirstUnreadable, StopsBy}
 use Rattle.saga_tool.proofs.ReplyLemmas.{run_shown, run_unread}
-use Rattle.saga_tool.proofs.program.run_sagas.Goals as goal
+use Rattle.saga_tool.proofs.commands.run_sagas.Goals as goal
 
 pub returns-in_err-texts : goal.returns-in_err-texts
 returns-in_err-texts g c =

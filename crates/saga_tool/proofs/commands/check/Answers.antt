@@ -1,5 +1,5 @@
 use Rattle.std.proofs.Common.{rules, inl}
-use Rattle.saga_tool.proofs.program.check.Goals as goal
+use Rattle.saga_tool.proofs.commands.check.Goals as goal
 
 pub returns : goal.returns
 returns g c =

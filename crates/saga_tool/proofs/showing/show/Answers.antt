@@ -1,7 +1,7 @@
 use Rattle.std.proofs.Common.{◌≡◌, ◌++◌, inr, codes, option_map, rules, subst, Some, Option, List, ℕ, Bor}
 use Rattle.saga_tool.specs.Lines.{line_feed}
 use Rattle.saga_tool.specs.Program.{WritesBut}
-use Rattle.saga_tool.proofs.program.show.Goals as goal
+use Rattle.saga_tool.proofs.showing.show.Goals as goal
 
 pub returns-in_ok-format-in-Some : goal.returns-in_ok-format-in-Some
 returns-in_ok-format-in-Some g c =

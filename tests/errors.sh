@@ -1,0 +1,87 @@
+#!/usr/bin/env bash
+# Goes through docs/ERRORS.md: runs each command of the page and compares what it prints, and its status, with the page; and
+# looks whether each entry has a command or says that no input gives it, and whether each word of docs/FORMATS.md has an entry.
+set -uo pipefail
+cd "$(dirname "$0")/.."
+./sagas --help >/dev/null || { echo "the program is not built"; exit 1; }
+
+# The commands of the page, each with the status of its part and the lines that it prints:
+#   STATUS <tab> COMMAND <tab> LINE <tab> LINE ..
+commands() {
+  awk '
+    /^## / { status = $NF }
+    /^```/ { if (open && row != "") print row; open = !open; row = ""; next }
+    open && /^\$ / { if (row != "") print row; row = status "\t" substr($0, 3); next }
+    open { row = row "\t" $0 }' docs/ERRORS.md
+}
+
+# The entries of the page that have neither a command nor the sentence that no input gives them.
+bare() {
+  awk '
+    function tell() { if (entry != "" && !shown) print entry }
+    /^##/ { tell(); entry = ""; shown = 0 }
+    /^### / { entry = $0 }
+    /^\$ / || /No input gives it/ { shown = 1 }
+    END { tell() }' docs/ERRORS.md
+}
+
+# The words of FORMATS.md that a fault, a verdict or a line is told by: those with a hyphen within, those that its lists of faults
+# name, and those that its tables of lines on standard error have.
+words() {
+  awk -v RS= '
+    function tell(text, pattern) {
+      gsub(/\([^()]*\)/, "", text)
+      n = split(text, cells, "`")
+      for (i = 2; i <= n; i += 2) if (cells[i] ~ pattern) print cells[i]
+    }
+    { tell($0, "^[a-z]+(-[a-z0-9]+)+$") }
+    /^Faults|^[0-9]+\. `/ { tell($0, "^[a-z]+( N)?$") }
+    /^\|/ {
+      rows = split($0, lines, "\n")
+      for (r = 1; r <= rows; r++) {
+        if (lines[r] !~ /^\| `sagas: /) continue
+        if (lines[r] ~ /WORD/) tell(lines[r], "^[a-z-]+$")
+        else { sub(/ \| [0-9] .*/, "", lines[r]); tell(lines[r], "^sagas: ") }
+      }
+    }' docs/FORMATS.md | sort -u
+}
+
+runs=0
+wrong=0
+complain() {
+  wrong=$((wrong + 1))
+  echo "$*"
+}
+
+while IFS= read -r row; do
+  IFS=$'\t' read -r -a fields <<<"$row"
+  runs=$((runs + 1))
+  status=${fields[0]}
+  command=${fields[1]}
+  wanted=$(printf '%s\n' "${fields[@]:2}")
+  found=$(eval "$command" 2>&1 </dev/null)
+  got=$?
+  case $wanted in
+    *...) wanted=${wanted%...}; [[ $found == "$wanted"* ]] && found=$wanted ;;
+  esac
+  if [ "$found" != "$wanted" ] || [ "$got" != "$status" ]; then
+    complain "wrong: $command: status $got for $status"
+    printf '%s\n' "$found" | head -n 3 | sed 's/^/  printed: /'
+  fi
+done < <(commands)
+
+while IFS= read -r entry; do
+  complain "without an input: $entry"
+done < <(bare)
+
+entries=$(sed -n 's/^### `\(.*\)`$/\1/p' docs/ERRORS.md)
+while IFS= read -r word; do
+  case $word in
+    # keys, and the states of a busy step
+    answer | format | name | never | step | stand | running | undoing) continue ;;
+  esac
+  grep -qE "(^|: | )${word% [N-]}( |\$)" <<<"$entries" || complain "without an entry: $word"
+done < <(words)
+
+echo "errors: $runs inputs, $(wc -l <<<"$entries") entries, $wrong wrong"
+[ "$runs" -gt 0 ] && [ "$wrong" = 0 ]
