@@ -1,5 +1,5 @@
 -- What is read of a row's matches.
-use Rattle.std.proofs.Common.{◌≡◌, ◌∙◌, ◌≤◌, ap, ℕ, Bool, true, false, List, [], ◌∷◌, Option, Some, None, refl, sym, arith, ◌&&◌, ◌||◌, ◌++◌, length, drop, zero, suc, bytes_eq, map}
+use Rattle.std.proofs.Common.{◌≡◌, ◌∙◌, ◌≤◌, ◌⊎◌, inl, inr, ap, ℕ, Bool, true, false, List, [], ◌∷◌, Option, Some, None, refl, sym, arith, ◌&&◌, ◌||◌, ◌++◌, length, drop, zero, suc, bytes_eq, map}
 use Rattle.std.proofs.lemmas.List.{append-nil}
 use Rattle.std.specs.Prelude.{option_map, unwrap_or, Result, Ok, Err}
 use Rattle.std.specs.List.{All}
@@ -8,6 +8,7 @@ use Rattle.std.specs.Str.Parse.{ParsesUnsigned}
 use Rattle.std.proofs.lemmas.Slice.Eq.{bytes_eq-Decides}
 use Rattle.std.proofs.lemmas.List.Elements.{All-drop, All-get_or}
 use Rattle.clap.specs.Walk.{Row, Text, rows_of, one_of}
+use Rattle.clap.specs.Words.{first_of}
 use Rattle.clap.specs.Matches.{ReadsOne, matched_of, first_value, raw_values}
 use Rattle.clap.specs.Values.{IsUnsignedIn}
 use Rattle.clap.specs.declared.parser.matches.Found.{Found}
@@ -17,10 +18,16 @@ use Rattle.saga_tool.specs.declared.forms.Kind.TheVariants.{File, Optional, File
 use Rattle.saga_tool.specs.Forms.{Argument}
 use Rattle.saga_tool.specs.Given.{Holds, HoldsBy, IsNumber, files_by, has_number, is_number, number_of, one_or_none}
 
+first_is : (rows : List Row) (kind : Kind) (name : Text) → (kind ≡ File) ⊎ (kind ≡ Optional) → files_by kind name rows ≡ one_or_none (first_of name rows)
+first_is rows kind name is = elim is [
+  | inl file ↦ ap (λ (k : Kind). files_by k name rows) file
+  | inr optional ↦ ap (λ (k : Kind). files_by k name rows) optional
+]
+
 -- the file of an argument is its first value
-pub file_is : (f : Found) (kind : Kind) (name : Text) (o v : Option (Bor Text)) → kind ≡ File → option_map (λ s. s.now) o ≡ first_value f name → o ≡ v
+pub file_is : (f : Found) (kind : Kind) (name : Text) (o v : Option (Bor Text)) → (kind ≡ File) ⊎ (kind ≡ Optional) → option_map (λ s. s.now) o ≡ first_value f name → o ≡ v
     → files_by kind name (rows_of f) ≡ one_or_none (option_map (λ s. s.now) v)
-file_is f kind name o v is h e = ap (λ (k : Kind). files_by k name (rows_of f)) is
+file_is f kind name o v is h e = first_is (rows_of f) kind name is
     ∙ ap one_or_none (sym (first_value-rows f name) ∙ (sym h ∙ ap (option_map (λ (s : Bor Text). s.now)) e))
 
 -- further files are all values

@@ -5,7 +5,7 @@ use Rattle.std.specs.Borrow.{Bor}
 use Rattle.std.proofs.lemmas.List.{take_all}
 use Rattle.saga_tool.specs.declared.arguments.Given.{Given}
 use Rattle.saga_tool.specs.declared.forms.Name.{Name}
-use Rattle.saga_tool.specs.declared.forms.Name.TheVariants.{Check, Plan, Audit, Draw}
+use Rattle.saga_tool.specs.declared.forms.Name.TheVariants.{Audit}
 use Rattle.saga_tool.specs.declared.responses.Response.{Response}
 use Rattle.saga_tool.specs.declared.files.Stop.{Stop}
 use Rattle.saga_tool.specs.declared.files.Stop.TheVariants.{Unreadable, OutOfMemory}
@@ -15,7 +15,7 @@ use Rattle.saga_tool.specs.Limits.{max_definition}
 use Rattle.saga_tool.specs.Outside.{Text, FileGives}
 use Rattle.saga_tool.specs.Runs.{IsRunReply}
 use Rattle.saga_tool.specs.Responses.{IsAlone}
-use Rattle.saga_tool.specs.Program.{AreGiven, IsFirstUnreadable, IsUnreadable, ChecksFiles, PlansFiles, DrawsDefinition, DrawsCase, DrawsAnswer, RunsFiles, AuditsFiles, IsScript, CommandReplies, Ends, IsResponseOf, StopsBy}
+use Rattle.saga_tool.specs.Program.{AreGiven, IsFirstUnreadable, IsUnreadable, RunsFiles, AuditsFiles, IsScript, CommandReplies, Ends, IsResponseOf, StopsBy}
 use Rattle.saga_tool.proofs.ListLemmas.{text_here}
 
 abbrev Files : Type 0
@@ -24,39 +24,35 @@ Files = List (Bor Text)
 abbrev now_of : Files → List Text
 now_of = map (λ s. s.now)
 
--- the three files of a check, and the two of a plan, are those of the list
-three : (gives : FileGives) (given : Given) (files : Files) (r : Result Response Stop) (d : Bor Text) → 3 ≤ length files → length files < 4
-    → Ends (ChecksFiles gives (slice_index_or files 0 d).now (slice_index_or files 1 d).now (slice_index_or files 2 d).now) r
-    → Ends (CommandReplies gives given Check (now_of files)) r
-three gives given [] r d least most ends = absurd (omega (arith, least))
-three gives given (a ∷ []) r d least most ends = absurd (omega (arith, least))
-three gives given (a ∷ b ∷ []) r d least most ends = absurd (omega (arith, least))
-three gives given (a ∷ b ∷ c ∷ []) r d least most ends = ends
-three gives given (a ∷ b ∷ c ∷ e ∷ more) r d least most ends = absurd (omega (arith, most))
+-- the files of a list of three, or of two
+three : (P : List Text → Type 0) (files : Files) (d : Bor Text) → 3 ≤ length files → length files < 4
+    → P ((slice_index_or files 0 d).now ∷ (slice_index_or files 1 d).now ∷ (slice_index_or files 2 d).now ∷ []) → P (now_of files)
+three P [] d least most holds = absurd (omega (arith, least))
+three P (a ∷ []) d least most holds = absurd (omega (arith, least))
+three P (a ∷ b ∷ []) d least most holds = absurd (omega (arith, least))
+three P (a ∷ b ∷ c ∷ []) d least most holds = holds
+three P (a ∷ b ∷ c ∷ e ∷ more) d least most holds = absurd (omega (arith, most))
 
-two : (gives : FileGives) (given : Given) (files : Files) (r : Result Response Stop) (d : Bor Text) → 2 ≤ length files → length files < 3
-    → Ends (PlansFiles gives (slice_index_or files 0 d).now (slice_index_or files 1 d).now) r
-    → Ends (CommandReplies gives given Plan (now_of files)) r
-two gives given [] r d least most ends = absurd (omega (arith, least))
-two gives given (a ∷ []) r d least most ends = absurd (omega (arith, least))
-two gives given (a ∷ b ∷ []) r d least most ends = ends
-two gives given (a ∷ b ∷ c ∷ more) r d least most ends = absurd (omega (arith, most))
+two : (P : List Text → Type 0) (files : Files) (d : Bor Text) → 2 ≤ length files → length files < 3
+    → P ((slice_index_or files 0 d).now ∷ (slice_index_or files 1 d).now ∷ []) → P (now_of files)
+two P [] d least most holds = absurd (omega (arith, least))
+two P (a ∷ []) d least most holds = absurd (omega (arith, least))
+two P (a ∷ b ∷ []) d least most holds = holds
+two P (a ∷ b ∷ c ∷ more) d least most holds = absurd (omega (arith, most))
 
-pub check_replies : (gives : FileGives) (given : Given) (name : Name) (files shown : Files) (r : Result Response Stop) (d : Bor Text) → name ≡ Check → shown ≡ files
+-- what holds of a command and its three files holds of the command that was given and its list
+pub of_three : (P : Name → List Text → Type 0) (given wanted : Name) (files shown : Files) (d : Bor Text) → given ≡ wanted → shown ≡ files
     → 3 ≤ length shown → length shown < 4
-    → Ends (ChecksFiles gives (slice_index_or shown 0 d).now (slice_index_or shown 1 d).now (slice_index_or shown 2 d).now) r
-    → Ends (CommandReplies gives given name (now_of files)) r
-check_replies gives given name files shown r d is same least most ends =
-    subst (λ (n : Name). Ends (CommandReplies gives given n (now_of files)) r) (sym is)
-    (subst (λ (fs : Files). Ends (CommandReplies gives given Check (now_of fs)) r) same (three gives given shown r d least most ends))
+    → P wanted ((slice_index_or shown 0 d).now ∷ (slice_index_or shown 1 d).now ∷ (slice_index_or shown 2 d).now ∷ []) → P given (now_of files)
+of_three P given wanted files shown d is same least most holds =
+    subst (λ (n : Name). P n (now_of files)) (sym is) (subst (λ (fs : Files). P wanted (now_of fs)) same (three (P wanted) shown d least most holds))
 
-pub plan_replies : (gives : FileGives) (given : Given) (name : Name) (files shown : Files) (r : Result Response Stop) (d : Bor Text) → name ≡ Plan → shown ≡ files
+-- the same of two files
+pub of_two : (P : Name → List Text → Type 0) (given wanted : Name) (files shown : Files) (d : Bor Text) → given ≡ wanted → shown ≡ files
     → 2 ≤ length shown → length shown < 3
-    → Ends (PlansFiles gives (slice_index_or shown 0 d).now (slice_index_or shown 1 d).now) r
-    → Ends (CommandReplies gives given name (now_of files)) r
-plan_replies gives given name files shown r d is same least most ends =
-    subst (λ (n : Name). Ends (CommandReplies gives given n (now_of files)) r) (sym is)
-    (subst (λ (fs : Files). Ends (CommandReplies gives given Plan (now_of fs)) r) same (two gives given shown r d least most ends))
+    → P wanted ((slice_index_or shown 0 d).now ∷ (slice_index_or shown 1 d).now ∷ []) → P given (now_of files)
+of_two P given wanted files shown d is same least most holds =
+    subst (λ (n : Name). P n (now_of files)) (sym is) (subst (λ (fs : Files). P wanted (now_of fs)) same (two (P wanted) shown d least most holds))
 
 -- a run, one of whose definitions cannot be read
 pub run_unread : (gives : FileGives) (script : Option Text) (lines : Text) (defs : List Text) (shards : ℕ) (log : Option Text) (stop : Stop)
