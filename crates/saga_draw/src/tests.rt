@@ -94,7 +94,7 @@ fn plan_with_states(rt: HostRuntime) -> Result<(), Fail> {
   node [fontname="Helvetica" fontsize=12];
   "a" [shape=hexagon style=filled fillcolor="#6fae75" peripheries=2 label="a\nfixed, kept\nundo never"];
   "node" [shape=box style=filled fillcolor="#b9dfbb" peripheries=2 label="node\ncommitted, kept\nundo 5\nkeep 3"];
-  "c-2" [shape=octagon style=filled fillcolor="#e8918a" label="c-2\nfailed\nundo 1000000000\nkeep never"];
+  "c-2" [shape=octagon style=filled fillcolor="#f0aaa4" label="c-2\nfailed\nundo 1000000000\nkeep never"];
   "c-2" -> "a";
   "node" -> "a" [penwidth=2];
   "c-2" -> "node";

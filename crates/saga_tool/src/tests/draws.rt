@@ -16,7 +16,7 @@ const TWO_ALONE: &str = r#"digraph "two" {
 const TWO_WAITS: &str = r##"digraph "two" {
   graph [rankdir=RL fontname="Helvetica" label="two"];
   node [fontname="Helvetica" fontsize=12];
-  "b" [shape=octagon style=filled fillcolor="#e8918a" label="b\nfailed"];
+  "b" [shape=octagon style=filled fillcolor="#f0aaa4" label="b\nfailed"];
   "c" [shape=box style=dashed label="c\nwaiting\nskip never"];
   "c" -> "b";
 }
@@ -25,7 +25,7 @@ const TWO_WAITS: &str = r##"digraph "two" {
 const TWO_BLOCKED: &str = r##"digraph "two" {
   graph [rankdir=RL fontname="Helvetica" label="two: blocked\nthick outline: the chain that shows it"];
   node [fontname="Helvetica" fontsize=12];
-  "b" [shape=octagon style=filled fillcolor="#e8918a" penwidth=4 label="b\nfailed, in the chain"];
+  "b" [shape=octagon style=filled fillcolor="#f0aaa4" penwidth=4 label="b\nfailed, in the chain"];
   "c" [shape=box style=dashed penwidth=4 label="c\nwaiting, in the chain\nskip never"];
   "c" -> "b" [penwidth=4];
 }
@@ -35,7 +35,7 @@ const TRIP_PLANNED: &str = r##"digraph "trip" {
   graph [rankdir=RL fontname="Helvetica" label="trip: plan of cost 1\ndouble outline: kept"];
   node [fontname="Helvetica" fontsize=12];
   "a" [shape=box style=filled fillcolor="#b9dfbb" label="a\ncommitted\nundo 1\nkeep 4"];
-  "b" [shape=octagon style=filled fillcolor="#e8918a" label="b\nfailed"];
+  "b" [shape=octagon style=filled fillcolor="#f0aaa4" label="b\nfailed"];
   "b" -> "a";
 }
 "##;

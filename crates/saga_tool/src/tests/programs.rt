@@ -227,7 +227,7 @@ const RUNS: [RunRow; 27] = [
     ),
     RunRow(
         &["draw", "trip", "done", "plan"],
-        "out: digraph \"trip\" {\n  graph [rankdir=RL fontname=\"Helvetica\" label=\"trip: plan of cost 1\\ndouble outline: kept\"];\n  node [fontname=\"Helvetica\" fontsize=12];\n  \"a\" [shape=box style=filled fillcolor=\"#b9dfbb\" label=\"a\\ncommitted\\nundo 1\\nkeep 4\"];\n  \"b\" [shape=octagon style=filled fillcolor=\"#e8918a\" label=\"b\\nfailed\"];\n  \"b\" -> \"a\";\n}\n",
+        "out: digraph \"trip\" {\n  graph [rankdir=RL fontname=\"Helvetica\" label=\"trip: plan of cost 1\\ndouble outline: kept\"];\n  node [fontname=\"Helvetica\" fontsize=12];\n  \"a\" [shape=box style=filled fillcolor=\"#b9dfbb\" label=\"a\\ncommitted\\nundo 1\\nkeep 4\"];\n  \"b\" [shape=octagon style=filled fillcolor=\"#f0aaa4\" label=\"b\\nfailed\"];\n  \"b\" -> \"a\";\n}\n",
         0,
     ),
     RunRow(&["draw", "trip", "trip"], "err: sagas: case: not-json\n", 3),
