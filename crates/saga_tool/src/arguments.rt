@@ -13,7 +13,7 @@ use std::alloc::{AllocError, Global};
 
 /// What stands at the end of each help.
 pub const STATUSES: &str =
-    "Status: 0 a right answer, a plan, or a run in which each saga ended; 1 a refused answer, a planned chain, or a stuck saga; 2 usage; 3 bad input; 4 a file, memory, or a run that stopped.";
+    "Status: 0 a right answer, a plan, a drawing, or a run in which each saga ended; 1 a refused answer, a planned chain, or a stuck saga; 2 usage; 3 bad input; 4 a file, memory, or a run that stopped.";
 
 /// An argument as `clap` takes it.
 fn arg_of<'a>(alloc: Global, parameter: &Parameter<'a>) -> Arg<'a>

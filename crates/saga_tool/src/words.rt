@@ -13,7 +13,7 @@ use std::convert::From;
 const VERSION: &str = "0.1.0";
 
 const ABOUT: &str =
-    "Coordinates sagas: runs them, finds the cheapest way to end a saga in which a step has failed, and judges such plans
+    "Coordinates sagas: runs them, finds the cheapest way to end a saga in which a step has failed, judges such plans, and draws them
 
 Without words, a definition, a case and an answer are read from standard input, with lines --- between them, and judged";
 
