@@ -1,6 +1,6 @@
 """What the scripts of timing share: the programs that are timed, and how they take turns.
 
-The program is crates/saga_bench, which `rt run` proves and builds on its first use; the peer is LEMON's preflow (Debian:
+The program is crates/saga_bench, which ./build proves and builds on its first use; the peer is LEMON's preflow (Debian:
 liblemon-dev), built by g++. Each prints one line, and on standard error the seconds of each of 101 runs.
 """
 import argparse
@@ -30,8 +30,7 @@ def built(words):
     """The program, built where its sources changed."""
     if words.program:
         return words.program
-    with open(CRATE / "stdin", encoding="utf-8") as text:
-        subprocess.run(["rt", "run", "--", "flow"], cwd=CRATE, stdin=text, capture_output=True, check=True)
+    subprocess.run([HERE.parent / "build", "saga_bench"], check=True)
     return CRATE / "out" / "saga_bench"
 
 
