@@ -63,10 +63,9 @@ LacksAnswer text outcome = ⊥
 
 -- what a check of an answer's text comes to: its first fault, or what the judge says of what it holds
 abbrev pub ChecksTo : List ℕ → Situation → Outcome → Type 0
-ChecksTo text c AnswerTooLong = max_certificate < length text
-ChecksTo text c (AnswerFault fault) =
-    (length text ≤ max_certificate) × ReadsAnswer text (Err fault) × (fault ≢ cert.OutOfMemory)
-ChecksTo text c outcome = (a : Answer) × (length text ≤ max_certificate) × ReadsAnswer text (Ok a) × JudgesTo c a outcome
+ChecksTo text c AnswerTooLong = LacksAnswer text AnswerTooLong
+ChecksTo text c (AnswerFault fault) = LacksAnswer text (AnswerFault fault)
+ChecksTo text c outcome = (a : Answer) × HoldsAnswer text a × JudgesTo c a outcome
 
 -- an answer of the planner: right, its plan least and contained in every least set, its chain where no set is allowed
 pub record IsPlanned (c : Situation) (a : Answer) : Type 0 where
