@@ -1,7 +1,9 @@
 //! Drawings of one, two and three texts.
 use crate::drawings::Scene;
+use crate::replies::Reply;
 use crate::tests::builders::{CHAIN, CYCLE, DONE, PLAN, TRIP, TWO, WAITS, streams};
 use crate::texts::draw_text;
+use std::alloc::Global;
 use std::test::Fail;
 
 const TWO_ALONE: &str = r#"digraph "two" {
@@ -103,10 +105,17 @@ fn scene(case: Option<&'static str>, answer: Option<&'static str>) -> Scene<'sta
     }
 }
 
+/// What is replied to a row's texts.
+fn replied(alloc: Global, row: &DrawRow) -> Result<Reply, Fail> {
+    let DrawRow(definition, case, answer, _, _) = row;
+    Ok(draw_text(alloc, definition.as_bytes(), scene(*case, *answer))?)
+}
+
 #[test]
 fn drawings(rt: HostRuntime) -> Result<(), Fail> {
-    for DrawRow(definition, case, answer, line, status) in &DRAWINGS {
-        let reply = draw_text(rt.alloc(), definition.as_bytes(), scene(*case, *answer))?;
+    for row in &DRAWINGS {
+        let reply = replied(rt.alloc(), row)?;
+        let DrawRow(_, _, _, line, status) = row;
         let (shown, other) = streams(&reply);
         assert_eq!(rt; shown.as_str(), *line);
         assert!(rt; other.is_empty());
