@@ -5,3 +5,4 @@ pub mod Duality
 pub mod ChainLemmas
 pub mod FreeLemmas
 pub mod MemberLemmas
+pub mod LawLemmas

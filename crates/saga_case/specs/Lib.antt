@@ -9,3 +9,4 @@ pub mod Flow
 pub mod Right
 pub mod Free
 pub mod Members
+pub mod Laws

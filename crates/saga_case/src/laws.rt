@@ -1,13 +1,16 @@
-//! Laws of least sets, over the definitions alone.
+//! Laws of least sets, of faults and of first busy steps, over the definitions alone.
 ghost use Rattle.std.specs.Prelude.{◌≡◌, ◌<◌, ℕ, length, slice_get, slice_index_or, IfSome, IsTrue, false};
 ghost use Rattle.saga_def.specs.declared.steps.Price.TheVariants.{Never};
+ghost use Rattle.saga_def.specs.Contents.{Contents};
 ghost use Rattle.saga_def.specs.Order.{Steps};
 ghost use Rattle.saga_case.specs.Free.{IsFree, none};
+ghost use Rattle.saga_case.specs.Laws.{HasNoBusy, HasNoFault, HasNoLeast, HasOneFault, HasOneFirstBusy, HasOneLeastCost};
 ghost use Rattle.saga_case.specs.Members.{AllowedSets, HasEach, HasNone};
-ghost use Rattle.saga_case.specs.Terms.{terms_of, IsAllowed, IsLeast};
+ghost use Rattle.saga_case.specs.Terms.{Terms, terms_of, IsAllowed, IsLeast};
 ghost use Rattle.saga_case.specs.declared.states.StepState.TheVariants.{Committed, Failed, Fixed, Undone, Waiting};
 
 use crate::cases::Case;
+use crate::states::StepState;
 
 /// Backward recovery: where no price is above 0 or never and no compensation failed for good, the empty set is least.
 pub fn leaves_all_out_for_free(case: &Case)
@@ -42,3 +45,20 @@ pub fn begins_nothing_once_aborted(case: &Case)
 {
     let _ = case.states();
 }
+
+/// What is called the first is one: of states for a definition at most one fault is the first that applies, and none where
+/// they make a case; at most one busy step is the first, and none where no step is busy.
+#[tactic(auto, using(crate::proofs::LawLemmas::has_one_fault, crate::proofs::LawLemmas::has_no_fault, crate::proofs::LawLemmas::has_one_first_busy, crate::proofs::LawLemmas::has_no_busy))]
+pub fn fault_laws(states: &Vec<StepState>)
+    ensures one { (d : Contents) → HasOneFault d states.now }
+    ensures none { (d : Contents) → HasNoFault d states.now }
+    ensures busy { HasOneFirstBusy states.now.items }
+    ensures drained { HasNoBusy states.now.items }
+{}
+
+/// All least sets cost the same, and where no set is allowed there is none.
+#[tactic(auto, using(crate::proofs::LawLemmas::has_one_least_cost, crate::proofs::LawLemmas::has_no_least))]
+pub fn least_laws()
+    ensures cost { (t : Terms) → HasOneLeastCost t }
+    ensures none { (t : Terms) → HasNoLeast t }
+{}

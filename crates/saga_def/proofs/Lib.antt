@@ -7,3 +7,5 @@ pub mod NeighbourLemmas
 mod SeenLemmas
 mod PeelLemmas
 mod RingLemmas
+pub mod FirstLemmas
+pub mod FaultLemmas

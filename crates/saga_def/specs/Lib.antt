@@ -10,3 +10,4 @@ pub mod Faults
 pub mod Peeling
 pub mod Same
 pub mod SameLaws
+pub mod Laws

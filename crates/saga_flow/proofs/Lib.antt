@@ -16,3 +16,4 @@ pub mod TreeLemmas
 pub mod PathLemmas
 pub mod PhaseLemmas
 pub mod FlowLemmas
+pub mod LawLemmas

@@ -10,3 +10,4 @@ pub mod Search
 pub mod Pushes
 pub mod Levels
 pub mod Progress
+pub mod Laws

@@ -10,6 +10,7 @@ mod chains;
 mod flows;
 mod gates;
 mod graphs;
+mod laws;
 mod marks;
 mod nets;
 mod phases;
@@ -20,6 +21,7 @@ mod rounds;
 mod searching;
 
 pub use flows::{Flow, largest, largest_counted};
+pub use laws::value_laws;
 pub use nets::{Arc, Cap, Net};
 pub use pushes::push;
 pub use reaching::{reach, unbounded_path};

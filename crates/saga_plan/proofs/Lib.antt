@@ -2,3 +2,4 @@
 pub mod CutCost
 pub mod FlowLemmas
 pub mod PlanLemmas
+pub mod LawLemmas

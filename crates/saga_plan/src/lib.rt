@@ -5,9 +5,11 @@
 //! the steps that the source still reaches in the residual network are kept. Of all least sets that is the smallest.
 #![tactic(auto)]
 
+mod laws;
 mod planning;
 mod plans;
 
+pub use laws::plan_laws;
 pub use planning::{plan, plan_counted};
 
 #[cfg(test)]

@@ -1,0 +1,16 @@
+-- What holds of the faults of a definition, whatever its contents.
+use Rattle.std.specs.Prelude.{◌≡◌, ◌≢◌}
+use Rattle.saga_def.specs.Contents.{Contents}
+use Rattle.saga_def.specs.Faults.{IsFirstFault, word_of}
+use Rattle.saga_def.specs.Sound.{IsSound}
+use Rattle.saga_def.specs.declared.faults.DefFault.{DefFault}
+use Rattle.saga_def.specs.declared.faults.DefFault.TheVariants.{OutOfMemory}
+
+-- want of memory aside, at most one fault is the first that applies; of cycles there may be several
+abbrev pub HasOneFault : Contents → Type 0
+HasOneFault c =
+    (e f : DefFault) → e ≢ OutOfMemory → f ≢ OutOfMemory → IsFirstFault c e → IsFirstFault c f → word_of e ≡ word_of f
+
+-- sound contents have no fault but want of memory
+abbrev pub HasNoFault : Contents → Type 0
+HasNoFault c = IsSound c → (f : DefFault) → IsFirstFault c f → f ≡ OutOfMemory

@@ -1,0 +1,18 @@
+-- What holds of values of flows, whatever the net.
+use Rattle.std.specs.Prelude.{◌≡◌, ℕ, List}
+use Rattle.saga_flow.specs.Flows.{IsFlow, IsGreatest, HasValue}
+use Rattle.saga_flow.specs.declared.nets.Arc.{Arc}
+
+-- amounts have one value
+abbrev pub HasOneValue : List Arc → Type 0
+HasOneValue arcs = (on : List ℕ) (v w : ℕ) → HasValue arcs on v → HasValue arcs on w → v ≡ w
+
+-- a flow of that value, which no flow exceeds
+pub record IsGreatestFlow (arcs : List Arc) (on : List ℕ) (value : ℕ) : Type 0 where
+  pub flow : IsFlow arcs on
+  pub worth : HasValue arcs on value
+  pub greatest : IsGreatest arcs value
+
+-- all greatest flows have the same value
+abbrev pub HasOneGreatest : List Arc → Type 0
+HasOneGreatest arcs = (on other : List ℕ) (v w : ℕ) → IsGreatestFlow arcs on v → IsGreatestFlow arcs other w → v ≡ w
