@@ -4,3 +4,4 @@ pub mod SagaLemmas
 mod OpenLemmas
 mod NextLemmas
 mod PhaseLemmas
+pub mod LawLemmas

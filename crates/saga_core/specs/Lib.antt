@@ -3,3 +3,4 @@ pub mod Journal
 pub mod Book
 pub mod Refusals
 pub mod Tasks
+pub mod Laws

@@ -5,12 +5,14 @@
 
 mod books;
 mod journals;
+mod laws;
 mod numbers;
 mod refusals;
 #[cfg(test)]
 mod tests;
 
 pub use books::{Book, MAX_SAGAS};
+pub use laws::refusal_laws;
 pub use refusals::{
     AdoptRefusal, AdoptRefused, DropRefusal, OpenRefusal, ReportRefusal, SagaRefusal, TakeRefusal,
 };

@@ -13,3 +13,4 @@ pub mod ProgressLemmas
 pub mod PlanLemmas
 pub mod PartLemmas
 pub mod QuestionLemmas
+pub mod LawLemmas

@@ -12,3 +12,4 @@ pub mod Progress
 pub mod Plans
 pub mod Parts
 pub mod Follower
+pub mod Laws

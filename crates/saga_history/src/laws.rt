@@ -1,5 +1,5 @@
 //! What holds of each legal history. The functions only read what they are handed: their contracts are the laws.
-ghost use Rattle.std.specs.Prelude.{All};
+ghost use Rattle.std.specs.Prelude.{All, List};
 ghost use Rattle.saga_def.specs.Sound.{IsSound};
 ghost use Rattle.saga_history.specs.Changes.{past};
 ghost use Rattle.saga_history.specs.Rules.{IsLegal};
@@ -9,6 +9,9 @@ ghost use Rattle.saga_history.specs.Counts.{AllHaveFewEvents};
 ghost use Rattle.saga_history.specs.Progress.{AllEndedOrWait};
 ghost use Rattle.saga_history.specs.Plans.{PlansLeaveAWay};
 ghost use Rattle.saga_history.specs.Parts as parts;
+ghost use Rattle.saga_def.specs.Contents.{Contents};
+ghost use Rattle.saga_history.specs.Changes.{Change};
+ghost use Rattle.saga_history.specs.Laws.{AdoptionsSettle, GoalIsClosed, GoalIsKept, HasOnePhase, OthersAreUndone, UndoneInOrder};
 
 use crate::events::Event;
 use saga_def::Definition;
@@ -65,4 +68,15 @@ pub fn merge_laws(shelf: &[Definition], first: &[Event], second: &[Event])
     ensures merges { parts.MergesAreLegal shelf.now first.now second.now }
     ensures many { parts.MergesOfManyAreLegal shelf.now }
     ensures numbered { parts.NumberedApart shelf.now first.now second.now }
+{}
+
+/// What the headline says, part by part, of any history of which it holds; and that a saga stands in at most one phase.
+#[tactic(auto, using(crate::proofs::LawLemmas::has_one_phase, crate::proofs::LawLemmas::goal_is_closed, crate::proofs::LawLemmas::goal_is_kept, crate::proofs::LawLemmas::others_are_undone, crate::proofs::LawLemmas::undone_in_order))]
+pub fn headline_parts(shelf: &[Definition], history: &[Event])
+    ensures closed { Headline shelf.now (past history.now) → GoalIsClosed shelf.now (past history.now) }
+    ensures kept { Headline shelf.now (past history.now) → GoalIsKept shelf.now (past history.now) }
+    ensures undone { Headline shelf.now (past history.now) → OthersAreUndone shelf.now (past history.now) }
+    ensures in_order { Headline shelf.now (past history.now) → UndoneInOrder shelf.now (past history.now) }
+    ensures settled { Headline shelf.now (past history.now) → AdoptionsSettle shelf.now history.now }
+    ensures phase { (d : Contents) (l : List Change) → HasOnePhase d l }
 {}
