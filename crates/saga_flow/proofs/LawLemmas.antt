@@ -1,5 +1,5 @@
 -- Amounts have one value, and so have the greatest flows.
-use Rattle.std.proofs.Common.{◌≡◌, ◌≤◌, List, arith}
+use Rattle.std.proofs.Common.{◌≤◌, List, arith}
 use Rattle.saga_flow.specs.Laws.{HasOneValue, HasOneGreatest}
 use Rattle.saga_flow.specs.declared.nets.Arc.{Arc}
 

@@ -10,7 +10,6 @@ use Rattle.saga_history.specs.Changes.{Change, past}
 use Rattle.saga_history.specs.Headline.{Headline, AdoptionSettles}
 use Rattle.saga_history.specs.Laws.{HasOnePhase, GoalIsClosed, GoalIsKept, OthersAreUndone, UndoneInOrder, AdoptionsSettle}
 use Rattle.saga_history.specs.Rules.{EachEvent}
-use Rattle.saga_case.specs.declared.answers.Answer.{Answer}
 use Rattle.saga_history.proofs.MergeLemmas.{past_append, each_below}
 use Rattle.saga_history.proofs.PartLemmas.{past_more}
 

@@ -1,5 +1,5 @@
 -- Smallest plans keep the same steps, and nothing takes no rounds.
-use Rattle.std.proofs.Common.{◌≡◌, ℕ, ◌+◌, ◌*◌, ◌≤◌, Bool, true, false, length, refl, sym, ap, ◌∙◌, subst, arith}
+use Rattle.std.proofs.Common.{◌≡◌, ◌+◌, ◌*◌, ◌≤◌, Bool, true, false, length, refl, sym, subst, arith}
 use Rattle.std.specs.Prelude.{IsTrue}
 use Rattle.saga_def.specs.Order.{member}
 use Rattle.saga_case.specs.declared.answers.Answer.{Answer}
