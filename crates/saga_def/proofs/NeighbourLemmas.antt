@@ -1,8 +1,8 @@
 -- The neighbours of a step ascend, each is there once, and they are all that its needs name.
-use Rattle.std.proofs.Common.{ℕ, ◌≡◌, ◌<◌, ◌≤◌, ◌+◌, ◌*◌, ◌∙◌, ◌⊎◌, inl, inr, List, [], ◌∷◌, ◌++◌, length, take, drop, get_or, map, ap, sym, subst, refl, arith, suc, zero}
-use Rattle.std.specs.Prelude.{Bool, true, false, ◌==◌, cond, All, Contains, slice_index, slice_get, Some, None}
+use Rattle.std.proofs.Common.{ℕ, ◌≡◌, ◌<◌, ◌≤◌, ◌+◌, ◌*◌, ◌∙◌, ◌⊎◌, inl, inr, List, [], ◌∷◌, ◌++◌, length, get_or, map, ap, sym, refl, arith, suc, zero}
+use Rattle.std.specs.Prelude.{Bool, true, false, ◌==◌, cond, Contains, slice_index, slice_get, Some, None}
 use Rattle.std.specs.List.{filter, count_by, sum_by, flat_map, range_with_len}
-use Rattle.std.proofs.lemmas.Bool.{cases_eq, cases_lt, eq-eqb, eqb-true, false≢true}
+use Rattle.std.proofs.lemmas.Bool.{cases_eq, cases_lt, eq-eqb, eqb-true}
 use Rattle.std.proofs.lemmas.Bool.Decides.{nat_tests}
 use Rattle.std.proofs.lemmas.List.{get_or-map, length-map, get_or_default}
 use Rattle.std.proofs.lemmas.List.Sums.{sum_by-cons, get_or-le-sum_by}

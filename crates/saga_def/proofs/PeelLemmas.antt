@@ -1,17 +1,12 @@
 -- What the passes of the search keep of their marks.
-use Rattle.std.proofs.Common.{ℕ, ◌≡◌, ◌<◌, ◌≤◌, ◌+◌, ◌∙◌, ◌⊎◌, inl, inr, List, [], ◌∷◌, ◌++◌, length, take, replicate, get_or, set, ap, sym, subst, refl, arith, suc}
-use Rattle.std.specs.Prelude.{map, slice_index, Bool, true, false, not, ◌==◌, ◌&&◌, All, slice_index_or, Option, Some, None, is_none, IsSome}
-use Rattle.std.specs.Bool.{Decides}
-use mathlib.Core.Bool.{beq}
-use Rattle.std.specs.Cmp.Lexicographic.{pointwise}
-use Rattle.std.proofs.lemmas.Slice.Eq.{slice_eq-Decides}
-use Rattle.std.specs.List.{count_by, sum_by}
-use Rattle.std.proofs.lemmas.Bool.{cases_eq, cases_lt, false≢true, true≢false, eq-eqb, eqb-true}
+use Rattle.std.proofs.Common.{ℕ, ◌≡◌, ◌<◌, ◌≤◌, ◌+◌, ◌∙◌, inl, inr, List, [], ◌∷◌, ◌++◌, length, take, replicate, get_or, set, ap, sym, subst, refl, arith, suc}
+use Rattle.std.specs.Prelude.{Bool, true, false, not, ◌==◌, ◌&&◌, All, slice_index_or, Option, Some, None, IsSome}
+use Rattle.std.specs.List.{count_by}
+use Rattle.std.proofs.lemmas.Bool.{cases_eq, cases_lt, false≢true, eq-eqb, eqb-true}
 use Rattle.std.proofs.lemmas.Bool.Decides.{nat_tests}
-use Rattle.std.proofs.lemmas.List.Sums.{get_or-le-sum_by, sum_by-cons, sum_by-append, sum_by_push, sum_by_more, sum_by_more_le, sum_by-set, count_by-le-length}
-use Rattle.std.proofs.lemmas.List.{take_more, length-set, get_or-set_same, get_or-set_other, get_or-map, get_or_past, length-map, take_at, length-replicate, get_or-replicate}
-use Rattle.saga_def.specs.Adjacency.{places_at, needed, needing, IsAdjacencyList}
-use Rattle.std.proofs.lemmas.List.Elements.{Contains-push, Contains-push_cases, Contains-append_left, All-append, All-take, All-contains, All-same, All-weaker, All-push}
+use Rattle.std.proofs.lemmas.List.Sums.{get_or-le-sum_by, sum_by-cons, sum_by_push, sum_by_more, sum_by_more_le, sum_by-set, count_by-le-length}
+use Rattle.std.proofs.lemmas.List.{take_more, length-set, get_or-set_same, get_or-set_other, get_or_past, take_at, length-replicate, get_or-replicate}
+use Rattle.std.proofs.lemmas.List.Elements.{Contains-push, Contains-push_cases, Contains-append_left, All-take, All-contains, All-same, All-weaker, All-push}
 use Rattle.saga_def.specs.declared.steps.Need.{Need}
 use Rattle.saga_def.specs.Order.{NeedsDirectly, Precedes, IsAcyclic}
 use Rattle.saga_def.specs.Rules.{AreKnown}

@@ -1,4 +1,4 @@
-use Rattle.std.proofs.Common.{ℕ, ◌≡◌, ◌<◌, ◌∙◌, length, arith, get_or, refl, ap}
+use Rattle.std.proofs.Common.{◌<◌, length, arith, get_or, refl}
 use Rattle.saga_def.proofs.PeelLemmas.{free_more, grown_yes, grown_no, pushed}
 use Rattle.saga_def.proofs.cycles.free_steps.Goals as goal
 use Rattle.saga_def.proofs.cycles.free_steps.Goals.{then-unmet-s-eq0+in_ok-push, else-unmet-s-eq0}

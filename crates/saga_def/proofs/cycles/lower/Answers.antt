@@ -1,4 +1,4 @@
-use Rattle.std.proofs.Common.{ℕ, ◌≡◌, ◌<◌, ◌+◌, ◌-◌, ◌∙◌, length, arith, get_or, refl, ap}
+use Rattle.std.proofs.Common.{ℕ, ◌<◌, ◌-◌, length, arith, get_or, refl}
 use Rattle.saga_def.proofs.PeelLemmas.{lower_more, one_left, grown_yes, grown_no, pushed}
 use Rattle.saga_def.proofs.cycles.lower.Goals as goal
 use Rattle.saga_def.proofs.cycles.lower.Goals.{then-left-eq0+in_ok-push, else-left-eq0}

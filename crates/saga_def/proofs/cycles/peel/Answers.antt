@@ -1,9 +1,8 @@
-use Rattle.std.proofs.Common.{ℕ, ◌≡◌, ◌<◌, ◌≤◌, ◌+◌, ◌∙◌, List, length, arith, ap, sym, replicate, rules, take, drop, ◌++◌, [], subst}
-use Rattle.std.specs.Prelude.{Bool, false, map, slice_index}
+use Rattle.std.proofs.Common.{◌≡◌, ◌∙◌, length, arith, ap, replicate, rules, drop, [], subst}
+use Rattle.std.specs.Prelude.{false, map, slice_index}
 use Rattle.std.proofs.lemmas.List.{take_at, nil_from_length}
 use Rattle.std.proofs.lemmas.Result.{IfOk-weaker}
 use Rattle.saga_def.specs.Adjacency.{places_at, needed, needing}
-use Rattle.saga_def.specs.Peeling.{IsPeeled}
 use Rattle.saga_def.proofs.PeelLemmas.{settling_init, not_done, settle, enough_left, settled, fewer, IsSettling}
 use Rattle.saga_def.proofs.AdjacencyLemmas.{links_on, users_below, steps_read, rises}
 use Rattle.saga_def.proofs.cycles.peel.Goals as goal

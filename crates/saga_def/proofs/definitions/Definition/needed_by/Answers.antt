@@ -1,4 +1,4 @@
-use Rattle.std.proofs.Common.{◌≡◌, ◌<◌, ◌∙◌, length}
+use Rattle.std.proofs.Common.{◌<◌, ◌∙◌, length}
 use Rattle.saga_def.proofs.AdjacencyLemmas.{steps_read}
 use Rattle.saga_def.proofs.NeighbourLemmas.{are_needed_by}
 use Rattle.saga_def.proofs.definitions.Definition.needed_by.Goals as goal

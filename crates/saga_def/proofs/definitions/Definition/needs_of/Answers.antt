@@ -1,4 +1,4 @@
-use Rattle.std.proofs.Common.{◌≡◌, ◌<◌, ◌∙◌, length}
+use Rattle.std.proofs.Common.{◌<◌, ◌∙◌, length}
 use Rattle.saga_def.proofs.AdjacencyLemmas.{steps_read}
 use Rattle.saga_def.proofs.NeighbourLemmas.{are_needs_of}
 use Rattle.saga_def.proofs.definitions.Definition.needs_of.Goals as goal

@@ -1,4 +1,4 @@
-use Rattle.std.proofs.Common.{◌≡◌, ◌<◌, ◌∙◌, length}
+use Rattle.std.proofs.Common.{◌<◌, ◌∙◌, length}
 use Rattle.saga_def.specs.Contents.{contents}
 use Rattle.saga_def.proofs.AdjacencyLemmas.{places_read}
 use Rattle.saga_def.proofs.NeighbourLemmas.{are_places_of}
