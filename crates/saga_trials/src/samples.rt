@@ -1,0 +1,216 @@
+//! Definitions, cases, answers, scripts and logs as texts, and what is read of them.
+use anyhow::{Result, bail};
+use saga_case::{Answer, Case};
+use saga_cert::{read_answer, read_case, write_answer};
+use saga_check::{Verdict, verify};
+use saga_def::Definition;
+use saga_history::Event;
+use saga_log::{LogFault, read_log};
+use saga_script::Script;
+use saga_text::read_definition;
+use std::alloc::Global;
+
+/// Three steps, of which each needs the one before it.
+pub const TRIP: &str = "\
+format = 1
+name = \"trip\"
+
+[[step]]
+name = \"a\"
+undo = 1
+keep = 5
+
+[[step]]
+name = \"b\"
+needs = [\"a\"]
+undo = 2
+keep = 5
+
+[[step]]
+name = \"c\"
+needs = [\"b\"]
+";
+
+/// The same steps, which cost nothing.
+pub const FREE_TRIP: &str = "\
+format = 1
+name = \"trip\"
+step = [
+  { name = \"a\" },
+  { name = \"b\", needs = [\"a\"] },
+  { name = \"c\", needs = [\"b\"] },
+]
+";
+
+/// The last of them has failed.
+pub const TRIP_CASE: &str = "{\"states\":[\"committed\",\"committed\",\"failed\"]}";
+
+/// Nothing is kept.
+pub const TRIP_ANSWER: &str =
+    "{\"cost\":3,\"kept\":[],\"kind\":\"plan\",\"leave\":[1,2,0],\"links\":[0,0],\"stand\":[1,2,0]}";
+
+/// Where they cost nothing.
+pub const FREE_ANSWER: &str =
+    "{\"cost\":0,\"kept\":[],\"kind\":\"plan\",\"leave\":[0,0,0],\"links\":[0,0],\"stand\":[0,0,0]}";
+
+/// The last of them fails.
+pub const TRIP_SCRIPT: &str = "0 c run fail\n";
+
+/// What happens then.
+pub const TRIP_LOG: &str = "\
+{\"def\":0,\"event\":\"open\",\"saga\":0}
+{\"event\":\"start_run\",\"saga\":0,\"step\":0}
+{\"event\":\"commit\",\"saga\":0,\"step\":0}
+{\"event\":\"start_run\",\"saga\":0,\"step\":1}
+{\"event\":\"commit\",\"saga\":0,\"step\":1}
+{\"event\":\"start_run\",\"saga\":0,\"step\":2}
+{\"event\":\"fail\",\"saga\":0,\"step\":2}
+{\"event\":\"start_plan\",\"saga\":0}
+{\"answer\":{\"cost\":3,\"kept\":[],\"kind\":\"plan\",\"leave\":[1,2,0],\"links\":[0,0],\"stand\":[1,2,0]},\"event\":\"adopt\",\"saga\":0}
+{\"event\":\"start_undo\",\"saga\":0,\"step\":1}
+{\"event\":\"undone\",\"saga\":0,\"step\":1}
+{\"event\":\"start_undo\",\"saga\":0,\"step\":0}
+{\"event\":\"undone\",\"saga\":0,\"step\":0}
+";
+
+/// The report of that.
+pub const TRIP_REPORT: &str = "\
+saga 0 trip ended
+   0 undone    a
+   1 undone    b
+   2 failed    c
+plans 1 cost 3
+sagas 1 ended 1 stuck 0 events 13
+";
+
+/// One step that must not be left out.
+pub const FORCED: &str =
+    "format = 1\nname = \"one\"\nstep = [{ name = \"a\", skip = \"never\" }]\n";
+
+/// It has failed.
+pub const FORCED_CASE: &str = "{\"states\":[\"failed\"]}";
+
+/// So no set of steps is allowed.
+pub const FORCED_ANSWER: &str = "{\"chain\":[0],\"kind\":\"blocked\"}";
+
+/// It fails.
+pub const FORCED_SCRIPT: &str = "0 a run fail\n";
+
+/// Two steps, of which the second needs the first. Each, and its compensation, is tried nine times.
+pub const STUBBORN: &str = "\
+format = 2
+name = \"stubborn\"
+
+[[step]]
+name = \"a\"
+tries = 9
+undo_tries = 9
+
+[[step]]
+name = \"b\"
+needs = [\"a\"]
+";
+
+/// The second has failed.
+pub const STUBBORN_CASE: &str = "{\"states\":[\"committed\",\"failed\"]}";
+
+/// Nothing is kept, for nothing.
+pub const STUBBORN_ANSWER: &str =
+    "{\"cost\":0,\"kept\":[],\"kind\":\"plan\",\"leave\":[0,0],\"links\":[0],\"stand\":[0,0]}";
+
+/// Three steps that need each other in a ring.
+pub const RING: &str = "\
+format = 1
+name = \"ring\"
+step = [
+  { name = \"a\", needs = [\"b\"] },
+  { name = \"b\", needs = [\"c\"] },
+  { name = \"c\", needs = [\"a\"] },
+]
+";
+
+/// A log of the second format, of a saga that is aborted while it is planned.
+pub const ABORTED_LOG: &str = "\
+{\"format\":2}
+{\"def\":0,\"event\":\"open\",\"saga\":0}
+{\"event\":\"start_run\",\"saga\":0,\"step\":0}
+{\"event\":\"missed\",\"saga\":0,\"step\":0}
+{\"event\":\"abort\",\"saga\":0}
+{\"event\":\"start_plan\",\"saga\":0}
+{\"event\":\"drop_plan\",\"saga\":0}
+";
+
+/// The definition of a text.
+pub fn definition(alloc: Global, text: &str) -> Result<Definition> {
+    match read_definition(alloc, text.as_bytes()) {
+        Ok(definition) => Ok(definition),
+        Err(fault) => bail!("no definition: {}", fault.word()),
+    }
+}
+
+/// A shelf of that definition alone.
+pub fn shelf(alloc: Global, text: &str) -> Result<Vec<Definition>> {
+    let mut shelf = Vec::new(alloc);
+    shelf.push(definition(alloc, text)?)?;
+    Ok(shelf)
+}
+
+/// The first definition of a shelf.
+pub fn first(shelf: &[Definition]) -> Result<&Definition> {
+    match shelf.first() {
+        Some(definition) => Ok(definition),
+        None => bail!("an empty shelf"),
+    }
+}
+
+/// The case of a text.
+pub fn case<'d>(alloc: Global, definition: &'d Definition, text: &str) -> Result<Case<'d>> {
+    match read_case(alloc, definition, text.as_bytes()) {
+        Ok(case) => Ok(case),
+        Err(fault) => bail!("no case: {}", fault.word()),
+    }
+}
+
+/// The answer of a text.
+pub fn answer(alloc: Global, text: &str) -> Result<Answer> {
+    match read_answer(alloc, text.as_bytes()) {
+        Ok(answer) => Ok(answer),
+        Err(fault) => bail!("no answer: {}", fault.word()),
+    }
+}
+
+/// Whether an answer has a text.
+pub fn is_written(alloc: Global, answer: &Answer, text: &str) -> Result<bool> {
+    Ok(write_answer(alloc, answer)?.as_str() == text)
+}
+
+/// The verdict on an answer to a case.
+pub fn verdict<'d>(
+    alloc: Global,
+    definition: &'d Definition,
+    of: &str,
+    by: &str,
+) -> Result<Verdict<'d>> {
+    let asked = case(alloc, definition, of)?;
+    match verify(asked, answer(alloc, by)?) {
+        Ok(verdict) => Ok(verdict),
+        Err(refused) => bail!("not right: {}", refused.fault.word()),
+    }
+}
+
+/// The events of a log.
+pub fn events(alloc: Global, log: &str) -> Result<Vec<Event>> {
+    match read_log(alloc, log.as_bytes()) {
+        Ok(events) => Ok(events),
+        Err(LogFault::BadLine { line, why }) => bail!("line {line}: {}", why.word()),
+        Err(LogFault::OutOfMemory) => bail!("no log: out of memory"),
+    }
+}
+
+/// The script of a text.
+pub fn script(alloc: Global, text: &str) -> Result<Script> {
+    match Script::read(alloc, text.as_bytes()) {
+        Ok(script) => Ok(script),
+        Err(_) => bail!("no script"),
+    }
+}

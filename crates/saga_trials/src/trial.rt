@@ -1,0 +1,130 @@
+//! How a call is tried: where one growth of memory is refused in it, and where each is.
+use crate::faults::Fault;
+use anyhow::{Result, bail, ensure};
+use std::alloc::{Alloc, Global};
+
+/// A trial under way. On standard error it tells whoever refuses memory where the calls that are tried begin and end, each
+/// time in a line of one word: `each` where one growth is refused, `none` where each is, and `ample` where none is any more.
+#[derive(Drop)]
+pub struct Trial<'a> {
+    rt: &'a HostRuntime,
+    refused: bool,
+}
+
+impl<'a> Trial<'a> {
+    pub fn new(rt: &'a HostRuntime) -> Trial<'a> {
+        Trial { rt, refused: false }
+    }
+
+    pub fn alloc(&self) -> Global {
+        self.rt.alloc()
+    }
+
+    /// Whether a call told of a refusal.
+    pub fn refused(&self) -> bool {
+        self.refused
+    }
+
+    /// A call told of a refusal.
+    pub fn tell_refused(&mut self) {
+        self.refused = true;
+    }
+
+    /// From here on one growth may be refused.
+    pub fn each(&self) -> Result<()> {
+        eprintln!(self.rt; "each")?;
+        Ok(())
+    }
+
+    /// From here on none is refused.
+    pub fn ample(&self) -> Result<()> {
+        eprintln!(self.rt; "ample")?;
+        Ok(())
+    }
+
+    /// Makes a call that takes what it is handed, made with ample memory before. Where memory was refused, it is handed
+    /// the same anew, and the call is made again.
+    pub fn anew<I: Drop, T: Drop, E: Fault, M: FnMut() -> Result<I>, F: FnMut(I) -> Result<T, E>>(
+        &mut self,
+        mut make: M,
+        mut call: F,
+    ) -> Result<T>
+        requires makes { M.IsAlwaysCallable make }
+        requires calls { F.IsAlwaysCallable call }
+    {
+        let first = make()?;
+        self.each()?;
+        let answer = call(first);
+        self.ample()?;
+        match answer {
+            Ok(value) => Ok(value),
+            Err(fault) => {
+                ensure!(fault.is_for_memory(), "another fault than want of memory");
+                self.refused = true;
+                let again = make()?;
+                match call(again) {
+                    Ok(value) => Ok(value),
+                    Err(_) => bail!("refused again, with ample memory"),
+                }
+            }
+        }
+    }
+
+    /// Makes a call that changes nothing, and again where memory was refused.
+    pub fn again<T: Drop, E: Fault, F: FnMut() -> Result<T, E>>(&mut self, mut call: F) -> Result<T>
+        requires { F.IsAlwaysCallable call }
+    {
+        self.anew(|| Ok(()), |_: ()| call())
+    }
+
+    /// Makes a call that changes a value, and again where memory was refused: what is seen of the value is then as before.
+    pub fn twice<
+        S,
+        V: PartialEq + Copy,
+        T: Drop,
+        E: Fault,
+        G: Fn(&S) -> V,
+        F: FnMut(&mut S) -> Result<T, E>,
+    >(&mut self, value: &mut S, look: G, mut call: F) -> Result<T>
+        requires looks { G.IsAlwaysCallable look }
+        requires calls { F.IsAlwaysCallable call }
+    {
+        let before = look(value);
+        self.each()?;
+        let answer = call(value);
+        self.ample()?;
+        match answer {
+            Ok(given) => Ok(given),
+            Err(fault) => {
+                ensure!(fault.is_for_memory(), "another fault than want of memory");
+                self.refused = true;
+                let after = look(value);
+                ensure!(after == before, "not as before");
+                match call(value) {
+                    Ok(given) => Ok(given),
+                    Err(_) => bail!("refused again, with ample memory"),
+                }
+            }
+        }
+    }
+
+    /// Makes a call that is to succeed where each growth is refused.
+    pub fn without_memory<T: Drop, F: FnOnce() -> T>(&self, call: F) -> Result<T>
+        requires { F.IsAlwaysCallable call }
+    {
+        eprintln!(self.rt; "none")?;
+        let given = call();
+        self.ample()?;
+        Ok(given)
+    }
+}
+
+/// The trial of a name in a table.
+pub fn named<T: Copy>(table: &[(&'static str, T)], name: &str) -> Option<T> {
+    for (known, trial) in table {
+        if *known == name {
+            return Some(*trial);
+        }
+    }
+    None
+}
