@@ -1,31 +1,125 @@
 #!/usr/bin/env bash
-# Refuses one growth of memory to the tests of the book, of the desk and of the workers, each in turn. A call of a book or a desk is
-# then as if it had not been made, and succeeds when it is made again; a run gives no books, or stops with whole events, or is whole.
-# Of the growths in a run each third is refused, and with the word `all` each.
+# Refuses growths of memory, one after another, to each public call and to the program.
+#
+# A call is tried by `saga_trials` (crates/saga_trials): where a growth is refused, all has to be as before, and the call made again
+# gives what is expected. The growths are refused by a library that is loaded before the C library (tests/refusing.c). Prints for
+# each call how many of its growths were refused, each in a run of its own, up to the run that meets no refusal; `none` where the
+# call has to succeed without one growth, and did not ask for any; `ample` where it is tried at the greatest sizes.
+#
+# The program `sagas` is run likewise: each growth refused alone, and then with all behind it.
 set -uo pipefail
-cd "$(dirname "$0")/../crates"
+cd "$(dirname "$0")/.."
+work=$(mktemp -d)
+trap 'rm -rf "$work"' EXIT
+export work shim=$work/refusing.so trials=$PWD/crates/saga_trials/out/saga_trials program=$PWD/crates/saga_tool/out/saga_tool
 
-turn=3
-[ "${1:-}" != all ] || turn=1
+# The most growths of one call.
+export most=5000
 
-# The growths in a crate's short runs, by their numbers: from the first after the definition is made, to the last.
-runs() {
-  seq -f 'saga_core %g' 35 58
-  seq -f 'saga_desk %g' 25 52
-  seq -f 'saga_work %g' 35 "$turn" 104
+gcc -O2 -shared -fPIC -o "$shim" tests/refusing.c || { echo "the library that refuses memory is not built"; exit 1; }
+./sagas --help >/dev/null || { echo "the program is not built"; exit 1; }
+tests/built saga_trials || { echo "the trials are not built"; exit 1; }
+
+# refused NUMBER TOLD WORDS..: runs a program that meets the refusal of one growth, and gives its status.
+refused() {
+  LD_PRELOAD=$shim REFUSE=$1 TOLD=$2 "${@:3}"
 }
 
-refuse() {
-  local said
-  said=$(cd "$1" && rt try --test --fail-alloc "$2" 2>&1)
-  grep -q '^test result: ok' <<<"$said" && return
-  echo "wrong in $1 where growth $2 is refused:"
-  grep -A 2 'FAILED$' <<<"$said" || tail -n 3 <<<"$said"
-  return 1
+# told FILE: sets `growths`, `refusals` and `held`, as the library told them.
+told() {
+  growths=-1 refusals=-1 held=-1
+  [ -e "$1" ] && read -r _ growths _ refusals _ held <"$1"
 }
-export -f refuse
 
-runs | xargs -P "$(nproc)" -L 1 bash -c 'refuse "$0" "$1"'
-status=$?
-echo "memory: $(runs | wc -l) growths refused in turn"
-[ "$status" = 0 ]
+# wrong NAME NUMBER WHY: a line about what is wrong, for a growth.
+wrong() {
+  echo "wrong: $1, growth $2: $3: $(head -n 1 "$4")"
+}
+
+# tried HOW NAME: makes a trial until it meets no refusal, and prints its row.
+tried() {
+  local name=$2 at=$work/${2//[^a-z_]/.} number said status
+  for ((number = 0; number < most; number++)); do
+    rm -f "$at.told"
+    said=$(refused "$number" "$at.told" "$trials" try "$name" 2>"$at.err")
+    status=$?
+    told "$at.told"
+    if [ "$status" != 0 ] || { [ "$said" != whole ] && [ "$said" != refused ]; }; then
+      wrong "$name" "$number" "status $status" "$at.err"
+      return
+    fi
+    case $1 in
+      each) [ "$refusals" != 0 ] || break ;;
+      none)
+        [ "$growths" = 0 ] || { wrong "$name" "$number" "it asks for memory, $growths times" "$at.err"; return; }
+        break
+        ;;
+      ample) break ;;
+    esac
+  done
+  case $1 in
+    each) printf 'row: %-48s %4d\n' "$name" "$number" ;;
+    *) printf 'row: %-48s %5s\n' "$name" "$1" ;;
+  esac
+}
+
+# is_answered STATUS OUT ERR: whether a run of the program ended as one that was refused memory may: with the whole answer, or
+# with a line about memory, and then with nothing else but the report of the books of a run that stopped.
+is_answered() {
+  if [ "$1" = "$wanted" ]; then
+    cmp -s "$2" "$work/whole.out" && cmp -s "$3" "$work/whole.err"
+    return
+  fi
+  [ "$1" = 4 ] || return
+  case $(cat "$3") in
+    'sagas: out of memory') [ ! -s "$2" ] ;;
+    'sagas: stopped: out-of-memory') grep -q '^sagas 1 ended 0 stuck 0 events ' "$2" ;;
+    *) return 1 ;;
+  esac
+}
+
+# commanded REST NAME WORDS..: runs the program until it meets no refusal, and prints its row.
+commanded() {
+  local rest=$1 name=$2 number status
+  shift 2
+  "$program" "$@" </dev/null >"$work/whole.out" 2>"$work/whole.err"
+  wanted=$?
+  for ((number = 0; number < most; number++)); do
+    rm -f "$work/told"
+    COUNT=all refused "$number" "$work/told" "$program" "$@" </dev/null >"$work/out" 2>"$work/err"
+    status=$?
+    told "$work/told"
+    if ! is_answered "$status" "$work/out" "$work/err"; then
+      wrong "$name" "$number" "status $status" "$work/err"
+      return
+    fi
+    [ "$refusals" != 0 ] || break
+  done
+  printf 'row: %-48s %4d\n' "$name" "$number"
+}
+
+# commands REST NAME: each command of the program, on an example.
+commands() {
+  local trip=examples/trip
+  commanded "$1" "sagas check$2" check $trip.toml $trip.case.json $trip.answer.json
+  commanded "$1" "sagas plan$2" plan $trip.toml $trip.case.json
+  commanded "$1" "sagas plan,chain$2" plan examples/licence.toml examples/licence.case.json
+  commanded "$1" "sagas run$2" run --script $trip.script $trip.toml
+  commanded "$1" "sagas audit$2" audit $trip.log $trip.toml
+  commanded "$1" "sagas --help$2" --help
+}
+
+export -f refused told wrong tried
+{
+  "$trials" names | xargs -P "$(nproc)" -L 1 bash -c 'tried "$0" "$1"' | LC_ALL=C sort
+  commands '' ''
+  commands 1 ', and all behind it'
+} >"$work/rows" 2>&1
+sed 's/^row: //' "$work/rows"
+
+rows=$(grep -c '^row: ' "$work/rows")
+bad=$(grep -vc '^row: ' "$work/rows")
+calls=$("$trials" names | wc -l)
+met=$(awk '/^row: / && $NF ~ /^[0-9]+$/ { sum += $NF } END { print sum + 0 }' "$work/rows")
+echo "memory: $rows rows, $met growths refused in turn, $bad wrong"
+[ "$bad" = 0 ] && [ "$rows" = $((calls + 12)) ]

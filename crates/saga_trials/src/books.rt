@@ -2,9 +2,9 @@
 use crate::samples;
 use crate::trial::Trial;
 use anyhow::{Result, bail, ensure};
-use saga_case::StepState;
+use saga_case::{Case, StepState};
 use saga_check::verify;
-use saga_core::Book;
+use saga_core::{Book, SagaRefusal};
 use saga_history::{Outcome, Phase, Task};
 use std::alloc::Global;
 
@@ -156,6 +156,11 @@ fn take_undo(trial: &mut Trial<'_>) -> Result<()> {
     Ok(())
 }
 
+/// Begins to plan saga 0.
+fn take_first_plan<'d>(book: &mut Book<'d>) -> Result<Case<'d>, SagaRefusal> {
+    book.take_plan(0)
+}
+
 fn take_plan(trial: &mut Trial<'_>) -> Result<()> {
     let alloc = trial.alloc();
     let shelf = samples::shelf(alloc, samples::TRIP)?;
@@ -163,7 +168,7 @@ fn take_plan(trial: &mut Trial<'_>) -> Result<()> {
     let mut book = Book::new(alloc, &shelf, 0, 1);
     fail_trip(&mut book)?;
     for _ in 0..TIMES {
-        let case = trial.twice(&mut book, look_at, |book: &mut Book<'_>| book.take_plan(0))?;
+        let case = trial.twice(&mut book, look_at, take_first_plan)?;
         let same = case.is_of(expected.definition(), expected.states(), false);
         ensure!(same, "another case");
         ensure!(book.drop_plan(0).is_ok(), "not dropped");

@@ -6,11 +6,11 @@ use saga_case::Case;
 use saga_check::verify;
 use saga_core::{Book, OpenRefusal, SagaRefusal};
 use saga_def::Definition;
-use saga_desk::{Claim, Desk, FinishRefused, PlanJob, Seat, Shard};
+use saga_desk::{Claim, Desk, FinishRefused, Job, PlanJob, Seat, Shard};
 use saga_history::Outcome;
 use saga_script::Script;
 use saga_work::Actor;
-use std::alloc::Global;
+use std::alloc::{AllocError, Global};
 use std::sync::Wait;
 
 #[derive(Clone, Copy)]
@@ -102,6 +102,22 @@ fn open_saga<R: Wait>(rt: &R, trial: &mut Trial<'_>) -> Result<()> {
     Ok(())
 }
 
+/// The job of a step that was claimed.
+pub fn job_of<'d>(claim: Claim<'d>) -> Result<Job<'d>> {
+    match claim {
+        Claim::Run(job) | Claim::Undo(job) => Ok(job),
+        _ => bail!("no job"),
+    }
+}
+
+/// The planning that was claimed.
+pub fn plan_of(claim: Claim<'_>) -> Result<PlanJob> {
+    match claim {
+        Claim::Plan(job, _case) => Ok(job),
+        _ => bail!("no plan"),
+    }
+}
+
 /// The outcome of a claim's job by a script.
 pub fn outcome_of(script: &Script, claim: &Claim<'_>) -> Outcome {
     match claim {
@@ -164,7 +180,13 @@ fn claim<R: Wait>(rt: &R, trial: &mut Trial<'_>) -> Result<()> {
     let seat = first_of(&mut seats)?;
     ensure!(open_on_first(rt, &desk, seat).is_ok(), "not opened");
     for _ in 0..16u32 {
-        let claim = trial.twice(seat, receipts, |seat: &mut Seat| desk.claim(rt, seat))?;
+        let claim = trial.twice(
+            seat,
+            receipts,
+            |seat: &mut Seat|
+                ensures { Unit {0} }
+            { desk.claim(rt, seat) },
+        )?;
         let outcome = outcome_of(&script, &claim);
         if !end_claim(rt, trial, &desk, seat, claim, outcome)? {
             break;
@@ -245,12 +267,12 @@ fn finish<R: Wait>(rt: &R, trial: &mut Trial<'_>) -> Result<()> {
 
 /// A shard, and a seat for it.
 #[derive(Drop)]
-struct Place<'d> {
-    shard: Shard<'d>,
-    seat: Seat,
+pub struct Place<'d> {
+    pub shard: Shard<'d>,
+    pub seat: Seat,
 }
 
-fn make_place<'d>(alloc: Global, shelf: &'d [Definition]) -> Result<Place<'d>> {
+pub fn make_place<'d>(alloc: Global, shelf: &'d [Definition]) -> Result<Place<'d>> {
     let (_, seats) = Desk::open(alloc, shelf, 1, 1)?;
     for seat in seats {
         let shard = Shard::new(alloc, shelf, 0, 1);
@@ -260,7 +282,7 @@ fn make_place<'d>(alloc: Global, shelf: &'d [Definition]) -> Result<Place<'d>> {
 }
 
 /// How many events and receipts there are.
-fn seen(place: &Place<'_>) -> (usize, usize) {
+pub fn seen(place: &Place<'_>) -> (usize, usize) {
     (place.shard.history().len(), receipts(&place.seat))
 }
 
@@ -269,53 +291,56 @@ fn shard_open_saga(trial: &mut Trial<'_>) -> Result<()> {
     let shelf = samples::shelf(alloc, samples::TRIP)?;
     let mut at = make_place(alloc, &shelf)?;
     for _ in 0..TIMES {
-        trial.twice(
-            &mut at,
-            seen,
-            |at: &mut Place<'_>| at.shard.open_saga(&mut at.seat, 0),
-        )?;
+        trial.twice(&mut at, seen, open_at)?;
     }
     ensure!(seen(&at) == (TIMES, TIMES), "another number of events");
     Ok(())
 }
 
-/// Ends a claim of a shard where each growth is refused: a job fails, a plan is given back.
-fn end_on_shard<'d>(trial: &Trial<'_>, at: &mut Place<'d>, claim: Claim<'d>) -> Result<()> {
-    let ended = match claim {
-        Claim::Run(job) | Claim::Undo(job) => trial.without_memory(|| at
-            .shard
-            .report(&mut at.seat, job, Outcome::Failed)
-            .is_ok())?,
-        Claim::Plan(job, _) => {
-            trial.without_memory(|| at.shard.give_back(&mut at.seat, job).is_ok())?
-        }
-        Claim::Idle | Claim::Settled => false,
-    };
-    ensure!(ended, "not ended");
+/// A job of a shard fails where each growth is refused.
+pub fn fail_on_shard<'d>(trial: &Trial<'_>, at: &mut Place<'d>, job: Job<'d>) -> Result<()> {
+    let failed = trial.without_memory(|| at
+        .shard
+        .report(&mut at.seat, job, Outcome::Failed)
+        .is_ok())?;
+    ensure!(failed, "not reported");
     Ok(())
+}
+
+/// Opens a saga on a shard.
+pub fn open_at(at: &mut Place<'_>) -> Result<u32, OpenRefusal> {
+    at.shard.open_saga(&mut at.seat, 0)
+}
+
+/// Claims what there is on a shard.
+pub fn claim_at<'d>(at: &mut Place<'d>) -> Result<Option<Claim<'d>>, AllocError> {
+    at.shard.claim(&mut at.seat)
+}
+
+/// One claim of a shard, and its end.
+fn claim_and_fail(trial: &mut Trial<'_>, at: &mut Place<'_>) -> Result<()> {
+    match trial.twice(at, seen, claim_at)? {
+        Some(claim) => fail_on_shard(trial, at, job_of(claim)?),
+        None => bail!("no task"),
+    }
 }
 
 fn shard_claim(trial: &mut Trial<'_>) -> Result<()> {
     let alloc = trial.alloc();
     let shelf = samples::shelf(alloc, samples::STUBBORN)?;
     let mut at = make_place(alloc, &shelf)?;
-    ensure!(at.shard.open_saga(&mut at.seat, 0).is_ok(), "not opened");
-    for _ in 0..2 * TIMES {
-        let claim = trial.twice(
-            &mut at,
-            seen,
-            |at: &mut Place<'_>| at.shard.claim(&mut at.seat),
-        )?;
-        let Some(claim) = claim else {
-            bail!("no task");
-        };
-        end_on_shard(trial, &mut at, claim)?;
+    ensure!(open_at(&mut at).is_ok(), "not opened");
+    for _ in 0..TIMES {
+        claim_and_fail(trial, &mut at)?;
     }
-    ensure!(
-        seen(&at) == (4 * TIMES + 1, 4 * TIMES + 1),
-        "another number of events"
-    );
+    let count = 2 * TIMES + 1;
+    ensure!(seen(&at) == (count, count), "another number of events");
     Ok(())
+}
+
+/// Aborts a saga of a shard.
+fn abort_at(at: &mut Place<'_>, saga: u32) -> Result<(), SagaRefusal> {
+    at.shard.abort(&mut at.seat, saga)
 }
 
 fn shard_abort(trial: &mut Trial<'_>) -> Result<()> {
@@ -323,12 +348,8 @@ fn shard_abort(trial: &mut Trial<'_>) -> Result<()> {
     let shelf = samples::shelf(alloc, samples::TRIP)?;
     let mut at = make_place(alloc, &shelf)?;
     for saga in 0..TIMES as u32 {
-        ensure!(at.shard.open_saga(&mut at.seat, 0).is_ok(), "not opened");
-        trial.twice(
-            &mut at,
-            seen,
-            |at: &mut Place<'_>| at.shard.abort(&mut at.seat, saga),
-        )?;
+        ensure!(open_at(&mut at).is_ok(), "not opened");
+        trial.twice(&mut at, seen, |at: &mut Place<'_>| abort_at(at, saga))?;
     }
     ensure!(
         seen(&at) == (2 * TIMES, 2 * TIMES),

@@ -1,6 +1,9 @@
 //! Calls on events, rows, books, shards, seats and scripts that take no memory.
 use crate::books::{end_trip, fail_trip, run_step, settle};
-use crate::desks::{first_of, open_on_first};
+use crate::desks::{
+    Place, claim_at, fail_on_shard, first_of, job_of, make_place, open_at, open_on_first, plan_of,
+    seen,
+};
 use crate::samples;
 use crate::trial::Trial;
 use anyhow::{Result, bail, ensure};
@@ -18,6 +21,7 @@ use saga_history::{
 use saga_rows::{Row, Rows};
 use saga_script::Script;
 use saga_work::{Actor, Bell};
+use std::alloc::Global;
 use std::sync::Wait;
 
 #[derive(Clone, Copy)]
@@ -38,6 +42,7 @@ pub enum BookTrial {
     Report,
     DeskAdopt,
     GiveBack,
+    NewShard,
     Shard,
     Seat,
     Bell,
@@ -61,6 +66,7 @@ pub const TRIALS: &[(&str, BookTrial)] = &[
     ("saga_desk::Desk::report", BookTrial::Report),
     ("saga_desk::Desk::adopt", BookTrial::DeskAdopt),
     ("saga_desk::Desk::give_back", BookTrial::GiveBack),
+    ("saga_desk::Shard::new", BookTrial::NewShard),
     ("saga_desk::Shard,calls", BookTrial::Shard),
     ("saga_desk,readers", BookTrial::Seat),
     ("saga_work::Bell::new", BookTrial::Bell),
@@ -85,6 +91,7 @@ pub fn run<R: Wait>(rt: &R, trial: &mut Trial<'_>, which: BookTrial) -> Result<(
         BookTrial::Report => report(rt, trial),
         BookTrial::DeskAdopt => desk_adopt(rt, trial),
         BookTrial::GiveBack => give_back(rt, trial),
+        BookTrial::NewShard => new_shard(trial),
         BookTrial::Shard => shard(trial),
         BookTrial::Seat => seat(rt, trial),
         BookTrial::Bell => bell(trial),
@@ -287,11 +294,25 @@ fn drop_plan(trial: &mut Trial<'_>) -> Result<()> {
 }
 
 /// The cause of a refused adoption, which hands the verdict back.
-fn why_not<'d>(book: &mut Book<'d>, saga: u32, verdict: Verdict<'d>) -> Option<AdoptRefusal> {
-    match book.adopt(saga, verdict) {
+fn why_not<'d>(book: &mut Book<'d>, verdict: Verdict<'d>) -> Option<AdoptRefusal> {
+    match book.adopt(0, verdict) {
         Ok(()) => None,
         Err(refused) => Some(refused.why),
     }
+}
+
+/// A verdict on the trip's case by a definition is adopted, or refused for a cause.
+fn offer<'d>(
+    trial: &Trial<'_>,
+    book: &mut Book<'d>,
+    by: &'d Definition,
+    answer: &str,
+    expected: Option<AdoptRefusal>,
+) -> Result<()> {
+    let verdict = samples::verdict(trial.alloc(), by, samples::TRIP_CASE, answer)?;
+    let why = trial.without_memory(|| why_not(book, verdict))?;
+    ensure!(why == expected, "another answer");
+    Ok(())
 }
 
 fn adopt(trial: &mut Trial<'_>) -> Result<()> {
@@ -299,25 +320,13 @@ fn adopt(trial: &mut Trial<'_>) -> Result<()> {
     let shelf = samples::shelf(alloc, samples::TRIP)?;
     let free = samples::definition(alloc, samples::FREE_TRIP)?;
     let trip = samples::first(&shelf)?;
-    let stale = samples::verdict(alloc, &free, samples::TRIP_CASE, samples::FREE_ANSWER)?;
-    let right = samples::verdict(alloc, trip, samples::TRIP_CASE, samples::TRIP_ANSWER)?;
-    let late = samples::verdict(alloc, trip, samples::TRIP_CASE, samples::TRIP_ANSWER)?;
     let mut book = Book::new(alloc, &shelf, 0, 1);
     fail_trip(&mut book)?;
     ensure!(book.take_plan(0).is_ok(), "not taken");
-    let answers = trial.without_memory(|| {
-        (
-            why_not(&mut book, 0, stale),
-            why_not(&mut book, 0, right),
-            why_not(&mut book, 0, late),
-        )
-    })?;
-    let expected = (
-        Some(AdoptRefusal::Stale),
-        None,
-        Some(AdoptRefusal::NotPlanning),
-    );
-    ensure!(answers == expected, "another answer");
+    let (stale, late) = (Some(AdoptRefusal::Stale), Some(AdoptRefusal::NotPlanning));
+    offer(trial, &mut book, &free, samples::FREE_ANSWER, stale)?;
+    offer(trial, &mut book, trip, samples::TRIP_ANSWER, None)?;
+    offer(trial, &mut book, trip, samples::TRIP_ANSWER, late)?;
     ensure!(book.next() == Some(Task::Undo(0, 1)), "another task");
     Ok(())
 }
@@ -369,6 +378,20 @@ fn history(trial: &mut Trial<'_>) -> Result<()> {
     Ok(())
 }
 
+/// Claims a step's action and ends it where each growth is refused.
+fn claim_and_report<R: Wait>(
+    rt: &R,
+    trial: &Trial<'_>,
+    desk: &Desk<'_>,
+    seat: &mut Seat,
+    outcome: Outcome,
+) -> Result<()> {
+    let job = job_of(desk.claim(rt, seat)?)?;
+    let reported = trial.without_memory(|| desk.report(rt, seat, job, outcome).is_ok())?;
+    ensure!(reported, "not reported");
+    Ok(())
+}
+
 fn report<R: Wait>(rt: &R, trial: &mut Trial<'_>) -> Result<()> {
     let alloc = trial.alloc();
     let shelf = samples::shelf(alloc, samples::TRIP)?;
@@ -376,40 +399,52 @@ fn report<R: Wait>(rt: &R, trial: &mut Trial<'_>) -> Result<()> {
     let seat = first_of(&mut seats)?;
     ensure!(open_on_first(rt, &desk, seat).is_ok(), "not opened");
     for _ in 0..3u32 {
-        let Claim::Run(job) = desk.claim(rt, seat)? else {
-            bail!("no run");
-        };
-        let reported = trial.without_memory(|| desk.report(rt, seat, job, Outcome::Done).is_ok())?;
-        ensure!(reported, "not reported");
+        claim_and_report(rt, trial, &desk, seat, Outcome::Done)?;
     }
     ensure!(seat.receipts().len() == 7, "another number of receipts");
     Ok(())
 }
 
-/// Fails the one step that must not be left out, so that a plan is to be made.
-fn fail_forced<R: Wait>(rt: &R, desk: &Desk<'_>, seat: &mut Seat) -> Result<()> {
+/// Opens a saga of the one step that must not be left out, which then fails: a plan is to be made.
+fn fail_forced<R: Wait>(rt: &R, trial: &Trial<'_>, desk: &Desk<'_>, seat: &mut Seat) -> Result<()> {
     ensure!(open_on_first(rt, desk, seat).is_ok(), "not opened");
-    let Claim::Run(job) = desk.claim(rt, seat)? else {
-        bail!("no run");
-    };
-    let reported = desk.report(rt, seat, job, Outcome::Failed).is_ok();
-    ensure!(reported, "not reported");
+    claim_and_report(rt, trial, desk, seat, Outcome::Failed)
+}
+
+/// Claims the planning of that saga and adopts its answer where each growth is refused.
+fn claim_and_adopt<'d, R: Wait>(
+    rt: &R,
+    trial: &Trial<'_>,
+    desk: &Desk<'d>,
+    seat: &mut Seat,
+    verdict: Verdict<'d>,
+) -> Result<()> {
+    let job = plan_of(desk.claim(rt, seat)?)?;
+    let adopted = trial.without_memory(|| desk.adopt(rt, seat, job, verdict).is_ok())?;
+    ensure!(adopted, "not adopted");
     Ok(())
 }
 
 fn desk_adopt<R: Wait>(rt: &R, trial: &mut Trial<'_>) -> Result<()> {
     let alloc = trial.alloc();
     let shelf = samples::shelf(alloc, samples::FORCED)?;
-    let forced = samples::first(&shelf)?;
-    let verdict = samples::verdict(alloc, forced, samples::FORCED_CASE, samples::FORCED_ANSWER)?;
+    let verdict = forced_verdict(alloc, &shelf)?;
     let (desk, mut seats) = Desk::open(alloc, &shelf, 1, 1)?;
     let seat = first_of(&mut seats)?;
-    fail_forced(rt, &desk, seat)?;
-    let Claim::Plan(job, _) = desk.claim(rt, seat)? else {
-        bail!("no plan");
-    };
-    let adopted = trial.without_memory(|| desk.adopt(rt, seat, job, verdict).is_ok())?;
-    ensure!(adopted, "not adopted");
+    fail_forced(rt, trial, &desk, seat)?;
+    claim_and_adopt(rt, trial, &desk, seat, verdict)
+}
+
+/// Claims a planning and gives it back where each growth is refused.
+fn claim_and_give_back<R: Wait>(
+    rt: &R,
+    trial: &Trial<'_>,
+    desk: &Desk<'_>,
+    seat: &mut Seat,
+) -> Result<()> {
+    let job = plan_of(desk.claim(rt, seat)?)?;
+    let given = trial.without_memory(|| desk.give_back(rt, seat, job).is_ok())?;
+    ensure!(given, "not given back");
     Ok(())
 }
 
@@ -418,44 +453,64 @@ fn give_back<R: Wait>(rt: &R, trial: &mut Trial<'_>) -> Result<()> {
     let shelf = samples::shelf(alloc, samples::FORCED)?;
     let (desk, mut seats) = Desk::open(alloc, &shelf, 1, 1)?;
     let seat = first_of(&mut seats)?;
-    fail_forced(rt, &desk, seat)?;
+    fail_forced(rt, trial, &desk, seat)?;
     for _ in 0..3u32 {
-        let Claim::Plan(job, _) = desk.claim(rt, seat)? else {
-            bail!("no plan");
-        };
-        let given = trial.without_memory(|| desk.give_back(rt, seat, job).is_ok())?;
-        ensure!(given, "not given back");
+        claim_and_give_back(rt, trial, &desk, seat)?;
     }
     Ok(())
 }
 
-/// A plan that a shard's seat has claimed is given back, and adopted when it is claimed again.
+/// The verdict on the one step that must not be left out.
+fn forced_verdict(alloc: Global, shelf: &[Definition]) -> Result<Verdict<'_>> {
+    let forced = samples::first(shelf)?;
+    samples::verdict(alloc, forced, samples::FORCED_CASE, samples::FORCED_ANSWER)
+}
+
+fn new_shard(trial: &mut Trial<'_>) -> Result<()> {
+    let alloc = trial.alloc();
+    let shelf = samples::shelf(alloc, samples::FORCED)?;
+    let count = trial.without_memory(|| Shard::new(alloc, &shelf, 0, 1).history().len())?;
+    ensure!(count == 0, "another number of events");
+    Ok(())
+}
+
+/// What a shard's seat has claimed.
+fn claimed<'d>(at: &mut Place<'d>) -> Result<Claim<'d>> {
+    match claim_at(at)? {
+        Some(claim) => Ok(claim),
+        None => bail!("no task"),
+    }
+}
+
+/// A planning of a shard is given back where each growth is refused.
+fn give_back_at(trial: &Trial<'_>, at: &mut Place<'_>) -> Result<()> {
+    let job = plan_of(claimed(at)?)?;
+    let given = trial.without_memory(|| at.shard.give_back(&mut at.seat, job).is_ok())?;
+    ensure!(given, "not given back");
+    Ok(())
+}
+
+/// A planning of a shard ends by an answer where each growth is refused.
+fn adopt_at<'d>(trial: &Trial<'_>, at: &mut Place<'d>, verdict: Verdict<'d>) -> Result<()> {
+    let job = plan_of(claimed(at)?)?;
+    let adopted = trial.without_memory(|| at.shard.adopt(&mut at.seat, job, verdict).is_ok())?;
+    ensure!(adopted, "not adopted");
+    Ok(())
+}
+
+/// The planning of a shard's saga is given back, and claimed again and adopted.
 fn shard(trial: &mut Trial<'_>) -> Result<()> {
     let alloc = trial.alloc();
     let shelf = samples::shelf(alloc, samples::FORCED)?;
-    let forced = samples::first(&shelf)?;
-    let verdict = samples::verdict(alloc, forced, samples::FORCED_CASE, samples::FORCED_ANSWER)?;
-    let (_, mut seats) = Desk::open(alloc, &shelf, 1, 1)?;
-    let seat = first_of(&mut seats)?;
-    let mut shard = trial.without_memory(|| Shard::new(alloc, &shelf, 0, 1))?;
-    ensure!(shard.open_saga(seat, 0).is_ok(), "not opened");
-    let Some(Claim::Run(job)) = shard.claim(seat)? else {
-        bail!("no run");
-    };
-    let failed = trial.without_memory(|| shard.report(seat, job, Outcome::Failed).is_ok())?;
-    ensure!(failed, "not reported");
-    let Some(Claim::Plan(job, _)) = shard.claim(seat)? else {
-        bail!("no plan");
-    };
-    let given = trial.without_memory(|| shard.give_back(seat, job).is_ok())?;
-    ensure!(given, "not given back");
-    let Some(Claim::Plan(job, _)) = shard.claim(seat)? else {
-        bail!("no plan");
-    };
-    let adopted = trial.without_memory(|| shard.adopt(seat, job, verdict).is_ok())?;
-    ensure!(adopted, "not adopted");
-    let count = trial.without_memory(|| shard.history().len())?;
-    ensure!(count == 7, "another number of events");
+    let verdict = forced_verdict(alloc, &shelf)?;
+    let mut at = make_place(alloc, &shelf)?;
+    ensure!(open_at(&mut at).is_ok(), "not opened");
+    let job = job_of(claimed(&mut at)?)?;
+    fail_on_shard(trial, &mut at, job)?;
+    give_back_at(trial, &mut at)?;
+    adopt_at(trial, &mut at, verdict)?;
+    let counts = trial.without_memory(|| seen(&at))?;
+    ensure!(counts == (7, 7), "another number of events");
     Ok(())
 }
 
@@ -470,9 +525,7 @@ fn seat<R: Wait>(rt: &R, trial: &mut Trial<'_>) -> Result<()> {
     let (desk, mut seats) = Desk::open(alloc, &shelf, 1, 1)?;
     let seat = first_of(&mut seats)?;
     ensure!(open_on_first(rt, &desk, seat).is_ok(), "not opened");
-    let Claim::Run(job) = desk.claim(rt, seat)? else {
-        bail!("no run");
-    };
+    let job = job_of(desk.claim(rt, seat)?)?;
     let right = trial.without_memory(|| {
         is_first(&job) && seat.number() == 0 && seat.receipts().len() == 2 && desk.shards() == 1
     })?;
@@ -500,9 +553,7 @@ fn script<R: Wait>(rt: &R, trial: &mut Trial<'_>) -> Result<()> {
     let (desk, mut seats) = Desk::open(alloc, &shelf, 1, 1)?;
     let seat = first_of(&mut seats)?;
     ensure!(open_on_first(rt, &desk, seat).is_ok(), "not opened");
-    let Claim::Run(job) = desk.claim(rt, seat)? else {
-        bail!("no run");
-    };
+    let job = job_of(desk.claim(rt, seat)?)?;
     let right = trial.without_memory(|| is_done(&script, &job))?;
     ensure!(right, "another outcome");
     Ok(())

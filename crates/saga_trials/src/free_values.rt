@@ -315,17 +315,20 @@ fn json(trial: &mut Trial<'_>) -> Result<()> {
     Ok(())
 }
 
+/// Whether each kind of fault tells its word.
+fn are_words() -> bool {
+    DefFault::Empty.word() == "empty"
+        && TextFault::Def(DefFault::Empty).word() == "empty"
+        && CertFault::NotJson.word() == "not-json"
+        && CheckFault::Shape.word() == "shape"
+        && Reason::NotNow.word() == "not-now"
+        && Stop::Refused.word() == "refused"
+        && FinishFault::Torn.word() == "torn"
+        && RunFault::OutOfMemory.word() == "out-of-memory"
+}
+
 fn words(trial: &mut Trial<'_>) -> Result<()> {
-    let right = trial.without_memory(|| {
-        DefFault::Empty.word() == "empty"
-            && TextFault::Def(DefFault::Empty).word() == "empty"
-            && CertFault::NotJson.word() == "not-json"
-            && CheckFault::Shape.word() == "shape"
-            && Reason::NotNow.word() == "not-now"
-            && Stop::Refused.word() == "refused"
-            && FinishFault::Torn.word() == "torn"
-            && RunFault::OutOfMemory.word() == "out-of-memory"
-    })?;
+    let right = trial.without_memory(|| are_words())?;
     ensure!(right, "another word");
     Ok(())
 }

@@ -131,19 +131,25 @@ fn flow(trial: &mut Trial<'_>) -> Result<()> {
     Ok(())
 }
 
+/// The plan of a case in which the last step has failed: nothing is kept, in as many rounds as there are steps.
+fn is_planned(alloc: Global, case: &Case<'_>) -> Result<bool> {
+    let (answer, rounds) = plan_counted(alloc, case)?;
+    let right = judge(case, &answer).is_ok();
+    let cost = match &answer {
+        Answer::Plan(plan) => plan.cost,
+        Answer::Blocked(_chain) => 0,
+    };
+    Ok(right && cost == 1023 && rounds == 1023)
+}
+
 fn planned(trial: &mut Trial<'_>) -> Result<()> {
     let alloc = trial.alloc();
     let definition = greatest(alloc)?;
     let mut states = vec![in alloc; StepState::Committed; MAX_STEPS - 1]?;
     states.push(StepState::Failed)?;
-    let Ok(case) = Case::new(&definition, states) else {
-        bail!("no case");
-    };
-    let (answer, rounds) = plan_counted(alloc, &case)?;
-    ensure!(judge(&case, &answer).is_ok(), "not right");
-    match answer {
-        Answer::Plan(plan) => ensure!(plan.cost == 1023 && rounds == 1023, "another plan"),
-        Answer::Blocked(_) => bail!("a chain"),
+    match Case::new(&definition, states) {
+        Ok(case) => ensure!(is_planned(alloc, &case)?, "another plan"),
+        Err(_) => bail!("no case"),
     }
     Ok(())
 }

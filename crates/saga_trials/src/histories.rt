@@ -5,9 +5,11 @@ use crate::trial::Trial;
 use anyhow::{Result, bail, ensure};
 use saga_audit::{AuditAnswer, Reason, audit, audit_with};
 use saga_core::Book;
+use saga_def::Definition;
 use saga_history::{Adopted, Turn, first_not_allowed};
-use saga_rows::{Row, Rows};
+use saga_rows::{MAX_ROWS, Row, Rows};
 use saga_trail::audit_trail;
+use std::alloc::{AllocError, Global};
 use std::thread::Threads;
 
 #[derive(Clone, Copy)]
@@ -161,21 +163,29 @@ fn present_case(trial: &mut Trial<'_>) -> Result<()> {
     Ok(())
 }
 
+/// A row more, where there may be one.
+fn open_one<'d>(
+    alloc: Global,
+    rows: &mut Rows<'d>,
+    definition: &'d Definition,
+) -> Result<(), AllocError> {
+    if rows.len() >= MAX_ROWS {
+        return Err(AllocError);
+    }
+    rows.open(alloc, definition)
+}
+
 fn open_row(trial: &mut Trial<'_>) -> Result<()> {
     let alloc = trial.alloc();
     let definition = samples::definition(alloc, samples::TRIP)?;
     let mut rows = Rows::new(alloc);
-    for _ in 0..9u32 {
-        if rows.len() >= 9 {
-            bail!("too many rows");
-        }
-        let count = rows.len();
+    for count in 1..9usize {
         trial.twice(
             &mut rows,
             |rows: &Rows<'_>| rows.len(),
-            |rows: &mut Rows<'_>| rows.open(alloc, &definition),
+            |rows: &mut Rows<'_>| open_one(alloc, rows, &definition),
         )?;
-        ensure!(rows.len() == count + 1, "another number of rows");
+        ensure!(rows.len() == count, "another number of rows");
     }
     Ok(())
 }

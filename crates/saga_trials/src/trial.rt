@@ -42,6 +42,30 @@ impl<'a> Trial<'a> {
         Ok(())
     }
 
+    /// What a call that was tried gave, or none where it told of a refusal.
+    fn first<T: Drop, E: Fault>(&mut self, answer: Result<T, E>) -> Result<Option<T>> {
+        self.ample()?;
+        match answer {
+            Ok(value) => Ok(Some(value)),
+            Err(fault) => {
+                ensure!(fault.is_for_memory(), "another fault than want of memory");
+                self.refused = true;
+                Ok(None)
+            }
+        }
+    }
+
+    /// Makes a call that changes nothing, and again where memory was refused.
+    pub fn again<T: Drop, E: Fault, F: FnMut() -> Result<T, E>>(&mut self, mut call: F) -> Result<T>
+        requires { F.IsAlwaysCallable call }
+    {
+        self.each()?;
+        match self.first(call())? {
+            Some(value) => Ok(value),
+            None => second(call()),
+        }
+    }
+
     /// Makes a call that takes what it is handed, made with ample memory before. Where memory was refused, it is handed
     /// the same anew, and the call is made again.
     pub fn anew<I: Drop, T: Drop, E: Fault, M: FnMut() -> Result<I>, F: FnMut(I) -> Result<T, E>>(
@@ -52,32 +76,15 @@ impl<'a> Trial<'a> {
         requires makes { M.IsAlwaysCallable make }
         requires calls { F.IsAlwaysCallable call }
     {
-        let first = make()?;
+        let input = make()?;
         self.each()?;
-        let answer = call(first);
-        self.ample()?;
-        match answer {
-            Ok(value) => Ok(value),
-            Err(fault) => {
-                ensure!(fault.is_for_memory(), "another fault than want of memory");
-                self.refused = true;
-                let again = make()?;
-                match call(again) {
-                    Ok(value) => Ok(value),
-                    Err(_) => bail!("refused again, with ample memory"),
-                }
-            }
+        match self.first(call(input))? {
+            Some(value) => Ok(value),
+            None => second(call(make()?)),
         }
     }
 
-    /// Makes a call that changes nothing, and again where memory was refused.
-    pub fn again<T: Drop, E: Fault, F: FnMut() -> Result<T, E>>(&mut self, mut call: F) -> Result<T>
-        requires { F.IsAlwaysCallable call }
-    {
-        self.anew(|| Ok(()), |_: ()| call())
-    }
-
-    /// Makes a call that changes a value, and again where memory was refused: what is seen of the value is then as before.
+    /// Makes a call that changes something, and again where memory was refused: what is seen of it is then as before.
     pub fn twice<
         S,
         V: PartialEq + Copy,
@@ -85,25 +92,18 @@ impl<'a> Trial<'a> {
         E: Fault,
         G: Fn(&S) -> V,
         F: FnMut(&mut S) -> Result<T, E>,
-    >(&mut self, value: &mut S, look: G, mut call: F) -> Result<T>
+    >(&mut self, changed: &mut S, look: G, mut call: F) -> Result<T>
         requires looks { G.IsAlwaysCallable look }
         requires calls { F.IsAlwaysCallable call }
     {
-        let before = look(value);
+        let before = look(changed);
         self.each()?;
-        let answer = call(value);
-        self.ample()?;
-        match answer {
-            Ok(given) => Ok(given),
-            Err(fault) => {
-                ensure!(fault.is_for_memory(), "another fault than want of memory");
-                self.refused = true;
-                let after = look(value);
+        match self.first(call(changed))? {
+            Some(value) => Ok(value),
+            None => {
+                let after = look(changed);
                 ensure!(after == before, "not as before");
-                match call(value) {
-                    Ok(given) => Ok(given),
-                    Err(_) => bail!("refused again, with ample memory"),
-                }
+                second(call(changed))
             }
         }
     }
@@ -116,6 +116,14 @@ impl<'a> Trial<'a> {
         let given = call();
         self.ample()?;
         Ok(given)
+    }
+}
+
+/// What a call gave that was made with ample memory.
+fn second<T: Drop, E: Fault>(answer: Result<T, E>) -> Result<T> {
+    match answer {
+        Ok(value) => Ok(value),
+        Err(_) => bail!("refused again, with ample memory"),
     }
 }
 
