@@ -4,7 +4,8 @@
 # First each prefix of the examples' texts, and each text with one byte changed to 0, to 255 and to `}`, through the readers
 # (`saga_trials hostile`); then those of the shortest text of each kind through the program. Then texts that are nested deeply, have
 # long keys, many tiny lines or many steps, needs of unknown names or numbers of a thousand digits, each at one size and at twice
-# that: the program may hold 64 times the input at most (tests/refusing.c tells), and take not ten times as long for twice the input.
+# that: the program may hold 64 times the input at most, or 200 times where it is all small tables or objects (tests/refusing.c tells),
+# and take not ten times as long for twice the input.
 set -uo pipefail
 cd "$(dirname "$0")/.."
 work=$(mktemp -d)
@@ -13,6 +14,9 @@ program=crates/saga_tool/out/saga_tool
 trials=crates/saga_trials/out/saga_trials
 bad=0
 texts=0
+
+# How many times a text the program may hold.
+most_times=64
 
 gcc -O2 -shared -fPIC -o "$work/refusing.so" tests/refusing.c || { echo "the library that counts memory is not built"; exit 1; }
 ./sagas --help >/dev/null || { echo "the program is not built"; exit 1; }
@@ -119,6 +123,8 @@ named_in_toml() { printf 'format = 1\nname = "a"\nstep = ['; numbered "$1" '{nam
 states_in_json() { printf '{"states":['; repeated "$1" '"waiting",'; printf '"failed"]}'; }
 amounts_in_json() { printf '{"cost":0,"kept":[],"kind":"plan","links":[],"stand":[],"leave":['; repeated "$1" '7,'; printf '7]}'; }
 chain_in_json() { printf '{"kind":"blocked","chain":['; repeated "$1" '7,'; printf '7]}'; }
+small_tables() { printf 'format = 1\nname = "a"\nstep = ['; repeated "$1" '{a=0},'; printf ']\n'; }
+small_objects() { printf '['; repeated "$1" '{"a":0},'; printf '0]'; }
 unknown_needs() { printf 'format = 1\nname = "a"\n[[step]]\nname = "b"\nneeds = ['; numbered "$1" '"x%d",'; printf ']\n'; }
 many_needs() { printf 'format = 1\nname = "a"\n[[step]]\nname = "b"\nneeds = ['; repeated "$1" '"x",'; printf ']\n'; }
 digits_in_toml() { printf 'format = 1\nname = "a"\nstep = [{ name = "b", run = '; repeated "$1" '7'; printf ' }]\n'; }
@@ -137,7 +143,7 @@ measured() {
   size=$(stat -c %s "$3")
   got=$(cat "$work/out" "$work/err")
   [ "$status" = "$1" ] && [ "$got" = "$2" ] || fail "$name at $size bytes: status $status: ${got:0:100}"
-  [ "$held" -ge 0 ] && [ "$held" -le $((64 * size)) ] || fail "$name at $size bytes: $held bytes held"
+  [ "$held" -ge 0 ] && [ "$held" -le $((most_times * size)) ] || fail "$name at $size bytes: $held bytes held"
 }
 
 # grows NAME SIZE STATUS LINE WORDS..: a text at a size and at twice that, which stands in the file `$work/text`.
@@ -161,13 +167,12 @@ tell() { grows "$1" "$2" 3 "sagas: script: line $3" run --script "$work/text" "$
 log() { grows "$1" "$2" "$3" "$4" audit "$work/text" "$work/short.toml"; }
 
 define lists_in_toml 400000 not-toml
-define tables_in_toml 200000 bad-type
+define tables_in_toml 200000 not-toml
 define key_in_toml 400000 unknown-key
 define name_in_toml 400000 bad-name
 define keys_in_toml 40000 unknown-key
 define lines_in_toml 500000 bad-format
 define steps_in_toml 150000 missing-key
-define named_in_toml 25000 too-many-steps
 define unknown_needs 4000 unknown-step
 define many_needs 100000 too-many-needs
 define digits_in_toml 1000 not-toml
@@ -180,12 +185,12 @@ answer word_in_json 500000 3 'sagas: answer: kind'
 answer keys_in_json 200000 3 'sagas: answer: unknown-key'
 answer amounts_in_json 1000000 1 'no shape'
 answer chain_in_json 1000000 1 'no shape'
-answer digits_in_answer 1000 3 'sagas: answer: bad-type'
-answer digits_in_answer 4000000 3 'sagas: answer: bad-type'
+answer digits_in_answer 1000 3 'sagas: answer: not-json'
+answer digits_in_answer 4000000 3 'sagas: answer: not-json'
 log objects_in_log 400000 3 'sagas: log: line 1: not-json'
 log lines_in_log 500000 3 'sagas: log: line 1: kind'
-log digits_in_log 1000 3 'sagas: log: line 1: bad-type'
-log digits_in_log 4000000 3 'sagas: log: line 1: bad-type'
+log digits_in_log 1000 3 'sagas: log: line 1: not-json'
+log digits_in_log 4000000 3 'sagas: log: line 1: not-json'
 tell digits_in_script 1000 1
 tell digits_in_script 400000 1
 for count in 250000 500000; do
@@ -201,6 +206,12 @@ for form in 'lines_in_script 500000 500001' 'lines_in_script 1000000 1000001' 't
   measured 3 "sagas: script: line $line" "$work/text" run --script "$work/text" "$work/short.toml"
   printf '%-24s %9d bytes %7d us; held %3d times the text\n' "$name" "$size" "$took" $((held / size))
 done
+
+# Each table of a list, and each object, takes about a thousand bytes in the trees of `toml` and `serde_json`, however short it is.
+most_times=200
+define named_in_toml 25000 too-many-steps
+define small_tables 80000 unknown-key
+ask small_objects 250000 kind
 
 echo "hostile: $texts texts, $bad wrong"
 [ "$bad" = 0 ]

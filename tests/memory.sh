@@ -78,10 +78,10 @@ is_answered() {
   esac
 }
 
-# commanded REST NAME WORDS..: runs the program until it meets no refusal, and prints its row.
+# commanded NAME WORDS..: runs the program until it meets no refusal, and prints its row.
 commanded() {
-  local rest=$1 name=$2 number status
-  shift 2
+  local name=$1 number status
+  shift
   "$program" "$@" </dev/null >"$work/whole.out" 2>"$work/whole.err"
   wanted=$?
   for ((number = 0; number < most; number++)); do
@@ -98,22 +98,22 @@ commanded() {
   printf 'row: %-48s %4d\n' "$name" "$number"
 }
 
-# commands REST NAME: each command of the program, on an example.
+# commands HOW: each command of the program, on an example.
 commands() {
   local trip=examples/trip
-  commanded "$1" "sagas check$2" check $trip.toml $trip.case.json $trip.answer.json
-  commanded "$1" "sagas plan$2" plan $trip.toml $trip.case.json
-  commanded "$1" "sagas plan,chain$2" plan examples/licence.toml examples/licence.case.json
-  commanded "$1" "sagas run$2" run --script $trip.script $trip.toml
-  commanded "$1" "sagas audit$2" audit $trip.log $trip.toml
-  commanded "$1" "sagas --help$2" --help
+  commanded "sagas check$1" check $trip.toml $trip.case.json $trip.answer.json
+  commanded "sagas plan$1" plan $trip.toml $trip.case.json
+  commanded "sagas plan,chain$1" plan examples/licence.toml examples/licence.case.json
+  commanded "sagas run$1" run --script $trip.script $trip.toml
+  commanded "sagas audit$1" audit $trip.log $trip.toml
+  commanded "sagas --help$1" --help
 }
 
 export -f refused told wrong tried
 {
   "$trials" names | xargs -P "$(nproc)" -L 1 bash -c 'tried "$0" "$1"' | LC_ALL=C sort
-  commands '' ''
-  commands 1 ', and all behind it'
+  commands ''
+  REST=1 commands ', and all behind it'
 } >"$work/rows" 2>&1
 sed 's/^row: //' "$work/rows"
 
