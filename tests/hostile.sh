@@ -20,7 +20,7 @@ most_times=64
 
 gcc -O2 -shared -fPIC -o "$work/refusing.so" tests/refusing.c || { echo "the library that counts memory is not built"; exit 1; }
 ./sagas --help >/dev/null || { echo "the program is not built"; exit 1; }
-tests/built saga_trials || { echo "the trials are not built"; exit 1; }
+./build saga_trials || { echo "the trials are not built"; exit 1; }
 
 # fail WHY..: counts what is wrong.
 fail() {

@@ -18,7 +18,7 @@ export most=5000
 
 gcc -O2 -shared -fPIC -o "$shim" tests/refusing.c || { echo "the library that refuses memory is not built"; exit 1; }
 ./sagas --help >/dev/null || { echo "the program is not built"; exit 1; }
-tests/built saga_trials || { echo "the trials are not built"; exit 1; }
+./build saga_trials || { echo "the trials are not built"; exit 1; }
 
 # refused NUMBER TOLD WORDS..: runs a program that meets the refusal of one growth, and gives its status.
 refused() {
