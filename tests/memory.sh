@@ -106,6 +106,7 @@ commands() {
   commanded "sagas plan,chain$1" plan examples/licence.toml examples/licence.case.json
   commanded "sagas run$1" run --script $trip.script $trip.toml
   commanded "sagas audit$1" audit $trip.log $trip.toml
+  commanded "sagas draw$1" draw $trip.toml $trip.case.json $trip.answer.json
   commanded "sagas --help$1" --help
 }
 
@@ -122,4 +123,4 @@ bad=$(grep -vc '^row: ' "$work/rows")
 calls=$("$trials" names | wc -l)
 met=$(awk '/^row: / && $NF ~ /^[0-9]+$/ { sum += $NF } END { print sum + 0 }' "$work/rows")
 echo "memory: $rows rows, $met growths refused in turn, $bad wrong"
-[ "$bad" = 0 ] && [ "$rows" = $((calls + 12)) ]
+[ "$bad" = 0 ] && [ "$rows" = $((calls + 14)) ]

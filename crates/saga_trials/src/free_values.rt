@@ -10,7 +10,7 @@ use saga_case::{
 use saga_cert::{CertFault, has_key, step_at, text_at, value_at, value_of_text};
 use saga_check::{CheckFault, Verdict, judge, verify};
 use saga_def::{DefFault, Definition, Price, Text, is_name};
-use saga_flow::{Arc, Cap, Net, Step};
+use saga_flow::{Arc, Cap, Net, ResidualArc};
 use saga_lines::split_line;
 use saga_order::{Order, order_laws};
 use saga_text::TextFault;
@@ -289,7 +289,7 @@ fn net(trial: &mut Trial<'_>) -> Result<()> {
     }
     let net = Net::new(2, arcs);
     let right = trial.without_memory(|| {
-        let back = Step {
+        let back = ResidualArc {
             arc: 0,
             forward: true,
         }

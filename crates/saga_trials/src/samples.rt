@@ -53,6 +53,18 @@ pub const TRIP_ANSWER: &str =
 pub const FREE_ANSWER: &str =
     "{\"cost\":0,\"kept\":[],\"kind\":\"plan\",\"leave\":[0,0,0],\"links\":[0,0],\"stand\":[0,0,0]}";
 
+/// What is drawn of it with its answer.
+pub const TRIP_DRAWING: &str = "\
+digraph \"trip\" {\n\
+\x20\x20graph [rankdir=RL fontname=\"Helvetica\" label=\"trip: plan of cost 3\\ndouble outline: kept\"];\n\
+\x20\x20node [fontname=\"Helvetica\" fontsize=12];\n\
+\x20\x20\"a\" [shape=box style=filled fillcolor=\"#b9dfbb\" label=\"a\\ncommitted\\nundo 1\\nkeep 5\"];\n\
+\x20\x20\"b\" [shape=box style=filled fillcolor=\"#b9dfbb\" label=\"b\\ncommitted\\nundo 2\\nkeep 5\"];\n\
+\x20\x20\"c\" [shape=octagon style=filled fillcolor=\"#f0aaa4\" label=\"c\\nfailed\"];\n\
+\x20\x20\"b\" -> \"a\";\n\
+\x20\x20\"c\" -> \"b\";\n\
+}\n";
+
 /// The last of them fails.
 pub const TRIP_SCRIPT: &str = "0 c run fail\n";
 

@@ -8,6 +8,7 @@ use saga_cert::{
     write_case,
 };
 use saga_def::{DefFault, Definition, Need, Price, Step, Text};
+use saga_draw::draw;
 use saga_history::{Event, Outcome};
 use saga_log::{read_log, write_log};
 use saga_read::read_up_to;
@@ -37,6 +38,7 @@ pub enum TextTrial {
     WriteNewLog,
     Report,
     ReportCounted,
+    Draw,
     ReadUpTo,
 }
 
@@ -59,6 +61,7 @@ pub const TRIALS: &[(&str, TextTrial)] = &[
     ("saga_log::write_log,second-format", TextTrial::WriteNewLog),
     ("saga_report::report", TextTrial::Report),
     ("saga_report::report_counted", TextTrial::ReportCounted),
+    ("saga_draw::draw", TextTrial::Draw),
     ("saga_read::read_up_to", TextTrial::ReadUpTo),
 ];
 
@@ -82,6 +85,7 @@ pub fn run(trial: &mut Trial<'_>, which: TextTrial) -> Result<()> {
         TextTrial::WriteNewLog => write_a_log(trial, samples::ABORTED_LOG),
         TextTrial::Report => report_text(trial),
         TextTrial::ReportCounted => counted_report(trial),
+        TextTrial::Draw => drawing(trial),
         TextTrial::ReadUpTo => read_bytes(trial),
     }
 }
@@ -314,6 +318,16 @@ fn counted_report(trial: &mut Trial<'_>) -> Result<()> {
         "another report"
     );
     ensure!(counted.stuck == 0, "another count");
+    Ok(())
+}
+
+fn drawing(trial: &mut Trial<'_>) -> Result<()> {
+    let alloc = trial.alloc();
+    let definition = samples::definition(alloc, samples::TRIP)?;
+    let case = samples::case(alloc, &definition, samples::TRIP_CASE)?;
+    let answer = samples::answer(alloc, samples::TRIP_ANSWER)?;
+    let text = trial.again(|| draw(alloc, &definition, Some(case.states()), Some(&answer)))?;
+    ensure!(text.as_str() == samples::TRIP_DRAWING, "another drawing");
     Ok(())
 }
 
