@@ -34,6 +34,7 @@ runs() {
   for name in order trip server licence; do
     echo "check $e/$name.toml $e/$name.case.json $e/$name.answer.json"
     echo "plan $e/$name.toml $e/$name.case.json"
+    echo "draw $e/$name.toml $e/$name.case.json $e/$name.answer.json"
     echo "run $e/$name.toml"
   done
   for name in trip trip.retry order.abort order.undo; do
