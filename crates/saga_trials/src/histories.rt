@@ -158,7 +158,16 @@ fn present_case(trial: &mut Trial<'_>) -> Result<()> {
     if !row.may_plan() {
         bail!("no case");
     }
-    let case = trial.again(|| row.present_case(alloc))?;
+    trial.each()?;
+    let made = row.present_case(alloc);
+    trial.ample()?;
+    let case = match made {
+        Ok(case) => case,
+        Err(AllocError) => {
+            trial.tell_refused();
+            row.present_case(alloc)?
+        }
+    };
     ensure!(row.is_present(&case), "another case");
     Ok(())
 }

@@ -150,26 +150,33 @@ fn definition_in(rt: &HostRuntime, path: Option<String>) -> Result<Definition> {
     samples::definition(rt.alloc(), fs::read_to_string(rt, path.as_str())?.as_str())
 }
 
-/// Reads hostile texts of a kind. The words behind it are the file of the text, and what a value is judged by: of a case
-/// and a log the file of the definition, of an answer that and the file of the case.
-pub fn run(rt: &HostRuntime, kind: &str, words: &mut impl Iterator<Item = String>) -> Result<()> {
-    let path = words.next().context("a file is missing")?;
+/// The files that a reading of hostile texts takes: that of the text, and those by which a value is judged.
+#[derive(Drop)]
+pub struct Files {
+    pub text: Option<String>,
+    pub definition: Option<String>,
+    pub case: Option<String>,
+}
+
+/// Reads hostile texts of a kind. A case and a log are judged by a definition, an answer by that and by a case.
+pub fn run(rt: &HostRuntime, kind: &str, files: Files) -> Result<()> {
+    let path = files.text.context("a file is missing")?;
     let text = fs::read(rt, path.as_str())?;
     match kind {
         "definition" => read_all(rt, Kind::Definition, &text),
         "script" => read_all(rt, Kind::Script, &text),
         "case" => {
-            let definition = definition_in(rt, words.next())?;
+            let definition = definition_in(rt, files.definition)?;
             read_all(rt, Kind::Case(&definition), &text)
         }
         "log" => {
             let mut shelf = Vec::new(rt.alloc());
-            shelf.push(definition_in(rt, words.next())?)?;
+            shelf.push(definition_in(rt, files.definition)?)?;
             read_all(rt, Kind::Log(&shelf), &text)
         }
         "answer" => {
-            let definition = definition_in(rt, words.next())?;
-            let path = words.next().context("a case is missing")?;
+            let definition = definition_in(rt, files.definition)?;
+            let path = files.case.context("a case is missing")?;
             let asked = fs::read_to_string(rt, path.as_str())?;
             let case = samples::case(rt.alloc(), &definition, asked.as_str())?;
             read_all(rt, Kind::Answer(&case), &text)

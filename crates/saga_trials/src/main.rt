@@ -23,6 +23,7 @@ mod samples;
 mod texts;
 mod trial;
 
+use crate::hostile::Files;
 use crate::trial::{Trial, named};
 use anyhow::{Context, Result, bail};
 use std::alloc::Global;
@@ -129,7 +130,12 @@ fn main(rt: HostRuntime) -> Result<()> {
         }
         Some("hostile") => {
             let kind = words.next().context("a kind is missing")?;
-            hostile::run(&rt, kind.as_str(), &mut words)
+            let files = Files {
+                text: words.next(),
+                definition: words.next(),
+                case: words.next(),
+            };
+            hostile::run(&rt, kind.as_str(), files)
         }
         _ => bail!("names, try or hostile?"),
     }
