@@ -5,3 +5,6 @@ mod OpenLemmas
 mod NextLemmas
 mod PhaseLemmas
 pub mod LawLemmas
+mod EndLemmas
+mod ReplayLemmas
+pub mod ReplayLawLemmas

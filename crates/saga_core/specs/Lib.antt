@@ -4,3 +4,4 @@ pub mod Book
 pub mod Refusals
 pub mod Tasks
 pub mod Laws
+pub mod Replays

@@ -14,7 +14,7 @@ use Rattle.saga_history.specs.Progress.{IsEndedOrWaits}
 use Rattle.saga_history.specs.Rules.{definition, HasPhase, IsEnded, misses_of, undo_misses_of}
 use Rattle.saga_history.specs.States.{state}
 use Rattle.saga_history.specs.Tasks.{TaskIsAllowed}
-use Rattle.saga_history.specs.Turns.{in_goal, turn}
+use Rattle.saga_history.specs.Turns.{aborted, in_goal, turn}
 use Rattle.saga_rows.specs.declared.tasks.RowTask.{RowTask}
 use Rattle.saga_rows.specs.declared.tasks.RowTask.TheVariants as row
 use Rattle.saga_core.specs.Refusals.{IsUnknown, OfSaga}
@@ -89,6 +89,10 @@ HasGoal shelf h i s wanted = OfSaga shelf h i (λ d l. (s < length d.steps) × (
 -- where the saga stands
 abbrev pub StandsAt : List Contents → List Event → ℕ → Phase → Type 0
 StandsAt shelf h i phase = OfSaga shelf h i (λ d l. HasPhase d l phase)
+
+-- whether it was aborted
+abbrev pub WasAborted : List Contents → List Event → ℕ → Bool → Type 0
+WasAborted shelf h i a = OfSaga shelf h i (λ d l. a ≡ aborted l)
 
 -- each saga is ended or stuck
 abbrev pub AllAreOver : List Contents → List Event → Type 0

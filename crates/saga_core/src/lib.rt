@@ -14,5 +14,6 @@ mod tests;
 pub use books::{Book, MAX_SAGAS};
 pub use laws::refusal_laws;
 pub use refusals::{
-    AdoptRefusal, AdoptRefused, DropRefusal, OpenRefusal, ReportRefusal, SagaRefusal, TakeRefusal,
+    AdoptRefusal, AdoptRefused, DropRefusal, OpenRefusal, ReplayRefusal, ReportRefusal,
+    SagaRefusal, TakeRefusal,
 };

@@ -1,4 +1,5 @@
 //! Why a call on a book is refused. The causes stand in the order in which they are looked for.
+use saga_audit::Reason;
 use saga_check::Verdict;
 
 /// Why no saga is opened.
@@ -58,4 +59,17 @@ pub enum AdoptRefusal {
 pub struct AdoptRefused<'d> {
     pub verdict: Verdict<'d>,
     pub why: AdoptRefusal,
+}
+
+/// Why no book is made again from a history.
+#[derive(Clone, Copy, Debug, PartialEq, Eq)]
+pub enum ReplayRefusal {
+    /// The history is not legal: the place, from 0, of its first event that is not allowed after those before it, and why, as
+    /// an audit tells it.
+    NotLegal { position: usize, reason: Reason },
+    /// The history is legal, but the event at that place opens a saga that is not the next one by number.
+    NotNumbered { position: usize },
+    /// It is legal, but the event at that place opens one saga too many.
+    Full { position: usize },
+    OutOfMemory,
 }

@@ -2,6 +2,8 @@
 //! memory is refused: the book is then as it was, and what was refused is done again.
 mod calls;
 mod memory;
+mod questions;
+mod replays;
 mod samples;
 mod search;
 
@@ -279,6 +281,19 @@ const DROPPED: Worked = Worked {
     phase: Phase::Draining,
 };
 
+/// All worked runs.
+const RUNS: &[Worked] = &[
+    TRIP,
+    FAILED_COMPENSATION,
+    BLOCKED,
+    RETRIED,
+    TRIES_USED_UP,
+    ABORTED,
+    STALE,
+    ABORTED_WHILE_PLANNED,
+    DROPPED,
+];
+
 /// The number of the first call that answers otherwise, or after which `next` differs from the search.
 fn first_wrong<'d>(
     alloc: Global,
@@ -312,18 +327,7 @@ fn legal_again(alloc: Global, shelf: &[Definition], book: &Book) -> Result<bool,
 #[test]
 fn worked_runs(rt: HostRuntime) -> Result<(), Fail> {
     let alloc = rt.alloc();
-    let runs = [
-        TRIP,
-        FAILED_COMPENSATION,
-        BLOCKED,
-        RETRIED,
-        TRIES_USED_UP,
-        ABORTED,
-        STALE,
-        ABORTED_WHILE_PLANNED,
-        DROPPED,
-    ];
-    for run in &runs {
+    for run in RUNS {
         let shelf = shelf_of(alloc, run.sample)?;
         assert_eq!(rt; shelf.len(), 1);
         let mut book = Book::new(alloc, &shelf, 0, 1);
@@ -408,11 +412,13 @@ fn numbers_and_the_most_sagas(rt: HostRuntime) -> Result<(), Fail> {
     assert_eq!(rt; book.shelf().len(), 1);
     assert!(rt; book.settled());
     for number in 0..MAX_SAGAS as u32 {
+        let next = book.next_number();
         let opened = match book.open(0) {
             Ok(saga) => saga,
             Err(_) => book.open(0).unwrap_or(0),
         };
         assert_eq!(rt; opened, 3 + 16 * number);
+        assert_eq!(rt; next, opened);
     }
     assert!(rt; book.open(0) == Err(OpenRefusal::Full));
     assert!(rt; book.open(64) == Err(OpenRefusal::NoSuchDefinition));

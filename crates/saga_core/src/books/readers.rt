@@ -1,13 +1,13 @@
 //! What a book tells of its sagas. No reader takes memory, and none goes over steps or sagas.
-ghost use Rattle.std.specs.Prelude.{◌≡◌, ◌≤◌, ◌↔◌, IsTrue, MatchOption, Some};
+ghost use Rattle.std.specs.Prelude.{◌≡◌, ◌<◌, ◌≤◌, ◌↔◌, IsTrue, MatchOption, Some};
 ghost use Rattle.saga_rows.specs.declared.rows.TheConstants.{MAX_ROWS};
 ghost use Rattle.saga_history.specs.Changes.{past};
 ghost use Rattle.saga_core.specs.Book as book;
 ghost use Rattle.saga_core.specs.Refusals.{IsUnknown, OfSaga};
-ghost use Rattle.saga_core.specs.Tasks.{AllAreOver, HasGoal, HasMisses, HasNoStep, HasState, HasUndoMisses, IsDefinedBy, StandsAt};
+ghost use Rattle.saga_core.specs.Tasks.{AllAreOver, HasGoal, HasMisses, HasNoStep, HasState, HasUndoMisses, IsDefinedBy, StandsAt, WasAborted};
 
 use crate::books::Book;
-use crate::numbers::place_of;
+use crate::numbers::{number_of, place_of};
 use saga_case::StepState;
 use saga_def::Definition;
 use saga_history::{Phase, Turn};
@@ -81,6 +81,17 @@ impl<'d> Book<'d> {
         Some(row.phase())
     }
 
+    /// Whether a saga was aborted, or none where there is no such saga.
+    pub fn is_aborted(&self, saga: u32) -> Option<bool>
+        ensures { MatchOption result (IsUnknown (past self.now.history) saga) (λ a. WasAborted self.now.shelf (past self.now.history) saga a) }
+    {
+        let Some(place) = place_of(&self.rows, self.first_number, self.apart, saga) else {
+            return None;
+        };
+        let row = self.rows.row(place);
+        Some(row.is_aborted())
+    }
+
     /// The definition of a saga, or none where there is no such saga.
     pub fn definition(&self, saga: u32) -> Option<&'d Definition>
         ensures { MatchOption result (IsUnknown (past self.now.history) saga) (λ d. IsDefinedBy self.now.shelf (past self.now.history) saga d.now) }
@@ -100,6 +111,13 @@ impl<'d> Book<'d> {
         self.rows.len()
     }
 
+    /// The number that the saga will have that is opened next.
+    pub fn next_number(&self) -> u32
+        ensures { result ≡ book.number self.now.first self.now.stride (book.sagas_in self.now.history) }
+    {
+        number_of(self.first_number, self.apart, self.rows.len())
+    }
+
     /// Whether each saga is ended or stuck.
     pub fn settled(&self) -> bool
         ensures { IsTrue result ↔ AllAreOver self.now.shelf (past self.now.history) }
@@ -116,14 +134,16 @@ impl<'d> Book<'d> {
 
     /// The number of the saga that is opened first.
     pub fn first(&self) -> u32
-        ensures { result ≡ self.now.first }
+        ensures value { result ≡ self.now.first }
+        ensures begins { self.now.first < self.now.stride }
     {
         self.first_number
     }
 
     /// How far the numbers of sagas that are opened one after the other are apart.
     pub fn stride(&self) -> u32
-        ensures { result ≡ self.now.stride }
+        ensures value { result ≡ self.now.stride }
+        ensures near { self.now.stride ≤ 16 }
     {
         self.apart
     }
