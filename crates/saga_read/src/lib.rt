@@ -15,8 +15,8 @@ mod tests;
 /// How many bytes are asked for at once.
 const AT_ONCE: usize = 8_192;
 
-/// A read that a signal may interrupt, and that is then tried again.
-fn read_once<R: Read>(reader: &mut R, buffer: &mut [u8]) -> io::Result<usize>
+/// One read, which is tried again where a signal interrupts it: what has arrived, as far as the buffer goes.
+pub fn read_once<R: Read>(reader: &mut R, buffer: &mut [u8]) -> io::Result<usize>
     ensures bound { ReadsAtMost result buffer.new }
     ensures bytes { ReadConsumes (R.remaining reader.old) (R.remaining reader.new) result buffer.new }
 {

@@ -1,5 +1,5 @@
 //! Readers that never end, stop now and then, or fail.
-use crate::read_up_to;
+use crate::{read_once, read_up_to};
 use std::io::{self, ErrorKind, Read};
 use std::test::Fail;
 
@@ -76,6 +76,27 @@ fn an_error_ends_the_reading(rt: HostRuntime) -> Result<(), Fail> {
     let bytes = read_up_to(rt.alloc(), &mut reader, 2)?;
     assert!(rt; bytes.as_slice() == b"xxx".as_slice());
     match read_up_to(rt.alloc(), &mut reader, 2) {
+        Ok(_) => assert!(rt; false, "an error is passed over"),
+        Err(error) => assert!(rt; error.kind() == ErrorKind::PermissionDenied),
+    }
+    Ok(())
+}
+
+#[test]
+fn one_read_gives_what_has_arrived(rt: HostRuntime) -> Result<(), Fail> {
+    let mut buffer = [0; 4];
+    let mut text = "abcdef".as_bytes();
+    assert_eq!(rt; read_once(&mut text, &mut buffer)?, 4);
+    assert!(rt; buffer.as_slice() == b"abcd".as_slice());
+    assert_eq!(rt; read_once(&mut text, &mut buffer)?, 2);
+    assert_eq!(rt; read_once(&mut text, &mut buffer)?, 0);
+    let mut reader = Failing {
+        left: 1,
+        is_ready: false,
+    };
+    assert_eq!(rt; read_once(&mut reader, &mut buffer)?, 1);
+    assert!(rt; buffer[0] == b'x');
+    match read_once(&mut reader, &mut buffer) {
         Ok(_) => assert!(rt; false, "an error is passed over"),
         Err(error) => assert!(rt; error.kind() == ErrorKind::PermissionDenied),
     }
