@@ -1,0 +1,4 @@
+-- Lemmas of driven books.
+pub mod RangeLemmas
+pub mod BookLemmas
+pub mod PlanLemmas
