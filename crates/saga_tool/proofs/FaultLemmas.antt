@@ -8,14 +8,14 @@ use Rattle.clap.specs.declared.error.Error.{Error}
 use Rattle.clap.specs.declared.error.kind.ErrorKind.TheVariants as kind
 use Rattle.clap.proofs.OnLiterals.{clap_on_literals}
 use Rattle.saga_tool.specs.declared.forms.Name.{Name}
-use Rattle.saga_tool.specs.declared.forms.Name.TheVariants.{Check, Plan, Run, Audit, Draw}
+use Rattle.saga_tool.specs.declared.forms.Name.TheVariants.{Check, Plan, Run, Audit, Draw, Drive}
 use Rattle.saga_tool.specs.declared.words.WordsFault.{WordsFault}
 use Rattle.saga_tool.specs.declared.words.WordsFault.TheVariants.{Usage, Help, OutOfMemory}
 use Rattle.saga_tool.specs.declared.replies.Reply.{Reply}
 use Rattle.saga_tool.specs.declared.responses.Response.{Response}
 use Rattle.saga_tool.specs.Responses.{IsAlone}
 use Rattle.saga_tool.specs.Forms.{app_by, outline_for, word_for}
-use Rattle.saga_tool.specs.Outside.{FileGives}
+use Rattle.saga_tool.specs.Outside.{World}
 use Rattle.saga_tool.specs.Program.{IsHelp, IsTold, RepliesToWords}
 use Rattle.saga_tool.specs.Command.{IsFaultOf, IsMadeOf, IsWordsFault, may_be_option, other_kinds, sagas_app}
 
@@ -54,7 +54,7 @@ made_fault kinds error OutOfMemory has made = tt
 -- the command of a word
 abbrev name_of : Text → Name
 name_of word = if bytes_eq word (codes "check") then Check else (if bytes_eq word (codes "plan") then Plan else (if bytes_eq word (codes "run") then Run
-    else (if bytes_eq word (codes "audit") then Audit else Draw)))
+    else (if bytes_eq word (codes "audit") then Audit else (if bytes_eq word (codes "draw") then Draw else Drive))))
 
 back : (name : Name) → name_of (word_for name) ≡ name
 back Check = refl
@@ -62,6 +62,7 @@ back Plan = refl
 back Run = refl
 back Audit = refl
 back Draw = refl
+back Drive = refl
 
 -- a word names one command
 same_name : (a b : Name) → word_for a ≡ word_for b → a ≡ b
@@ -98,6 +99,7 @@ no_command Plan rest e = let bad : true ≡ false = ap (λ (l : List Text). byte
 no_command Run rest e = let bad : true ≡ false = ap (λ (l : List Text). bytes_eq (slice_index_or l 0 []) (codes "--help")) e in cc
 no_command Audit rest e = let bad : true ≡ false = ap (λ (l : List Text). bytes_eq (slice_index_or l 0 []) (codes "--help")) e in cc
 no_command Draw rest e = let bad : true ≡ false = ap (λ (l : List Text). bytes_eq (slice_index_or l 0 []) (codes "--help")) e in cc
+no_command Drive rest e = let bad : true ≡ false = ap (λ (l : List Text). bytes_eq (slice_index_or l 0 []) (codes "--help")) e in cc
 
 told_help : (fault : WordsFault) (reply : Reply) → IsFaultOf (kind.DisplayHelp ∷ []) fault → IsTold fault reply → IsHelp reply
 told_help (Usage error) reply of told = elim of.1 [
@@ -108,8 +110,8 @@ told_help (Help error) reply of told = told
 told_help OutOfMemory reply of told = elim told [ ]
 
 -- what is replied to such words is help
-pub is_help : (gives : FileGives) (response : Response) → RepliesToWords gives help_words response → IsAlone IsHelp response
-is_help gives response replies = elim replies [
+pub is_help : (world : World) (response : Response) → RepliesToWords world help_words response → IsAlone IsHelp response
+is_help world response replies = elim replies [
   | inl r ↦ absurd (no_command r.found.name r.is.rest r.is.named)
   | inr r ↦ record {
     replies = told_help r.fault response.reply (subst (λ (k : Kinds). IsFaultOf k r.fault) help_kinds (r.is.of_other no_command)) r.told.replies;

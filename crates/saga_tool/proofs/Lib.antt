@@ -6,4 +6,6 @@ mod FaultLemmas
 mod ListLemmas
 mod ShelfLemmas
 mod RunLemmas
+mod LineLemmas
+mod DriveLemmas
 mod ReplyLemmas

@@ -12,10 +12,10 @@ use Rattle.saga_tool.specs.declared.files.Stop.TheVariants.{Unreadable, OutOfMem
 use Rattle.saga_tool.specs.declared.outside.FileFault.TheVariants as file
 use Rattle.saga_tool.specs.declared.runs.RunReply.{RunReply}
 use Rattle.saga_tool.specs.Limits.{max_definition}
-use Rattle.saga_tool.specs.Outside.{Text, FileGives}
+use Rattle.saga_tool.specs.Outside.{Text, FileGives, World}
 use Rattle.saga_tool.specs.Runs.{IsRunReply}
 use Rattle.saga_tool.specs.Responses.{IsAlone}
-use Rattle.saga_tool.specs.Program.{AreGiven, IsFirstUnreadable, IsUnreadable, RunsFiles, AuditsFiles, IsScript, CommandReplies, Ends, IsResponseOf, StopsBy}
+use Rattle.saga_tool.specs.Program.{AreGiven, IsFirstUnreadable, IsUnreadable, RunsFiles, AuditsFiles, DrivesFiles, IsScript, CommandReplies, Ends, IsResponseOf, StopsBy}
 use Rattle.saga_tool.proofs.ListLemmas.{text_here}
 
 abbrev Files : Type 0
@@ -60,6 +60,12 @@ pub run_unread : (gives : FileGives) (script : Option Text) (lines : Text) (defs
 run_unread gives script lines defs shards log (Unreadable response) is stops = inl (lines, is, inr stops)
 run_unread gives script lines defs shards log OutOfMemory is stops = tt
 
+-- a drive, one of whose definitions cannot be read
+pub drive_unread : (world : World) (log : Option Text) (defs : List Text) (stop : Stop) → StopsBy (IsFirstUnreadable world.file_gives max_definition defs) stop
+    → Ends (DrivesFiles world log defs) (Err stop)
+drive_unread world log defs (Unreadable response) stops = inr stops
+drive_unread world log defs OutOfMemory stops = tt
+
 -- the reply to a run of the same texts
 pub run_shown : (texts same : List Text) (script lines : Text) (shards count : ℕ) (shown : RunReply) → IsRunReply texts script shards shown
     → texts ≡ same → script ≡ lines → shards ≡ count → IsRunReply same lines count shown
@@ -68,23 +74,23 @@ run_shown texts same script lines shards count shown r texts_are script_is shard
     (subst (λ (s : Text). IsRunReply texts s count shown) script_is (subst (λ (n : ℕ). IsRunReply texts script n shown) shards_are r))
 
 -- the log and the definitions of an audit: the first file, and the others
-first_and_rest : (gives : FileGives) (given : Given) (files : Files) (r : Result Response Stop) (d : Bor Text) → 1 ≤ length files
-    → Ends (AuditsFiles gives (slice_index_or files 0 d).now (now_of (drop 1 files))) r
-    → Ends (CommandReplies gives given Audit (now_of files)) r
-first_and_rest gives given [] r d least ends = absurd (omega (arith, least))
-first_and_rest gives given (a ∷ more) r d least ends = ends
+first_and_rest : (world : World) (given : Given) (files : Files) (r : Result Response Stop) (d : Bor Text) → 1 ≤ length files
+    → Ends (AuditsFiles world.file_gives (slice_index_or files 0 d).now (now_of (drop 1 files))) r
+    → Ends (CommandReplies world given Audit (now_of files)) r
+first_and_rest world given [] r d least ends = absurd (omega (arith, least))
+first_and_rest world given (a ∷ more) r d least ends = ends
 
 all_others : (files : Files) → take (length files - 1) (drop 1 files) ≡ drop 1 files
 all_others files = take_all (length files - 1) (drop 1 files) (omega (arith, length-drop 1 files))
 
-pub audit_replies : (gives : FileGives) (given : Given) (name : Name) (files shown : Files) (r : Result Response Stop) (d : Bor Text) → name ≡ Audit → shown ≡ files
+pub audit_replies : (world : World) (given : Given) (name : Name) (files shown : Files) (r : Result Response Stop) (d : Bor Text) → name ≡ Audit → shown ≡ files
     → 1 ≤ length shown
-    → Ends (AuditsFiles gives (slice_index_or shown 0 d).now (now_of (take (length shown - 1) (drop 1 shown)))) r
-    → Ends (CommandReplies gives given name (now_of files)) r
-audit_replies gives given name files shown r d is same least ends =
-    subst (λ (n : Name). Ends (CommandReplies gives given n (now_of files)) r) (sym is)
-    (subst (λ (fs : Files). Ends (CommandReplies gives given Audit (now_of fs)) r) same
-    (first_and_rest gives given shown r d least (subst (λ (fs : Files). Ends (AuditsFiles gives (slice_index_or shown 0 d).now (now_of fs)) r) (all_others shown) ends)))
+    → Ends (AuditsFiles world.file_gives (slice_index_or shown 0 d).now (now_of (take (length shown - 1) (drop 1 shown)))) r
+    → Ends (CommandReplies world given name (now_of files)) r
+audit_replies world given name files shown r d is same least ends =
+    subst (λ (n : Name). Ends (CommandReplies world given n (now_of files)) r) (sym is)
+    (subst (λ (fs : Files). Ends (CommandReplies world given Audit (now_of fs)) r) same
+    (first_and_rest world given shown r d least (subst (λ (fs : Files). Ends (AuditsFiles world.file_gives (slice_index_or shown 0 d).now (now_of fs)) r) (all_others shown) ends)))
 
 -- the first file that cannot be read
 pub first_unreadable : (gives : FileGives) (limit : ℕ) (paths : Files) (i : ℕ) (d : Bor Text) (texts : List Text) (stop : Stop) → i < length paths

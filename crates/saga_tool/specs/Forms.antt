@@ -9,7 +9,7 @@ use Rattle.saga_tool.specs.declared.forms.Kind.TheVariants.{File, Optional, File
 use Rattle.saga_tool.specs.declared.forms.Parameter.{Parameter}
 use Rattle.saga_tool.specs.declared.forms.Form.{Form}
 use Rattle.saga_tool.specs.declared.forms.Name.{Name}
-use Rattle.saga_tool.specs.declared.forms.Name.TheVariants.{Check, Plan, Run, Audit, Draw}
+use Rattle.saga_tool.specs.declared.forms.Name.TheVariants.{Check, Plan, Run, Audit, Draw, Drive}
 
 -- a required file, one that may be left out, any number of files, an option with a path, an option with a number from 1 to 16, by default 1
 abbrev pub rule_by : Kind → Text → Rule
@@ -64,6 +64,7 @@ word_for Plan = codes "plan"
 word_for Run = codes "run"
 word_for Audit = codes "audit"
 word_for Draw = codes "draw"
+word_for Drive = codes "drive"
 
 abbrev pub outline_for : Name → Outline
 outline_for Check = record {
@@ -86,4 +87,8 @@ outline_for Audit = record {
 outline_for Draw = record {
   title = codes "sagas draw";
   arguments = argument File (codes "DEF") ∷ argument Optional (codes "CASE") ∷ argument Optional (codes "ANSWER") ∷ [];
+}
+outline_for Drive = record {
+  title = codes "sagas drive";
+  arguments = argument Path (codes "log") ∷ argument File (codes "DEF") ∷ argument Files (codes "MORE") ∷ [];
 }

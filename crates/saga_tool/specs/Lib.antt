@@ -14,4 +14,5 @@ pub mod Shelves
 pub mod Audits
 pub mod Runs
 pub mod Outside
+pub mod Drives
 pub mod Program

@@ -21,3 +21,7 @@ max_shelf = 64
 -- of standard input
 abbrev pub max_input : ℕ
 max_input = 1048576
+
+-- of a log that is gone on with
+abbrev pub max_kept : ℕ
+max_kept = 268435456

@@ -4,6 +4,8 @@ use Rattle.std.specs.declared.io.ErrorKind.{ErrorKind}
 use Rattle.std.specs.declared.io.ErrorKind.TheVariants as kind
 use Rattle.saga_tool.specs.declared.outside.FileFault.{FileFault}
 use Rattle.saga_tool.specs.declared.outside.FileFault.TheVariants.{Unreadable, OutOfMemory}
+use Rattle.saga_tool.specs.declared.outside.KeepFault.{KeepFault}
+use Rattle.saga_tool.specs.declared.outside.KeepFault.TheVariants as keep
 
 abbrev pub Text : Type 0
 Text = List ℕ
@@ -27,6 +29,14 @@ Writes = Text → Text → Bool → Type 0
 abbrev pub Complains : Type 1
 Complains = Text → Type 0
 
+-- what the log of a path may give, up to a limit, where it is opened to be gone on with
+abbrev pub LogGives : Type 1
+LogGives = Text → ℕ → Result Text KeepFault → Type 0
+
+-- all but so many first bytes of the log that is held were taken away, or could not be
+abbrev pub Cuts : Type 1
+Cuts = ℕ → Bool → Type 0
+
 -- what the world outside may answer
 pub record World : Type 1 where
   pub file_gives : FileGives
@@ -36,14 +46,21 @@ pub record World : Type 1 where
   pub prints : Prints
   pub writes : Writes
   pub complains : Complains
+  pub log_gives : LogGives
+  pub cuts : Cuts
 
 -- want of memory is told apart from every other error
 abbrev pub file_fault_of : ErrorKind → FileFault
 file_fault_of kind.OutOfMemory = OutOfMemory
 file_fault_of _ = Unreadable
 
+-- the same of a log
+abbrev pub keep_fault_of : FileFault → KeepFault
+keep_fault_of OutOfMemory = keep.OutOfMemory
+keep_fault_of Unreadable = keep.Unreadable
+
 -- of the system nothing is known but that no more than one byte past a limit is read
-abbrev pub IsWithin : ℕ → Result Text FileFault → Type 0
+abbrev pub IsWithin : {E : Type 0} → ℕ → Result Text E → Type 0
 IsWithin limit given = IfOk given (λ text. length text ≤ limit + 1)
 
 abbrev pub system_world : Bool → World
@@ -54,4 +71,6 @@ system_world is_terminal = record {
   prints = λ text written. ⊤;
   writes = λ path text written. ⊤;
   complains = λ text. ⊤;
+  log_gives = λ path limit given. IsWithin limit given;
+  cuts = λ count done. ⊤;
 }

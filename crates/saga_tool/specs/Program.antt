@@ -4,7 +4,7 @@ use Rattle.std.specs.List.{AllZip}
 use Rattle.std.specs.declared.alloc.AllocError.{AllocError}
 use Rattle.std.specs.String.{string_bytes}
 use Rattle.saga_tool.specs.declared.forms.Name.{Name}
-use Rattle.saga_tool.specs.declared.forms.Name.TheVariants.{Check, Plan, Run, Audit, Draw}
+use Rattle.saga_tool.specs.declared.forms.Name.TheVariants.{Check, Plan, Run, Audit, Draw, Drive}
 use Rattle.saga_tool.specs.declared.outside.FileFault.{FileFault}
 use Rattle.saga_tool.specs.declared.outside.FileFault.TheVariants as file
 use Rattle.saga_tool.specs.declared.replies.Reply.{Reply}
@@ -21,6 +21,7 @@ use Rattle.saga_tool.specs.Limits.{max_definition, max_certificate, max_script, 
 use Rattle.saga_tool.specs.Lines.{line_feed}
 use Rattle.saga_tool.specs.Answers.{IsCheckReply, IsPlanReply, IsDrawReply, IsInputReply}
 use Rattle.saga_tool.specs.Audits.{IsAuditReply}
+use Rattle.saga_tool.specs.Drives.{IsDriveReply}
 use Rattle.saga_tool.specs.Responses.{IsAlone, IsLogFor}
 use Rattle.saga_tool.specs.Runs.{IsRunReply}
 use Rattle.saga_tool.specs.Command.{IsCommand, IsWordsFault}
@@ -115,17 +116,23 @@ abbrev pub RunsFiles : FileGives → Option Text → List Text → ℕ → Optio
 RunsFiles gives script defs shards log =
     AfterScript gives script (λ lines. AfterFiles gives defs max_definition (λ texts. IsRunResponse texts lines shards log))
 
+-- the definitions before the log, which is opened once they hold a shelf
+abbrev pub DrivesFiles : World → Option Text → List Text → Response → Type 0
+DrivesFiles world log defs =
+    AfterFiles world.file_gives defs max_definition (λ texts. IsAlone (IsDriveReply world log texts))
+
 -- a command's reply to its files, and what else its words give
-abbrev pub CommandReplies : FileGives → Given → Name → List Text → Response → Type 0
-CommandReplies gives given Check (def ∷ case ∷ answer ∷ []) response = ChecksFiles gives def case answer response
-CommandReplies gives given Plan (def ∷ case ∷ []) response = PlansFiles gives def case response
-CommandReplies gives given Run defs response =
-    RunsFiles gives (option_map (λ s. s.now) given.script) defs given.shards (option_map (λ s. s.now) given.log) response
-CommandReplies gives given Draw (def ∷ []) response = DrawsDefinition gives def response
-CommandReplies gives given Draw (def ∷ case ∷ []) response = DrawsCase gives def case response
-CommandReplies gives given Draw (def ∷ case ∷ answer ∷ []) response = DrawsAnswer gives def case answer response
-CommandReplies gives given Audit (log ∷ defs) response = AuditsFiles gives log defs response
-CommandReplies gives given name files response = ⊥
+abbrev pub CommandReplies : World → Given → Name → List Text → Response → Type 0
+CommandReplies world given Check (def ∷ case ∷ answer ∷ []) response = ChecksFiles world.file_gives def case answer response
+CommandReplies world given Plan (def ∷ case ∷ []) response = PlansFiles world.file_gives def case response
+CommandReplies world given Run defs response =
+    RunsFiles world.file_gives (option_map (λ s. s.now) given.script) defs given.shards (option_map (λ s. s.now) given.log) response
+CommandReplies world given Draw (def ∷ []) response = DrawsDefinition world.file_gives def response
+CommandReplies world given Draw (def ∷ case ∷ []) response = DrawsCase world.file_gives def case response
+CommandReplies world given Draw (def ∷ case ∷ answer ∷ []) response = DrawsAnswer world.file_gives def case answer response
+CommandReplies world given Drive defs response = DrivesFiles world (option_map (λ s. s.now) given.log) defs response
+CommandReplies world given Audit (log ∷ defs) response = AuditsFiles world.file_gives log defs response
+CommandReplies world given name files response = ⊥
 
 -- what is made of want of memory
 abbrev pub IsMemoryStop : AllocError → Stop → Type 0
@@ -159,10 +166,10 @@ IsTold (Help error) reply = IsHelp reply
 IsTold OutOfMemory reply = ⊥
 
 -- the reply of the command that words give
-pub record IsCommandReply (gives : FileGives) (words : List Text) (response : Response) : Type 0 where
+pub record IsCommandReply (world : World) (words : List Text) (response : Response) : Type 0 where
   pub found : Words
   pub is : IsCommand words found
-  pub replies : CommandReplies gives found.given found.name (map (λ s. s.now) found.given.files.items) response
+  pub replies : CommandReplies world found.given found.name (map (λ s. s.now) found.given.files.items) response
 
 -- what is told of words that give none
 pub record IsFaultReply (words : List Text) (response : Response) : Type 0 where
@@ -170,8 +177,8 @@ pub record IsFaultReply (words : List Text) (response : Response) : Type 0 where
   pub is : IsWordsFault words fault
   pub told : IsAlone (IsTold fault) response
 
-abbrev pub RepliesToWords : FileGives → List Text → Response → Type 0
-RepliesToWords gives words response = IsCommandReply gives words response ⊎ IsFaultReply words response
+abbrev pub RepliesToWords : World → List Text → Response → Type 0
+RepliesToWords world words response = IsCommandReply world words response ⊎ IsFaultReply words response
 
 abbrev pub RepliesToInput : InputGives → Response → Type 0
 RepliesToInput gives response = AfterReading gives (codes "-") max_input (λ input. IsAlone (IsInputReply input)) response
@@ -180,7 +187,7 @@ RepliesToInput gives response = AfterReading gives (codes "-") max_input (λ inp
 abbrev pub Replies : World → List Text → Response → Type 0
 Replies world [] response =
     MatchBool world.has_terminal (IsAlone IsHelp response) (RepliesToInput world.input_gives response)
-Replies world words response = RepliesToWords world.file_gives words response
+Replies world words response = RepliesToWords world words response
 
 -- standard output took the text, where there is any
 abbrev pub IsPrinted : World → Text → Type 0

@@ -1,10 +1,11 @@
 //! What each command replies to its files.
 ghost use Rattle.std.specs.Prelude.{◌≡◌, ◌≤◌, IfErr, IfOk, map, option_map};
 ghost use Rattle.saga_tool.specs.Command.{IsCommand};
-ghost use Rattle.saga_tool.specs.Program.{ChecksFiles, PlansFiles, DrawsDefinition, DrawsCase, DrawsAnswer, RunsFiles, AuditsFiles, IsScript, IsScriptUnreadable, CommandReplies, Ends, StopsBy};
+ghost use Rattle.saga_tool.specs.Program.{ChecksFiles, PlansFiles, DrawsDefinition, DrawsCase, DrawsAnswer, RunsFiles, AuditsFiles, DrivesFiles, IsScript, IsScriptUnreadable, CommandReplies, Ends, StopsBy};
 
 use crate::arguments::Given;
 use crate::drawings::Scene;
+use crate::drives::drive_texts;
 use crate::files::{Stop, text_of, texts_of};
 use crate::forms::Name;
 use crate::limits::{MAX_CERTIFICATE, MAX_LOG};
@@ -151,6 +152,21 @@ fn run_sagas<R: Threads + Wait + Sync, W: Outside>(
     })
 }
 
+/// Drives sagas for another program, by what the words of the command give; the reply is what is said in the end.
+fn drive_sagas<R: Wait, W: Outside>(
+    rt: &R,
+    outside: &W,
+    alloc: Global,
+    given: &Given<'_>,
+) -> Result<Response, Stop>
+    ensures { Ends (DrivesFiles (W.world outside.now) (option_map (λ s. s.now) given.now.log)
+        (map (λ s. s.now) given.now.files.items)) result }
+{
+    let texts = texts_of(outside, alloc, &given.files, MAX_DEFINITION)?;
+    let definitions = slices_of(alloc, &texts)?;
+    Ok(alone(drive_texts(rt, outside, alloc, &definitions, given.log)?))
+}
+
 /// What is replied to a command that words gave.
 pub fn on_command<R: Threads + Wait + Sync, W: Outside>(
     rt: &R,
@@ -159,7 +175,7 @@ pub fn on_command<R: Threads + Wait + Sync, W: Outside>(
     found: &Words<'_>,
 ) -> Result<Response, Stop>
     requires { (words : _) × IsCommand words found.now }
-    ensures { Ends (CommandReplies (W.world outside.now).file_gives found.now.given found.now.name
+    ensures { Ends (CommandReplies (W.world outside.now) found.now.given found.now.name
         (map (λ s. s.now) found.now.given.files.items)) result }
 {
     match (found.name, found.given.files.as_slice()) {
@@ -173,6 +189,7 @@ pub fn on_command<R: Threads + Wait + Sync, W: Outside>(
             draw_answer(outside, alloc, definition, case, answer)
         }
         (Name::Run, _) => run_sagas(rt, outside, alloc, &found.given),
+        (Name::Drive, _) => drive_sagas(rt, outside, alloc, &found.given),
         (Name::Audit, [log, definitions @ ..]) => audit(rt, outside, alloc, log, definitions),
         _ => unreachable!(),
     }

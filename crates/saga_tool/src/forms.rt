@@ -36,10 +36,18 @@ pub enum Name {
     Run,
     Audit,
     Draw,
+    Drive,
 }
 
 /// The commands, as help lists them.
-pub const NAMES: [Name; 5] = [Name::Check, Name::Plan, Name::Run, Name::Audit, Name::Draw];
+pub const NAMES: [Name; 6] = [
+    Name::Check,
+    Name::Plan,
+    Name::Run,
+    Name::Audit,
+    Name::Draw,
+    Name::Drive,
+];
 
 /// A row of the table.
 #[derive(Clone, Copy, Debug)]
@@ -121,6 +129,13 @@ const WRITTEN: Parameter<'static> = Parameter {
     help: "the file to write the log to, after the report is printed",
 };
 
+const KEPT: Parameter<'static> = Parameter {
+    kind: Kind::Path,
+    name: "log",
+    shown: "F",
+    help: "the file in which each event is kept before it is told, and from which the program goes on",
+};
+
 const FIRST: Parameter<'static> = Parameter {
     kind: Kind::File,
     name: "DEF",
@@ -176,6 +191,13 @@ pub fn form_of(name: Name) -> Form<'static>
             about: "Draws a saga: prints its steps and needs in Graphviz's language, with their states and what an answer marks where they are given, for `dot` to make a picture of",
             parameters: &[DEFINITION, CASE_IF_ANY, ANSWER_IF_ANY],
         },
+        Name::Drive => Form {
+            word: "drive",
+            title: "sagas drive",
+            brief: "drives sagas for another program",
+            about: "Drives sagas for another program, which does the actions: reads one JSON request a line from standard input, and prints one reply a line",
+            parameters: &[KEPT, FIRST, MORE],
+        },
     }
 }
 
@@ -190,6 +212,7 @@ pub fn named(word: &str) -> Option<Name>
         "run" => Some(Name::Run),
         "audit" => Some(Name::Audit),
         "draw" => Some(Name::Draw),
+        "drive" => Some(Name::Drive),
         _ => None,
     }
 }

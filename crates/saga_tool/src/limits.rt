@@ -14,3 +14,12 @@ pub const AUDITORS: u32 = 4;
 
 /// The most bytes of standard input.
 pub const MAX_INPUT: usize = 1_048_576;
+
+/// The most bytes of a log that is gone on with.
+pub const MAX_KEPT: usize = 268_435_456;
+
+/// How many bytes of standard input are taken at once.
+pub const AT_ONCE: usize = 65_536;
+
+/// How many bytes of replies may wait before they are written.
+pub const MAX_WAITING: usize = 1_048_576;

@@ -3,6 +3,8 @@ mod audits;
 mod builders;
 mod checks;
 mod draws;
+mod drives;
+mod made;
 mod plans;
 mod programs;
 mod runs;

@@ -1,101 +1,11 @@
 //! The program over an outside of its own.
-ghost use Rattle.std.specs.Prelude.{◌<◌, ◌≤◌, ◌+◌, ◌^◌, IfOk, length};
-ghost use Rattle.saga_tool.specs.Outside.{system_world};
-
-use crate::outside::{FileFault, Outside};
 use crate::program::{respond, run};
 use crate::replies::Reply;
 use crate::responses::{Log, Response};
 use crate::showing::show;
-use crate::tests::builders::{DONE, ONE, PLAN, STUCK_LOG, TRIP};
-use saga_read::read_up_to;
+use crate::tests::made::Made;
 use std::alloc::Global;
-use std::cell::RefCell;
 use std::test::Fail;
-
-/// An outside that is made up: a few files, of which `memory` is too large for the memory, and all else is unreadable.
-#[derive(Drop)]
-struct Made {
-    input: Result<&'static str, FileFault>,
-    is_terminal: bool,
-    takes_output: bool,
-    takes_log: bool,
-    shown: RefCell<String>,
-}
-
-impl Made {
-    fn new(alloc: Global) -> Made {
-        Made {
-            input: Err(FileFault::Unreadable),
-            is_terminal: false,
-            takes_output: true,
-            takes_log: true,
-            shown: RefCell::new(String::new(alloc)),
-        }
-    }
-
-    fn show(&self, stream: &str, text: &str) {
-        if let Ok(mut shown) = self.shown.try_borrow_mut() {
-            let _ = shown.push_str(stream);
-            let _ = shown.push_str(text);
-        }
-    }
-}
-
-fn bytes_of(alloc: Global, text: &str, limit: usize) -> Result<Vec<u8>, FileFault>
-    requires { limit < 2 ^ 63 }
-    ensures { IfOk result (λ bytes. length bytes.items ≤ limit + 1) }
-{
-    let mut reader = text.as_bytes();
-    read_up_to(alloc, &mut reader, limit).map_err(|_| FileFault::OutOfMemory)
-}
-
-impl Outside for Made {
-    ghost world = { λ made. system_world made.is_terminal };
-
-    fn read_file(&self, alloc: Global, path: &str, limit: usize) -> Result<Vec<u8>, FileFault> {
-        match path {
-            "trip" => bytes_of(alloc, TRIP, limit),
-            "done" => bytes_of(alloc, DONE, limit),
-            "plan" => bytes_of(alloc, PLAN, limit),
-            "one" => bytes_of(alloc, ONE, limit),
-            "stuck" => bytes_of(alloc, STUCK_LOG, limit),
-            "fails" => bytes_of(alloc, "0 a run fail\n", limit),
-            "memory" => Err(FileFault::OutOfMemory),
-            _ => Err(FileFault::Unreadable),
-        }
-    }
-
-    fn read_input(&self, alloc: Global, limit: usize) -> Result<Vec<u8>, FileFault> {
-        match self.input {
-            Ok(text) => bytes_of(alloc, text, limit),
-            Err(fault) => Err(fault),
-        }
-    }
-
-    fn is_terminal(&self) -> bool {
-        self.is_terminal
-    }
-
-    fn print(&self, text: &str) -> bool {
-        if self.takes_output {
-            self.show("out: ", text);
-        }
-        self.takes_output
-    }
-
-    fn write_file(&self, path: &str, text: &str) -> bool {
-        if self.takes_log {
-            self.show("log: ", path);
-            self.show("\n", text);
-        }
-        self.takes_log
-    }
-
-    fn complain(&self, text: &str) {
-        self.show("err: ", text);
-    }
-}
 
 /// Words, what is shown, and the status.
 struct RunRow(&'static [&'static str], &'static str, u8);

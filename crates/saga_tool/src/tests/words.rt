@@ -11,7 +11,7 @@ use std::test::Fail;
 
 #[test]
 fn words(rt: HostRuntime) -> Result<(), Fail> {
-    let table: [(&[&str], Name, &[&str]); 10] = [
+    let table: [(&[&str], Name, &[&str]); 11] = [
         (&["check", "a", "b", "c"], Name::Check, &["a", "b", "c"]),
         (&["plan", "d", "e"], Name::Plan, &["d", "e"]),
         (&["plan", "--", "-d", "e"], Name::Plan, &["-d", "e"]),
@@ -26,6 +26,7 @@ fn words(rt: HostRuntime) -> Result<(), Fail> {
         (&["draw", "d"], Name::Draw, &["d"]),
         (&["draw", "d", "c"], Name::Draw, &["d", "c"]),
         (&["draw", "d", "c", "a"], Name::Draw, &["d", "c", "a"]),
+        (&["drive", "d", "e"], Name::Drive, &["d", "e"]),
     ];
     for (words, name, files) in &table {
         match read_words(rt.alloc(), words) {
@@ -44,7 +45,7 @@ fn words(rt: HostRuntime) -> Result<(), Fail> {
 #[test]
 fn no_words(rt: HostRuntime) -> Result<(), Fail> {
     let alloc = rt.alloc();
-    let table: [(&[&str], bool); 28] = [
+    let table: [(&[&str], bool); 32] = [
         (&["check", "a"], false),
         (&["check", "a", "b", "c", "d"], false),
         (&["check", "a", "b", "c", "--help"], true),
@@ -66,6 +67,10 @@ fn no_words(rt: HostRuntime) -> Result<(), Fail> {
         (&["draw"], false),
         (&["draw", "d", "c", "a", "b"], false),
         (&["draw", "d", "--help"], true),
+        (&["drive"], false),
+        (&["drive", "--log", "l"], false),
+        (&["drive", "--workers", "2", "d"], false),
+        (&["drive", "--help"], true),
         (&["chekc"], false),
         (&["chekc", "a"], false),
         (&["chekc", "a", "b"], false),

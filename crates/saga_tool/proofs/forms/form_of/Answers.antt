@@ -16,3 +16,6 @@ returns-in-Audit-clause-outline c = ap outline_for (sym c.in-Audit.is)
 
 pub returns-in-Draw-clause-outline : goal.returns-in-Draw-clause-outline
 returns-in-Draw-clause-outline c = ap outline_for (sym c.in-Draw.is)
+
+pub returns-in-Drive-clause-outline : goal.returns-in-Drive-clause-outline
+returns-in-Drive-clause-outline c = ap outline_for (sym c.in-Drive.is)

@@ -6,7 +6,7 @@ use Rattle.saga_tool.proofs.program.help.Goals as goal
 
 pub returns : goal.returns
 returns g c =
-    let gives = (g.W.Outside.world c.args.outside.now).file_gives in
+    let world = g.W.Outside.world c.args.outside.now in
     let is : map (λ s. s.now) c.as_slice.result.now ≡ codes "--help" ∷ [] = search rules in
     IfOk-weaker c.on_words.result _ _
-    (λ response r. is_help gives response (subst (λ (words : List (List ℕ)). RepliesToWords gives words response) is r)) c.on_words.ensures
+    (λ response r. is_help world response (subst (λ (words : List (List ℕ)). RepliesToWords world words response) is r)) c.on_words.ensures

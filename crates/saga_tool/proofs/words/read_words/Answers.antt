@@ -1,8 +1,15 @@
-use Rattle.std.proofs.Common.{rules, subst, map}
+use Rattle.std.proofs.Common.{◌≡◌, rules, subst, sym, map, true}
 use Rattle.clap.specs.Words.{HasKind, fault_of}
 use Rattle.saga_tool.specs.Forms.{Outline, app_by}
+use Rattle.saga_tool.specs.Suited.{is_suited}
 use Rattle.saga_tool.proofs.FaultLemmas.{command_fault}
+use Rattle.saga_tool.proofs.TableLemmas.{all_suited}
 use Rattle.saga_tool.proofs.words.read_words.Goals as goal
+
+pub read_by-requires : goal.read_by-requires
+read_by-requires c = record {
+  suited = subst (λ (o : Outline). is_suited (app_by o) ≡ true) (sym c.form_of-form.ensures.outline) (all_suited c.in-Some-named.name);
+}
 
 pub returns-in_err-given-clause-fault : goal.returns-in_err-given-clause-fault
 returns-in_err-given-clause-fault c =

@@ -1,0 +1,25 @@
+use Rattle.std.proofs.Common.{◌≡◌, rules, inl, map, subst, List, ℕ}
+use Rattle.std.specs.Prelude.{Err}
+use Rattle.std.specs.Borrow.{Bor}
+use Rattle.saga_tool.specs.Limits.{max_definition}
+use Rattle.saga_tool.specs.Program.{AreGiven, IsFirstUnreadable, StopsBy}
+use Rattle.saga_tool.proofs.ReplyLemmas.{drive_unread}
+use Rattle.saga_tool.proofs.commands.drive_sagas.Goals as goal
+
+pub returns-in_err-texts : goal.returns-in_err-texts
+returns-in_err-texts g c =
+    let world = g.W.Outside.world c.args.outside.now in
+    let is : c.from_residual.result ≡ Err c.in_err-texts.field-0.0 = search rules in
+    let stops = subst (λ (fs : List (Bor (List ℕ))). StopsBy (IsFirstUnreadable world.file_gives max_definition (map (λ s. s.now) fs)) c.in_err-texts.field-0.0)
+    c.deref.ensures.value c.in_err-texts.ensures.stop in
+    rw is (drive_unread world _ _ c.in_err-texts.field-0.0 stops)
+
+pub returns : goal.returns
+returns g c =
+    let gives = (g.W.Outside.world c.args.outside.now).file_gives in
+    let texts = map (λ t. t.items) c.in_ok-texts.texts.items in
+    inl (
+      texts,
+      subst (λ (fs : List (Bor (List ℕ))). AreGiven gives max_definition (map (λ s. s.now) fs) texts) c.deref.ensures.value c.in_ok-texts.ensures.texts,
+      search rules,
+    )
