@@ -6,14 +6,16 @@
 //! `build` and `order` take a case as well and print how many needs it has, and the longest chain of them; `book` takes a
 //! case, whose states it does not look at, how many sagas of its definition are driven, and which step of each fails, if
 //! any, and prints how many events that made; `audit` takes the same and between them the number of workers and how often
-//! each step is missed before, and prints how many events were audited and how many sagas are ended; `desk`
+//! each step is missed before, and prints how many events were audited and how many sagas are ended; `replay` takes the same
+//! as `book`, and prints how many events were made into a book again; `desk`
 //! takes a case and how many sagas are driven by 16 seats on 16 shards, and prints how many receipts their end compares;
 //! `run` takes a case, how many sagas of its definition are run, by how many workers, on how many shards, and the word `log`
 //! where their log is written and audited, and prints how many events that made;
 //! `log` takes a log and prints how many events it has. The second word, if
 //! any, is the file. On standard error stand the seconds that each of many runs took, a line a run; of a log, those of
 //! reading, of writing, and of reading the lines to JSON values alone, a line each; of an audit, those of the book's calls,
-//! of one thread and of the workers, a line each; of a run, those of a book alone, of the run, and, where there is a log, of
+//! of one thread and of the workers, a line each; of a replay, those of an audit of the same history and of the replay, a line
+//! each; of a run, those of a book alone, of the run, and, where there is a log, of
 //! writing it, and of reading and auditing it, a line each.
 #![tactic(auto)]
 
@@ -27,6 +29,7 @@ mod desks;
 mod dimacs;
 mod logs;
 mod numbers;
+mod replays;
 mod runs;
 
 use crate::audits::{ended, history_of};
@@ -36,6 +39,7 @@ use crate::desks::time_desk;
 use crate::dimacs::{Network, read_network};
 use crate::logs::time_log;
 use crate::numbers::number;
+use crate::replays::time_replays;
 use crate::runs::{Crew, time_runs};
 use anyhow::{Result, bail, ensure};
 use saga_case::{Answer, Case};
@@ -223,6 +227,19 @@ fn main(rt: HostRuntime) -> Result<()> {
             println!(rt; "events {} ended {sagas}", history.events.len())?;
             Ok(())
         }
+        Some("replay") => {
+            let sagas = number(words.next().as_deref())?;
+            let fails = match words.next() {
+                Some(word) => Some(u16::try_from(number(Some(word.as_str()))?)?),
+                None => None,
+            };
+            let load = Load {
+                sagas,
+                misses: 0,
+                fails,
+            };
+            time_replays(&rt, text.as_str(), load)
+        }
         Some("desk") => {
             let sagas = number(words.next().as_deref())?;
             time_desk(&rt, text.as_str(), sagas)
@@ -237,6 +254,6 @@ fn main(rt: HostRuntime) -> Result<()> {
             time_runs(&rt, text.as_str(), crew)
         }
         Some("log") => time_logs(&rt, text.as_str()),
-        _ => bail!("flow, plan, build, order, book, audit, desk, run or log?"),
+        _ => bail!("flow, plan, build, order, book, audit, replay, desk, run or log?"),
     }
 }

@@ -1,0 +1,237 @@
+#!/usr/bin/env python3
+"""Times `sagas drive`: requests with and without a log, one at a time and many together, beside SQLite; and a start on a long log.
+
+The requests are nothing but `next` and `report`, each with one event; many together are 64 `next`, then their 64 reports. SQLite,
+through Python, inserts the same events into a table, with `PRAGMA synchronous=FULL`, in its journal modes DELETE and WAL: an event a
+transaction beside requests one at a time, and 64 a transaction beside 64 together. A bare append of each event's line, and an
+`fdatasync`, says what the file system asks for by itself. All parts take turns in one folder (`--folder`), so that a ratio is one of
+one run on one file system. Prints events a second, in the middle of all turns, and ratios of times to those of SQLite's WAL; then the
+seconds of a start on a log of 1,001,000 events, of 1,000 sagas of 500 steps, beside an audit of that log and SQLite reading as many
+rows, and the greatest memory of the start. Ends with status 1 where requests with a log take longer than SQLite's WAL, one at a time
+or together, or a start takes more than 10 s.
+"""
+import argparse
+import os
+import pathlib
+import sqlite3
+import statistics
+import subprocess
+import sys
+import tempfile
+import time
+
+import runs
+
+TOGETHER = 64
+STEPS = 512
+LONG_STEPS = 500
+ROOT = runs.HERE.parent
+NEXT = b'{"do":"next"}\n'
+
+
+def options():
+    """The words of this script."""
+    parser = argparse.ArgumentParser(description=__doc__.strip().splitlines()[0])
+    parser.add_argument("--turns", type=int, default=5, help="how often the parts take turns")
+    parser.add_argument("--events", type=int, default=1024, help="how many events a part has")
+    parser.add_argument("--sagas", type=int, default=1000, help="how many sagas the long log has")
+    parser.add_argument("--folder", help="where the files are put, in place of the system's folder for such")
+    parser.add_argument("--program", type=pathlib.Path, help="a built program, in place of crates/saga_tool's")
+    return parser.parse_args()
+
+
+def built(words):
+    """The program, built where its sources changed."""
+    if words.program:
+        return words.program
+    subprocess.run([ROOT / "build", "saga_tool"], check=True)
+    return ROOT / "crates" / "saga_tool" / "out" / "saga_tool"
+
+
+def definition(steps):
+    """The text of a definition of steps without needs."""
+    return 'format = 1\nname = "wide"\n' + "".join(f'[[step]]\nname = "s{step}"\n' for step in range(steps))
+
+
+def requests(events, together):
+    """The requests that have so many events after the openings, in groups that are sent together."""
+    groups = []
+    for first in range(0, events // 2, together):
+        steps = [divmod(number, STEPS) for number in range(first, first + together)]
+        reports = [b'{"do":"report","outcome":"ok","saga":%d,"step":%d}\n' % place for place in steps]
+        groups += [[NEXT] * together, reports]
+    return groups
+
+
+def lines_of(events):
+    """The same events as a log has them."""
+    lines = []
+    for number in range(events // 2):
+        saga, step = divmod(number, STEPS)
+        lines.append(f'{{"event":"start_run","saga":{saga},"step":{step}}}\n')
+        lines.append(f'{{"event":"commit","saga":{saga},"step":{step}}}\n')
+    return lines
+
+
+def exchanged(child, lines):
+    """Sends lines together, and waits for as many replies."""
+    os.write(child.stdin.fileno(), b"".join(lines))
+    left = len(lines)
+    while left:
+        read = os.read(child.stdout.fileno(), 65536) or sys.exit("sagas drive has ended")
+        left -= read.count(b"\n")
+
+
+def drive(program, file, log, events, together):
+    """The seconds of requests."""
+    words = [program, "drive", *(["--log", log] if log else []), file]
+    groups = requests(events, together)
+    with subprocess.Popen(words, stdin=subprocess.PIPE, stdout=subprocess.PIPE) as child:
+        exchanged(child, [b'{"def":0,"do":"open"}\n'] * -(-events // 2 // STEPS))
+        begin = time.perf_counter()
+        for lines in groups:
+            exchanged(child, lines)
+        took = time.perf_counter() - begin
+        child.stdin.close()
+    return took
+
+
+def table(path, mode):
+    """A new table of events."""
+    base = sqlite3.connect(path, isolation_level=None)
+    base.execute(f"PRAGMA journal_mode={mode}")
+    base.execute("PRAGMA synchronous=FULL")
+    base.execute("CREATE TABLE events (place INTEGER PRIMARY KEY, line TEXT NOT NULL)")
+    return base
+
+
+def sqlite(path, mode, lines, together):
+    """The seconds in which SQLite inserts events, so many a transaction."""
+    base = table(path, mode)
+    begin = time.perf_counter()
+    for first in range(0, len(lines), together):
+        base.execute("BEGIN")
+        for line in lines[first : first + together]:
+            base.execute("INSERT INTO events (line) VALUES (?)", (line,))
+        base.execute("COMMIT")
+    took = time.perf_counter() - begin
+    base.close()
+    return took
+
+
+def bare(path, lines, together):
+    """The seconds of appending lines to a file, with an fdatasync each time."""
+    file = os.open(path, os.O_WRONLY | os.O_CREAT | os.O_APPEND, 0o644)
+    begin = time.perf_counter()
+    for first in range(0, len(lines), together):
+        os.write(file, "".join(lines[first : first + together]).encode())
+        os.fdatasync(file)
+    took = time.perf_counter() - begin
+    os.close(file)
+    return took
+
+
+def parts(program, file, folder, events):
+    """Each part: its name, and what gives its seconds for a new file."""
+    lines = lines_of(events)
+    found = []
+    for together in [1, TOGETHER]:
+        how = "one at a time" if together == 1 else f"{TOGETHER} together"
+        found += [
+            (f"drive, {how}", lambda path, k=together: drive(program, file, None, events, k)),
+            (f"drive with a log, {how}", lambda path, k=together: drive(program, file, path, events, k)),
+            (f"SQLite DELETE, {how}", lambda path, k=together: sqlite(path, "DELETE", lines, k)),
+            (f"SQLite WAL, {how}", lambda path, k=together: sqlite(path, "WAL", lines, k)),
+            (f"append and fdatasync, {how}", lambda path, k=together: bare(path, lines, k)),
+        ]
+    return found
+
+
+def medians(timed, folder, turns):
+    """The seconds of each part in the middle of all turns."""
+    times = {name: [] for name, _ in timed}
+    for turn in range(turns):
+        for number, (name, part) in enumerate(timed):
+            times[name].append(part(folder / f"{turn}.{number}"))
+    return {name: statistics.median(found) for name, found in times.items()}
+
+
+def long_log(sagas):
+    """The text of a log of sagas in which each step was run and committed."""
+    steps = [f',"step":{step}}}\n' for step in range(LONG_STEPS)]
+    text = ['{"format":2}\n']
+    for saga in range(sagas):
+        text.append(f'{{"def":0,"event":"open","saga":{saga}}}\n')
+        run, commit = (f'{{"event":"{word}","saga":{saga}' for word in ["start_run", "commit"])
+        text += [part for step in steps for part in (run, step, commit, step)]
+    return "".join(text)
+
+
+def seconds(words, wanted):
+    """How long a run takes, in the best of three."""
+    times = []
+    for _ in range(3):
+        begin = time.perf_counter()
+        done = subprocess.run(words, stdin=subprocess.DEVNULL, capture_output=True, check=True)
+        times.append(time.perf_counter() - begin)
+        if not done.stdout.startswith(wanted) or done.stderr:
+            sys.exit(f"{words}: {done.stdout[:80]} {done.stderr[:80]}")
+    return min(times)
+
+
+def selected(folder, text):
+    """The seconds in which SQLite reads the lines of a text, which a table has."""
+    base = table(folder / "long.db", "WAL")
+    base.execute("BEGIN")
+    base.executemany("INSERT INTO events (line) VALUES (?)", ((line,) for line in text.splitlines(True)))
+    base.execute("COMMIT")
+    begin = time.perf_counter()
+    rows = sum(1 for _ in base.execute("SELECT line FROM events ORDER BY place"))
+    took = time.perf_counter() - begin
+    base.close()
+    return rows, took
+
+
+def greatest_memory(command):
+    """The most bytes that a start has in use, as the system says once it answers."""
+    with subprocess.Popen(command, stdin=subprocess.PIPE, stdout=subprocess.PIPE) as child:
+        exchanged(child, [b'{"do":"show","saga":0}\n'])
+        status = pathlib.Path(f"/proc/{child.pid}/status").read_text(encoding="utf-8")
+        child.stdin.close()
+        child.stdout.read()
+    return next(1024 * int(line.split()[1]) for line in status.splitlines() if line.startswith("VmHWM"))
+
+
+def restart(program, folder, sagas):
+    """Times a start on a long log; gives its seconds."""
+    text = long_log(sagas)
+    file, log = runs.put(folder, "long.toml", definition(LONG_STEPS)), runs.put(folder, "long.log", text)
+    command = [program, "drive", "--log", log, file]
+    start = seconds(command, b"")
+    audit = seconds([program, "audit", log, file], b"yes ")
+    rows, select = selected(folder, text)
+    memory = greatest_memory(command)
+    print(f"a start on {rows - 1:,} events, {len(text) / 1e6:.0f} MB: {start:.2f} s; an audit {audit:.2f} s; SQLite reads the rows in"
+          f" {select:.2f} s; greatest memory {memory / 1e6:.0f} MB, {memory / (rows - 1):.0f} bytes an event")
+    return start
+
+
+def main():
+    words = options()
+    program = built(words)
+    with tempfile.TemporaryDirectory(dir=words.folder) as name:
+        folder = pathlib.Path(name)
+        file = runs.put(folder, "wide.toml", definition(STEPS))
+        events = -(-words.events // (2 * TOGETHER)) * 2 * TOGETHER
+        middle = medians(parts(program, file, folder, events), folder, words.turns)
+        good = True
+        for part, took in middle.items():
+            peer = middle["SQLite WAL, " + part.split(", ", 1)[1]]
+            print(f"{part}: {events / took:,.0f} events a second, {took / peer:.2f} of SQLite's time with WAL", flush=True)
+            good = good and (not part.startswith("drive with a log") or took <= peer)
+        start = restart(program, folder, words.sagas)
+    sys.exit(0 if good and start <= 10 else 1)
+
+
+if __name__ == "__main__":
+    main()

@@ -1,0 +1,59 @@
+#!/usr/bin/env python3
+"""Times `Book::replay` of histories that a book made, against `audit` of the same histories.
+
+A replay audits the history, and then makes each event again. The definitions have random needs, three a step. There are 1,000
+sagas of 10 steps and of 500; either every step succeeds, or the last step of each saga fails, and a plan keeps nothing. Prints
+the time per event of both in the best of all runs, and their ratio; and then how much longer a replay takes at ten times
+the sagas. Ends with status 1 where a replay takes more than three times as long as the audit, or ten times the sagas take it
+more than 12 times as long.
+"""
+import os
+import subprocess
+import sys
+import tempfile
+
+import case_net
+import runs
+
+SAGAS = 1000
+STEPS = [10, 500]
+NEEDS = 3
+PARTS = ["audit", "replay"]
+
+
+def definition(steps):
+    """A definition whose least plan keeps nothing."""
+    _, pairs = case_net.made("any", steps, NEEDS * steps, 1)
+    return "".join(["s waiting 0 0 0 1\n"] * steps + [f"n {step} {on}\n" for step, on in pairs])
+
+
+def seconds(program, file, sagas, fails, turns):
+    """How many events a load has, and the seconds of each part in the best of all runs."""
+    found = [[] for _ in PARTS]
+    for _ in range(turns):
+        command = [program, "replay", file, str(sagas), *fails]
+        done = subprocess.run(command, env=os.environ | runs.KEPT, capture_output=True, text=True, check=True)
+        for number, line in enumerate(done.stderr.split()):
+            found[number % len(PARTS)].append(float(line))
+    return int(done.stdout.split()[1]), [min(times) for times in found]
+
+
+def main():
+    words = runs.options(__doc__)
+    program = runs.built(words)
+    good = True
+    with tempfile.TemporaryDirectory() as folder:
+        for steps in STEPS:
+            file = runs.put(folder, str(steps), definition(steps))
+            for kind, fails in [("all succeed", []), ("one failure a saga", [str(steps - 1)])]:
+                events, (audit, replay) = seconds(program, file, SAGAS, fails, words.turns)
+                _, (_, small) = seconds(program, file, SAGAS // 10, fails, words.turns)
+                print(f"{SAGAS} sagas of {steps} steps, {kind}: {events} events; audit {audit / events * 1e9:.0f} ns an event,"
+                      f" replay {replay / events * 1e9:.0f}, {replay / audit:.2f} times as long;"
+                      f" ten times the sagas take a replay {replay / small:.1f} times as long", flush=True)
+                good = good and replay <= 3 * audit and replay <= 12 * small
+    sys.exit(0 if good else 1)
+
+
+if __name__ == "__main__":
+    main()
