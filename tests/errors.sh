@@ -1,9 +1,15 @@
 #!/usr/bin/env bash
-# Goes through docs/ERRORS.md: runs each command of the page and compares what it prints, and its status, with the page; and
-# looks whether each entry has a command or says that no input gives it, and whether each word of docs/FORMATS.md has an entry.
+# Goes through docs/ERRORS.md: runs each command of the page, in a folder that has the examples and the program, and compares what
+# it prints, and its status, with the page; and looks whether each entry has a command or says that no input gives it, and whether
+# each word of docs/FORMATS.md has an entry.
 set -uo pipefail
 cd "$(dirname "$0")/.."
 ./sagas --help >/dev/null || { echo "the program is not built"; exit 1; }
+work=$(mktemp -d)
+trap 'rm -rf "$work"' EXIT
+ln -s "$PWD/examples" "$work"
+printf '#!/bin/sh\nexec "%s/sagas" "$@"\n' "$PWD" >"$work/sagas"
+chmod +x "$work/sagas"
 
 # The commands of the page, each with the status of its part and the lines that it prints:
 #   STATUS <tab> COMMAND <tab> LINE <tab> LINE ..
@@ -59,7 +65,7 @@ while IFS= read -r row; do
   status=${fields[0]}
   command=${fields[1]}
   wanted=$(printf '%s\n' "${fields[@]:2}")
-  found=$(eval "$command" 2>&1 </dev/null)
+  found=$(cd "$work" && eval "$command" 2>&1 </dev/null)
   got=$?
   case $wanted in
     *...) wanted=${wanted%...}; [[ $found == "$wanted"* ]] && found=$wanted ;;

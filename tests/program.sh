@@ -222,6 +222,11 @@ expect 2 '' '*Usage: sagas run *<DEF>*' $none run
 expect 2 '' '*--workers*' $none run --workers 17 $trip
 expect 2 '' '*--shards*' $none run --shards 0 $trip
 expect 0 '*Usage: sagas run *<DEF>*Status: 0*' '' $none run --help
+expect 0 '*Usage: sagas drive *<DEF>*Status: 0*' '' $none drive --help
+expect 2 '' '*Usage: sagas drive *<DEF>*' $none drive
+expect 2 '' '*--workers*' $none drive --workers 2 $trip
+expect 4 '' 'sagas: cannot read x' $none drive --log "$work/new" x
+expect 0 '' '' $none drive $trip
 expect 2 '' 'error: *--x*' $none --x
 expect 2 '' 'error: invalid UTF-8*' $none plan $'\xff.toml' $case
 expect 2 '' 'error: invalid UTF-8*' $none $'\xff'
@@ -229,7 +234,7 @@ expect 0 '*Usage: sagas check <DEF> <CASE> <ANSWER>*Status: 0*' '' $none check -
 expect 0 '*Usage: sagas check <DEF> <CASE> <ANSWER>*Status: 0*' '' $none check $trip $case $answer --help
 expect 0 '*Usage: sagas plan <DEF> <CASE>*Status: 0*' '' $none plan --help
 expect 0 '*Usage: sagas audit <LOG> <DEF>*Status: 0*' '' $none audit --help
-expect 0 '*Usage: sagas <COMMAND>*check DEF CASE ANSWER: *plan DEF CASE: *run * DEF..: *audit LOG DEF..: *draw DEF \[CASE\] \[ANSWER\]: *Status: 0*' '' $none --help
+expect 0 '*Usage: sagas <COMMAND>*check DEF CASE ANSWER: *plan DEF CASE: *run * DEF..: *audit LOG DEF..: *draw DEF \[CASE\] \[ANSWER\]: *drive * DEF..: *Status: 0*' '' $none --help
 expect 0 'sagas 0.1.0' '' $none --version
 expect 3 '' 'sagas: input: parts' $none
 

@@ -14,7 +14,7 @@ command -v valgrind >/dev/null || { echo "valgrind is not there"; exit 1; }
 clean() {
   local log input=/dev/null
   log=$(mktemp -p "$work")
-  [ "$1" != - ] || { input=$2; set --; }
+  [ "$1" != - ] || { input=$2; shift 2; }
   valgrind --quiet --log-file="$log" --error-exitcode=99 --leak-check=full --show-leak-kinds=all --errors-for-leak-kinds=all \
     "$program" "$@" <"$input" >/dev/null 2>&1
   local status=$?
@@ -44,6 +44,13 @@ runs() {
   echo "audit $e/trip.log $e/trip.toml"
   echo "audit $e/trip.log $e/order.toml $e/trip.toml"
   echo "- crates/saga_tool/stdin"
+  # Requests, on no log, a new one, one of before, one that is cut, and ones that are refused.
+  cp $e/trip.log "$work/before.log"
+  head -c -9 $e/trip.log >"$work/short.log"
+  sed 's/commit/fail/' $e/trip.log >"$work/other.log"
+  { cat $e/trip.requests; printf '{"do":"busy"}\n\n{\n{"do":"show","saga":0}\n'; many 70000 x; printf '\n{"do":"abort","saga":0}'; } >"$work/requests"
+  echo "- $work/requests drive $e/trip.toml $e/order.toml"
+  for name in new before short other; do echo "- $work/requests drive --log $work/$name.log $e/trip.toml"; done
   echo "--help"
   echo "check --help"
   echo "nothing at all"

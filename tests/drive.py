@@ -1,0 +1,1144 @@
+"""Drives `sagas drive`: conversations, random ones, kills, cut and changed logs, refused writes and memory, the lock, the examples.
+
+    tests/drive.py [--program P] [--libraries FOLDER] [--only SECTION] [--kills N] [--seed S]
+
+SECTION is `said`, `starts`, `random`, `kills`, `cuts`, `writes`, `memory`, `lock` or `service`. FOLDER has the libraries of
+tests/unwritten.c and tests/refusing.c, as tests/drive.sh builds them.
+"""
+import argparse
+import concurrent.futures
+import contextlib
+import errno
+import fcntl
+import json
+import os
+import pathlib
+import random
+import shutil
+import signal
+import subprocess
+import sys
+import tempfile
+import time
+import zlib
+
+ROOT = pathlib.Path(__file__).resolve().parent.parent
+EXAMPLES = ROOT / "examples"
+PROCESSORS = len(os.sched_getaffinity(0))
+HEADER = b'{"format":2}\n'
+NEXT, BUSY = {"do": "next"}, {"do": "busy"}
+NO_MEMORY = {"fault": "out-of-memory"}
+
+# Definitions, by name. In `pair` step b needs step a; where b fails, a is undone, and where that fails too, a stays.
+DEFINITIONS = {
+    "pair": 'format = 2\nname = "pair"\nstep = [{ name = "a", tries = 2, undo = 1, undo_tries = 2, keep = 9 },'
+    ' { name = "b", needs = ["a"], skip = 1 }]\n',
+    "must": 'format = 1\nname = "must"\nstep = [{ name = "a", skip = "never" }]\n',
+    "chain3": 'format = 2\nname = "chain3"\nstep = [{ name = "a", undo = 1, keep = 2, tries = 2 },'
+    ' { name = "b", needs = ["a"], undo = "never", tries = 2 }, { name = "c", needs = ["b"], skip = 1 }]\n',
+    "chain6": 'format = 2\nname = "chain6"\nstep = [{ name = "a", undo = 1, keep = 9 }, { name = "b", needs = ["a"], tries = 2, undo = 1, keep = 3 },'
+    ' { name = "c", needs = ["b"], undo = 1, keep = 3, undo_tries = 3 }, { name = "d", needs = ["c"], undo = 4, keep = 3, tries = 9 },'
+    ' { name = "e", needs = ["d"], undo = 1, keep = 8 }, { name = "f", needs = ["e"], run = 2, skip = 1 }]\n',
+}
+
+
+class State:
+    """What all sections share: the words that the script was given, a folder, and what was found wrong."""
+
+    def __init__(self, words, folder):
+        self.program, self.libraries, self.kills, self.seed = words.program, words.libraries, words.kills, words.seed
+        self.folder = pathlib.Path(folder)
+        self.wrong = []
+        for name, text in DEFINITIONS.items():
+            (self.folder / f"{name}.toml").write_text(text, encoding="utf-8")
+
+    def defined(self, *names):
+        """The files of definitions."""
+        return [self.folder / f"{name}.toml" if name in DEFINITIONS else EXAMPLES / f"{name}.toml" for name in names]
+
+    def fail(self, *why):
+        """Notes what is wrong."""
+        self.wrong.append(" ".join(map(str, why)))
+
+    def expect(self, what, found, wanted):
+        """Notes what is wrong where two values differ."""
+        if found != wanted:
+            found, wanted = str(found), str(wanted)
+            alike = len(os.path.commonprefix([found, wanted]))
+            begin = max(0, alike - 100)
+            self.fail(f"{what}: from {alike} on: {found[begin : alike + 200]} instead of {wanted[begin : alike + 200]}")
+
+    def command(self, definitions, log):
+        return [self.program, "drive", *(["--log", log] if log else []), *definitions]
+
+    def ran(self, definitions, log, text, settings=None):
+        """A whole run on some input: its status, what it replied and what it said on standard error."""
+        done = subprocess.run(
+            self.command(definitions, log), input=text, env=os.environ | (settings or {}), capture_output=True, check=False, timeout=60
+        )
+        return done.returncode, done.stdout, done.stderr
+
+    def audited(self, log, definitions):
+        """Looks whether the audit says yes of the whole lines of a log."""
+        whole = log.with_name(f"{log.name}.whole")
+        whole.write_bytes(b"".join(whole_lines(log)))
+        done = subprocess.run([self.program, "audit", whole, *definitions], capture_output=True, check=False)
+        if done.returncode != 0 or not done.stdout.startswith(b"yes "):
+            self.fail(f"audit of {log.name}: {done.stdout.decode()}{done.stderr.decode()}")
+
+
+class Driven:
+    """A running `sagas drive`: requests are sent, and replies come back."""
+
+    def __init__(self, state, definitions, log=None, settings=None):
+        pipes = {"stdin": subprocess.PIPE, "stdout": subprocess.PIPE, "stderr": subprocess.PIPE}
+        self.child = subprocess.Popen(state.command(definitions, log), env=os.environ | (settings or {}), **pipes)
+
+    def send(self, *requests):
+        """Sends requests together; gives whether they were taken."""
+        try:
+            self.child.stdin.write(b"".join(line_of(request) for request in requests))
+            self.child.stdin.flush()
+            return True
+        except BrokenPipeError:
+            return False
+
+    def reply(self):
+        """The next reply, or none where the program has ended."""
+        line = self.child.stdout.readline()
+        return json.loads(line) if line.endswith(b"\n") else None
+
+    def ask(self, request):
+        return self.reply() if self.send(request) else None
+
+    def rest(self):
+        """All replies that are still to come."""
+        return [json.loads(line) for line in self.child.stdout.read().splitlines(True) if line.endswith(b"\n")]
+
+    def end(self):
+        """Ends the requests, and gives the status and the lines on standard error."""
+        try:
+            self.child.stdin.close()
+        except BrokenPipeError:
+            pass
+        said = self.child.stderr.read().decode()
+        self.child.stdout.close()
+        self.child.stderr.close()
+        return self.child.wait(60), said
+
+    def kill(self):
+        """Kills it; gives the replies that had come."""
+        self.child.send_signal(signal.SIGKILL)
+        replies = self.rest()
+        self.end()
+        return replies
+
+
+def written(value):
+    """A value as the program writes it."""
+    return json.dumps(value, separators=(",", ":"), sort_keys=True)
+
+
+def line_of(request):
+    """A request's line; bytes are sent as they are."""
+    return request if isinstance(request, bytes) else written(request).encode() + b"\n"
+
+
+def whole_lines(log):
+    """The lines of a file that end with a line feed."""
+    return [line for line in log.read_bytes().splitlines(True) if line.endswith(b"\n")] if log.exists() else []
+
+
+def events_of(reply):
+    """The lines of the events that a reply tells of."""
+    if reply is None:
+        return []
+    if "event" in reply:
+        events = [reply["event"]]
+    elif reply.get("task") in ("run", "undo"):
+        events = [{"event": "start_" + reply["task"], "saga": reply["saga"], "step": reply["step"]}]
+    elif reply.get("task") == "plan":
+        events = [{"event": "start_plan", "saga": reply["saga"]}, {"answer": reply["answer"], "event": "adopt", "saga": reply["saga"]}]
+    else:
+        events = []
+    return [written(event).encode() + b"\n" for event in events]
+
+
+def told(replies):
+    """The lines of the events that replies tell of."""
+    return [line for reply in replies for line in events_of(reply)]
+
+
+def opening(definition):
+    return {"def": definition, "do": "open"}
+
+
+def shown(saga):
+    return {"do": "show", "saga": saga}
+
+
+def aborting(saga):
+    return {"do": "abort", "saga": saga}
+
+
+def report(saga, step, outcome):
+    return {"do": "report", "outcome": outcome, "saga": saga, "step": step}
+
+
+def event(word, saga, step=None):
+    return {"event": {"event": word, "saga": saga} | ({} if step is None else {"step": step})}
+
+
+def opened(saga, definition=0):
+    return {"event": {"def": definition, "event": "open", "saga": saga}}
+
+
+def task(word, saga, step, name, attempt=1):
+    return {"attempt": attempt, "name": name, "saga": saga, "step": step, "task": word}
+
+
+def stands(saga, name, phase, states, kept, aborted=False):
+    return {"aborted": aborted, "kept": kept, "name": name, "phase": phase, "saga": saga, "states": states.split()}
+
+
+def none(settled):
+    return {"settled": settled, "task": "none"}
+
+
+def plan(saga, cost, kept, leave, links, stand):
+    answer = {"cost": cost, "kept": kept, "kind": "plan", "leave": leave, "links": links, "stand": stand}
+    return {"answer": answer, "saga": saga, "task": "plan"}
+
+
+# ---- what is said: requests and replies
+
+# A saga whose step b fails, so that a is undone, at its second attempt.
+UNDONE = [
+    (opening(0), opened(0)),
+    (NEXT, task("run", 0, 0, "a")),
+    (NEXT, none(False)),
+    (BUSY, {"busy": [task("run", 0, 0, "a")]}),
+    (shown(0), stands(0, "pair", "going", "running waiting", [0, 1])),
+    (report(0, 0, "fail"), event("missed", 0, 0)),
+    (NEXT, task("run", 0, 0, "a", 2)),
+    (report(0, 0, "ok"), event("commit", 0, 0)),
+    (report(0, 0, "ok"), {"refused": "not-taken"}),
+    (NEXT, task("run", 0, 1, "b")),
+    (report(0, 1, "fail"), event("fail", 0, 1)),
+    (shown(0), stands(0, "pair", "draining", "committed failed", [])),
+    (NEXT, plan(0, 2, [], [1, 1], [0], [1, 1])),
+    (shown(0), stands(0, "pair", "going", "committed failed", [])),
+    (NEXT, task("undo", 0, 0, "a")),
+    (BUSY, {"busy": [task("undo", 0, 0, "a")]}),
+    (report(0, 0, "fail"), event("undo_missed", 0, 0)),
+    (NEXT, task("undo", 0, 0, "a", 2)),
+]
+
+CONVERSATIONS = [
+    ("nothing", ["pair"], [(BUSY, {"busy": []}), (NEXT, none(True)), (shown(0), {"refused": "no-such-saga"})]),
+    (
+        "commits",
+        ["must"],
+        [
+            (opening(0), opened(0)),
+            (NEXT, task("run", 0, 0, "a")),
+            (report(0, 0, "ok"), event("commit", 0, 0)),
+            (shown(0), stands(0, "must", "ended", "committed", [0])),
+            (NEXT, none(True)),
+            (aborting(0), {"refused": "not-now"}),
+        ],
+    ),
+    (
+        "undone",
+        ["pair"],
+        UNDONE
+        + [
+            (report(0, 0, "ok"), event("undone", 0, 0)),
+            (shown(0), stands(0, "pair", "ended", "undone failed", [])),
+            (NEXT, none(True)),
+        ],
+    ),
+    (
+        "not undone",
+        ["pair"],
+        UNDONE
+        + [
+            (report(0, 0, "fail"), event("undo_fail", 0, 0)),
+            (shown(0), stands(0, "pair", "draining", "fixed failed", [])),
+            (NEXT, plan(0, 10, [0], [9, 1], [0], [9, 1])),
+            (shown(0), stands(0, "pair", "ended", "fixed failed", [0])),
+            (NEXT, none(True)),
+        ],
+    ),
+    (
+        "stuck",
+        ["must"],
+        [
+            (opening(0), opened(0)),
+            (NEXT, task("run", 0, 0, "a")),
+            (report(0, 0, "fail"), event("fail", 0, 0)),
+            (NEXT, {"answer": {"chain": [0], "kind": "blocked"}, "saga": 0, "task": "plan"}),
+            (shown(0), stands(0, "must", "stuck", "failed", [])),
+            (aborting(0), {"refused": "not-now"}),
+            (NEXT, none(True)),
+        ],
+    ),
+    (
+        "aborted",
+        ["pair"],
+        [
+            (opening(0), opened(0)),
+            (opening(0), opened(1)),
+            (NEXT, task("run", 0, 0, "a")),
+            (aborting(0), event("abort", 0)),
+            (aborting(0), {"refused": "not-now"}),
+            (shown(0), stands(0, "pair", "draining", "running waiting", [], True)),
+            (NEXT, task("run", 1, 0, "a")),
+            (BUSY, {"busy": [task("run", 0, 0, "a"), task("run", 1, 0, "a")]}),
+            (report(0, 0, "ok"), event("commit", 0, 0)),
+            (NEXT, plan(0, 2, [], [1, 1], [0], [1, 1])),
+            (NEXT, task("undo", 0, 0, "a")),
+            (report(0, 0, "ok"), event("undone", 0, 0)),
+            (shown(0), stands(0, "pair", "ended", "undone waiting", [], True)),
+            (NEXT, none(False)),
+            (BUSY, {"busy": [task("run", 1, 0, "a")]}),
+        ],
+    ),
+    (
+        "refused",
+        ["pair", "must"],
+        [
+            (opening(2), {"refused": "no-such-definition"}),
+            (opening(2**32 - 1), {"refused": "no-such-definition"}),
+            (report(0, 0, "ok"), {"refused": "no-such-saga"}),
+            (aborting(0), {"refused": "no-such-saga"}),
+            (opening(1), opened(0, 1)),
+            (opening(0), opened(1)),
+            (shown(2), {"refused": "no-such-saga"}),
+            (shown(2**32 - 1), {"refused": "no-such-saga"}),
+            (report(2, 9, "ok"), {"refused": "no-such-saga"}),
+            (report(0, 1, "ok"), {"refused": "no-such-step"}),
+            (report(0, 65535, "fail"), {"refused": "no-such-step"}),
+            (report(1, 1, "fail"), {"refused": "not-taken"}),
+            (report(1, 0, "ok"), {"refused": "not-taken"}),
+        ],
+    ),
+]
+
+# A line with just as many bytes as it may have, and one more.
+LONGEST = b'{"do":"busy"' + b" " * (65536 - 13) + b"}"
+
+# Lines on a book with one saga, of `pair`, whose first step is running.
+IDLE = {"busy": [task("run", 0, 0, "a")]}
+LINES = [
+    (b"", {"fault": "not-json"}),
+    (b"  ", {"fault": "not-json"}),
+    (b"{", {"fault": "not-json"}),
+    (b'{"do":"busy"}}', {"fault": "not-json"}),
+    (b'{"do":"busy"} {"do":"busy"}', {"fault": "not-json"}),
+    (b'{"do":"busy",}', {"fault": "not-json"}),
+    (b"{'do':'busy'}", {"fault": "not-json"}),
+    (b'{"do":"busy"}\0', {"fault": "not-json"}),
+    (b'{"do":"bus\xff"}', {"fault": "not-json"}),
+    (b"\xef\xbb\xbf" + b'{"do":"busy"}', {"fault": "not-json"}),
+    (b"[" * 200 + b"]" * 200, {"fault": "not-json"}),
+    (b'{"do":"show","saga":' + b"7" * 1000 + b"}", {"fault": "not-json"}),
+    (b"[]", {"fault": "kind"}),
+    (b'"busy"', {"fault": "kind"}),
+    (b"7", {"fault": "kind"}),
+    (b"null", {"fault": "kind"}),
+    (b"{}", {"fault": "kind"}),
+    (b'{"do":7}', {"fault": "kind"}),
+    (b'{"do":"Busy"}', {"fault": "kind"}),
+    (b'{"do":"close","saga":0}', {"fault": "kind"}),
+    (b'{"Do":"busy"}', {"fault": "kind"}),
+    (b'{"saga":0,"x":1}', {"fault": "kind"}),
+    (b'{"do":"busy","saga":0}', {"fault": "unknown-key"}),
+    (b'{"do":"next","":0}', {"fault": "unknown-key"}),
+    (b'{"do":"open","x":0}', {"fault": "unknown-key"}),
+    (b'{"do":"open","def":"a","saga":0}', {"fault": "unknown-key"}),
+    (b'{"do":"show","saga":0,"step":0}', {"fault": "unknown-key"}),
+    (b'{"do":"open"}', {"fault": "missing-key"}),
+    (b'{"do":"show"}', {"fault": "missing-key"}),
+    (b'{"do":"abort"}', {"fault": "missing-key"}),
+    (b'{"do":"report","outcome":"ok","saga":"a"}', {"fault": "missing-key"}),
+    (b'{"do":"report","saga":0,"step":0}', {"fault": "missing-key"}),
+    (b'{"do":"report","outcome":"ok","step":0}', {"fault": "missing-key"}),
+    (b'{"do":"open","def":"0"}', {"fault": "bad-type"}),
+    (b'{"do":"open","def":-1}', {"fault": "bad-type"}),
+    (b'{"do":"open","def":0.0}', {"fault": "bad-type"}),
+    (b'{"do":"open","def":1e0}', {"fault": "bad-type"}),
+    (b'{"do":"open","def":null}', {"fault": "bad-type"}),
+    (b'{"do":"open","def":4294967296}', {"fault": "bad-type"}),
+    (b'{"do":"show","saga":4294967296}', {"fault": "bad-type"}),
+    (b'{"do":"show","saga":18446744073709551616}', {"fault": "bad-type"}),
+    (b'{"do":"abort","saga":[0]}', {"fault": "bad-type"}),
+    (b'{"do":"report","outcome":"ok","saga":0,"step":65536}', {"fault": "bad-type"}),
+    (b'{"do":"report","outcome":"done","saga":0,"step":0}', {"fault": "bad-type"}),
+    (b'{"do":"report","outcome":true,"saga":0,"step":0}', {"fault": "bad-type"}),
+    (LONGEST, IDLE),
+    (LONGEST + b" ", {"fault": "too-long"}),
+    (b"x" * 65536, {"fault": "not-json"}),
+    (b"x" * 65537, {"fault": "too-long"}),
+    (b"x" * 300000, {"fault": "too-long"}),
+    (b'{"do":"busy"}\r', IDLE),
+    (b' \t{ "do" :\t"busy" } ', IDLE),
+    (b'{"\\u0064o":"b\\u0075sy"}', IDLE),
+    (b'{"do":"next","do":"busy"}', IDLE),
+    (b'{"saga":1,"do":"show","saga":0}', stands(0, "pair", "going", "running waiting", [0, 1])),
+    (b'{"saga":0,"do":"show"}', stands(0, "pair", "going", "running waiting", [0, 1])),
+    (b'{"step":0,"saga":0,"outcome":"fail","do":"report"}', event("missed", 0, 0)),
+]
+
+
+def seen(driven, sagas):
+    """All that can be seen of a book without a change."""
+    return [driven.ask(shown(saga)) for saga in range(sagas)] + [driven.ask(BUSY)]
+
+
+def converse(state, name, definitions, pairs):
+    """Holds a conversation with a log, request by request: what is refused changes nothing, and the log has what was told."""
+    log = state.folder / f"said.{name}.log"
+    driven = Driven(state, state.defined(*definitions), log)
+    replies = []
+    sagas = 0
+    for request, wanted in pairs:
+        changes = "fault" not in wanted and "refused" not in wanted
+        before = None if changes else (seen(driven, sagas), log.read_bytes())
+        replies.append(driven.ask(request))
+        if not changes:
+            state.expect(f"{name}: after the refused {request}", (seen(driven, sagas), log.read_bytes()), before)
+        sagas += "open" in str(events_of(wanted))
+        state.expect(f"{name}: {str(request)[:80]}", replies[-1], wanted)
+        state.expect(f"{name}: the log", log.read_bytes(), HEADER + b"".join(told(replies)))
+    state.expect(f"{name}: the end", driven.end(), (0, ""))
+
+
+# The keys of each request, and the bounds of numbers.
+KEYS = {"open": ["def"], "next": [], "report": ["outcome", "saga", "step"], "abort": ["saga"], "show": ["saga"], "busy": []}
+BOUNDS = {"def": 2**32, "saga": 2**32, "step": 65536}
+
+
+def is_of_type(key, value):
+    """Whether a request may have this value at a key."""
+    if key == "outcome":
+        return value in ("ok", "fail")
+    return type(value) is int and 0 <= value < BOUNDS[key]
+
+
+def fault_of(line):
+    """The first fault of a line, by docs/FORMATS.md; none of a request."""
+    try:
+        value = json.loads(line.decode("utf-8"))
+    except ValueError:
+        return "not-json"
+    word = value.get("do") if isinstance(value, dict) else None
+    keys = KEYS.get(word) if isinstance(word, str) else None
+    if keys is None:
+        return "kind"
+    if set(value) - {"do", *keys}:
+        return "unknown-key"
+    if set(keys) - set(value):
+        return "missing-key"
+    return None if all(is_of_type(key, value[key]) for key in keys) else "bad-type"
+
+
+def hostile(state):
+    """Each prefix of each request, each request with one byte changed, and objects of random keys and values: the fault that has to come."""
+    draw = random.Random(state.seed)
+    shortest = [written(request).encode() for request in (opening(0), NEXT, report(0, 0, "ok"), aborting(0), shown(0), BUSY)]
+    lines = [text[:place] for text in shortest for place in range(len(text))]
+    lines += [text[:place] + byte + text[place + 1 :] for text in shortest for place in range(len(text)) for byte in (b"\0", b"\xff", b"}")]
+    values = [0, 1, 3, 65535, 65536, 2**32 - 1, 2**32, -1, 1.5, "ok", "fail", "0", "", None, True, [], {}, {"do": "next"}]
+    for _ in range(2000):
+        word = draw.choice([*KEYS, *KEYS, "close", 7])
+        keys = [*KEYS.get(word, []), *draw.sample(["def", "saga", "step", "outcome", "x"], draw.choice([0, 0, 0, 1]))]
+        pairs = [("do", word)] + [(key, draw.choice(values)) for key in keys if draw.random() < 0.9]
+        draw.shuffle(pairs)
+        lines.append(json.dumps(dict(pairs)).encode())
+    status, replies, _ = state.ran(state.defined("pair"), None, b"".join(line + b"\n" for line in lines))
+    found = [json.loads(reply).get("fault") for reply in replies.splitlines()]
+    state.expect("hostile: the end", (status, len(found)), (0, len(lines)))
+    for line, one in zip(lines, found):
+        state.expect(f"hostile: {line}", one, fault_of(line))
+    return len(lines)
+
+
+def in_pieces(state):
+    """Lines that come in pieces, and lines of which one read does not take all: each reply comes once its line is there."""
+    text = b"".join(line_of(request) for request, _ in UNDONE)
+    replies = [wanted for _, wanted in UNDONE]
+    for size in (1, 7, 64):
+        driven = Driven(state, state.defined("pair"))
+        for first in range(0, len(text), size):
+            driven.send(text[first : first + size])
+        state.expect(f"in pieces of {size}", [driven.reply() for _ in replies], replies)
+        state.expect(f"in pieces of {size}: the end", driven.end(), (0, ""))
+    driven = Driven(state, state.defined("pair"))
+    driven.send(b'{"do":"busy"}\n{"do":"bu')
+    state.expect("before a line's end", driven.reply(), {"busy": []})
+    driven.send(b'sy"}\n')
+    state.expect("behind a line's end", (driven.reply(), driven.end()), ({"busy": []}, (0, "")))
+    draw = random.Random(state.seed)
+    lines = [b'{"do":"next"%s}\n' % (b" " * draw.choice([0, 1, 50, 5000, 65000])) for _ in range(500)]
+    state.expect("500 long lines", state.ran(state.defined("pair"), None, b"".join(lines)), (0, line_of(none(True)) * 500, b""))
+
+
+def said(state):
+    """Conversations: with a log and without, line by line and at once; the last line without its line feed."""
+    begun = [UNDONE[0], UNDONE[1]]
+    lines = ("lines", ["pair"], begun + [(line + b"\n", wanted) for line, wanted in LINES])
+    for name, definitions, pairs in CONVERSATIONS + [lines]:
+        converse(state, name, definitions, pairs)
+        text = b"".join(line_of(request) for request, _ in pairs)
+        replies = b"".join(line_of(wanted) for _, wanted in pairs)
+        log = state.folder / f"said.{name}.once.log"
+        for at_once in [text, text[:-1]]:
+            log.unlink(missing_ok=True)
+            state.expect(f"{name}, at once", state.ran(state.defined(*definitions), log, at_once), (0, replies, b""))
+            state.expect(f"{name}, without a log", state.ran(state.defined(*definitions), None, at_once), (0, replies, b""))
+        state.expect(f"{name}: the log, at once", log.read_bytes(), (state.folder / f"said.{name}.log").read_bytes())
+    in_pieces(state)
+    count = hostile(state)
+    many = line_of(opening(0)) * 1001
+    wanted = b"".join(line_of(opened(saga)) for saga in range(1000)) + line_of({"refused": "full"})
+    log = state.folder / "said.full.log"
+    state.expect("1,001 openings", state.ran(state.defined("must"), log, many), (0, wanted, b""))
+    state.expect("after them", state.ran(state.defined("must"), log, line_of(opening(0))), (0, line_of({"refused": "full"}), b""))
+    with log.open("ab") as file:
+        file.write(b'{"def":0,"event":"open","saga":1000}\n')
+    state.expect("a log of 1,001", state.ran(state.defined("must"), log, b""), (3, b"", b"sagas: log: no 1000 full\n"))
+    return sum(len(pairs) for _, _, pairs in CONVERSATIONS) + len(LINES) + count + 1001, "requests"
+
+
+# ---- the start: lines on standard error
+
+OPEN = b'{"def":0,"event":"open","saga":0}\n'
+RUN = b'{"event":"start_run","saga":0,"step":0}\n'
+LOGS = [
+    (b"", 0, ""),
+    (HEADER, 0, ""),
+    (HEADER[:5], 0, "sagas: log: cut line taken away: 5 bytes"),
+    (HEADER + OPEN[:-1], 0, "sagas: log: cut line taken away: 33 bytes"),
+    (HEADER + OPEN + RUN, 0, ""),
+    (HEADER + b' { "saga" :0,"event":"open","def":0}\r\n', 0, ""),
+    (b'{ "format":2}\n' + OPEN, 3, "sagas: log: no-header"),
+    (OPEN, 3, "sagas: log: no-header"),
+    (OPEN[:-1], 3, "sagas: log: no-header"),
+    (b"hello", 3, "sagas: log: no-header"),
+    (OPEN + RUN[:9], 3, "sagas: log: no-header"),
+    (b"\n", 3, "sagas: log: no-header"),
+    (HEADER + b"\n", 3, "sagas: log: line 2: not-json"),
+    (HEADER + OPEN + b"{}\n" + RUN[:9], 3, "sagas: log: line 3: kind"),
+    (HEADER + HEADER, 3, "sagas: log: line 2: kind"),
+    (b'{"format":3}\n', 3, "sagas: log: no-header"),
+    (b'{"format":2,"x":0}\n', 3, "sagas: log: no-header"),
+    (HEADER + b'{"event":"abort"}\n', 3, "sagas: log: line 2: missing-key"),
+    (HEADER + OPEN + OPEN, 3, "sagas: log: no 1 double-open"),
+    (HEADER + b'{"def":1,"event":"open","saga":0}\n', 3, "sagas: log: no 0 no-such-definition"),
+    (HEADER + RUN, 3, "sagas: log: no 0 no-such-saga"),
+    (HEADER + OPEN + RUN.replace(b'"step":0', b'"step":2'), 3, "sagas: log: no 1 no-such-step"),
+    (HEADER + OPEN + RUN + RUN, 3, "sagas: log: no 2 not-now"),
+    (HEADER + OPEN + b'{"event":"commit","saga":0,"step":0}\n', 3, "sagas: log: no 1 not-taken"),
+    (HEADER + OPEN + b'{"event":"drop_plan","saga":0}\n', 3, "sagas: log: no 1 not-planning"),
+    (HEADER + b'{"def":0,"event":"open","saga":1}\n', 3, "sagas: log: no 0 not-numbered"),
+    (HEADER + OPEN + b'{"def":0,"event":"open","saga":2}\n', 3, "sagas: log: no 1 not-numbered"),
+]
+
+# What a closed stream comes to: none of the three may be taken for the log.
+CLOSED = [("<&-", 4, [b"sagas: cannot read -\n"]), (">&-", 4, [b"sagas: cannot write -\n"]), ("2>&-", 0, [])]
+
+
+def starts(state):
+    """Logs at the start, good and bad, and words that are not of the form: the line, the status, and a refused log left as it was."""
+    pair = state.defined("pair")
+    log = state.folder / "starts.log"
+    for text, status, line in LOGS:
+        log.write_bytes(text)
+        found = state.ran(pair, log, b"")
+        state.expect(f"start on {text}", found, (status, b"", f"{line}\n".encode() if line else b""))
+        whole = text[: text.rfind(b"\n") + 1] or HEADER
+        state.expect(f"the file after {text}", log.read_bytes() or HEADER, whole if status == 0 else text)
+    log.unlink()
+    none, bad = state.folder / "none", state.folder / "bad.toml"
+    bad.write_text("x")
+    log.write_bytes(OPEN)
+    rows = [
+        ([*pair, bad], log, 3, "sagas: definition 1: not-toml"),
+        (pair * 65, log, 3, "sagas: too many definitions"),
+        ([none], None, 4, f"sagas: cannot read {none}"),
+        (pair, state.folder, 4, f"sagas: cannot write {state.folder}"),
+        (pair, none / "log", 4, f"sagas: cannot write {none / 'log'}"),
+    ]
+    for definitions, place, status, line in rows:
+        found = state.ran(definitions, place, b"")
+        state.expect(f"start on {str(definitions)[-80:]} {place}", found, (status, b"", f"{line}\n".encode()))
+    log.unlink()
+    for words in [["drive"], ["drive", "--log", log], ["drive", "--lock", *pair]]:
+        done = subprocess.run([state.program, *words], stdin=subprocess.DEVNULL, capture_output=True, check=False)
+        state.expect(f"{words}", (done.returncode, done.stdout), (2, b""))
+        state.expect(f"a log after {words}", log.exists(), False)
+    with open("/dev/full", "wb") as full:
+        text = line_of(opening(0)) + line_of(BUSY)
+        done = subprocess.run(state.command(pair, log), input=text, stdout=full, stderr=subprocess.PIPE, check=False)
+    state.expect("a full standard output", (done.returncode, done.stderr), (4, b"sagas: cannot write -\n"))
+    state.expect("the log then", log.read_bytes(), HEADER + OPEN)
+    for stream, status, line in CLOSED:
+        log.write_bytes(HEADER + OPEN + RUN[:7])
+        words = ["bash", "-c", f'"$0" "$@" {stream}', *state.command(pair, log)]
+        done = subprocess.run(words, input=line_of(NEXT), stdout=subprocess.DEVNULL, stderr=subprocess.PIPE, check=False)
+        state.expect(f"with {stream}", (done.returncode, done.stderr.splitlines(True)[-1:]), (status, line))
+        lines = HEADER + OPEN + (RUN if status == 0 else RUN[:7])
+        state.expect(f"the log with {stream}", log.read_bytes(), lines)
+    return len(LOGS) + len(rows) + 7, "starts"
+
+
+# ---- random conversations
+
+
+def random_definition(draw, path):
+    """A definition with some steps, whose needs go back."""
+    lines = ['format = 2\nname = "drawn"\n']
+    for number in range(draw.randint(1, 6)):
+        lines.append(f'[[step]]\nname = "s{number}"')
+        needs = sorted(draw.sample(range(number), min(number, draw.choice([0, 1, 1, 2]))))
+        lines.append("needs = [" + ", ".join(f'"s{need}"' for need in needs) + "]")
+        for key in ["run", "undo", "skip", "keep"]:
+            price = '"never"' if draw.random() < 0.1 else draw.choice([0, 0, 1, 2, 5, 10])
+            lines.append(f"{key} = {price}")
+        lines.append(f"tries = {draw.randint(1, 3)}\nundo_tries = {draw.randint(1, 2)}\n")
+    path.write_text("\n".join(lines), encoding="utf-8")
+    return path
+
+
+def random_request(draw, busy, sagas, definitions):
+    """A request, mostly one that is accepted."""
+    number = draw.random()
+    if sagas == 0 or number < 0.06:
+        return opening(draw.randrange(definitions + (number < 0.005)))
+    if number < 0.46:
+        return NEXT
+    if number < 0.86 and busy:
+        one = draw.choice(busy)
+        return report(one["saga"], one["step"], draw.choice(["ok", "ok", "ok", "fail"]))
+    if number < 0.9:
+        return report(draw.randrange(sagas + 1), draw.randrange(7), draw.choice(["ok", "fail"]))
+    if number < 0.93:
+        return aborting(draw.randrange(sagas + 1))
+    if number < 0.97:
+        return shown(draw.randrange(sagas + 1))
+    return draw.choice([BUSY, b"{\n", b'{"do":"close"}\n', b'{"do":"open","def":0,"x":1}\n'])
+
+
+def random_conversation(state, seed):
+    """A conversation of 150 requests, and then another start on its log, and on a copy of it."""
+    draw = random.Random(seed)
+    name = f"random {seed}"
+    folder = state.folder / f"random{seed}"
+    folder.mkdir()
+    definitions = [random_definition(draw, folder / "drawn.toml"), *state.defined(*draw.sample(["trip", "order", "server", "licence", "pair"], 2))]
+    log = folder / "log"
+    driven = Driven(state, definitions, log)
+    busy, sagas, pairs = [], 0, []
+    for _ in range(150):
+        request = random_request(draw, busy, sagas, len(definitions))
+        reply = driven.ask(request)
+        if reply is None:
+            break
+        pairs.append((request, reply))
+        sagas += "def" in reply.get("event", {})
+        if reply.get("task") in ("run", "undo"):
+            busy.append(reply)
+        elif request != NEXT and "step" in reply.get("event", {}):
+            busy = [one for one in busy if (one["saga"], one["step"]) != (request["saga"], request["step"])]
+    lines = told(reply for _, reply in pairs)
+    state.expect(f"{name}: the log", log.read_bytes(), HEADER + b"".join(lines))
+    book = seen(driven, sagas)
+    state.expect(f"{name}: busy", sorted(map(written, book[-1]["busy"])), sorted(map(written, busy)))
+    state.audited(log, definitions)
+    shutil.copy(log, folder / "copy")
+    ahead = [driven.ask(NEXT) for _ in range(30)]
+    state.expect(f"{name}: the end", driven.end(), (0, ""))
+    again = Driven(state, definitions, folder / "copy")
+    state.expect(f"{name}: after another start", seen(again, sagas), book)
+    state.expect(f"{name}: next after another start", [again.ask(NEXT) for _ in range(30)], ahead)
+    state.expect(f"{name}: the other end", again.end(), (0, ""))
+    state.expect(f"{name}: the other log", (folder / "copy").read_bytes(), log.read_bytes())
+    text = b"".join(line_of(request) for request, _ in pairs)
+    replies = b"".join(line_of(reply) for _, reply in pairs)
+    state.expect(f"{name}: at once, without a log", state.ran(definitions, None, text), (0, replies, b""))
+    return len(pairs)
+
+
+def random_ones(state):
+    """Random conversations: the log has just what was told, it is legal, and another start goes on with the same book."""
+    with concurrent.futures.ThreadPoolExecutor(PROCESSORS) as pool:
+        return sum(pool.map(lambda seed: random_conversation(state, seed), range(state.seed, state.seed + 30))), "requests"
+
+
+# ---- kills
+
+CHAINS = ["chain3", "chain6", "pair", "must"]
+OF_A_BOOK = 24
+
+
+def outcome_of(one):
+    """How a task ends: by its saga, step, action and attempt alone."""
+    key = f"{one['saga']} {one['step']} {one['task']} {one['attempt']}"
+    return "fail" if zlib.crc32(key.encode()) % 4 == 0 else "ok"
+
+
+class Load:
+    """A client that opens sagas and drives them to their end, several requests together, through any number of starts."""
+
+    def __init__(self, state, log, draw):
+        self.state, self.log, self.draw = state, log, draw
+        self.definitions = state.defined(*CHAINS, "trip")
+        self.base = []
+        self.told = []
+
+    def start(self):
+        """Starts the program on what is in the log, and takes up what was begun."""
+        before = whole_lines(self.log)
+        cut = self.log.exists() and self.log.read_bytes()[sum(map(len, before)) :]
+        self.base = [line for line in before if line != HEADER]
+        self.told = []
+        self.line = f"sagas: log: cut line taken away: {len(cut)} bytes\n" if cut else ""
+        self.sagas = sum(b'"open"' in line for line in self.base)
+        self.child = Driven(self.state, self.definitions, self.log)
+        self.tasks = []
+        self.settled = False
+        self.started = False
+
+    def batch(self):
+        """Requests that are sent together."""
+        if not self.started:
+            return [BUSY]
+        requests = [opening((self.sagas + number) % len(self.definitions)) for number in range(min(3, OF_A_BOOK - self.sagas))]
+        requests += [report(one["saga"], one["step"], outcome_of(one)) for one in self.tasks]
+        requests += [NEXT] * self.draw.randint(1, 6)
+        return requests
+
+    def take(self, replies):
+        """Takes replies, in their order."""
+        for reply in replies:
+            self.told += events_of(reply)
+            if "busy" in reply:
+                self.started, self.tasks = True, reply["busy"]
+            elif reply.get("task") in ("run", "undo"):
+                self.tasks.append(reply)
+            elif "step" in reply.get("event", {}):
+                ended = reply["event"]
+                self.tasks = [one for one in self.tasks if (one["saga"], one["step"]) != (ended["saga"], ended["step"])]
+            elif "def" in reply.get("event", {}):
+                self.sagas += 1
+            elif reply.get("task") == "none":
+                self.settled = reply["settled"] and self.sagas == OF_A_BOOK
+            elif "task" not in reply:
+                self.state.fail("kills: refused:", reply)
+
+    def step(self):
+        """One batch and its replies."""
+        requests = self.batch()
+        self.settled = False
+        self.child.send(*requests)
+        self.take(filter(None, (self.child.reply() for _ in requests)))
+
+    def killed(self):
+        """Sends one batch more, kills the program at some moment of it, and looks at the log."""
+        if self.draw.random() < 0.9:
+            self.child.send(*self.batch())
+            time.sleep(self.draw.choice([0, 0.0002, 0.001, 0.003]) * self.draw.random())
+        self.take(self.child.kill())
+        self.look()
+
+    def look(self):
+        """What was told is in the log, in its order, behind what was there at the start; and the log is legal."""
+        lines = whole_lines(self.log)
+        found = lines[1:][: len(self.base) + len(self.told)]
+        self.state.expect("kills: the log after a kill", found, self.base + self.told)
+        self.state.audited(self.log, self.definitions)
+
+    def end(self):
+        """Ends the program; gives each saga's story and how it stands."""
+        stands = [self.child.ask(shown(saga)) for saga in range(OF_A_BOOK)]
+        self.state.expect("kills: the end of a book", self.child.end(), (0, self.line))
+        self.look()
+        stories = [[] for _ in range(OF_A_BOOK)]
+        for line in whole_lines(self.log)[1:]:
+            told_event = json.loads(line)
+            stories[told_event["saga"]].append(told_event)
+        return stands, stories
+
+
+def driven_to_its_end(state, log, draw, kills):
+    """Drives a book, with at most so many kills; gives how many there were, and how the sagas stand and their stories."""
+    load = Load(state, log, draw)
+    load.start()
+    count = 0
+    while not load.settled:
+        if count < kills and draw.random() < 0.3:
+            load.killed()
+            count += 1
+            load.start()
+        load.step()
+        if load.child.child.poll() is not None:
+            state.fail("kills: the program ended:", load.child.end())
+            return count, None
+    return count, load.end()
+
+
+def kills(state):
+    """Kills at random moments, also while requests are under way: nothing that was told is lost, and all sagas end as without kills."""
+    draw = random.Random(state.seed)
+    folder = state.folder / "kills"
+    folder.mkdir()
+    _, whole = driven_to_its_end(state, folder / "whole.log", draw, 0)
+    count = books = 0
+    while count < state.kills and not state.wrong:
+        log = folder / "killed.log"
+        log.unlink(missing_ok=True)
+        found, book = driven_to_its_end(state, log, draw, state.kills - count)
+        count, books = count + found, books + 1
+        if book is None or whole is None:
+            break
+        for saga, (now, then, story, wanted) in enumerate(zip(book[0], whole[0], book[1], whole[1])):
+            if saga % (len(CHAINS) + 1) < len(CHAINS):  # of a chain each step waits for the one before, so there is one story
+                state.expect(f"kills: saga {saga}", (now, story), (then, wanted))
+            elif now["phase"] not in ("ended", "stuck"):
+                state.fail(f"kills: saga {saga}: {now}")
+    return count, f"kills of {books} books"
+
+
+# ---- logs that are cut or changed
+
+
+def gone_on(state, definitions, log):
+    """Drives a book on from its log: its sagas can be settled, and the log is legal then."""
+    name = f"cuts: {log.read_bytes()[-60:]}: gone on"
+    driven = Driven(state, definitions, log)
+    tasks = driven.ask(BUSY)["busy"]
+    for _ in range(100):
+        one = tasks.pop() if tasks else driven.ask(NEXT)
+        if one.get("task") in ("run", "undo"):
+            driven.ask(report(one["saga"], one["step"], "ok"))
+        elif one.get("task") == "none":
+            break
+    state.expect(name, one, none(True))
+    state.expect(name, driven.end(), (0, ""))
+    state.audited(log, definitions)
+
+
+def cuts(state):
+    """A log cut at each byte, and with each byte changed: refused and left as it was, or taken up to its last whole line."""
+    pair = state.defined("pair")
+    whole = state.folder / "cuts.log"
+    pairs = UNDONE + [(report(0, 0, "fail"), None), (NEXT, None), (opening(0), None), (NEXT, None), (aborting(1), None)]
+    status, _, _ = state.ran(pair, whole, b"".join(line_of(request) for request, _ in pairs))
+    state.expect("cuts: the log", status, 0)
+    text = whole.read_bytes()
+    asked = line_of(shown(0)) + line_of(shown(1)) + line_of(BUSY)
+    books = {}
+
+    def taken(end):
+        """Where the lines end that are gone on with: a last line that begins a plan is taken away with what was cut off."""
+        last = text.rfind(b"\n", 0, max(end - 1, 0)) + 1
+        return last if b'"start_plan"' in text[last:end] else end
+
+    def noted(count):
+        return f"sagas: log: cut line taken away: {count} bytes\n".encode() if count else b""
+
+    for end in [0] + [place + 1 for place, byte in enumerate(text) if byte == 10]:
+        whole.write_bytes(text[:end])
+        found = state.ran(pair, whole, asked)
+        books[end] = (found[1], whole.read_bytes())
+        left = taken(end)
+        wanted = (0, noted(end - left), True)
+        state.expect(f"cuts: {end} bytes", (found[0], found[2], books[end][1].startswith(text[:left])), wanted)
+        gone_on(state, pair, whole)
+
+    def tried(number, changed):
+        place = state.folder / f"cuts.{number}"
+        place.write_bytes(changed)
+        end = changed.rfind(b"\n") + 1
+        found = state.ran(pair, place, asked)
+        after = place.read_bytes()
+        place.unlink()
+        if text.startswith(changed[:end]) and (end > 0 or HEADER.startswith(changed)):
+            note = noted(len(changed) - taken(end))
+            state.expect(f"cuts: {changed[-60:]}", (found, after), ((0, books[end][0], note), books[end][1]))
+            return
+        line = found[2].decode()
+        named = line == "sagas: log: no-header\n" or line.startswith(("sagas: log: line ", "sagas: log: no ")) and line.count("\n") == 1
+        state.expect(f"cuts: {line}: {changed[:80]}", (found[0], found[1], named, after), (3, b"", True, changed))
+
+    texts = [text[:place] for place in range(len(text))]
+    texts += [text[:place] + byte + text[place + 1 :] for place in range(len(text)) for byte in (b"\0", b"\xff", b"}")]
+    with concurrent.futures.ThreadPoolExecutor(PROCESSORS) as pool:
+        list(pool.map(tried, range(len(texts)), texts))
+    return len(texts), "texts"
+
+
+# ---- refused writes and memory
+
+
+def calls_of(path):
+    """What a library told: how many calls were refused, -1 where it told nothing; and its last number."""
+    words = path.read_text().split() if path.exists() else ["", "0", "", "-1", "", "0"]
+    return int(words[3]), int(words[5])
+
+
+def story(state, log, settings, at_once):
+    """A saga of `pair` is driven until the program ends, or no task is left; gives the replies, the status and the lines."""
+    driven = Driven(state, state.defined("pair"), log, settings)
+    requests = [request for request, _ in UNDONE] + [report(0, 0, "ok"), opening(0), NEXT, aborting(1), report(1, 0, "fail"), NEXT]
+    replies = []
+    if at_once:
+        driven.send(*requests)
+        with contextlib.suppress(BrokenPipeError):
+            driven.child.stdin.close()
+        replies = driven.rest()
+    else:
+        for request in requests:
+            reply = driven.ask(request)
+            if reply is None:
+                break
+            replies.append(reply)
+    return replies, *driven.end()
+
+
+def refused_once(state, kind, number, error, at_once, cut):
+    """A run in which a call on the log is refused: nothing was told that is not in it. Gives whether there was such a call."""
+    name = f"writes: {kind} {number} {errno.errorcode[error]}{' at once' if at_once else ''}"
+    log = state.folder / f"writes.{kind}.{number}.{error}.{at_once}"
+    told_by = log.with_name(f"{log.name}.told")
+    log.write_bytes(cut)
+    library = state.libraries / "unwritten.so"
+    settings = {"LD_PRELOAD": str(library), "FAIL": kind, "NUMBER": str(number), "ERROR": str(error), "TOLD": str(told_by)}
+    replies, status, said_then = story(state, log, settings, at_once)
+    refusals, early = calls_of(told_by)
+    if refusals < 0:
+        return state.fail(f"{name}: status {status}: {said_then}") or False
+    state.expect(f"{name}: replies before a sync", early, 0)
+    note = f"sagas: log: cut line taken away: {len(cut) - cut.rfind(LF) - 1} bytes\n" if cut else ""
+    if refusals != 0:
+        line = f"sagas: cannot write {log}\n"
+        state.expect(name, (refusals > 0, status, said_then.removeprefix(note)), (True, 4, line))
+        if cut and not replies and log.read_bytes() == cut:
+            return True
+    else:
+        state.expect(f"{name}, {told_by.read_text()}", (status, said_then), (0, note))
+    kept = whole_lines(log)[1:]
+    lines = told(replies)
+    state.expect(f"{name}: the log", kept[: len(lines)], lines)
+    driven = Driven(state, state.defined("pair"), log)
+    driven.ask(BUSY)
+    status, line = driven.end()
+    state.expect(f"{name}: another start", (status, line if not line.startswith("sagas: log: cut line taken away: ") else ""), (0, ""))
+    left = kept[:-1] if kept and b'"start_plan"' in kept[-1] else kept  # a plan that its last line begins is made anew
+    state.expect(f"{name}: the log after it", whole_lines(log)[1:], left)
+    state.audited(log, state.defined("pair"))
+    return refusals != 0
+
+
+LF = b"\n"
+
+
+def writes(state):
+    """Each write, sync and cut of the log's file is refused in turn, with one request at a time and with all at once."""
+    refused = 0
+    cases = [(kind, error, at_once, b"") for kind in ("write", "half", "sync") for error in (errno.ENOSPC, errno.EIO) for at_once in (False, True)]
+    cases.append(("truncate", errno.EIO, False, HEADER + OPEN[:7]))
+
+    def tried(case):
+        kind, error, at_once, cut = case
+        for number in range(1, 200):
+            if not refused_once(state, kind, number, error, at_once, cut):
+                return number - 1
+        return state.fail(f"writes: {kind} without end") or 0
+
+    with concurrent.futures.ThreadPoolExecutor(PROCESSORS) as pool:
+        found = list(pool.map(tried, cases))
+    for case, count in zip(cases, found):
+        if count == 0:
+            state.fail("writes: none was refused:", case)
+        refused += count
+    return refused, "refused calls"
+
+
+def events_in(log):
+    """What a log has behind its header, which may not be there yet."""
+    return log.read_bytes().removeprefix(HEADER) if log.exists() else b""
+
+
+def memory_once(state, number, the_rest, wanted):
+    """A run in which a growth of memory is refused, or all from it on: each reply is right, or says so and changes nothing."""
+    name = f"memory: growth {number}{' and the rest' if the_rest else ''}"
+    log = state.folder / f"memory.{number}.{the_rest}"
+    told_by = log.with_name(f"{log.name}.told")
+    settings = {"LD_PRELOAD": str(state.libraries / "refusing.so"), "COUNT": "all", "REFUSE": str(number), "TOLD": str(told_by)}
+    driven = Driven(state, state.defined("pair"), log, settings | ({"REST": "1"} if the_rest else {}))
+    replies, faults = [], 0
+    for request, reply in wanted:
+        before = events_in(log)
+        found = driven.ask(request)
+        if found == NO_MEMORY:
+            faults += 1
+            state.expect(f"{name}: {request}: the log", events_in(log), before)
+            if the_rest:
+                break
+            found = driven.ask(request)
+        if found is None:
+            break
+        replies.append(found)
+        state.expect(f"{name}: {request}", found, reply)
+    status, line = driven.end()
+    refusals, _ = calls_of(told_by)
+    if refusals < 0:
+        return state.fail(f"{name}: status {status}: {line}") or False
+    started = line != "sagas: out of memory\n"
+    state.expect(f"{name}: the end", (status, line), (0, "") if started else (4, "sagas: out of memory\n"))
+    if not started and replies:
+        state.fail(f"{name}: it ended after replies")
+    if refusals == 0 and faults:
+        state.fail(f"{name}: no growth was refused")
+    state.expect(f"{name}: the log", events_in(log), b"".join(told(replies)))
+    log.unlink(missing_ok=True)
+    told_by.unlink(missing_ok=True)
+    return refusals > 0
+
+
+def memory(state):
+    """Each growth of memory is refused in turn, alone and with all behind it."""
+    requests = [request for request, _ in UNDONE] + [report(0, 0, "ok"), opening(0), NEXT, aborting(1), report(1, 0, "fail"), NEXT, b"{\n"]
+    _, replies, _ = state.ran(state.defined("pair"), None, b"".join(map(line_of, requests)))
+    wanted = list(zip(requests, map(json.loads, replies.splitlines())))
+    refused = 0
+    with concurrent.futures.ThreadPoolExecutor(PROCESSORS) as pool:
+        for the_rest in (False, True):
+            for first in range(0, 5000, 64):
+                met = list(pool.map(lambda number: memory_once(state, number, the_rest, wanted), range(first, first + 64)))
+                refused += sum(met)
+                if not all(met):
+                    break
+    if refused == 0:
+        state.fail("memory: no growth was refused")
+    return refused, "refused growths"
+
+
+# ---- the lock
+
+
+def lock(state):
+    """A second process on the same log is refused, and the first goes on; then another one may have it."""
+    pair, log = state.defined("pair"), state.folder / "lock.log"
+    driven = Driven(state, pair, log)
+    state.expect("lock: the first", driven.ask(opening(0)), opened(0))
+    before = log.read_bytes()
+    state.expect("lock: the second", state.ran(pair, log, line_of(opening(0))), (4, b"", b"sagas: log: locked\n"))
+    (state.folder / "link.log").symlink_to(log)
+    state.expect("lock: by a link", state.ran(pair, state.folder / "link.log", b""), (4, b"", b"sagas: log: locked\n"))
+    state.expect("lock: the log", log.read_bytes(), before)
+    state.expect("lock: the first goes on", driven.ask(NEXT), task("run", 0, 0, "a"))
+    state.expect("lock: the end of the first", driven.end(), (0, ""))
+    state.expect("lock: after it", state.ran(pair, log, line_of(BUSY)), (0, line_of({"busy": [task("run", 0, 0, "a")]}), b""))
+    with log.open("rb") as file:
+        fcntl.flock(file, fcntl.LOCK_SH)
+        state.expect("lock: of a reader", state.ran(pair, log, b""), (4, b"", b"sagas: log: locked\n"))
+    return 4, "locks"
+
+
+# ---- the booking service
+
+SERVICES = [["python3", EXAMPLES / "booking.py"], ["node", EXAMPLES / "booking.js"]]
+
+
+def serve(state, service, folder, lines=None):
+    """Runs the service in a folder, and kills it, with its child, once it has printed so many lines; gives what it printed."""
+    settings = os.environ | {"SAGAS": str(state.program)}
+    child = subprocess.Popen([*service, folder], env=settings, stdout=subprocess.PIPE, text=True, start_new_session=True)
+    printed = []
+    for line in child.stdout:
+        printed.append(line)
+        if len(printed) == lines:
+            os.killpg(child.pid, signal.SIGKILL)
+    child.stdout.close()
+    status = child.wait(60)
+    if lines is None:
+        state.expect(f"{service[1].name}: status", status, 0)
+    return printed
+
+
+def service_at(state, service, lines, wanted):
+    """The service is killed after some lines and started again: nothing is done twice, and the end is the same."""
+    folder = state.folder / f"{service[1].suffix}{lines}"
+    folder.mkdir()
+    serve(state, service, folder, lines)
+    with (folder / "trips.log").open("rb") as log:  # until the killed child has let go of it
+        fcntl.flock(log, fcntl.LOCK_EX)
+    printed = serve(state, service, folder)
+    entries = json.loads((folder / "bookings.json").read_text())
+    found = (printed[-2:], sorted(entries))
+    state.expect(f"{service[1].name}: killed after {lines} lines", found, wanted)
+    state.audited(folder / "trips.log", state.defined("booking"))
+    return 1
+
+
+def service(state):
+    """The examples: killed after each line that they print, they end as without it, and book nothing twice."""
+    runs = []
+    for one in SERVICES:
+        if not shutil.which(one[0]):
+            continue
+        folder = state.folder / f"whole{one[1].suffix}"
+        folder.mkdir()
+        printed = serve(state, one, folder)
+        wanted = (printed[-2:], sorted(json.loads((folder / "bookings.json").read_text())))
+        ended = ["trip 0: ended: committed committed committed\n", "trip 1: ended: committed undone failed\n"]
+        state.expect(f"{one[1].name}: the end", (printed[-2:], len(wanted[1])), (ended, 6))
+        runs += [(one, lines, wanted) for lines in range(1, len(printed) - 1)]
+    with concurrent.futures.ThreadPoolExecutor(PROCESSORS) as pool:
+        return sum(pool.map(lambda run: service_at(state, *run), runs)), "services killed"
+
+
+SECTIONS = {
+    "said": said,
+    "starts": starts,
+    "random": random_ones,
+    "kills": kills,
+    "cuts": cuts,
+    "writes": writes,
+    "memory": memory,
+    "lock": lock,
+    "service": service,
+}
+
+
+def main():
+    parser = argparse.ArgumentParser(description=__doc__.splitlines()[0])
+    parser.add_argument("--program", type=pathlib.Path, default=ROOT / "crates/saga_tool/out/saga_tool", help="the program `sagas`")
+    parser.add_argument("--libraries", type=pathlib.Path, help="the folder of the preloaded libraries; without it nothing is refused")
+    parser.add_argument("--only", choices=SECTIONS, help="one section alone")
+    parser.add_argument("--kills", type=int, default=50, help="how many kills")
+    parser.add_argument("--seed", type=int, default=1, help="the first seed")
+    words = parser.parse_args()
+    bad = 0
+    counts = []
+    for name, section in SECTIONS.items():
+        if words.only not in (None, name) or (name in ("writes", "memory") and not words.libraries):
+            continue
+        with tempfile.TemporaryDirectory() as folder:
+            state = State(words, folder)
+            begin = time.monotonic()
+            count, what = section(state)
+            print(f"{name}: {count:,} {what}, {len(state.wrong)} wrong, {time.monotonic() - begin:.1f} s", flush=True)
+        for line in state.wrong[:8]:
+            print(f"wrong: {line}")
+        counts.append(count)
+        bad += len(state.wrong)
+    print(f"drive: {sum(counts):,} requests, starts and runs, {bad} wrong")
+    return 1 if bad or not counts else 0
+
+
+if __name__ == "__main__":
+    sys.exit(main())

@@ -1,0 +1,15 @@
+#!/usr/bin/env bash
+# Drives `sagas drive` (tests/drive.py): conversations, logs at the start, random requests, kills, logs cut and changed at each byte,
+# writes and growths of memory refused in turn, the lock, and the booking services of examples/.
+#
+# SAGAS names another program; further words go to tests/drive.py.
+set -uo pipefail
+cd "$(dirname "$0")/.."
+work=$(mktemp -d)
+trap 'rm -rf "$work"' EXIT
+
+for library in unwritten refusing; do
+  gcc -O2 -shared -fPIC -o "$work/$library.so" tests/$library.c || { echo "the library $library is not built"; exit 1; }
+done
+[ -n "${SAGAS:-}" ] || ./sagas --help >/dev/null || { echo "the program is not built"; exit 1; }
+python3 tests/drive.py --program "${SAGAS:-crates/saga_tool/out/saga_tool}" --libraries "$work" "$@"
