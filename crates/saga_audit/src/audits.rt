@@ -73,8 +73,10 @@ pub fn audit(
     events: &[Event],
 ) -> Result<AuditAnswer, AllocError>
     ensures answer { IfOk result (Audits shelf.now events.now) }
-    ensures exact { IfOk result (λ answer. IsTrue (is_yes answer) ↔ IsLegal shelf.now (past events.now)) }
-    ensures headline { IfOk result (λ answer. IsTrue (is_yes answer) → Headline shelf.now (past events.now)) }
+    ensures exact { IfOk result
+        (λ answer. IsTrue (is_yes answer) ↔ IsLegal shelf.now (past events.now)) }
+    ensures headline { IfOk result
+        (λ answer. IsTrue (is_yes answer) → Headline shelf.now (past events.now)) }
 {
     let found = find(alloc, shelf, 1, 0, events)?;
     Ok(answer_of(shelf, events, found))
@@ -89,8 +91,10 @@ fn find_all(
     events: &[Event],
 ) -> Result<Vec<Result<Finding, AllocError>>, AllocError>
     requires { 0 < workers }
-    ensures { IfOk result (λ all. AllZip (λ group found.
-        IfOk found (Finds shelf.now (is_in workers group) events.now)) (range_with_len 0 workers) all.items) }
+    ensures { IfOk result
+        (λ all. AllZip
+        (λ group found. IfOk found (Finds shelf.now (is_in workers group) events.now))
+        (range_with_len 0 workers) all.items) }
 {
     (0..workers)
         .into_par_iter()
@@ -98,7 +102,8 @@ fn find_all(
         .map(
             |group: u32| -> Result<Finding, AllocError>
                 requires { 0 < workers }
-                ensures { IfOk result (Finds shelf.entry.now (is_in workers group) events.entry.now) }
+                ensures { IfOk result
+                    (Finds shelf.entry.now (is_in workers group) events.entry.now) }
             { find(alloc, shelf, workers, group, events) },
         )
         .collect(rt, alloc)
@@ -113,8 +118,9 @@ fn found_in(
     group: u32,
 ) -> Result<Finding, AllocError>
     requires within { group < workers }
-    requires all { AllZip (λ group found.
-        IfOk found (Finds shelf.now (is_in workers group) events.now)) (range_with_len 0 workers) all.now }
+    requires all { AllZip
+        (λ group found. IfOk found (Finds shelf.now (is_in workers group) events.now))
+        (range_with_len 0 workers) all.now }
     ensures { IfOk result (Finds shelf.now (is_in workers group) events.now) }
 {
     let _ = shelf;
@@ -137,9 +143,12 @@ pub fn audit_with(
     requires some { 0 < workers }
     requires few { workers ≤ 16 }
     ensures answer { IfOk result (Audits shelf.now events.now) }
-    ensures same { IfOk result (λ answer. (other : AuditAnswer) → Audits shelf.now events.now other → answer ≡ other) }
-    ensures exact { IfOk result (λ answer. IsTrue (is_yes answer) ↔ IsLegal shelf.now (past events.now)) }
-    ensures headline { IfOk result (λ answer. IsTrue (is_yes answer) → Headline shelf.now (past events.now)) }
+    ensures same { IfOk result
+        (λ answer. (other : AuditAnswer) → Audits shelf.now events.now other → answer ≡ other) }
+    ensures exact { IfOk result
+        (λ answer. IsTrue (is_yes answer) ↔ IsLegal shelf.now (past events.now)) }
+    ensures headline { IfOk result
+        (λ answer. IsTrue (is_yes answer) → Headline shelf.now (past events.now)) }
 {
     let all = find_all(rt, alloc, workers, shelf, events)?;
     let _ = events.len();

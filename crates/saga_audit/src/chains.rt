@@ -39,8 +39,9 @@ pub fn chains_of(
     group: u32,
 ) -> Result<Chains, AllocError>
     requires { 0 < workers }
-    ensures { IfOk result (λ chains.
-        AreChains (is_in workers group) events.now chains.links.items (get nat_cmp chains.heads) 0) }
+    ensures { IfOk result
+        (λ chains. AreChains (is_in workers group) events.now chains.links.items
+        (get nat_cmp chains.heads) 0) }
 {
     let mut links = Vec::new(alloc);
     let mut heads = BTreeMap::new(alloc);

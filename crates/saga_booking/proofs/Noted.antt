@@ -2,7 +2,7 @@
 use Rattle.std.proofs.Common.{◌≡◌, ℕ, ◌++◌, ◌∷◌, List, [], append_assoc, ap, subst, ◌∙◌, inl, inr}
 use Rattle.saga_case.specs.declared.answers.Answer.{Answer}
 use Rattle.std.proofs.lemmas.List.Elements.{filter_map-append}
-use Rattle.saga_core.specs.Book.{Book}
+use Rattle.saga_core.specs.Book.{Book, with_event}
 use Rattle.saga_core.specs.Refusals.{RunIsReported, UndoIsReported}
 use Rattle.saga_history.specs.Changes.{step_event}
 use Rattle.saga_history.specs.declared.events.Event.{Event}
@@ -14,7 +14,7 @@ use Rattle.saga_booking.specs.declared.trips.Entry.TheVariants.{Booked, Refused,
 use Rattle.saga_booking.specs.Entries.{entry_of, entries_of, AreNoted}
 
 -- a book that is another one with one more event
-gains : (old new : Book) (e : Event) → new ≡ record old { history = old.history ++ e ∷ [] }
+gains : (old new : Book) (e : Event) → new ≡ with_event old e
     → entries_of new.history ≡ entries_of old.history ++ entries_of (e ∷ [])
 gains old new e is = ap (λ (b : Book). entries_of b.history) is ∙ filter_map-append entry_of old.history (e ∷ [])
 
@@ -23,13 +23,13 @@ pub noted_both : (old mid new : Book) (xs ys : List Entry) → AreNoted old mid 
 noted_both old mid new xs ys first then =
     then ∙ ap (λ zs. zs ++ ys) first ∙ append_assoc (entries_of old.history) xs ys
 
-pub noted_event : (old new : Book) (e : Event) → new ≡ record old { history = old.history ++ e ∷ [] }
+pub noted_event : (old new : Book) (e : Event) → new ≡ with_event old e
     → AreNoted old new (entries_of (e ∷ []))
 noted_event old new e is = gains old new e is
 
 -- a step that is run and then done, or failed
 pub noted_booked : (old mid new : Book) (i s : ℕ)
-    → mid ≡ record old { history = old.history ++ event.StartRun i s ∷ [] } → RunIsReported mid new i s Done
+    → mid ≡ with_event old (event.StartRun i s) → RunIsReported mid new i s Done
     → AreNoted old new (Booked i s ∷ [])
 noted_booked old mid new i s began (t, is, gained) =
     noted_both old mid new [] (Booked i s ∷ []) (noted_event old mid (event.StartRun i s) began)
@@ -37,7 +37,7 @@ noted_booked old mid new i s began (t, is, gained) =
     (noted_event mid new (step_event i s t) gained.gains))
 
 pub noted_refused : (old mid new : Book) (i s : ℕ)
-    → mid ≡ record old { history = old.history ++ event.StartRun i s ∷ [] } → RunIsReported mid new i s Failed
+    → mid ≡ with_event old (event.StartRun i s) → RunIsReported mid new i s Failed
     → AreNoted old new (Refused i s ∷ [])
 noted_refused old mid new i s began (t, is, gained) =
     noted_both old mid new [] (Refused i s ∷ []) (noted_event old mid (event.StartRun i s) began)
@@ -50,7 +50,7 @@ noted_refused old mid new i s began (t, is, gained) =
 
 -- a compensation that is begun and done
 pub noted_cancelled : (old mid new : Book) (i s : ℕ)
-    → mid ≡ record old { history = old.history ++ event.StartUndo i s ∷ [] } → UndoIsReported mid new i s Done
+    → mid ≡ with_event old (event.StartUndo i s) → UndoIsReported mid new i s Done
     → AreNoted old new (Cancelled i s ∷ [])
 noted_cancelled old mid new i s began (t, is, gained) =
     noted_both old mid new [] (Cancelled i s ∷ []) (noted_event old mid (event.StartUndo i s) began)
@@ -59,8 +59,8 @@ noted_cancelled old mid new i s began (t, is, gained) =
 
 -- a plan that is begun and adopted
 pub noted_planned : (old mid new : Book) (i : ℕ) (a : Answer)
-    → mid ≡ record old { history = old.history ++ event.StartPlan i ∷ [] }
-    → new ≡ record mid { history = mid.history ++ event.Adopt i a ∷ [] }
+    → mid ≡ with_event old (event.StartPlan i)
+    → new ≡ with_event mid (event.Adopt i a)
     → AreNoted old new []
 noted_planned old mid new i a began ended =
     noted_both old mid new [] [] (noted_event old mid (event.StartPlan i) began) (noted_event mid new (event.Adopt i a) ended)

@@ -149,7 +149,8 @@ impl<'d> Case<'d> {
 
     fn price(&self, i: u16, stands: bool) -> Price
         requires { i < length self.now.definition.steps }
-        ensures exact { result ≡ (if stands then (terms_of self.now).stand i else (terms_of self.now).leave i) }
+        ensures exact { result
+            ≡ (if stands then (terms_of self.now).stand i else (terms_of self.now).leave i) }
         ensures bounded { IsBounded result }
     {
         if stands {

@@ -41,7 +41,8 @@ pub fn keeps_to_the_states(case: &Case)
 
 /// In an aborted case an allowed set has no waiting step: what has not begun is not begun any more.
 pub fn begins_nothing_once_aborted(case: &Case)
-    ensures { IsTrue case.now.aborted → AllowedSets (terms_of case.now) (HasNone case.now.states Waiting) }
+    ensures { IsTrue case.now.aborted
+        → AllowedSets (terms_of case.now) (HasNone case.now.states Waiting) }
 {
     let _ = case.states();
 }

@@ -10,7 +10,9 @@ use saga_def::Definition;
 
 /// The case, which takes no memory.
 pub fn case_of<'d>(definition: &'d Definition, written: Written) -> Result<Case<'d>, CertFault>
-    ensures made { IfOk result (λ c. (c ≡ situation definition.entry.now written.states.items written.aborted) × HasStates definition.entry.now written.states.items) }
+    ensures made { IfOk result
+        (λ c. (c ≡ situation definition.entry.now written.states.items written.aborted)
+        × HasStates definition.entry.now written.states.items) }
     ensures fault { IfErr result (IsCaseFault definition.entry.now written.states.items) }
 {
     let Written { states, aborted } = written;

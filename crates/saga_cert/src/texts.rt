@@ -58,7 +58,8 @@ pub fn read_answer(alloc: Global, bytes: &[u8]) -> Result<Answer, CertFault>
 /// The text of a case.
 pub fn write_case(alloc: Global, case: &Case) -> Result<String, AllocError>
     ensures text { IfOk result (λ s. string_bytes s ≡ compact_text (case_form case.now)) }
-    ensures read_back { IfOk result (λ s. ReadsCase case.now.definition (string_bytes s) (Ok case.now)) }
+    ensures read_back { IfOk result
+        (λ s. ReadsCase case.now.definition (string_bytes s) (Ok case.now)) }
 {
     value_of_case(alloc, case)?.to_string(alloc)
 }
@@ -66,7 +67,8 @@ pub fn write_case(alloc: Global, case: &Case) -> Result<String, AllocError>
 /// The text of an answer.
 pub fn write_answer(alloc: Global, answer: &Answer) -> Result<String, AllocError>
     ensures text { IfOk result (λ s. string_bytes s ≡ compact_text (answer_form answer.now)) }
-    ensures read_back { IfOk result (λ s. IsPaired answer.now → ReadsAnswer (string_bytes s) (Ok answer.now)) }
+    ensures read_back { IfOk result
+        (λ s. IsPaired answer.now → ReadsAnswer (string_bytes s) (Ok answer.now)) }
 {
     value_of_answer(alloc, answer)?.to_string(alloc)
 }

@@ -71,7 +71,8 @@ fn chain_value(alloc: Global, chain: &[u16]) -> Result<Value, AllocError>
 /// The value of an answer.
 pub fn value_of_answer(alloc: Global, answer: &Answer) -> Result<Value, AllocError>
     ensures form { IfOk result (λ v. view v ≡ answer_form answer.now) }
-    ensures read_back { IfOk result (λ v. IsPaired answer.now → answer_of (view v) ≡ Ok answer.now) }
+    ensures read_back { IfOk result
+        (λ v. IsPaired answer.now → answer_of (view v) ≡ Ok answer.now) }
 {
     match answer {
         Answer::Plan(plan) => plan_value(alloc, plan),

@@ -13,7 +13,8 @@ use std::alloc::{AllocError, Global};
 
 /// The list of the words of the states.
 fn states_value(alloc: Global, states: &[StepState]) -> Result<Value, AllocError>
-    ensures { IfOk result (λ v. view v ≡ array (items_from (map (λ s. string (word_of s)) states.now))) }
+    ensures { IfOk result
+        (λ v. view v ≡ array (items_from (map (λ s. string (word_of s)) states.now))) }
 {
     let mut list = Vec::new(alloc);
     for state in states {

@@ -65,7 +65,8 @@ pub fn is_within(case: &Case, plan: &Plan) -> bool
 fn is_conserved_at(case: &Case, plan: &Plan, s: u16) -> bool
     requires shape { HasShape (terms_of case.now) plan.now }
     requires step { s < length case.now.definition.steps }
-    ensures { IsTrue result ↔ (slice_index plan.now.leave s + into_step (terms_of case.now) (flow_of plan.now) s
+    ensures { IsTrue result
+        ↔ (slice_index plan.now.leave s + into_step (terms_of case.now) (flow_of plan.now) s
         ≡ slice_index plan.now.stand s + out_of_step (terms_of case.now) (flow_of plan.now) s) }
 {
     let definition = case.definition();

@@ -15,8 +15,10 @@ use std::alloc::{AllocError, Global};
 /// A chain from a step whose leave price is never to one whose stand price is never; none where no path of unbounded
 /// arcs leads from the source to the sink.
 pub fn unbounded_chain(alloc: Global, net: &ClosureNet) -> Result<Option<Vec<u16>>, AllocError>
-    ensures some { IfOk result (λ chain. IfSome chain (λ steps. IsRightChain (terms_in net.now) steps.items)) }
-    ensures none { IfOk result (λ chain. IfNone chain (Reaches (HasUnbounded (arcs_in net.now)) 0 1 → ⊥)) }
+    ensures some { IfOk result
+        (λ chain. IfSome chain (λ steps. IsRightChain (terms_in net.now) steps.items)) }
+    ensures none { IfOk result
+        (λ chain. IfNone chain (Reaches (HasUnbounded (arcs_in net.now)) 0 1 → ⊥)) }
 {
     if !has_forced(net) {
         return Ok(None);
@@ -41,7 +43,8 @@ pub fn unbounded_chain(alloc: Global, net: &ClosureNet) -> Result<Option<Vec<u16
 
 /// Whether some step's leave price is never.
 fn has_forced(net: &ClosureNet) -> bool
-    ensures { result ≡ false → (s : ℕ) → s < (terms_in net.now).count → slice_index net.now.caps.now s ≢ 2 ^ 63 }
+    ensures { result ≡ false → (s : ℕ) → s < (terms_in net.now).count
+        → slice_index net.now.caps.now s ≢ 2 ^ 63 }
 {
     for v in 0..net.definition.steps() {
         if net.caps[v] == ENDLESS {
@@ -60,7 +63,9 @@ fn chain_to(
 ) -> Result<Vec<u16>, AllocError>
     requires at { IsAtGoal (terms_in residual.now.net.now) residual.now.on.now found.now goal }
     requires empty { (k : ℕ) → slice_index residual.now.on.now k ≡ 0 }
-    ensures { IfOk result (λ chain. IsChainTo (terms_in residual.now.net.now) residual.now.on.now goal.step chain.items) }
+    ensures { IfOk result
+        (λ chain. IsChainTo
+        (terms_in residual.now.net.now) residual.now.on.now goal.step chain.items) }
 {
     let mut chain = Vec::new(alloc);
     let mut v = goal.step;

@@ -13,7 +13,8 @@ use std::alloc::AllocError;
 /// The saga's step that the residual arc of a need leaves.
 pub fn tail(net: &ClosureNet, over: ResidualArc) -> u16
     requires far { 2 * (terms_in net.now).count ≤ over.arc }
-    requires inside { over.arc < (terms_in net.now).count + ((terms_in net.now).count + length (terms_in net.now).needs) }
+    requires inside { over.arc
+        < (terms_in net.now).count + ((terms_in net.now).count + length (terms_in net.now).needs) }
     ensures is { result ≡ tail_of (terms_in net.now) over }
     ensures inside { result < (terms_in net.now).count }
 {
@@ -28,7 +29,8 @@ pub fn tail(net: &ClosureNet, over: ResidualArc) -> u16
 /// The saga's step to which the residual arc of a need leads.
 pub fn head(net: &ClosureNet, over: ResidualArc) -> u16
     requires far { 2 * (terms_in net.now).count ≤ over.arc }
-    requires inside { over.arc < (terms_in net.now).count + ((terms_in net.now).count + length (terms_in net.now).needs) }
+    requires inside { over.arc
+        < (terms_in net.now).count + ((terms_in net.now).count + length (terms_in net.now).needs) }
     ensures is { result ≡ head_of (terms_in net.now) over }
     ensures inside { result < (terms_in net.now).count }
 {

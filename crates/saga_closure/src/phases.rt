@@ -33,11 +33,13 @@ fn send_to(
     requires last { slice_index level.now goal ≡ depth }
     requires low { depth ≤ (terms_in net.now).count }
     requires left { vec_len left.old ≡ (terms_in net.now).count }
-    requires levelled { IsLevelled (arcs_in net.now) progress.old.on.items (node_level depth level.now) }
+    requires levelled { IsLevelled (arcs_in net.now) progress.old.on.items
+        (node_level depth level.now) }
     requires progress { IsOnTheWay (terms_in net.now) progress.old }
     requires small { progress.old.value < 2 ^ 63 }
     ensures left { OnOk result (vec_len left.new ≡ (terms_in net.now).count) }
-    ensures levelled { OnOk result (IsLevelled (arcs_in net.now) progress.new.on.items (node_level depth level.now)) }
+    ensures levelled { OnOk result
+        (IsLevelled (arcs_in net.now) progress.new.on.items (node_level depth level.now)) }
     ensures progress { OnOk result (IsOnTheWay (terms_in net.now) progress.new) }
     ensures small { OnOk result (progress.new.value < 2 ^ 63) }
     ensures more { OnOk result (progress.old.value ≤ progress.new.value) }

@@ -16,7 +16,8 @@ pub fn augment(net: &ClosureNet, path: &[ResidualArc], progress: &mut Progress)
     requires carries { All (Carries (arcs_in net.now) progress.old.on.items 1) path.now }
     requires once { NoArcTwice path.now }
     requires limit { (k : ℕ) → slice_index progress.old.on.items k ≤ progress.old.value }
-    requires fits { (more : ℕ) → All (Carries (arcs_in net.now) progress.old.on.items more) path.now → progress.old.value + more < 2 ^ 63 }
+    requires fits { (more : ℕ) → All (Carries (arcs_in net.now) progress.old.on.items more) path.now
+        → progress.old.value + more < 2 ^ 63 }
     requires few { progress.old.rounds ≤ progress.old.value }
     ensures { AddsRound (arcs_in net.now) path.now progress.old progress.new }
 {
@@ -29,7 +30,8 @@ fn push_most(net: &ClosureNet, path: &[ResidualArc], on: &mut [u64]) -> u64
     requires sized { length on.old ≡ length (arcs_in net.now) }
     requires carries { All (Carries (arcs_in net.now) on.old 1) path.now }
     requires once { NoArcTwice path.now }
-    requires fits { (more : ℕ) → All (Carries (arcs_in net.now) on.old more) path.now → (k : ℕ) → slice_index on.old k + more < 2 ^ 63 }
+    requires fits { (more : ℕ) → All (Carries (arcs_in net.now) on.old more) path.now → (k : ℕ)
+        → slice_index on.old k + more < 2 ^ 63 }
     ensures { IsPush (arcs_in net.now) on.old path.now result on.new }
 {
     let more = most_along(&Residual { net: &*net, on }, path);
@@ -41,8 +43,11 @@ fn push_most(net: &ClosureNet, path: &[ResidualArc], on: &mut [u64]) -> u64
 fn most_along(residual: &Residual, path: &[ResidualArc]) -> u64
     requires carries { All (Carries (arcs_in residual.now.net.now) residual.now.on.now 1) path.now }
     ensures some { 0 < result }
-    ensures carries { All (Carries (arcs_in residual.now.net.now) residual.now.on.now result) path.now }
-    ensures most { result < 2 ^ 63 → All (Carries (arcs_in residual.now.net.now) residual.now.on.now (result + 1)) path.now → ⊥ }
+    ensures carries { All
+        (Carries (arcs_in residual.now.net.now) residual.now.on.now result) path.now }
+    ensures most { result < 2 ^ 63
+        → All (Carries (arcs_in residual.now.net.now) residual.now.on.now (result + 1)) path.now
+        → ⊥ }
 {
     let mut least = ENDLESS;
     for over in path {

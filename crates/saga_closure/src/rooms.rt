@@ -26,7 +26,8 @@ pub fn room(residual: &Residual, over: ResidualArc) -> u64
     requires carries { Carries (arcs_in residual.now.net.now) residual.now.on.now 1 over }
     ensures some { 0 < result }
     ensures carries { Carries (arcs_in residual.now.net.now) residual.now.on.now result over }
-    ensures most { result < 2 ^ 63 → Carries (arcs_in residual.now.net.now) residual.now.on.now (result + 1) over → ⊥ }
+    ensures most { result < 2 ^ 63
+        → Carries (arcs_in residual.now.net.now) residual.now.on.now (result + 1) over → ⊥ }
 {
     if !over.forward {
         residual.on[over.arc]

@@ -35,7 +35,8 @@ fn label(found: &mut Found, v: u16, level: u16, by: ResidualArc) -> Result<(), A
 
 /// The first of the steps that stand from `first` on that can send more to the sink.
 fn find_goal(residual: &Residual, order: &[u16], first: usize) -> Option<u16>
-    requires { (j : ℕ) → j < length order.now → slice_index order.now j < (terms_in residual.now.net.now).count }
+    requires { (j : ℕ) → j < length order.now
+        → slice_index order.now j < (terms_in residual.now.net.now).count }
     ensures some { IfSome result (IsOut residual.now order.now first) }
     ensures none { IfNone result (AreDry residual.now order.now first (length order.now)) }
 {
@@ -89,7 +90,8 @@ fn visit_needs(
 ) -> Result<(), AllocError>
     requires visit { IsVisiting residual.now found.old layer next v }
     ensures visit { OnOk result (IsVisiting residual.now found.new layer next v) }
-    ensures seen { OnOk result (AreNeedsUpTo (terms_in residual.now.net.now) found.new.level.items v (layer.depth + 1)) }
+    ensures seen { OnOk result
+        (AreNeedsUpTo (terms_in residual.now.net.now) found.new.level.items v (layer.depth + 1)) }
 {
     let definition = residual.net.definition;
     let links = 2 * definition.steps();
@@ -118,8 +120,11 @@ fn visit_dependants(
 ) -> Result<(), AllocError>
     requires visit { IsVisiting residual.now found.old layer next v }
     ensures visit { OnOk result (IsVisiting residual.now found.new layer next v) }
-    ensures seen { OnOk result (AreCarryingUpTo (terms_in residual.now.net.now) residual.now.on.now found.new.level.items v (layer.depth + 1)) }
-    ensures lower { OnOk result ((x : ℕ) → slice_index found.new.level.items x ≤ slice_index found.old.level.items x) }
+    ensures seen { OnOk result
+        (AreCarryingUpTo (terms_in residual.now.net.now) residual.now.on.now found.new.level.items v
+        (layer.depth + 1)) }
+    ensures lower { OnOk result
+        ((x : ℕ) → slice_index found.new.level.items x ≤ slice_index found.old.level.items x) }
 {
     let definition = residual.net.definition;
     let links = 2 * definition.steps();
@@ -168,8 +173,11 @@ pub struct Goal {
 
 /// Searches from the source, layer by layer, to the first layer from which more can go to the sink.
 pub fn search(alloc: Global, residual: &Residual) -> Result<(Found, Option<Goal>), AllocError>
-    ensures goal { IfOk result (λ r. IfSome r.1 (λ g. IsAtGoal (terms_in residual.now.net.now) residual.now.on.now r.0 g)) }
-    ensures none { IfOk result (λ r. IfNone r.1 (IsReach (terms_in residual.now.net.now) residual.now.on.now r.0)) }
+    ensures goal { IfOk result
+        (λ r. IfSome r.1
+        (λ g. IsAtGoal (terms_in residual.now.net.now) residual.now.on.now r.0 g)) }
+    ensures none { IfOk result
+        (λ r. IfNone r.1 (IsReach (terms_in residual.now.net.now) residual.now.on.now r.0)) }
 {
     let mut found = start(alloc, residual)?;
     let mut first = 0;

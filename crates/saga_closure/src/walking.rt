@@ -51,8 +51,10 @@ fn dependant_before(
     requires inside { v < (terms_in residual.now.net.now).count }
     ensures before { IfSome result (λ b. b.left < many) }
     ensures inside { IfSome result (λ b. b.from < (terms_in residual.now.net.now).count) }
-    ensures opened { IfSome result (λ b. (on : List ℕ) → IsOpen (arcs_in residual.now.net.now) on b.by (2 + b.from) (2 + v)) }
-    ensures lower { IfSome result (λ b. slice_index level.now v ≡ slice_index level.now b.from + 1) }
+    ensures opened { IfSome result
+        (λ b. (on : List ℕ) → IsOpen (arcs_in residual.now.net.now) on b.by (2 + b.from) (2 + v)) }
+    ensures lower { IfSome result
+        (λ b. slice_index level.now v ≡ slice_index level.now b.from + 1) }
 {
     let definition = residual.net.definition;
     let links = 2 * definition.steps();
@@ -90,8 +92,10 @@ fn need_before(
     requires inside { v < (terms_in residual.now.net.now).count }
     ensures before { IfSome result (λ b. b.left < many) }
     ensures inside { IfSome result (λ b. b.from < (terms_in residual.now.net.now).count) }
-    ensures opened { IfSome result (λ b. IsOpen (arcs_in residual.now.net.now) residual.now.on.now b.by (2 + b.from) (2 + v)) }
-    ensures lower { IfSome result (λ b. slice_index level.now v ≡ slice_index level.now b.from + 1) }
+    ensures opened { IfSome result
+        (λ b. IsOpen (arcs_in residual.now.net.now) residual.now.on.now b.by (2 + b.from) (2 + v)) }
+    ensures lower { IfSome result
+        (λ b. slice_index level.now v ≡ slice_index level.now b.from + 1) }
 {
     let definition = residual.net.definition;
     let links = 2 * definition.steps();
@@ -133,8 +137,10 @@ fn step_before(
     requires inside { v < (terms_in residual.now.net.now).count }
     ensures before { IfSome result (λ b. b.left < many) }
     ensures inside { IfSome result (λ b. b.from < (terms_in residual.now.net.now).count) }
-    ensures opened { IfSome result (λ b. IsOpen (arcs_in residual.now.net.now) residual.now.on.now b.by (2 + b.from) (2 + v)) }
-    ensures lower { IfSome result (λ b. slice_index level.now v ≡ slice_index level.now b.from + 1) }
+    ensures opened { IfSome result
+        (λ b. IsOpen (arcs_in residual.now.net.now) residual.now.on.now b.by (2 + b.from) (2 + v)) }
+    ensures lower { IfSome result
+        (λ b. slice_index level.now v ≡ slice_index level.now b.from + 1) }
 {
     let needs = residual.net.definition.needs_of(v).len();
     if many > needs {
@@ -165,7 +171,8 @@ pub fn walk_back(
     requires last { slice_index level.now goal ≡ depth }
     requires left { vec_len left.old ≡ (terms_in residual.now.net.now).count }
     ensures left { vec_len left.new ≡ vec_len left.old }
-    ensures found { IfOk result (λ found. IsTrue found → IsClimb residual.now depth level.now path.new.items) }
+    ensures found { IfOk result
+        (λ found. IsTrue found → IsClimb residual.now depth level.now path.new.items) }
 {
     path.clear();
     let count = residual.net.definition.steps();

@@ -1,5 +1,5 @@
 -- What a book is.
-use Rattle.std.specs.Prelude.{◌≡◌, ℕ, ◌<◌, ◌≤◌, ◌+◌, ◌*◌, All, List, None, length}
+use Rattle.std.specs.Prelude.{◌≡◌, ℕ, ◌<◌, ◌≤◌, ◌+◌, ◌*◌, ◌++◌, ◌∷◌, [], All, List, None, length}
 use Rattle.std.specs.List.{count_by, sum_by}
 use Rattle.saga_def.specs.Contents.{Contents}
 use Rattle.saga_def.specs.Sound.{IsSound}
@@ -23,6 +23,10 @@ pub record Book : Type 0 where
   pub first : ℕ
   pub stride : ℕ
   pub history : List Event
+
+-- a book to which one event more has happened
+abbrev pub with_event : Book → Event → Book
+with_event b e = record b { history = b.history ++ e ∷ [] }
 
 -- the number of the saga that is opened after so many others
 abbrev pub number : ℕ → ℕ → ℕ → ℕ

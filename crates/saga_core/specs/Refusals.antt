@@ -1,5 +1,5 @@
 -- What a call on a book says by its answer.
-use Rattle.std.specs.Prelude.{◌≡◌, ◌≢◌, ℕ, ◌<◌, ◌≤◌, ◌++◌, ◌∷◌, [], List, None, IsSomeAnd, length}
+use Rattle.std.specs.Prelude.{◌≡◌, ◌≢◌, ℕ, ◌<◌, ◌≤◌, List, None, IsSomeAnd, length}
 use Rattle.saga_def.specs.Contents.{Contents}
 use Rattle.saga_case.specs.declared.states.StepState.{StepState}
 use Rattle.saga_case.specs.Situation.{Situation}
@@ -13,7 +13,7 @@ use Rattle.saga_history.specs.States.{state}
 use Rattle.saga_history.specs.Turns.{opened_with, present_case, turn}
 use Rattle.saga_rows.specs.Follows.{IsEndOfRun, IsEndOfUndo}
 use Rattle.saga_rows.specs.declared.rows.TheConstants.{MAX_ROWS}
-use Rattle.saga_core.specs.Book.{Book, sagas_in}
+use Rattle.saga_core.specs.Book.{Book, sagas_in, with_event}
 use Rattle.saga_core.specs.declared.refusals.AdoptRefusal.{AdoptRefusal}
 use Rattle.saga_core.specs.declared.refusals.AdoptRefusal.TheVariants as adopt
 use Rattle.saga_core.specs.declared.refusals.DropRefusal.{DropRefusal}
@@ -57,7 +57,7 @@ ReportRefused shelf h i s x report.NotTaken = OfSaga shelf h i (λ d l. (s < len
 -- the book gained the event of a transition that was allowed
 pub record GainsTransition (old new : Book) (i s : ℕ) (t : Transition) : Type 0 where
   pub allowed : IsAllowed old.shelf (past old.history) (step_event i s t)
-  pub gains : new ≡ record old { history = old.history ++ step_event i s t ∷ [] }
+  pub gains : new ≡ with_event old (step_event i s t)
 
 -- of the transitions by which an action ends with that outcome, the book gained the one that was allowed
 abbrev pub RunIsReported : Book → Book → ℕ → ℕ → Outcome → Type 0

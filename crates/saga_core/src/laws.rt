@@ -15,8 +15,10 @@ use saga_history::Event;
 #[tactic(auto, using(crate::proofs::LawLemmas::one_open_refusal, crate::proofs::LawLemmas::one_take_refusal, crate::proofs::LawLemmas::one_report_refusal, crate::proofs::LawLemmas::one_saga_refusal, crate::proofs::LawLemmas::one_drop_refusal, crate::proofs::LawLemmas::one_adopt_refusal, crate::proofs::ReplayLawLemmas::only_for_memory))]
 pub fn refusal_laws(shelf: &[Definition], history: &[Event])
     ensures open { (k : ℕ) → HasOneOpenRefusal shelf.now (past history.now) k }
-    ensures take { (i s : ℕ) (t : Transition) → HasOneTakeRefusal shelf.now (past history.now) i s t }
-    ensures report { (i s : ℕ) (x : StepState) → HasOneReportRefusal shelf.now (past history.now) i s x }
+    ensures take { (i s : ℕ) (t : Transition)
+        → HasOneTakeRefusal shelf.now (past history.now) i s t }
+    ensures report { (i s : ℕ) (x : StepState)
+        → HasOneReportRefusal shelf.now (past history.now) i s x }
     ensures saga { (i : ℕ) (c : Change) → HasOneSagaRefusal shelf.now (past history.now) i c }
     ensures dropping { (i : ℕ) → HasOneDropRefusal shelf.now (past history.now) i }
     ensures adopt { (i : ℕ) (c : Situation) → HasOneAdoptRefusal shelf.now (past history.now) i c }

@@ -10,7 +10,8 @@ use saga_rows::{RowTask, Rows};
 /// The place of a saga among the rows, by its number.
 pub fn place_of(rows: &Rows, first: u32, stride: u32, saga: u32) -> Option<usize>
     requires { first < stride }
-    ensures { MatchOption result ((k : ℕ) → k < length rows.now → saga ≡ number first stride k → ⊥) (λ k. (k < length rows.now) × (saga ≡ number first stride k)) }
+    ensures { MatchOption result ((k : ℕ) → k < length rows.now → saga ≡ number first stride k → ⊥)
+        (λ k. (k < length rows.now) × (saga ≡ number first stride k)) }
 {
     if saga < first {
         return None;

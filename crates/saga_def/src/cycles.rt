@@ -34,7 +34,8 @@ fn demands(alloc: Global, needs: &[Need], count: usize) -> Result<Vec<u16>, Allo
     requires known { AreKnown needs.now count }
     requires few { length needs.now ≤ MAX_NEEDS }
     ensures sized { IfOk result (λ unmet. length unmet.items ≡ count) }
-    ensures each { IfOk result (λ unmet. (s : ℕ) → s < count → slice_index unmet.items s ≡ demand needs.now s) }
+    ensures each { IfOk result
+        (λ unmet. (s : ℕ) → s < count → slice_index unmet.items s ≡ demand needs.now s) }
 {
     let mut unmet: Vec<u16> = vec![in alloc; 0; count]?;
     for need in needs {
@@ -60,8 +61,10 @@ fn free_steps(alloc: Global, unmet: &[u16]) -> Result<Vec<u16>, AllocError>
 /// Lowers the count of each of the steps by one, and adds those whose count comes to 0 to the steps to do.
 fn lower(unmet: &mut [u16], users: &[u16], todo: &mut Vec<u16>) -> Result<(), AllocError>
     requires known { All (λ (s : ℕ). s < length unmet.old) users.now }
-    requires enough { (s : ℕ) → s < length unmet.old → occurs s users.now ≤ slice_index unmet.old s }
-    ensures { IfOk result (λ _. AreLowered users.now unmet.old todo.old.items unmet.new todo.new.items) }
+    requires enough { (s : ℕ) → s < length unmet.old
+        → occurs s users.now ≤ slice_index unmet.old s }
+    ensures { IfOk result
+        (λ _. AreLowered users.now unmet.old todo.old.items unmet.new todo.new.items) }
 {
     for user in users {
         let left = unmet[*user as usize] - 1;
@@ -130,7 +133,8 @@ fn ring_from(alloc: Global, blockers: &[Option<u16>], start: u16) -> Result<Vec<
 /// The first step that has a blocker.
 fn first_blocked(blockers: &[Option<u16>]) -> Option<usize>
     ensures none { IfNone result (All (λ blocker. blocker ≡ None) blockers.now) }
-    ensures some { IfSome result (λ s. (s < length blockers.now) × IsSome (slice_index_or blockers.now s None)) }
+    ensures some { IfSome result
+        (λ s. (s < length blockers.now) × IsSome (slice_index_or blockers.now s None)) }
 {
     blockers.iter().position(|blocker| blocker.is_some())
 }

@@ -31,7 +31,8 @@ impl Model for Definition {
 
     ghost view = { λ d. contents d.name d.steps.items d.needs.items };
 
-    ghost invariant = { λ d. IsDefinition (contents d.name d.steps.items d.needs.items) d.adjacency };
+    ghost invariant = { λ d. IsDefinition
+        (contents d.name d.steps.items d.needs.items) d.adjacency };
 }
 
 impl Definition {
@@ -51,8 +52,10 @@ impl Definition {
     ) -> Result<Definition, DefFault>
         ensures built { IfOk result (λ d. d ≡ contents name steps.items needs.items) }
         ensures sound { IfOk result (λ d. IsSound d) }
-        ensures fault { IfErr result (λ fault. IsFirstFault (contents name steps.items needs.items) fault) }
-        ensures accepts { IsSound (contents name steps.items needs.items) → IfErr result (λ fault. fault ≡ DefFault.OutOfMemory) }
+        ensures fault { IfErr result
+            (λ fault. IsFirstFault (contents name steps.items needs.items) fault) }
+        ensures accepts { IsSound (contents name steps.items needs.items)
+            → IfErr result (λ fault. fault ≡ DefFault.OutOfMemory) }
     {
         if steps.is_empty() {
             return Err(DefFault::Empty);

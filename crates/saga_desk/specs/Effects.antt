@@ -13,7 +13,7 @@ use Rattle.saga_history.specs.declared.transitions.Transition.{Transition}
 use Rattle.saga_history.specs.declared.transitions.Transition.TheVariants as transition
 use Rattle.saga_history.specs.Changes.{Change, past, changes, mark_of, step_event}
 use Rattle.saga_history.specs.Rules.{IsAllowed, misses_of, undo_misses_of}
-use Rattle.saga_core.specs.Book.{Book}
+use Rattle.saga_core.specs.Book.{Book, with_event}
 use Rattle.saga_core.specs.Refusals.{IsPresentCase, OfSaga}
 use Rattle.saga_core.specs.Tasks.{IsFirstTask}
 use Rattle.saga_desk.specs.Job.{Job}
@@ -28,7 +28,7 @@ receipt_of book e = record { shard = book.first; mark = mark_of e; number = leng
 
 -- the book has this one event more, and the seat its receipt; the seat has then so many claims outstanding
 pub record Records (old new : Book) (before after : Seat) (e : Event) (claims : ℕ) : Type 0 where
-  pub event : new ≡ record old { history = old.history ++ e ∷ [] }
+  pub event : new ≡ with_event old e
   pub receipt : after ≡ record { number = before.number; receipts = before.receipts ++ receipt_of old e ∷ []; claims = claims }
 
 -- book and seat are as they were

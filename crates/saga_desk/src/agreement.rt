@@ -44,10 +44,14 @@ fn next_from(
     requires books { length taken.now ≡ length books.now }
     requires seats { length told.now ≡ length seats.now }
     requires within { first ≤ length seats.now }
-    ensures within { IfSome result (λ found. (found.0 < length books.now) × (found.1 < length seats.now)) }
-    ensures some { IfSome result (λ found. IsNextIn books.now taken.now seats.now told.now found.0 found.1) }
+    ensures within { IfSome result
+        (λ found. (found.0 < length books.now) × (found.1 < length seats.now)) }
+    ensures some { IfSome result
+        (λ found. IsNextIn books.now taken.now seats.now told.now found.0 found.1) }
     ensures none { IfNone result ((k : ℕ) → NoneIsNextIn books.now taken.now seats.now told.now k) }
-    ensures room { IfSome result (λ found. (slice_index taken.now found.0 + 1 < 2 ^ 64) × (slice_index told.now found.1 + 1 < 2 ^ 64)) }
+    ensures room { IfSome result
+        (λ found. (slice_index taken.now found.0 + 1 < 2 ^ 64)
+        × (slice_index told.now found.1 + 1 < 2 ^ 64)) }
 {
     if let Some(found) = next_between(books, seats, taken, told, first, seats.len()) {
         return Some(found);
@@ -67,10 +71,15 @@ fn next_between(
     requires books { length taken.now ≡ length books.now }
     requires seats { length told.now ≡ length seats.now }
     requires within { to ≤ length seats.now }
-    ensures within { IfSome result (λ found. (found.0 < length books.now) × (found.1 < length seats.now)) }
-    ensures some { IfSome result (λ found. IsNextIn books.now taken.now seats.now told.now found.0 found.1) }
-    ensures none { IfNone result ((k : ℕ) → from ≤ k → k < to → NoneIsNextIn books.now taken.now seats.now told.now k) }
-    ensures room { IfSome result (λ found. (slice_index taken.now found.0 + 1 < 2 ^ 64) × (slice_index told.now found.1 + 1 < 2 ^ 64)) }
+    ensures within { IfSome result
+        (λ found. (found.0 < length books.now) × (found.1 < length seats.now)) }
+    ensures some { IfSome result
+        (λ found. IsNextIn books.now taken.now seats.now told.now found.0 found.1) }
+    ensures none { IfNone result
+        ((k : ℕ) → from ≤ k → k < to → NoneIsNextIn books.now taken.now seats.now told.now k) }
+    ensures room { IfSome result
+        (λ found. (slice_index taken.now found.0 + 1 < 2 ^ 64)
+        × (slice_index told.now found.1 + 1 < 2 ^ 64)) }
 {
     for seat in from..to {
         if let Some(shard) = next_of_seat(books, seats, taken, told, seat) {
@@ -92,9 +101,12 @@ fn next_of_seat(
     requires seats { length told.now ≡ length seats.now }
     requires within { seat < length seats.now }
     ensures within { IfSome result (λ shard. shard < length books.now) }
-    ensures some { IfSome result (λ shard. IsNextIn books.now taken.now seats.now told.now shard seat) }
+    ensures some { IfSome result
+        (λ shard. IsNextIn books.now taken.now seats.now told.now shard seat) }
     ensures none { IfNone result (NoneIsNextIn books.now taken.now seats.now told.now seat) }
-    ensures room { IfSome result (λ shard. (slice_index taken.now shard + 1 < 2 ^ 64) × (slice_index told.now seat + 1 < 2 ^ 64)) }
+    ensures room { IfSome result
+        (λ shard. (slice_index taken.now shard + 1 < 2 ^ 64)
+        × (slice_index told.now seat + 1 < 2 ^ 64)) }
 {
     let receipts = seats[seat].receipts();
     let number = told[seat];
@@ -108,8 +120,10 @@ fn next_of_seat(
 fn book_of(books: &[Book<'_>], taken: &[usize], receipt: Receipt) -> Option<usize>
     requires { length taken.now ≡ length books.now }
     ensures within { IfSome result (λ shard. shard < length books.now) }
-    ensures some { IfSome result (λ shard. IsNextOf (histories_of books.now) taken.now shard receipt) }
-    ensures none { IfNone result ((shard : ℕ) → IsNextOf (histories_of books.now) taken.now shard receipt → ⊥) }
+    ensures some { IfSome result
+        (λ shard. IsNextOf (histories_of books.now) taken.now shard receipt) }
+    ensures none { IfNone result
+        ((shard : ℕ) → IsNextOf (histories_of books.now) taken.now shard receipt → ⊥) }
     ensures room { IfSome result (λ shard. slice_index taken.now shard + 1 < 2 ^ 64) }
 {
     let shard = receipt.shard as usize;
@@ -139,7 +153,9 @@ fn is_same(a: &Mark, b: &Mark) -> bool
 /// Whether each history is used up.
 fn are_taken(books: &[Book<'_>], taken: &[usize]) -> bool
     requires { length taken.now ≡ length books.now }
-    ensures { IsTrue result ↔ ((i : ℕ) → i < length (marks_of books.now) → length (slice_index_or (marks_of books.now) i []) ≤ slice_index taken.now i) }
+    ensures { IsTrue result
+        ↔ ((i : ℕ) → i < length (marks_of books.now)
+        → length (slice_index_or (marks_of books.now) i []) ≤ slice_index taken.now i) }
 {
     for i in 0..books.len() {
         if taken[i] < books[i].history().len() {
@@ -152,7 +168,9 @@ fn are_taken(books: &[Book<'_>], taken: &[usize]) -> bool
 /// Whether the receipts of each seat are used up.
 fn are_told(seats: &[Seat], told: &[usize]) -> bool
     requires { length told.now ≡ length seats.now }
-    ensures { IsTrue result ↔ ((i : ℕ) → i < length (receipts_of seats.now) → length (slice_index_or (receipts_of seats.now) i []) ≤ slice_index told.now i) }
+    ensures { IsTrue result
+        ↔ ((i : ℕ) → i < length (receipts_of seats.now)
+        → length (slice_index_or (receipts_of seats.now) i []) ≤ slice_index told.now i) }
 {
     for i in 0..seats.len() {
         if told[i] < seats[i].receipts().len() {

@@ -44,7 +44,8 @@ impl<'d> Slot<'d> {
         number: u32,
         definition: u32,
     ) -> Result<u32, OpenRefusal>
-        ensures ok { IfOk result (λ saga. GainsOn number seat.old seat.new (mark.Open saga definition)) }
+        ensures ok { IfOk result
+            (λ saga. GainsOn number seat.old seat.new (mark.Open saga definition)) }
         ensures err { OnErr result (seat.new ≡ seat.old) }
     {
         let mut locked = self.shard.lock(rt);
@@ -102,9 +103,11 @@ impl<'d> Model for Desk<'d> {
 
     ghost Value = { Desk };
 
-    ghost view = { λ d. record { shelf = d.definitions.now; seats = d.seat_count; shards = vec_len d.slots } };
+    ghost view = { λ d. record
+        { shelf = d.definitions.now; seats = d.seat_count; shards = vec_len d.slots } };
 
-    ghost invariant = { λ d. (0 < vec_len d.slots) × (vec_len d.slots ≤ 16) × (0 < d.seat_count) × (d.seat_count ≤ 16) };
+    ghost invariant = { λ d. (0 < vec_len d.slots) × (vec_len d.slots ≤ 16) × (0 < d.seat_count)
+        × (d.seat_count ≤ 16) };
 }
 
 impl<'d> Desk<'d> {
@@ -118,7 +121,9 @@ impl<'d> Desk<'d> {
     ) -> Result<(Desk<'d>, Vec<Seat>), AllocError>
         requires seats { (0 < seats) × (seats ≤ 16) }
         requires shards { (0 < shards) × (shards ≤ 16) }
-        ensures desk { IfOk result (λ opened. opened.0 ≡ record { shelf = shelf.entry.now; seats = seats; shards = shards }) }
+        ensures desk { IfOk result
+            (λ opened. opened.0
+            ≡ record { shelf = shelf.entry.now; seats = seats; shards = shards }) }
         ensures seats { IfOk result (λ opened. AreFirstSeats seats opened.1.items) }
     {
         let mut slots = Vec::with_capacity(alloc, shards as usize)?;
@@ -153,7 +158,8 @@ impl<'d> Desk<'d> {
         definition: u32,
     ) -> Result<u32, OpenRefusal>
         requires { shard < self.now.shards }
-        ensures ok { IfOk result (λ saga. GainsOn shard seat.old seat.new (mark.Open saga definition)) }
+        ensures ok { IfOk result
+            (λ saga. GainsOn shard seat.old seat.new (mark.Open saga definition)) }
         ensures err { OnErr result (seat.new ≡ seat.old) }
     {
         self.slots[shard as usize].open_saga(rt, seat, shard, definition)
@@ -196,7 +202,8 @@ impl<'d> Desk<'d> {
         ensures ok { OnOk result (GainsEnd seat.old seat.new job.entry outcome) }
         ensures err { IfErr result (λ refused. seat.new ≡ seat.old) }
         ensures back { IfErr result (λ refused. refused.job ≡ job.entry) }
-        ensures why { IfErr result (λ refused. EndIsRefused job.entry.seat seat.old (λ why. Unit {0}) refused.why) }
+        ensures why { IfErr result
+            (λ refused. EndIsRefused job.entry.seat seat.old (λ why. Unit {0}) refused.why) }
     {
         let mut locked = self.slots[self.place_of(job.saga())].shard.lock(rt);
         let shard: &mut Shard<'d> = &mut *locked;
@@ -213,10 +220,13 @@ impl<'d> Desk<'d> {
         verdict: Verdict<'d>,
     ) -> Result<(), AdoptionRefused<'d>>
         ensures own { OnOk result (HasClaimed job.seat seat.old) }
-        ensures ok { OnOk result (Gains seat.old seat.new (mark.Adopt job.saga) (seat.old.claims - 1)) }
+        ensures ok { OnOk result
+            (Gains seat.old seat.new (mark.Adopt job.saga) (seat.old.claims - 1)) }
         ensures err { IfErr result (λ refused. seat.new ≡ seat.old) }
-        ensures back { IfErr result (λ refused. (refused.job ≡ job) × (refused.verdict ≡ verdict.entry)) }
-        ensures why { IfErr result (λ refused. EndIsRefused job.seat seat.old (λ why. Unit {0}) refused.why) }
+        ensures back { IfErr result
+            (λ refused. (refused.job ≡ job) × (refused.verdict ≡ verdict.entry)) }
+        ensures why { IfErr result
+            (λ refused. EndIsRefused job.seat seat.old (λ why. Unit {0}) refused.why) }
     {
         let mut locked = self.slots[self.place_of(job.saga())].shard.lock(rt);
         let shard: &mut Shard<'d> = &mut *locked;
@@ -232,10 +242,12 @@ impl<'d> Desk<'d> {
         job: PlanJob,
     ) -> Result<(), GiveBackRefused>
         ensures own { OnOk result (HasClaimed job.seat seat.old) }
-        ensures ok { OnOk result (Gains seat.old seat.new (mark.DropPlan job.saga) (seat.old.claims - 1)) }
+        ensures ok { OnOk result
+            (Gains seat.old seat.new (mark.DropPlan job.saga) (seat.old.claims - 1)) }
         ensures err { IfErr result (λ refused. seat.new ≡ seat.old) }
         ensures back { IfErr result (λ refused. refused.job ≡ job) }
-        ensures why { IfErr result (λ refused. EndIsRefused job.seat seat.old (λ why. Unit {0}) refused.why) }
+        ensures why { IfErr result
+            (λ refused. EndIsRefused job.seat seat.old (λ why. Unit {0}) refused.why) }
     {
         let mut locked = self.slots[self.place_of(job.saga())].shard.lock(rt);
         let shard: &mut Shard<'d> = &mut *locked;

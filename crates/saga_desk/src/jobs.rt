@@ -20,7 +20,14 @@ impl<'d> Model for Job<'d> {
 
     ghost Value = { Job };
 
-    ghost view = { λ j. record { seat = j.seat; saga = j.saga; step = j.step; is_undo = j.is_undo; name = j.name.now; attempt = j.attempt } };
+    ghost view = { λ j. record {
+      seat = j.seat;
+      saga = j.saga;
+      step = j.step;
+      is_undo = j.is_undo;
+      name = j.name.now;
+      attempt = j.attempt;
+    } };
 }
 
 impl<'d> Job<'d> {

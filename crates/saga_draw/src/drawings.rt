@@ -42,7 +42,8 @@ fn push_cost(text: &mut String, cost: u64) -> Result<(), AllocError>
 
 /// Adds what an answer says.
 fn push_answer(text: &mut String, answer: &Answer) -> Result<(), AllocError>
-    ensures { OnOk result (string_bytes text.new ≡ string_bytes text.old ++ spec.answer_text answer.now) }
+    ensures { OnOk result
+        (string_bytes text.new ≡ string_bytes text.old ++ spec.answer_text answer.now) }
 {
     match answer {
         Answer::Plan(plan) => push_cost(text, plan.cost),
@@ -81,8 +82,11 @@ fn push_nodes(
     states: Option<&[StepState]>,
     marks: &Marks<'_>,
 ) -> Result<(), AllocError>
-    ensures { OnOk result (string_bytes text.new ≡ string_bytes text.old
-        ++ spec.node_lines definition.now.steps (option_map (λ s. s.now) states.entry) (mark_in marks.now)) }
+    ensures { OnOk result
+        (string_bytes text.new
+        ≡ string_bytes text.old
+        ++ spec.node_lines definition.now.steps (option_map (λ s. s.now) states.entry)
+        (mark_in marks.now)) }
 {
     let count = definition.steps() as u16;
     for step in 0..count {
@@ -125,7 +129,8 @@ pub fn draw(
     states: Option<&[StepState]>,
     answer: Option<&Answer>,
 ) -> Result<String, AllocError>
-    ensures text { IfOk result (λ text. IsDrawing definition.now (option_map (λ s. s.now) states.entry)
+    ensures text { IfOk result
+        (λ text. IsDrawing definition.now (option_map (λ s. s.now) states.entry)
         (option_map (λ a. a.now) answer.entry) (string_bytes text)) }
     ensures names { IfOk result (λ _. HasPlainNames definition.now) }
 {

@@ -78,7 +78,8 @@ fn push_state(text: &mut String, state: Option<StepState>) -> Result<(), AllocEr
 
 /// Adds a price, where it is not 0.
 fn push_price(text: &mut String, word: &str, price: Price) -> Result<(), AllocError>
-    ensures { OnOk result (string_bytes text.new ≡ string_bytes text.old ++ spec.price_text word.now price) }
+    ensures { OnOk result
+        (string_bytes text.new ≡ string_bytes text.old ++ spec.price_text word.now price) }
 {
     match price {
         Price::Of(0) => Ok(()),
@@ -98,7 +99,8 @@ fn push_label(
     state: Option<StepState>,
     mark: Mark,
 ) -> Result<(), AllocError>
-    ensures { OnOk result (string_bytes text.new ≡ string_bytes text.old ++ spec.label_text step.now state mark) }
+    ensures { OnOk result
+        (string_bytes text.new ≡ string_bytes text.old ++ spec.label_text step.now state mark) }
 {
     text.push_str(step.name.as_str())?;
     push_state(text, state)?;
@@ -116,7 +118,8 @@ pub fn push_node(
     state: Option<StepState>,
     mark: Mark,
 ) -> Result<(), AllocError>
-    ensures { OnOk result (string_bytes text.new ≡ string_bytes text.old ++ spec.node_line step.now state mark) }
+    ensures { OnOk result
+        (string_bytes text.new ≡ string_bytes text.old ++ spec.node_line step.now state mark) }
 {
     text.push_str("  \"")?;
     text.push_str(step.name.as_str())?;
@@ -130,7 +133,8 @@ pub fn push_node(
 
 /// Adds the line of a need: an arrow from the step of one name to that of the other, which it needs.
 pub fn push_edge(text: &mut String, step: &str, on: &str, mark: Mark) -> Result<(), AllocError>
-    ensures { OnOk result (string_bytes text.new ≡ string_bytes text.old ++ spec.edge_line step.now on.now mark) }
+    ensures { OnOk result
+        (string_bytes text.new ≡ string_bytes text.old ++ spec.edge_line step.now on.now mark) }
 {
     text.push_str("  \"")?;
     text.push_str(step)?;

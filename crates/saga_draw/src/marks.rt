@@ -48,7 +48,8 @@ fn is_in(marks: &[bool], step: u32) -> bool
 
 /// The steps of a chain.
 fn steps_of(alloc: Global, chain: &[u16]) -> Result<HashSet<u32>, AllocError>
-    ensures { IfOk result (λ steps. (s : ℕ) → contains nat_eq steps s ≡ list_any (λ x. s == x) chain.now) }
+    ensures { IfOk result
+        (λ steps. (s : ℕ) → contains nat_eq steps s ≡ list_any (λ x. s == x) chain.now) }
 {
     let mut steps = HashSet::new(alloc);
     for step in chain {
@@ -59,8 +60,9 @@ fn steps_of(alloc: Global, chain: &[u16]) -> Result<HashSet<u32>, AllocError>
 
 /// Each step of a chain with the one after it.
 fn links_of(alloc: Global, chain: &[u16]) -> Result<HashSet<(u32, u32)>, AllocError>
-    ensures { IfOk result (λ links. (s o : ℕ) → contains (λ x y. x.0 == y.0 && x.1 == y.1) links (s, o)
-        ≡ along chain.now s o) }
+    ensures { IfOk result
+        (λ links. (s o : ℕ)
+        → contains (λ x y. x.0 == y.0 && x.1 == y.1) links (s, o) ≡ along chain.now s o) }
 {
     let mut links = HashSet::new(alloc);
     for place in 0..chain.len().saturating_sub(1) {

@@ -14,7 +14,7 @@ use Rattle.saga_history.specs.Rules.{definition, definition_at}
 use Rattle.saga_history.specs.Turns.{present_case, turn}
 use Rattle.saga_history.proofs.MergeLemmas.{past_push}
 use Rattle.saga_history.proofs.SagaLemmas.{changes_own}
-use Rattle.saga_core.specs.Book.{Book}
+use Rattle.saga_core.specs.Book.{Book, with_event}
 use Rattle.saga_core.specs.Refusals.{OfSaga, AdoptIsRefused, IsPresentCase}
 use Rattle.saga_core.specs.declared.refusals.AdoptRefusal.{AdoptRefusal}
 use Rattle.saga_core.specs.declared.refusals.AdoptRefusal.TheVariants as adopt
@@ -66,8 +66,8 @@ right_now shelf h i case a present right = at_definition (definition shelf (chan
     at_definition (Some d) same = subst (λ c. IsRight (terms_of c) a) same right
 
 -- two events one after the other
-pub grown : (old mid new : Book) (e f : Event) → mid ≡ record old { history = old.history ++ e ∷ [] }
-    → new ≡ record mid { history = mid.history ++ f ∷ [] } → new ≡ record old { history = old.history ++ e ∷ f ∷ [] }
+pub grown : (old mid new : Book) (e f : Event) → mid ≡ with_event old e
+    → new ≡ with_event mid f → new ≡ record old { history = old.history ++ e ∷ f ∷ [] }
 grown old mid new e f first second =
     rw (second, first) (ap (λ h. record old { history = h }) (append_assoc old.history (e ∷ []) (f ∷ [])))
 

@@ -1,10 +1,11 @@
 //! Answers: a request is met, and the reply tells what happened.
 //!
 //! What will be told is written before it happens, so where memory lacks, nothing has happened.
-ghost use Rattle.std.specs.Prelude.{◌≡◌, ◌++◌, ◌∷◌, [], IfOk, OnErr, OnOk};
+ghost use Rattle.std.specs.Prelude.{◌≡◌, IfOk, OnErr, OnOk};
 ghost use Rattle.saga_history.specs.Changes.{past};
 ghost use Rattle.saga_history.specs.Rules.{IsAllowed};
 ghost use Rattle.saga_history.specs.declared.events.Event.TheVariants as event;
+ghost use Rattle.saga_core.specs.Book.{with_event};
 ghost use Rattle.saga_core.specs.Tasks.{IsFirstTask, NoTaskIsAllowed};
 ghost use Rattle.saga_history.specs.declared.tasks.Task.TheVariants as task;
 ghost use Rattle.saga_drive.specs.Answers.{HoldsPlan, IsAnswer, IsMet};
@@ -79,9 +80,7 @@ fn take_undo(alloc: Global, book: &mut Book<'_>, saga: u32, step: u16) -> Result
 /// A plan begins.
 fn begin_plan(book: &mut Book<'_>, saga: u32) -> Result<(), AllocError>
     requires { IsAllowed book.old.shelf (past book.old.history) (event.StartPlan saga) }
-    ensures ok { OnOk result (book.new ≡ record book.old {
-      history = book.old.history ++ event.StartPlan saga ∷ [];
-    }) }
+    ensures ok { OnOk result (book.new ≡ with_event book.old (event.StartPlan saga)) }
     ensures err { OnErr result (book.new ≡ book.old) }
 {
     match book.take_plan(saga) {
@@ -94,9 +93,7 @@ fn begin_plan(book: &mut Book<'_>, saga: u32) -> Result<(), AllocError>
 /// A plan ends by an answer that is right for the present case.
 fn end_plan<'d>(book: &mut Book<'d>, saga: u32, verdict: Verdict<'d>)
     requires planned { HoldsPlan book.old.shelf (past book.old.history) saga verdict.case }
-    ensures { book.new ≡ record book.old {
-      history = book.old.history ++ event.Adopt saga verdict.entry.answer ∷ [];
-    } }
+    ensures { book.new ≡ with_event book.old (event.Adopt saga verdict.entry.answer) }
 {
     match book.adopt(saga, verdict) {
         Ok(()) => {}

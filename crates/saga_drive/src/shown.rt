@@ -101,7 +101,8 @@ fn state_words(
 
 /// Texts, with commas between them.
 fn listed(alloc: Global, texts: &[String]) -> Result<String, AllocError>
-    ensures { IfOk result (λ text. string_bytes text ≡ spec.listed (codes ",") (map string_bytes texts.now)) }
+    ensures { IfOk result
+        (λ text. string_bytes text ≡ spec.listed (codes ",") (map string_bytes texts.now)) }
 {
     texts.join(alloc, ",")
 }
@@ -182,9 +183,11 @@ pub fn show_text(
     saga: u32,
 ) -> Result<String, AllocError>
     requires { IsDefinedBy book.now.shelf (past book.now.history) saga definition.now }
-    ensures { IfOk result (λ text. (phase : _) × HasPhase definition.now (changes saga (past book.now.history)) phase
+    ensures { IfOk result
+        (λ text. (phase : _) × HasPhase definition.now (changes saga (past book.now.history)) phase
         × (string_bytes text
-        ≡ spec.show_text definition.now (changes saga (past book.now.history)) phase saga)) }
+        ≡ spec.show_text definition.now
+        (changes saga (past book.now.history)) phase saga)) }
 {
     let aborted = truth_text(is_aborted(book, definition, saga));
     let phase = phase_word(phase_of(book, definition, saga));

@@ -106,8 +106,10 @@ pub fn run_text(
 ) -> Result<String, AllocError>
     requires defined { IsDefinedBy book.now.shelf (past book.now.history) saga definition.now }
     requires step { step < length definition.now.steps }
-    ensures { IfOk result (λ text. string_bytes text
-        ≡ spec.task_text (spec.run_task definition.now (changes saga (past book.now.history)) saga step)) }
+    ensures { IfOk result
+        (λ text. string_bytes text
+        ≡ spec.task_text
+        (spec.run_task definition.now (changes saga (past book.now.history)) saga step)) }
 {
     let attempt = u16::from(misses_of(book, definition, saga, step)) + 1;
     task_text(alloc, attempt, name_of(definition, step), saga, step, "run")
@@ -123,8 +125,10 @@ pub fn undo_text(
 ) -> Result<String, AllocError>
     requires defined { IsDefinedBy book.now.shelf (past book.now.history) saga definition.now }
     requires step { step < length definition.now.steps }
-    ensures { IfOk result (λ text. string_bytes text
-        ≡ spec.task_text (spec.undo_task definition.now (changes saga (past book.now.history)) saga step)) }
+    ensures { IfOk result
+        (λ text. string_bytes text
+        ≡ spec.task_text
+        (spec.undo_task definition.now (changes saga (past book.now.history)) saga step)) }
 {
     let attempt = u16::from(undo_misses_of(book, definition, saga, step)) + 1;
     task_text(

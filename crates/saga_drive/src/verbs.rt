@@ -56,7 +56,8 @@ impl Verb {
 }
 
 fn are_keys_of(verb: Verb, members: &Map<String, Value>) -> bool
-    ensures { result ≡ list_all (spec.is_key_of verb) (member_keys (members_view members.now.entries)) }
+    ensures { result
+        ≡ list_all (spec.is_key_of verb) (member_keys (members_view members.now.entries)) }
 {
     members.keys().all(|key| verb.has_key(key.as_str()))
 }

@@ -63,7 +63,8 @@ impl Graph<'_> {
     /// The residual arcs along arcs, or those back against them, by the node that they leave.
     #[inline]
     pub fn adjacency(&self, forward: bool) -> &AdjacencyList
-        ensures { IsAdjacencyList self.now.nodes self.now.arcs.now forward result.now.starts.items result.now.arcs.items result.now.heads.items }
+        ensures { IsAdjacencyList self.now.nodes self.now.arcs.now forward result.now.starts.items
+            result.now.arcs.items result.now.heads.items }
     {
         if forward { &self.out } else { &self.into }
     }

@@ -54,7 +54,8 @@ impl Marks {
         requires node { node < length self.old }
         requires below { 0 < depth }
         requires depth { depth < no_depth }
-        ensures { self.new ≡ slice_set self.old node (Some (record { depth = depth; by = Some by })) }
+        ensures { self.new
+            ≡ slice_set self.old node (Some (record { depth = depth; by = Some by })) }
     {
         self.depths[node] = depth;
         self.by[node] = by;

@@ -30,10 +30,14 @@ pub fn run_phase(
     progress: &mut Progress,
 ) -> Result<(), AllocError>
     requires apart { Reaches (HasUnbounded graph.now.arcs.now) 0 1 → ⊥ }
-    requires tree { IsSearchTree graph.now.nodes graph.now.arcs.now (λ s. Carries graph.now.arcs.now progress.old.on.items 1 (turned s)) 1 (Some 0) marks.now }
+    requires tree { IsSearchTree graph.now.nodes graph.now.arcs.now
+        (λ s. Carries graph.now.arcs.now progress.old.on.items 1 (turned s)) 1 (Some 0) marks.now }
     requires marked { IsSome (mark_at marks.now 0) }
-    requires progress { IsProgress graph.now.nodes graph.now.arcs.now progress.old.on.items progress.old.value progress.old.rounds }
-    ensures progress { OnOk result (IsProgress graph.now.nodes graph.now.arcs.now progress.new.on.items progress.new.value progress.new.rounds) }
+    requires progress { IsProgress graph.now.nodes graph.now.arcs.now progress.old.on.items
+        progress.old.value progress.old.rounds }
+    ensures progress { OnOk result
+        (IsProgress graph.now.nodes graph.now.arcs.now progress.new.on.items progress.new.value
+        progress.new.rounds) }
     ensures more { OnOk result (progress.old.value < progress.new.value) }
 {
     let mut left = Vec::from_slice(alloc, graph.degrees())?;
@@ -61,7 +65,9 @@ fn next_path(
     requires marks { length marks.now ≡ graph.now.nodes }
     requires left { vec_len left.old ≡ graph.now.nodes }
     ensures left { vec_len left.new ≡ vec_len left.old }
-    ensures found { IfOk result (λ found. IsTrue found → IsTrail (Nears graph.now.arcs.now on.now (far_in marks.now)) 0 path.new.items 1) }
+    ensures found { IfOk result
+        (λ found. IsTrue found
+        → IsTrail (Nears graph.now.arcs.now on.now (far_in marks.now)) 0 path.new.items 1) }
 {
     path.clear();
     let mut node = 0;
@@ -99,7 +105,8 @@ fn arc_nearer(graph: &Graph, on: &[u64], marks: &Marks, node: usize, left: usize
     requires node { node < graph.now.nodes }
     ensures before { IfSome result (λ found. found.left < left) }
     ensures within { IfSome result (λ found. found.to < graph.now.nodes) }
-    ensures nearer { IfSome result (λ found. Nears graph.now.arcs.now on.now (far_in marks.now) found.residual node found.to) }
+    ensures nearer { IfSome result
+        (λ found. Nears graph.now.arcs.now on.now (far_in marks.now) found.residual node found.to) }
 {
     let back = graph.adjacency(false).degree(node);
     if left > back {
@@ -129,7 +136,8 @@ fn arc_over(
     requires node { node < graph.now.nodes }
     ensures before { IfSome result (λ found. found.left < left) }
     ensures within { IfSome result (λ found. found.to < graph.now.nodes) }
-    ensures nearer { IfSome result (λ found. Nears graph.now.arcs.now on.now (far_in marks.now) found.residual node found.to) }
+    ensures nearer { IfSome result
+        (λ found. Nears graph.now.arcs.now on.now (far_in marks.now) found.residual node found.to) }
 {
     let far = marks.far(node);
     let list = graph.adjacency(forward);

@@ -17,7 +17,8 @@ pub fn push_most(arcs: &[Arc], path: &[ResidualArc], on: &mut [u64]) -> u64
     requires sized { length on.old ≡ length arcs.now }
     requires carries { All (Carries arcs.now on.old 1) path.now }
     requires once { NoArcTwice path.now }
-    requires fits { (more : ℕ) → All (Carries arcs.now on.old more) path.now → (k : ℕ) → slice_index on.old k + more < 2 ^ 63 }
+    requires fits { (more : ℕ) → All (Carries arcs.now on.old more) path.now → (k : ℕ)
+        → slice_index on.old k + more < 2 ^ 63 }
     ensures { IsPush arcs.now on.old path.now result on.new }
 {
     let more = most_along(arcs, path, on);

@@ -21,7 +21,10 @@ use std::alloc::{AllocError, Global};
 pub fn reach(alloc: Global, net: &Net, flow: &Flow) -> Result<Vec<bool>, AllocError>
     requires sized { length flow.now.on.items ≡ length net.now.arcs }
     ensures sized { IfOk result (λ r. length r.items ≡ net.now.nodes) }
-    ensures exact { IfOk result (λ r. (node : ℕ) → node < net.now.nodes → (IsTrue (slice_index_or r.items node false) ↔ Reaches (IsResidual net.now.arcs flow.now.on.items) 0 node)) }
+    ensures exact { IfOk result
+        (λ r. (node : ℕ) → node < net.now.nodes
+        → (IsTrue (slice_index_or r.items node false)
+        ↔ Reaches (IsResidual net.now.arcs flow.now.on.items) 0 node)) }
 {
     let graph = graph_of(alloc, net)?;
     let open = Residual {
@@ -37,8 +40,12 @@ pub fn reach(alloc: Global, net: &Net, flow: &Flow) -> Result<Vec<bool>, AllocEr
 ///
 /// An error comes only where memory is refused.
 pub fn unbounded_path(alloc: Global, net: &Net) -> Result<Option<Vec<u32>>, AllocError>
-    ensures some { IfOk result (λ found. IfSome found (λ nodes. (rest : List ℕ) × (nodes.items ≡ 0 ∷ rest) × IsPath (HasUnbounded net.now.arcs) nodes.items 1)) }
-    ensures none { IfOk result (λ found. IfNone found (Reaches (HasUnbounded net.now.arcs) 0 1 → ⊥)) }
+    ensures some { IfOk result
+        (λ found. IfSome found
+        (λ nodes. (rest : List ℕ) × (nodes.items ≡ 0 ∷ rest)
+        × IsPath (HasUnbounded net.now.arcs) nodes.items 1)) }
+    ensures none { IfOk result
+        (λ found. IfNone found (Reaches (HasUnbounded net.now.arcs) 0 1 → ⊥)) }
 {
     let graph = graph_of(alloc, net)?;
     let endless = Endless { arcs: graph.arcs };

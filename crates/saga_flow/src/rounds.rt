@@ -22,7 +22,8 @@ pub fn augment(arcs: &[Arc], path: &[ResidualArc], progress: &mut Progress)
     requires carries { All (Carries arcs.now progress.old.on.items 1) path.now }
     requires once { NoArcTwice path.now }
     requires limit { (k : ℕ) → slice_index progress.old.on.items k ≤ progress.old.value }
-    requires fits { (more : ℕ) → All (Carries arcs.now progress.old.on.items more) path.now → progress.old.value + more < 2 ^ 63 }
+    requires fits { (more : ℕ) → All (Carries arcs.now progress.old.on.items more) path.now
+        → progress.old.value + more < 2 ^ 63 }
     requires few { progress.old.rounds ≤ progress.old.value }
     ensures { AddsRound arcs.now path.now progress.old progress.new }
 {

@@ -37,7 +37,9 @@ pub fn search<G: Gate>(
     requires asked { length graph.now.arcs.now ≤ G.count gate.now }
     requires start { start < graph.now.nodes }
     requires goal { IfSome goal (λ node. node < graph.now.nodes) }
-    ensures { IfOk result (λ marks. IsSearchTree graph.now.nodes graph.now.arcs.now (G.passes gate.now) start goal marks) }
+    ensures { IfOk result
+        (λ marks. IsSearchTree graph.now.nodes graph.now.arcs.now
+        (G.passes gate.now) start goal marks) }
 {
     let mut found = Found {
         marks: Marks::none(alloc, graph.nodes)?,
@@ -69,7 +71,8 @@ fn add_mark(found: &mut Found, node: usize, depth: u32, by: ResidualArc) -> Resu
     requires node { node < length found.old.marks }
     requires below { 0 < depth }
     requires depth { depth < no_depth }
-    ensures { OnOk result (IsMarked found.old found.new node (record { depth = depth; by = Some by })) }
+    ensures { OnOk result
+        (IsMarked found.old found.new node (record { depth = depth; by = Some by })) }
 {
     found.marks.set(node, depth, by);
     found.order.push(node)?;
@@ -86,8 +89,11 @@ fn visit<G: Gate>(
 ) -> Result<(), AllocError>
     requires asked { length graph.now.arcs.now ≤ G.count gate.now }
     requires next { next < length found.old.order.items }
-    requires search { IsSearching graph.now.nodes graph.now.arcs.now (G.passes gate.now) start found.old next }
-    ensures { OnOk result (IsSearching graph.now.nodes graph.now.arcs.now (G.passes gate.now) start found.new (next + 1)) }
+    requires search { IsSearching graph.now.nodes graph.now.arcs.now
+        (G.passes gate.now) start found.old next }
+    ensures { OnOk result
+        (IsSearching graph.now.nodes graph.now.arcs.now (G.passes gate.now) start found.new
+        (next + 1)) }
 {
     let node = found.order[next];
     let place = Place {
@@ -111,10 +117,15 @@ fn visit_arcs<G: Gate>(
     found: &mut Found,
 ) -> Result<(), AllocError>
     requires asked { length graph.now.arcs.now ≤ G.count gate.now }
-    requires visit { IsVisiting graph.now.nodes graph.now.arcs.now (G.passes gate.now) place found.old }
-    ensures visit { OnOk result (IsVisiting graph.now.nodes graph.now.arcs.now (G.passes gate.now) place found.new) }
-    ensures seen { OnOk result ((s : ResidualArc) (v : ℕ) → s.forward ≡ forward → Leads graph.now.arcs.now s place.node v → G.passes gate.now s → IsSeen found.new.marks v place.depth) }
-    ensures kept { OnOk result ((v : ℕ) → IsSeen found.old.marks v place.depth → IsSeen found.new.marks v place.depth) }
+    requires visit { IsVisiting graph.now.nodes graph.now.arcs.now
+        (G.passes gate.now) place found.old }
+    ensures visit { OnOk result
+        (IsVisiting graph.now.nodes graph.now.arcs.now (G.passes gate.now) place found.new) }
+    ensures seen { OnOk result
+        ((s : ResidualArc) (v : ℕ) → s.forward ≡ forward → Leads graph.now.arcs.now s place.node v
+        → G.passes gate.now s → IsSeen found.new.marks v place.depth) }
+    ensures kept { OnOk result
+        ((v : ℕ) → IsSeen found.old.marks v place.depth → IsSeen found.new.marks v place.depth) }
 {
     let list = graph.adjacency(forward);
     let first = list.starts[place.node];

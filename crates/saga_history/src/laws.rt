@@ -39,10 +39,14 @@ pub fn headline(shelf: &[Definition], history: &[Event])
 /// it stands when nothing may begin in it; and that a compensation that fails for good does not by itself make it stuck.
 #[tactic(auto, using(crate::proofs::TallyLemmas::all_are_tallied, crate::proofs::CountLemmas::all_have_few_events, crate::proofs::ProgressLemmas::all_ended_or_wait, crate::proofs::PlanLemmas::plans_leave_a_way))]
 pub fn saga_laws(shelf: &[Definition], history: &[Event])
-    ensures tallied { IsLegal shelf.now (past history.now) → AllAreTallied shelf.now (past history.now) }
-    ensures few { IsLegal shelf.now (past history.now) → AllHaveFewEvents shelf.now (past history.now) }
-    ensures waits { IsLegal shelf.now (past history.now) → AllEndedOrWait shelf.now (past history.now) }
-    ensures goes_on { IsLegal shelf.now (past history.now) → PlansLeaveAWay shelf.now (past history.now) }
+    ensures tallied { IsLegal shelf.now (past history.now)
+        → AllAreTallied shelf.now (past history.now) }
+    ensures few { IsLegal shelf.now (past history.now)
+        → AllHaveFewEvents shelf.now (past history.now) }
+    ensures waits { IsLegal shelf.now (past history.now)
+        → AllEndedOrWait shelf.now (past history.now) }
+    ensures goes_on { IsLegal shelf.now (past history.now)
+        → PlansLeaveAWay shelf.now (past history.now) }
 {
     are_sound(shelf);
 }
@@ -52,7 +56,8 @@ pub fn saga_laws(shelf: &[Definition], history: &[Event])
 /// leaves every other one as it was, and the history is legal exactly where each saga's part of it is.
 #[tactic(auto, using(crate::proofs::PartLemmas::grows_by_allowed, crate::proofs::PartLemmas::leaves_other_sagas, crate::proofs::MergeLemmas::adds_one_change))]
 pub fn history_laws(shelf: &[Definition], history: &[Event])
-    ensures places { IsLegal shelf.now (past history.now) → parts.EachWasAllowed shelf.now history.now }
+    ensures places { IsLegal shelf.now (past history.now)
+        → parts.EachWasAllowed shelf.now history.now }
     ensures adds { parts.AddsOneChange history.now }
     ensures grows { parts.GrowsByAllowed shelf.now history.now }
     ensures others { parts.LeavesOtherSagas shelf.now history.now }
@@ -73,10 +78,14 @@ pub fn merge_laws(shelf: &[Definition], first: &[Event], second: &[Event])
 /// What the headline says, part by part, of any history of which it holds; and that a saga stands in at most one phase.
 #[tactic(auto, using(crate::proofs::LawLemmas::has_one_phase, crate::proofs::LawLemmas::goal_is_closed, crate::proofs::LawLemmas::goal_is_kept, crate::proofs::LawLemmas::others_are_undone, crate::proofs::LawLemmas::undone_in_order))]
 pub fn headline_parts(shelf: &[Definition], history: &[Event])
-    ensures closed { Headline shelf.now (past history.now) → GoalIsClosed shelf.now (past history.now) }
+    ensures closed { Headline shelf.now (past history.now)
+        → GoalIsClosed shelf.now (past history.now) }
     ensures kept { Headline shelf.now (past history.now) → GoalIsKept shelf.now (past history.now) }
-    ensures undone { Headline shelf.now (past history.now) → OthersAreUndone shelf.now (past history.now) }
-    ensures in_order { Headline shelf.now (past history.now) → UndoneInOrder shelf.now (past history.now) }
-    ensures settled { Headline shelf.now (past history.now) → AdoptionsSettle shelf.now history.now }
+    ensures undone { Headline shelf.now (past history.now)
+        → OthersAreUndone shelf.now (past history.now) }
+    ensures in_order { Headline shelf.now (past history.now)
+        → UndoneInOrder shelf.now (past history.now) }
+    ensures settled { Headline shelf.now (past history.now)
+        → AdoptionsSettle shelf.now history.now }
     ensures phase { (d : Contents) (l : List Change) → HasOnePhase d l }
 {}

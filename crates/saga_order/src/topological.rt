@@ -19,7 +19,10 @@ fn visit(
     requires within { step < length definition.now.steps }
     requires fresh { is_marked visited.old step ≡ false }
     requires above { AreAbove (shape_of definition.now) visited.old order.old.items step }
-    ensures { OnOk result (HasVisited (shape_of definition.now) visited.old order.old.items step visited.new order.new.items) }
+    ensures { OnOk result
+        (HasVisited
+        (shape_of definition.now) visited.old order.old.items step visited.new
+        order.new.items) }
 {
     visited[step as usize] = true;
     for on in definition.needs_of(step) {

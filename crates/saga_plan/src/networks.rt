@@ -32,7 +32,10 @@ pub fn net_of(alloc: Global, case: &Case) -> Result<Net, AllocError>
 
 /// For each step the arc from the source, which bears its leave price.
 fn add_leave_arcs(arcs: &mut Vec<Arc>, case: &Case) -> Result<(), AllocError>
-    ensures { OnOk result (arcs.new.items ≡ arcs.old.items ++ arcs_below (terms_of case.now).count (leave_arc (terms_of case.now))) }
+    ensures { OnOk result
+        (arcs.new.items
+        ≡ arcs.old.items
+        ++ arcs_below (terms_of case.now).count (leave_arc (terms_of case.now))) }
 {
     for step in 0..case.definition().steps() as u16 {
         arcs.push(Arc {
@@ -46,7 +49,10 @@ fn add_leave_arcs(arcs: &mut Vec<Arc>, case: &Case) -> Result<(), AllocError>
 
 /// For each step the arc to the sink, which bears its stand price.
 fn add_stand_arcs(arcs: &mut Vec<Arc>, case: &Case) -> Result<(), AllocError>
-    ensures { OnOk result (arcs.new.items ≡ arcs.old.items ++ arcs_below (terms_of case.now).count (stand_arc (terms_of case.now))) }
+    ensures { OnOk result
+        (arcs.new.items
+        ≡ arcs.old.items
+        ++ arcs_below (terms_of case.now).count (stand_arc (terms_of case.now))) }
 {
     for step in 0..case.definition().steps() as u16 {
         arcs.push(Arc {
@@ -60,7 +66,8 @@ fn add_stand_arcs(arcs: &mut Vec<Arc>, case: &Case) -> Result<(), AllocError>
 
 /// For each need the arc from the step to the one that it needs.
 fn add_link_arcs(arcs: &mut Vec<Arc>, case: &Case) -> Result<(), AllocError>
-    ensures { OnOk result (arcs.new.items ≡ arcs.old.items ++ map link_arc (terms_of case.now).needs) }
+    ensures { OnOk result
+        (arcs.new.items ≡ arcs.old.items ++ map link_arc (terms_of case.now).needs) }
 {
     for need in case.definition().all_needs() {
         arcs.push(Arc {

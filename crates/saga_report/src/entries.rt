@@ -34,7 +34,8 @@ fn push_entries(entries: &mut Vec<Entry>, place: usize, events: &[Event]) -> Res
 }
 
 fn entries_of(alloc: Global, histories: &[&[Event]]) -> Result<Vec<Entry>, AllocError>
-    ensures { IfOk result (λ entries. entries.items ≡ entries_from 0 (map (λ h. h.now) histories.now)) }
+    ensures { IfOk result
+        (λ entries. entries.items ≡ entries_from 0 (map (λ h. h.now) histories.now)) }
 {
     let mut entries = Vec::new(alloc);
     for (place, events) in histories.iter().enumerate() {

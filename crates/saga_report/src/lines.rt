@@ -104,7 +104,8 @@ fn push_step(text: &mut String, step: u16, state: StepState, name: &str) -> Resu
 }
 
 fn push_plans(text: &mut String, plans: usize, cost: Cost) -> Result<(), AllocError>
-    ensures { OnOk result (string_bytes text.new ≡ string_bytes text.old ++ spec.plans_line plans cost) }
+    ensures { OnOk result
+        (string_bytes text.new ≡ string_bytes text.old ++ spec.plans_line plans cost) }
 {
     let mut buffer = Buffer::new();
     let plans = buffer.format(plans as u64);
@@ -138,7 +139,8 @@ fn is_in_goal(saga: &Saga, step: u16) -> bool
 
 /// Whether a step of the goal stands, or another one is waiting, failed or undone.
 fn is_done(saga: &Saga, step: u16) -> bool
-    ensures { result ≡ spec.is_done ((story_in saga.now).goal step) ((story_in saga.now).state step) }
+    ensures { result
+        ≡ spec.is_done ((story_in saga.now).goal step) ((story_in saga.now).state step) }
 {
     let state = state_of(saga, step);
     if is_in_goal(saga, step) {
@@ -149,7 +151,9 @@ fn is_done(saga: &Saga, step: u16) -> bool
 }
 
 fn are_done(saga: &Saga, count: u16) -> bool
-    ensures { result ≡ list_all (λ s. spec.is_done ((story_in saga.now).goal s) ((story_in saga.now).state s)) (range_with_len 0 count) }
+    ensures { result
+        ≡ list_all (λ s. spec.is_done ((story_in saga.now).goal s) ((story_in saga.now).state s))
+        (range_with_len 0 count) }
 {
     for step in 0..count {
         if !is_done(saga, step) {
@@ -192,7 +196,8 @@ fn push_known(
 ) -> Result<Phase, AllocError>
     ensures text { IfOk result (λ _. string_bytes text.new ≡ string_bytes text.old
         ++ spec.saga_text definition.now number (story_in saga.now)) }
-    ensures phase { IfOk result (λ phase. phase ≡ spec.phase_of definition.now (story_in saga.now)) }
+    ensures phase { IfOk result
+        (λ phase. phase ≡ spec.phase_of definition.now (story_in saga.now)) }
 {
     let done = are_done(saga, definition.steps() as u16);
     let phase = phase_by(saga.turn, done);
@@ -206,7 +211,8 @@ fn push_known(
 fn push_unknown(text: &mut String, number: u32, saga: &Saga) -> Result<Phase, AllocError>
     ensures text { IfOk result (λ _. string_bytes text.new ≡ string_bytes text.old
         ++ spec.saga_text spec.no_contents number (story_in saga.now)) }
-    ensures phase { IfOk result (λ phase. phase ≡ spec.phase_of spec.no_contents (story_in saga.now)) }
+    ensures phase { IfOk result
+        (λ phase. phase ≡ spec.phase_of spec.no_contents (story_in saga.now)) }
 {
     let phase = phase_by(saga.turn, true);
     push_head(text, number, "", phase, saga.aborted)?;
@@ -230,8 +236,11 @@ pub fn push_saga(
     number: u32,
     saga: &Saga,
 ) -> Result<Phase, AllocError>
-    ensures text { IfOk result (λ _. string_bytes text.new ≡ string_bytes text.old
-        ++ spec.saga_text (spec.contents_of shelf.now (story_in saga.now)) number (story_in saga.now)) }
+    ensures text { IfOk result
+        (λ _. string_bytes text.new
+        ≡ string_bytes text.old
+        ++ spec.saga_text (spec.contents_of shelf.now (story_in saga.now)) number
+        (story_in saga.now)) }
     ensures phase { IfOk result (λ phase. phase
         ≡ spec.phase_of (spec.contents_of shelf.now (story_in saga.now)) (story_in saga.now)) }
 {

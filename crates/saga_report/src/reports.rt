@@ -30,7 +30,8 @@ fn follow_all(alloc: Global, histories: &[&[Event]]) -> Result<Vec<HashMap<u32, 
 /// What is kept of a saga.
 fn find<'a>(books: &'a [HashMap<u32, Saga>], entry: Entry) -> Option<&'a Saga>
     ensures { (histories : List (List Event)) → AreFollowed books.entry.now histories
-        → IsKept (option_copied result) (changes entry.number (past (slice_index_or histories entry.place []))) }
+        → IsKept (option_copied result)
+        (changes entry.number (past (slice_index_or histories entry.place []))) }
 {
     match books.get(entry.place) {
         Some(book) => book.get(&entry.number),
@@ -46,7 +47,8 @@ fn push_entry(
     books: &[HashMap<u32, Saga>],
     entry: Entry,
 ) -> Result<Phase, AllocError>
-    ensures text { IfOk result (λ _. (histories : List (List Event)) → AreFollowed books.now histories
+    ensures text { IfOk result
+        (λ _. (histories : List (List Event)) → AreFollowed books.now histories
         → string_bytes text.new ≡ string_bytes text.old ++ text_at shelf.now histories entry) }
     ensures phase { IfOk result (λ phase. (histories : List (List Event))
         → AreFollowed books.now histories
@@ -128,7 +130,8 @@ pub fn report(
     shelf: &[Definition],
     histories: &[&[Event]],
 ) -> Result<String, AllocError>
-    ensures { IfOk result (λ text. IsReport shelf.now (map (λ h. h.now) histories.now) (string_bytes text)) }
+    ensures { IfOk result
+        (λ text. IsReport shelf.now (map (λ h. h.now) histories.now) (string_bytes text)) }
 {
     Ok(report_counted(alloc, shelf, histories)?.text)
 }

@@ -41,7 +41,9 @@ fn put_bit(word: u64, b: usize, on: bool) -> u64
 fn put(words: &mut [u64], summary: u64, i: usize, on: bool) -> u64
     requires within { i < 64 * length words.old }
     requires few { length words.old ≤ 64 }
-    ensures { (len : ℕ) → i < len → IsBitSet words.old summary len → IsBitSet words.new result len × (marks words.new len ≡ slice_set (marks words.old len) i on) }
+    ensures { (len : ℕ) → i < len → IsBitSet words.old summary len
+        → IsBitSet words.new result len
+        × (marks words.new len ≡ slice_set (marks words.old len) i on) }
 {
     let w = i / 64;
     let word = put_bit(words[w], i % 64, on);
@@ -52,8 +54,11 @@ fn put(words: &mut [u64], summary: u64, i: usize, on: bool) -> u64
 /// The least number that is in.
 fn least(words: &[u64], summary: u64) -> Option<usize>
     requires few { length words.now ≤ 64 }
-    ensures { (len : ℕ) → IsBitSet words.now summary len → MatchOption result ((i : ℕ) → i < len → slice_index_or (marks words.now len) i false ≡ false)
-        (λ i. (i < len) × (slice_index_or (marks words.now len) i false ≡ true) × ((k : ℕ) → k < i → slice_index_or (marks words.now len) k false ≡ false)) }
+    ensures { (len : ℕ) → IsBitSet words.now summary len
+        → MatchOption result
+        ((i : ℕ) → i < len → slice_index_or (marks words.now len) i false ≡ false)
+        (λ i. (i < len) × (slice_index_or (marks words.now len) i false ≡ true)
+        × ((k : ℕ) → k < i → slice_index_or (marks words.now len) k false ≡ false)) }
 {
     if summary == 0 {
         return None;
@@ -139,8 +144,10 @@ impl BitSet {
 
     /// The least number that is in.
     pub fn first(&self) -> Option<usize>
-        ensures { MatchOption result ((i : ℕ) → i < length self.now → slice_index_or self.now i false ≡ false)
-            (λ i. (i < length self.now) × (slice_index_or self.now i false ≡ true) × ((k : ℕ) → k < i → slice_index_or self.now k false ≡ false)) }
+        ensures { MatchOption result
+            ((i : ℕ) → i < length self.now → slice_index_or self.now i false ≡ false)
+            (λ i. (i < length self.now) × (slice_index_or self.now i false ≡ true)
+            × ((k : ℕ) → k < i → slice_index_or self.now k false ≡ false)) }
     {
         least(&self.words, self.summary)
     }

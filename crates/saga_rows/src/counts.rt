@@ -21,7 +21,8 @@ pub fn is_finished(wanted: bool, state: StepState) -> bool
 /// One less for each of the steps.
 fn lower(counts: &mut [u16], steps: &[u16])
     requires known { All (λ (s : ℕ). s < length counts.old) steps.now }
-    requires enough { (s : ℕ) → s < length counts.old → occurs s steps.now ≤ slice_index counts.old s }
+    requires enough { (s : ℕ) → s < length counts.old
+        → occurs s steps.now ≤ slice_index counts.old s }
     ensures { AreShifted steps.now true false counts.old counts.new }
 {
     for s in steps {
@@ -32,7 +33,8 @@ fn lower(counts: &mut [u16], steps: &[u16])
 /// One more for each of the steps.
 fn raise(counts: &mut [u16], steps: &[u16])
     requires known { All (λ (s : ℕ). s < length counts.old) steps.now }
-    requires room { (s : ℕ) → s < length counts.old → slice_index counts.old s + occurs s steps.now ≤ 65535 }
+    requires room { (s : ℕ) → s < length counts.old
+        → slice_index counts.old s + occurs s steps.now ≤ 65535 }
     ensures { AreShifted steps.now false true counts.old counts.new }
 {
     for s in steps {
@@ -43,8 +45,10 @@ fn raise(counts: &mut [u16], steps: &[u16])
 /// The counts of the steps, where one that they count by counted before and counts now.
 pub fn shift(counts: &mut [u16], steps: &[u16], was: bool, now: bool)
     requires known { All (λ (s : ℕ). s < length counts.old) steps.now }
-    requires enough { was ≡ true → (s : ℕ) → s < length counts.old → occurs s steps.now ≤ slice_index counts.old s }
-    requires room { (s : ℕ) → s < length counts.old → slice_index counts.old s + occurs s steps.now ≤ 65535 }
+    requires enough { was ≡ true → (s : ℕ) → s < length counts.old
+        → occurs s steps.now ≤ slice_index counts.old s }
+    requires room { (s : ℕ) → s < length counts.old
+        → slice_index counts.old s + occurs s steps.now ≤ 65535 }
     ensures { AreShifted steps.now was now counts.old counts.new }
 {
     if was && !now {
@@ -94,7 +98,8 @@ pub fn refresh(
     requires goal { length goal.now ≡ length ready.old }
     requires unmet { length unmet.now ≡ length ready.old }
     requires held { length held.now ≡ length ready.old }
-    ensures { AreRefreshed (ready_at states.now goal.now unmet.now held.now) steps.now ready.old ready.new }
+    ensures { AreRefreshed
+        (ready_at states.now goal.now unmet.now held.now) steps.now ready.old ready.new }
 {
     for step in steps {
         let s = *step as usize;
@@ -116,7 +121,8 @@ pub fn refresh_all(
     requires unmet { length unmet.now ≡ length ready.old }
     requires held { length held.now ≡ length ready.old }
     ensures sized { length ready.new ≡ length ready.old }
-    ensures marks { (s : ℕ) → s < length ready.old → mark_at ready.new s ≡ ready_at states.now goal.now unmet.now held.now s }
+    ensures marks { (s : ℕ) → s < length ready.old
+        → mark_at ready.new s ≡ ready_at states.now goal.now unmet.now held.now s }
 {
     for s in 0..states.len() {
         let mark = is_ready(states[s], goal[s], unmet[s], held[s]);

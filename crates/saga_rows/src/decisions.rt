@@ -35,7 +35,8 @@ impl<'d> Row<'d> {
     /// Whether the compensation of a step is tried again where it fails now.
     fn is_undone_again(&self, step: u16) -> bool
         requires { step < length self.now.definition.steps }
-        ensures { IsTrue result ↔ (undo_misses_at self.now step + 1 < undo_tries self.now.definition step) }
+        ensures { IsTrue result
+            ↔ (undo_misses_at self.now step + 1 < undo_tries self.now.definition step) }
     {
         let _ = self.steps();
         let tries = self.definition().step(step).undo_tries;
@@ -68,7 +69,8 @@ impl<'d> Row<'d> {
     /// The transition by which the action of a step ends with an outcome, if the step is running.
     pub fn end_of_run(&self, step: u16, outcome: Outcome) -> Option<Transition>
         requires { step < length self.now.definition.steps }
-        ensures { MatchOption result (IsIn self.now step Running → ⊥) (λ t. RowMay self.now step t × IsEndOfRun outcome t) }
+        ensures { MatchOption result (IsIn self.now step Running → ⊥)
+            (λ t. RowMay self.now step t × IsEndOfRun outcome t) }
     {
         if !self.is_in(step, StepState::Running) {
             return None;
@@ -88,7 +90,8 @@ impl<'d> Row<'d> {
     /// The transition by which the compensation of a step ends with an outcome, if it is undoing.
     pub fn end_of_undo(&self, step: u16, outcome: Outcome) -> Option<Transition>
         requires { step < length self.now.definition.steps }
-        ensures { MatchOption result (IsIn self.now step Undoing → ⊥) (λ t. RowMay self.now step t × IsEndOfUndo outcome t) }
+        ensures { MatchOption result (IsIn self.now step Undoing → ⊥)
+            (λ t. RowMay self.now step t × IsEndOfUndo outcome t) }
     {
         if !self.is_in(step, StepState::Undoing) {
             return None;

@@ -43,9 +43,18 @@ impl<'d> Model for Row<'d> {
 
     ghost Value = { Row };
 
-    ghost view = { λ r. record { definition = r.definition.now; states = r.states.items; goal = r.goal.items; turn = r.turn; misses = r.misses.items; undo_misses = r.undo_misses.items; aborted = r.aborted } };
+    ghost view = { λ r. record {
+      definition = r.definition.now;
+      states = r.states.items;
+      goal = r.goal.items;
+      turn = r.turn;
+      misses = r.misses.items;
+      undo_misses = r.undo_misses.items;
+      aborted = r.aborted;
+    } };
 
-    ghost invariant = { λ r. IsKept r.definition.now r.states.items r.goal.items r.misses.items r.undo_misses.items r.unmet.items r.held.items r.busy r.unfinished r.ready };
+    ghost invariant = { λ r. IsKept r.definition.now r.states.items r.goal.items r.misses.items
+        r.undo_misses.items r.unmet.items r.held.items r.busy r.unfinished r.ready };
 }
 
 /// One for a missed action.

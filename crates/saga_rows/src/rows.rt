@@ -186,14 +186,17 @@ impl<'d> Rows<'d> {
 
     /// Whether each saga is ended or stuck. Looks at no row.
     pub fn are_over(&self) -> bool
-        ensures { IsTrue result ↔ ((i : ℕ) → i < length self.now → is_over (row_at self.now i) ≡ true) }
+        ensures { IsTrue result
+            ↔ ((i : ℕ) → i < length self.now → is_over (row_at self.now i) ≡ true) }
     {
         self.open_rows == 0
     }
 
     /// The first task of all, by row and then by step. Looks at no row but the one that has it.
     pub fn next(&self) -> Option<(usize, RowTask)>
-        ensures { MatchOption result ((i : ℕ) → i < length self.now → RowAllowsNone (row_at self.now i)) (λ r. IsNext self.now r.0 r.1) }
+        ensures { MatchOption result
+            ((i : ℕ) → i < length self.now → RowAllowsNone (row_at self.now i))
+            (λ r. IsNext self.now r.0 r.1) }
     {
         match self.tasks.first() {
             None => None,

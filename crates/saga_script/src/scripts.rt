@@ -106,14 +106,16 @@ impl Script {
     /// The outcome of an attempt, counted from 1, at a step's action or compensation: that of the last line that names
     /// saga, step and action, and this attempt or none; done where there is none. Takes no memory.
     pub fn outcome(&self, saga: u32, name: &str, is_undo: bool, attempt: u64) -> Outcome
-        ensures { result ≡ outcome_of (ending_in self.now (question saga name.now is_undo attempt)) }
+        ensures { result
+            ≡ outcome_of (ending_in self.now (question saga name.now is_undo attempt)) }
     {
         self.ending(saga, name, is_undo, attempt).outcome()
     }
 
     /// Whether that line asks that the saga be aborted. Takes no memory.
     pub fn asks_abort(&self, saga: u32, name: &str, is_undo: bool, attempt: u64) -> bool
-        ensures { result ≡ asks_abort (ending_in self.now (question saga name.now is_undo attempt)) }
+        ensures { result
+            ≡ asks_abort (ending_in self.now (question saga name.now is_undo attempt)) }
     {
         self.ending(saga, name, is_undo, attempt).asks_abort()
     }

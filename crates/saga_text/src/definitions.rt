@@ -20,7 +20,8 @@ use toml::Table;
 
 /// The tree of a text.
 fn read_tree(alloc: Global, bytes: &[u8]) -> Result<Table, TextFault>
-    ensures { MatchResult result (λ top. IsTextOf (table_view top) bytes.now) (IsTreeFault bytes.now) }
+    ensures { MatchResult result (λ top. IsTextOf (table_view top) bytes.now)
+        (IsTreeFault bytes.now) }
 {
     match toml::table_from_slice(alloc, bytes) {
         Ok(top) => Ok(top),
@@ -38,7 +39,8 @@ fn read_tree(alloc: Global, bytes: &[u8]) -> Result<Table, TextFault>
 fn build(alloc: Global, draft: Draft<'_>) -> Result<Definition, TextFault>
     ensures built { IfOk result (λ d. (d ≡ contents_from (written draft.entry)) × IsSound d) }
     ensures fault { IfErr result (IsFirstCarried (contents_from (written draft.entry))) }
-    ensures accepts { IsSound (contents_from (written draft.entry)) → IfErr result (λ fault. fault ≡ TextFault.OutOfMemory) }
+    ensures accepts { IsSound (contents_from (written draft.entry))
+        → IfErr result (λ fault. fault ≡ TextFault.OutOfMemory) }
 {
     if draft.steps.len() > MAX_STEPS {
         return Err(TextFault::Def(DefFault::TooManySteps));
@@ -63,7 +65,8 @@ fn is_too_long(bytes: &[u8]) -> bool
 /// [`Definition::build`] take.
 pub fn read_definition(alloc: Global, bytes: &[u8]) -> Result<Definition, TextFault>
     ensures reads { Reads bytes.now result }
-    ensures accepts { (c : Contents) → Holds bytes.now (Ok c) → IsSound c → IfErr result (λ fault. fault ≡ TextFault.OutOfMemory) }
+    ensures accepts { (c : Contents) → Holds bytes.now (Ok c) → IsSound c
+        → IfErr result (λ fault. fault ≡ TextFault.OutOfMemory) }
 {
     if is_too_long(bytes) {
         return Err(TextFault::TooLong);

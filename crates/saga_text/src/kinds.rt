@@ -12,7 +12,8 @@ use toml::{Table, Value};
 
 /// The value at a key.
 pub fn value_at<'a>(table: &'a Table, key: &str) -> Option<&'a Value>
-    ensures { option_map (λ v. view v.now) result ≡ get_member key.now (table_view table.entry.now) }
+    ensures { option_map (λ v. view v.now) result
+        ≡ get_member key.now (table_view table.entry.now) }
 {
     table.get(key)
 }
@@ -93,7 +94,8 @@ fn items_of(value: &Value) -> Result<&[Value], TextFault>
 
 /// The items of the list at a key: none where the key is missing.
 pub fn list_at<'a>(table: &'a Table, key: &str) -> Result<&'a [Value], TextFault>
-    ensures { seen (λ items. map view items.now) result ≡ list_at key.now (table_view table.entry.now) }
+    ensures { seen (λ items. map view items.now) result
+        ≡ list_at key.now (table_view table.entry.now) }
 {
     match value_at(table, key) {
         None => Ok(&[]),
@@ -103,7 +105,8 @@ pub fn list_at<'a>(table: &'a Table, key: &str) -> Result<&'a [Value], TextFault
 
 /// Each item as a text.
 fn texts_of<'a>(alloc: Global, items: &'a [Value]) -> Result<Vec<&'a str>, TextFault>
-    ensures { Gives (λ texts. map (λ t. t.now) texts.items) result (each text_of (map view items.entry.now)) }
+    ensures { Gives (λ texts. map (λ t. t.now) texts.items) result
+        (each text_of (map view items.entry.now)) }
 {
     let mut texts = Vec::new(alloc);
     for item in items {
@@ -114,7 +117,8 @@ fn texts_of<'a>(alloc: Global, items: &'a [Value]) -> Result<Vec<&'a str>, TextF
 
 /// The texts of the list at a key.
 pub fn texts_at<'a>(alloc: Global, table: &'a Table, key: &str) -> Result<Vec<&'a str>, TextFault>
-    ensures { Gives (λ texts. map (λ t. t.now) texts.items) result (texts_at key.now (table_view table.entry.now)) }
+    ensures { Gives (λ texts. map (λ t. t.now) texts.items) result
+        (texts_at key.now (table_view table.entry.now)) }
 {
     texts_of(alloc, list_at(table, key)?)
 }

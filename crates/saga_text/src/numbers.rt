@@ -11,7 +11,9 @@ use std::alloc::{AllocError, Global};
 /// The number of each name: of two steps with the same name the first one's.
 fn numbers_of<'a>(alloc: Global, steps: &'a [Step]) -> Result<IndexMap<&'a str, u32>, AllocError>
     requires { length steps.now ≤ 65536 }
-    ensures { IfOk result (λ numbers. (name : List ℕ) → number_in numbers (length steps.entry.now) name ≡ number_of steps.entry.now name) }
+    ensures { IfOk result
+        (λ numbers. (name : List ℕ)
+        → number_in numbers (length steps.entry.now) name ≡ number_of steps.entry.now name) }
 {
     let mut numbers: IndexMap<&'a str, u32> = IndexMap::new(alloc);
     for (number, step) in steps.iter().enumerate() {
@@ -31,7 +33,10 @@ fn push_needs<'a>(
     names: &[&'a str],
     count: u32,
 ) -> Result<(), AllocError>
-    ensures { OnOk result (needs.new.items ≡ needs.old.items ++ map (λ name. record { step = step; on = number_in numbers.now count name.now }) names.now) }
+    ensures { OnOk result
+        (needs.new.items ≡ needs.old.items
+        ++ map (λ name. record { step = step; on = number_in numbers.now count name.now })
+        names.now) }
 {
     for name in names {
         let on = numbers.get(name).copied().unwrap_or(count);
@@ -48,7 +53,8 @@ pub fn number_needs<'a>(
 ) -> Result<Vec<Need>, AllocError>
     requires few { length steps.now ≤ 65536 }
     requires paired { length names.now ≡ length steps.now }
-    ensures { IfOk result (λ needs. needs.items ≡ numbered (number_of steps.now) 0 (map names_of names.now)) }
+    ensures { IfOk result
+        (λ needs. needs.items ≡ numbered (number_of steps.now) 0 (map names_of names.now)) }
 {
     let numbers = numbers_of(alloc, steps)?;
     let mut needs = Vec::new(alloc);

@@ -52,7 +52,8 @@ fn needs_of<'a>(alloc: Global, item: &'a Value) -> Result<Vec<&'a str>, TextFaul
 
 /// The names of the steps that each step needs.
 pub fn needs_of_each<'a>(alloc: Global, items: &'a [Value]) -> Result<Vec<Vec<&'a str>>, TextFault>
-    ensures { Gives (λ needs. map names_of needs.items) result (each needs_of (map view items.entry.now)) }
+    ensures { Gives (λ needs. map names_of needs.items) result
+        (each needs_of (map view items.entry.now)) }
 {
     let mut needs = Vec::new(alloc);
     for item in items {

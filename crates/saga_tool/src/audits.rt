@@ -151,7 +151,8 @@ fn status(outcome: &AuditOutcome) -> u8
 
 /// The reply that shows what an audit comes to.
 pub fn reply_to_audit(alloc: Global, outcome: &AuditOutcome) -> Result<Reply, AllocError>
-    ensures { IfOk result (IsReplyWith (out_of outcome.now) (err_of outcome.now) (status_of outcome.now)) }
+    ensures { IfOk result
+        (IsReplyWith (out_of outcome.now) (err_of outcome.now) (status_of outcome.now)) }
 {
     Ok(Reply {
         out: out(alloc, outcome)?,

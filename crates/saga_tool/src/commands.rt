@@ -90,7 +90,8 @@ fn draw_answer<W: Outside>(
 
 /// The texts, borrowed.
 fn slices_of<'a>(alloc: Global, texts: &'a [Vec<u8>]) -> Result<Vec<&'a [u8]>, AllocError>
-    ensures { IfOk result (λ slices. map (λ t. t.now) slices.items ≡ map (λ t. t.items) texts.entry.now) }
+    ensures { IfOk result
+        (λ slices. map (λ t. t.now) slices.items ≡ map (λ t. t.items) texts.entry.now) }
 {
     let mut slices = Vec::new(alloc);
     for text in texts {
@@ -117,10 +118,13 @@ fn audit<R: Threads + Wait + Sync, W: Outside>(
 
 /// The text of a script, which is empty where there is none.
 fn script_of<W: Outside>(outside: &W, alloc: Global, script: Option<&str>) -> Result<Vec<u8>, Stop>
-    ensures text { IfOk result (λ text.
-        IsScript (W.world outside.now).file_gives (option_map (λ s. s.now) script.entry) text.items) }
-    ensures stop { IfErr result (StopsBy
-        (IsScriptUnreadable (W.world outside.now).file_gives (option_map (λ s. s.now) script.entry))) }
+    ensures text { IfOk result
+        (λ text. IsScript (W.world outside.now).file_gives
+        (option_map (λ s. s.now) script.entry) text.items) }
+    ensures stop { IfErr result
+        (StopsBy
+        (IsScriptUnreadable (W.world outside.now).file_gives
+        (option_map (λ s. s.now) script.entry))) }
 {
     match script {
         Some(path) => text_of(outside, alloc, path, MAX_SCRIPT),
@@ -137,8 +141,9 @@ fn run_sagas<R: Threads + Wait + Sync, W: Outside>(
 ) -> Result<Response, Stop>
     requires workers { (1 ≤ given.now.workers) × (given.now.workers ≤ 16) }
     requires shards { (1 ≤ given.now.shards) × (given.now.shards ≤ 16) }
-    ensures { Ends (RunsFiles (W.world outside.now).file_gives (option_map (λ s. s.now) given.now.script)
-        (map (λ s. s.now) given.now.files.items) given.now.shards (option_map (λ s. s.now) given.now.log)) result }
+    ensures { Ends (RunsFiles (W.world outside.now).file_gives
+        (option_map (λ s. s.now) given.now.script) (map (λ s. s.now) given.now.files.items)
+        given.now.shards (option_map (λ s. s.now) given.now.log)) result }
 {
     let script = script_of(outside, alloc, given.script)?;
     let texts = texts_of(outside, alloc, &given.files, MAX_DEFINITION)?;

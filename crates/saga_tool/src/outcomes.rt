@@ -65,7 +65,8 @@ fn judged(case: &Case, answer: &Answer) -> Outcome
 
 /// The answer of a text, or what a question about it comes to where it holds none.
 fn answer_of(alloc: Global, text: &[u8]) -> Result<Result<Answer, Outcome>, AllocError>
-    ensures { IfOk result (λ given. MatchResult given (HoldsAnswer text.now) (LacksAnswer text.now)) }
+    ensures { IfOk result
+        (λ given. MatchResult given (HoldsAnswer text.now) (LacksAnswer text.now)) }
 {
     if is_too_long(text) {
         return Ok(Err(Outcome::AnswerTooLong));

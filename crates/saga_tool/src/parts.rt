@@ -42,7 +42,8 @@ fn next_separator(input: &[u8], from: usize) -> Option<usize>
 /// before a separator; what follows the separator's own line feed is the next part.
 pub fn parts_of<'a>(input: &'a [u8]) -> Option<Parts<'a>>
     ensures none { IfNone result (HasNoParts input.entry.now) }
-    ensures some { IfSome result (λ parts. AreParts input.entry.now parts.definition.now parts.case.now parts.answer.now) }
+    ensures some { IfSome result
+        (λ parts. AreParts input.entry.now parts.definition.now parts.case.now parts.answer.now) }
 {
     let first = next_separator(input, 0)?;
     let second = next_separator(input, first + 4)?;

@@ -45,7 +45,8 @@ fn on_words<'a, R: Threads + Wait + Sync, W: Outside>(
     alloc: Global,
     words: &'a [&'a str],
 ) -> Result<Response, AllocError>
-    ensures { IfOk result (RepliesToWords (W.world outside.now) (map (λ s. s.now) words.entry.now)) }
+    ensures { IfOk result
+        (RepliesToWords (W.world outside.now) (map (λ s. s.now) words.entry.now)) }
 {
     match read_words(alloc, words) {
         Ok(found) => settled(on_command(rt, outside, alloc, &found)),

@@ -22,8 +22,11 @@ pub struct Reply {
 
 /// The line of an answer that was asked for.
 fn answer_line(alloc: Global, answer: &Answer) -> Result<String, AllocError>
-    ensures line { IfOk result (λ text. string_bytes text ≡ compact_text (answer_form answer.now) ++ line_feed) }
-    ensures read_back { IfOk result (λ text. IsPaired answer.now → ReadsAnswer (compact_text (answer_form answer.now)) (Ok answer.now)) }
+    ensures line { IfOk result
+        (λ text. string_bytes text ≡ compact_text (answer_form answer.now) ++ line_feed) }
+    ensures read_back { IfOk result
+        (λ text. IsPaired answer.now
+        → ReadsAnswer (compact_text (answer_form answer.now)) (Ok answer.now)) }
 {
     let mut line = write_answer(alloc, answer)?;
     line.push_str("\n")?;

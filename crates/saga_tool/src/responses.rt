@@ -33,7 +33,8 @@ pub fn log_for(
     path: Option<&str>,
     text: Option<String>,
 ) -> Result<Option<Log>, AllocError>
-    ensures { IfOk result (IsLogFor (option_map (λ s. s.now) path.entry) (option_map string_bytes text)) }
+    ensures { IfOk result
+        (IsLogFor (option_map (λ s. s.now) path.entry) (option_map string_bytes text)) }
 {
     match (path, text) {
         (Some(path), Some(text)) => Ok(Some(Log {

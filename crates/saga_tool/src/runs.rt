@@ -61,7 +61,8 @@ fn places_of(alloc: Global, shelf: &[Definition]) -> Result<Vec<u32>, AllocError
 
 /// The histories of books, borrowed.
 fn histories_of<'a>(alloc: Global, books: &'a [Book<'_>]) -> Result<Vec<&'a [Event]>, AllocError>
-    ensures { IfOk result (λ histories. map (λ h. h.now) histories.items ≡ events_of books.entry.now) }
+    ensures { IfOk result
+        (λ histories. map (λ h. h.now) histories.items ≡ events_of books.entry.now) }
 {
     let mut histories = Vec::new(alloc);
     for book in books {

@@ -50,7 +50,8 @@ pub fn opened<'d, R: Wait>(
 ) -> Result<(Desk<'d>, Vec<Seat>), RunFault>
     requires workers { (0 < workers) × (workers ≤ 16) }
     requires shards { (0 < shards) × (shards ≤ 16) }
-    ensures desk { IfOk result (λ r. r.0 ≡ record { shelf = shelf.entry.now; seats = workers; shards = shards }) }
+    ensures desk { IfOk result
+        (λ r. r.0 ≡ record { shelf = shelf.entry.now; seats = workers; shards = shards }) }
     ensures seats { IfOk result (λ r. AreOpened shards asks.now r.1.items) }
 {
     let Ok((desk, mut seats)) = Desk::open(alloc, shelf, workers, shards) else {

@@ -61,7 +61,8 @@ fn worked<R: Threads + Wait + Sync, A: Actor + Sync>(
     seats: Vec<Seat>,
     actor: &A,
 ) -> Result<(Vec<Seat>, Option<Stop>), AllocError>
-    ensures { IfOk result (λ r. EachGained (IsWork (A.may actor.now) (A.may_abort actor.now)) seats.items r.0.items) }
+    ensures { IfOk result
+        (λ r. EachGained (IsWork (A.may actor.now) (A.may_abort actor.now)) seats.items r.0.items) }
 {
     let mut back = Vec::with_capacity(alloc, seats.len())?;
     let bell = Bell::new();
@@ -96,7 +97,8 @@ pub fn run_all<'d, R: Threads + Wait + Sync, A: Actor + Sync>(
     ensures shards { IfOk result (λ run. AreOfShards shelf.entry.now shards run.books.items) }
     ensures opened { IfOk result (λ run. AreOpenedAsAsked shards asks.now run.books.items) }
     ensures ended { IfOk result (λ run. run.stopped ≡ None → All IsOver run.books.items) }
-    ensures answered { IfOk result (λ run. AreAnswered (A.may actor.now) (A.may_abort actor.now) run.books.items) }
+    ensures answered { IfOk result
+        (λ run. AreAnswered (A.may actor.now) (A.may_abort actor.now) run.books.items) }
     ensures legal { IfOk result (λ run. MergesAreLegal shelf.entry.now run.books.items) }
     ensures headline { IfOk result (λ run. HeadlineHolds shelf.entry.now run.books.items) }
 {

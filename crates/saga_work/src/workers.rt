@@ -206,13 +206,16 @@ pub fn work_all<R: Threads + Wait + Sync, A: Actor + Sync>(
     actor: &A,
 ) -> Result<Vec<(Seat, Option<Stop>)>, AllocError>
     ensures len { IfOk result (λ done. length done.items ≡ length seats.items) }
-    ensures each { IfOk result (λ done. EachAdds (IsWork (A.may actor.now) (A.may_abort actor.now)) seats.items done.items) }
+    ensures each { IfOk result
+        (λ done. EachAdds
+        (IsWork (A.may actor.now) (A.may_abort actor.now)) seats.items done.items) }
 {
     thread::map_vec(
         rt,
         seats,
         &|seat: Seat| -> (Seat, Option<Stop>)
-            ensures { Adds (IsWork (A.may actor.entry.now) (A.may_abort actor.entry.now)) seat result.0 }
+            ensures { Adds
+                (IsWork (A.may actor.entry.now) (A.may_abort actor.entry.now)) seat result.0 }
         { work(rt, alloc, desk, bell, seat, actor) },
     )
 }

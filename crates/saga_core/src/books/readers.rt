@@ -15,7 +15,8 @@ use saga_history::{Phase, Turn};
 impl<'d> Book<'d> {
     /// The state of a step, or none where there is no such saga or step.
     pub fn state(&self, saga: u32, step: u16) -> Option<StepState>
-        ensures { MatchOption result (HasNoStep self.now.shelf (past self.now.history) saga step) (λ x. HasState self.now.shelf (past self.now.history) saga step x) }
+        ensures { MatchOption result (HasNoStep self.now.shelf (past self.now.history) saga step)
+            (λ x. HasState self.now.shelf (past self.now.history) saga step x) }
     {
         let Some(place) = place_of(&self.rows, self.first_number, self.apart, saga) else {
             return None;
@@ -29,7 +30,8 @@ impl<'d> Book<'d> {
 
     /// How often the action of a step was missed, or none where there is no such saga or step.
     pub fn misses(&self, saga: u32, step: u16) -> Option<u8>
-        ensures { MatchOption result (HasNoStep self.now.shelf (past self.now.history) saga step) (λ count. HasMisses self.now.shelf (past self.now.history) saga step count) }
+        ensures { MatchOption result (HasNoStep self.now.shelf (past self.now.history) saga step)
+            (λ count. HasMisses self.now.shelf (past self.now.history) saga step count) }
     {
         let Some(place) = place_of(&self.rows, self.first_number, self.apart, saga) else {
             return None;
@@ -43,7 +45,8 @@ impl<'d> Book<'d> {
 
     /// How often the compensation of a step was missed, or none where there is no such saga or step.
     pub fn undo_misses(&self, saga: u32, step: u16) -> Option<u8>
-        ensures { MatchOption result (HasNoStep self.now.shelf (past self.now.history) saga step) (λ count. HasUndoMisses self.now.shelf (past self.now.history) saga step count) }
+        ensures { MatchOption result (HasNoStep self.now.shelf (past self.now.history) saga step)
+            (λ count. HasUndoMisses self.now.shelf (past self.now.history) saga step count) }
     {
         let Some(place) = place_of(&self.rows, self.first_number, self.apart, saga) else {
             return None;
@@ -58,7 +61,8 @@ impl<'d> Book<'d> {
     /// Whether a step is in the goal, or none where there is no such saga or step. In a saga that is not going, no step
     /// is.
     pub fn in_goal(&self, saga: u32, step: u16) -> Option<bool>
-        ensures { MatchOption result (HasNoStep self.now.shelf (past self.now.history) saga step) (λ wanted. HasGoal self.now.shelf (past self.now.history) saga step wanted) }
+        ensures { MatchOption result (HasNoStep self.now.shelf (past self.now.history) saga step)
+            (λ wanted. HasGoal self.now.shelf (past self.now.history) saga step wanted) }
     {
         let Some(place) = place_of(&self.rows, self.first_number, self.apart, saga) else {
             return None;
@@ -72,7 +76,8 @@ impl<'d> Book<'d> {
 
     /// Where a saga stands, or none where there is no such saga.
     pub fn phase(&self, saga: u32) -> Option<Phase>
-        ensures { MatchOption result (IsUnknown (past self.now.history) saga) (λ phase. StandsAt self.now.shelf (past self.now.history) saga phase) }
+        ensures { MatchOption result (IsUnknown (past self.now.history) saga)
+            (λ phase. StandsAt self.now.shelf (past self.now.history) saga phase) }
     {
         let Some(place) = place_of(&self.rows, self.first_number, self.apart, saga) else {
             return None;
@@ -83,7 +88,8 @@ impl<'d> Book<'d> {
 
     /// Whether a saga was aborted, or none where there is no such saga.
     pub fn is_aborted(&self, saga: u32) -> Option<bool>
-        ensures { MatchOption result (IsUnknown (past self.now.history) saga) (λ a. WasAborted self.now.shelf (past self.now.history) saga a) }
+        ensures { MatchOption result (IsUnknown (past self.now.history) saga)
+            (λ a. WasAborted self.now.shelf (past self.now.history) saga a) }
     {
         let Some(place) = place_of(&self.rows, self.first_number, self.apart, saga) else {
             return None;
@@ -94,7 +100,8 @@ impl<'d> Book<'d> {
 
     /// The definition of a saga, or none where there is no such saga.
     pub fn definition(&self, saga: u32) -> Option<&'d Definition>
-        ensures { MatchOption result (IsUnknown (past self.now.history) saga) (λ d. IsDefinedBy self.now.shelf (past self.now.history) saga d.now) }
+        ensures { MatchOption result (IsUnknown (past self.now.history) saga)
+            (λ d. IsDefinedBy self.now.shelf (past self.now.history) saga d.now) }
     {
         let Some(place) = place_of(&self.rows, self.first_number, self.apart, saga) else {
             return None;
@@ -113,7 +120,8 @@ impl<'d> Book<'d> {
 
     /// The number that the saga will have that is opened next.
     pub fn next_number(&self) -> u32
-        ensures { result ≡ book.number self.now.first self.now.stride (book.sagas_in self.now.history) }
+        ensures { result
+            ≡ book.number self.now.first self.now.stride (book.sagas_in self.now.history) }
     {
         number_of(self.first_number, self.apart, self.rows.len())
     }

@@ -29,7 +29,8 @@ impl<'d> Desk<'d> {
     /// nobody.
     pub fn finish(self, seats: Vec<Seat>) -> Result<Vec<Book<'d>>, FinishRefused<'d>>
         ensures seats { IfOk result (λ books. AreAll self.entry seats.items) }
-        ensures shards { IfOk result (λ books. AreOfShards self.entry.shelf self.entry.shards books.items) }
+        ensures shards { IfOk result
+            (λ books. AreOfShards self.entry.shelf self.entry.shards books.items) }
         ensures agree { IfOk result (λ books. Agree books.items seats.items) }
         ensures named { IfOk result (λ books. AreSameReceipts books.items seats.items) }
         ensures legal { IfOk result (λ books. MergesAreLegal self.entry.shelf books.items) }
@@ -106,7 +107,9 @@ fn are_own(desk: &Desk<'_>, seats: &[Seat]) -> bool
 /// Whether no seat before that place has the number of the one there.
 fn is_new(seats: &[Seat], i: usize) -> bool
     requires { i < length seats.now }
-    ensures { IsTrue result ↔ ((j : ℕ) (s t : Seat) → slice_get seats.now i ≡ Some s → slice_get seats.now j ≡ Some t → j < i → t.number ≢ s.number) }
+    ensures { IsTrue result
+        ↔ ((j : ℕ) (s t : Seat) → slice_get seats.now i ≡ Some s → slice_get seats.now j ≡ Some t
+        → j < i → t.number ≢ s.number) }
 {
     let number = seats[i].number();
     for j in 0..i {
