@@ -32,7 +32,7 @@ mod numbers;
 mod replays;
 mod runs;
 
-use crate::audits::{ended, history_of};
+use crate::audits::time_audits;
 use crate::books::{Load, drive};
 use crate::cases::{Parts, Problem, define, read_case, read_parts};
 use crate::desks::time_desk;
@@ -48,6 +48,8 @@ use saga_flow::{Flow, Net, largest_counted, unbounded_path};
 use saga_order::Order;
 use saga_plan::{plan, plan_counted};
 use std::alloc::{AllocError, Global};
+use std::env::Args;
+use std::iter::Skip;
 use std::time::{Duration, Instant};
 use std::{env, fs, io};
 
@@ -59,7 +61,8 @@ const BOOK_TIMES: u32 = 5;
 
 /// A greatest flow and its rounds, with the net built anew.
 fn flow_anew(alloc: Global, network: &Network) -> Result<(Flow, u64), AllocError>
-    requires sound { IsNetwork (record { nodes = network.now.nodes; arcs = network.now.arcs.items }) }
+    requires sound { IsNetwork
+        (record { nodes = network.now.nodes; arcs = network.now.arcs.items }) }
     requires apart { Reaches (HasUnbounded network.now.arcs.items) 0 1 → ⊥ }
 {
     let arcs = Vec::from_slice(alloc, network.arcs.as_slice())?;
@@ -174,6 +177,40 @@ fn time_logs(rt: &HostRuntime, text: &str) -> Result<()> {
     Ok(())
 }
 
+/// The words behind the name of the program.
+type Words = Skip<Args<Global>>;
+
+/// The next word, a number.
+fn next_number(words: &mut Words) -> Result<u32> {
+    number(words.next().as_deref())
+}
+
+/// A load of so many sagas, of which the step fails that the next word names, if there is one.
+fn load_of(words: &mut Words, sagas: u32, misses: u32) -> Result<Load> {
+    let fails = match words.next() {
+        Some(word) => Some(u16::try_from(number(Some(word.as_str()))?)?),
+        None => None,
+    };
+    Ok(Load {
+        sagas,
+        misses,
+        fails,
+    })
+}
+
+/// The crew of a run, by the words.
+fn crew_of(words: &mut Words) -> Result<Crew> {
+    let sagas = next_number(words)?;
+    let workers = next_number(words)?;
+    let shards = next_number(words)?;
+    Ok(Crew {
+        sagas,
+        workers,
+        shards,
+        logs: words.next().as_deref() == Some("log"),
+    })
+}
+
 fn main(rt: HostRuntime) -> Result<()> {
     let mut words = env::args(&rt)?.skip(1);
     let what = words.next();
@@ -187,72 +224,22 @@ fn main(rt: HostRuntime) -> Result<()> {
         Some("build") => time_build(&rt, text.as_str()),
         Some("order") => time_order(&rt, text.as_str()),
         Some("book") => {
-            let sagas = number(words.next().as_deref())?;
-            let fails = match words.next() {
-                Some(word) => Some(u16::try_from(number(Some(word.as_str()))?)?),
-                None => None,
-            };
-            let load = Load {
-                sagas,
-                misses: 0,
-                fails,
-            };
-            time_book(&rt, text.as_str(), load)
+            let sagas = next_number(&mut words)?;
+            time_book(&rt, text.as_str(), load_of(&mut words, sagas, 0)?)
         }
         Some("audit") => {
-            let sagas = number(words.next().as_deref())?;
-            let workers = number(words.next().as_deref())?;
-            let misses = number(words.next().as_deref())?;
-            let fails = match words.next() {
-                Some(word) => Some(u16::try_from(number(Some(word.as_str()))?)?),
-                None => None,
-            };
-            let load = Load {
-                sagas,
-                misses,
-                fails,
-            };
-            let shelf = shelf_of(rt.alloc(), text.as_str(), misses)?;
-            for _ in 0..BOOK_TIMES {
-                let history = history_of(&rt, &shelf, load)?;
-                show(&rt, history.took)?;
-                for split in [None, Some(workers)] {
-                    let start = Instant::now(&rt)?;
-                    let count = ended(&rt, rt.alloc(), split, &shelf, &history.events)?;
-                    show(&rt, start.elapsed(&rt)?)?;
-                    ensure!(count == sagas as usize, "not all ended");
-                }
-            }
-            let history = history_of(&rt, &shelf, load)?;
-            println!(rt; "events {} ended {sagas}", history.events.len())?;
-            Ok(())
+            let sagas = next_number(&mut words)?;
+            let workers = next_number(&mut words)?;
+            let misses = next_number(&mut words)?;
+            let load = load_of(&mut words, sagas, misses)?;
+            time_audits(&rt, text.as_str(), load, workers)
         }
         Some("replay") => {
-            let sagas = number(words.next().as_deref())?;
-            let fails = match words.next() {
-                Some(word) => Some(u16::try_from(number(Some(word.as_str()))?)?),
-                None => None,
-            };
-            let load = Load {
-                sagas,
-                misses: 0,
-                fails,
-            };
-            time_replays(&rt, text.as_str(), load)
+            let sagas = next_number(&mut words)?;
+            time_replays(&rt, text.as_str(), load_of(&mut words, sagas, 0)?)
         }
-        Some("desk") => {
-            let sagas = number(words.next().as_deref())?;
-            time_desk(&rt, text.as_str(), sagas)
-        }
-        Some("run") => {
-            let crew = Crew {
-                sagas: number(words.next().as_deref())?,
-                workers: number(words.next().as_deref())?,
-                shards: number(words.next().as_deref())?,
-                logs: words.next().as_deref() == Some("log"),
-            };
-            time_runs(&rt, text.as_str(), crew)
-        }
+        Some("desk") => time_desk(&rt, text.as_str(), next_number(&mut words)?),
+        Some("run") => time_runs(&rt, text.as_str(), crew_of(&mut words)?),
         Some("log") => time_logs(&rt, text.as_str()),
         _ => bail!("flow, plan, build, order, book, audit, replay, desk, run or log?"),
     }
