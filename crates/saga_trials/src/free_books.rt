@@ -498,17 +498,21 @@ fn adopt_at<'d>(trial: &Trial<'_>, at: &mut Place<'d>, verdict: Verdict<'d>) -> 
     Ok(())
 }
 
-/// The planning of a shard's saga is given back, and claimed again and adopted.
+/// A saga is opened on a shard and its step fails; the planning of that saga is given back, claimed again and adopted.
+fn end_on_shard<'d>(trial: &Trial<'_>, at: &mut Place<'d>, verdict: Verdict<'d>) -> Result<()> {
+    ensure!(open_at(at).is_ok(), "not opened");
+    let job = job_of(claimed(at)?)?;
+    fail_on_shard(trial, at, job)?;
+    give_back_at(trial, at)?;
+    adopt_at(trial, at, verdict)
+}
+
 fn shard(trial: &mut Trial<'_>) -> Result<()> {
     let alloc = trial.alloc();
     let shelf = samples::shelf(alloc, samples::FORCED)?;
     let verdict = forced_verdict(alloc, &shelf)?;
     let mut at = make_place(alloc, &shelf)?;
-    ensure!(open_at(&mut at).is_ok(), "not opened");
-    let job = job_of(claimed(&mut at)?)?;
-    fail_on_shard(trial, &mut at, job)?;
-    give_back_at(trial, &mut at)?;
-    adopt_at(trial, &mut at, verdict)?;
+    end_on_shard(trial, &mut at, verdict)?;
     let counts = trial.without_memory(|| seen(&at))?;
     ensure!(counts == (7, 7), "another number of events");
     Ok(())
