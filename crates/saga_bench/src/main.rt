@@ -94,22 +94,39 @@ fn time_flow(rt: &HostRuntime, text: &str) -> Result<()> {
     Ok(())
 }
 
-fn time_plan(rt: &HostRuntime, text: &str) -> Result<()> {
-    let Problem { definition, states } = read_case(rt.alloc(), text)?;
-    let Ok(case) = Case::new(&definition, states) else {
-        bail!("no case");
-    };
-    let (answer, rounds) = plan_counted(rt.alloc(), &case)?;
+/// Tells the cost of a least plan and the rounds in which it was found, or that there is none.
+fn tell(rt: &HostRuntime, answer: &Answer, rounds: u64) -> Result<()> {
     match answer {
         Answer::Plan(plan) => println!(rt; "cost {} rounds {rounds}", plan.cost)?,
         Answer::Blocked(_) => println!(rt; "blocked")?,
     }
+    Ok(())
+}
+
+/// Plans a case once.
+fn plan_once(rt: &HostRuntime, case: &Case<'_>) -> Result<()> {
+    let start = Instant::now(rt)?;
+    let _found = plan(rt.alloc(), case)?;
+    show(rt, start.elapsed(rt)?)?;
+    Ok(())
+}
+
+/// Tells what is planned for a case, and times its planning.
+fn time_case(rt: &HostRuntime, case: &Case<'_>) -> Result<()> {
+    let (answer, rounds) = plan_counted(rt.alloc(), case)?;
+    tell(rt, &answer, rounds)?;
     for _ in 0..TIMES {
-        let start = Instant::now(rt)?;
-        let _found = plan(rt.alloc(), &case)?;
-        show(rt, start.elapsed(rt)?)?;
+        plan_once(rt, case)?;
     }
     Ok(())
+}
+
+fn time_plan(rt: &HostRuntime, text: &str) -> Result<()> {
+    let Problem { definition, states } = read_case(rt.alloc(), text)?;
+    match Case::new(&definition, states) {
+        Ok(case) => time_case(rt, &case),
+        Err(_) => bail!("no case"),
+    }
 }
 
 fn time_build(rt: &HostRuntime, text: &str) -> Result<()> {
