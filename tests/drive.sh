@@ -8,8 +8,9 @@ cd "$(dirname "$0")/.."
 work=$(mktemp -d)
 trap 'rm -rf "$work"' EXIT
 
+tests/need gcc gcc || exit 1
 for library in unwritten refusing; do
   gcc -O2 -shared -fPIC -o "$work/$library.so" tests/$library.c || { echo "the library $library is not built"; exit 1; }
 done
-[ -n "${SAGAS:-}" ] || ./sagas --help >/dev/null || { echo "the program is not built"; exit 1; }
-python3 tests/drive.py --program "${SAGAS:-crates/saga_tool/out/saga_tool}" --libraries "$work" "$@"
+program=${SAGAS:-$(tests/program)} || exit
+python3 tests/drive.py --program "$program" --libraries "$work" "$@"

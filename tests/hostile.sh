@@ -10,17 +10,16 @@ set -uo pipefail
 cd "$(dirname "$0")/.."
 work=$(mktemp -d)
 trap 'rm -rf "$work"' EXIT
-program=crates/saga_tool/out/saga_tool
-trials=crates/saga_trials/out/saga_trials
 bad=0
 texts=0
 
 # How many times a text the program may hold.
 most_times=64
 
+program=$(tests/program) || exit
+trials=$(tests/trials) || exit
+tests/need gcc gcc || exit 1
 gcc -O2 -shared -fPIC -o "$work/refusing.so" tests/refusing.c || { echo "the library that counts memory is not built"; exit 1; }
-./sagas --help >/dev/null || { echo "the program is not built"; exit 1; }
-./build saga_trials || { echo "the trials are not built"; exit 1; }
 
 # fail WHY..: counts what is wrong.
 fail() {

@@ -11,14 +11,15 @@ set -uo pipefail
 cd "$(dirname "$0")/.."
 work=$(mktemp -d)
 trap 'rm -rf "$work"' EXIT
-export work shim=$work/refusing.so trials=$PWD/crates/saga_trials/out/saga_trials program=$PWD/crates/saga_tool/out/saga_tool
+program=$(tests/program) || exit
+trials=$(tests/trials) || exit
+export work shim=$work/refusing.so trials program
 
 # The most growths of one call.
 export most=5000
 
+tests/need gcc gcc || exit 1
 gcc -O2 -shared -fPIC -o "$shim" tests/refusing.c || { echo "the library that refuses memory is not built"; exit 1; }
-./sagas --help >/dev/null || { echo "the program is not built"; exit 1; }
-./build saga_trials || { echo "the trials are not built"; exit 1; }
 
 # refused NUMBER TOLD WORDS..: runs a program that meets the refusal of one growth, and gives its status.
 refused() {

@@ -2,5 +2,4 @@
 # Runs each command that the README and the pages in docs/ show, and compares what it prints.
 set -uo pipefail
 cd "$(dirname "$0")/.."
-./build saga_booking || exit 1
 exec python3 tests/pages.py

@@ -17,8 +17,8 @@ shown() {
 }
 
 wrong=0
-for definition in examples/*.toml; do
-  name=$(basename "$definition" .toml)
+for case in examples/*.case.json; do
+  name=$(basename "$case" .case.json)
   file=docs/pictures/$name.svg
   if [ "${1-}" = --check ]; then
     cmp <(shown <"$file") <(picture "$name" | shown) || { echo "another picture: $file"; wrong=$((wrong + 1)); }

@@ -5,10 +5,10 @@ set -uo pipefail
 cd "$(dirname "$0")/../.."
 work=$(mktemp -d)
 trap 'rm -rf "$work"' EXIT
-export work program=$PWD/crates/saga_tool/out/saga_tool
+program=$(tests/program) || exit
+export work program
 
-command -v valgrind >/dev/null || { echo "valgrind is not there"; exit 1; }
-./sagas --help >/dev/null || { echo "the program is not built"; exit 1; }
+tests/need valgrind valgrind || exit 1
 
 # clean WORDS..: whether a run ends by itself, and valgrind finds nothing.
 clean() {

@@ -13,8 +13,6 @@ mod chains;
 mod decisions;
 mod reasons;
 mod sagas;
-#[cfg(test)]
-mod tests;
 
 pub use answers::AuditAnswer;
 pub use audits::{audit, audit_with};

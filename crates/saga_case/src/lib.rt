@@ -10,8 +10,6 @@ mod laws;
 mod lists;
 mod prices;
 mod states;
-#[cfg(test)]
-mod tests;
 
 pub use amounts::Amounts;
 pub use answers::{Answer, Plan};

@@ -14,8 +14,6 @@ mod kept;
 mod keys;
 mod kinds;
 mod states;
-#[cfg(test)]
-mod tests;
 mod texts;
 mod written_answers;
 mod written_cases;

@@ -2,7 +2,7 @@
 use Rattle.std.proofs.Common.{ℕ, ◌≡◌, ◌<◌, ◌≤◌, ◌+◌, ◌-◌, ◌∙◌, ◌++◌, Bool, false, List, [], ◌∷◌, Some, length, get_or, map, drop, sum_by, ap, sym, subst, refl, arith, zero, suc, inl, inr}
 use Rattle.std.specs.Prelude.{slice_get, if◌then◌else◌}
 use Rattle.std.proofs.lemmas.Bool.{cases_eq, cases_lt}
-use Rattle.std.proofs.lemmas.List.{append-nil, append_assoc, length-append, length-map, get_or_append_left, get_or-append_right, get_or_push, get_or-map, length-drop}
+use Rattle.std.proofs.lemmas.List.{length-append, length-map, get_or_append_left, get_or-append_right, get_or_push, get_or-map, length-drop}
 use Rattle.std.proofs.lemmas.List.Sums.{sum_by-append, sum_by-cons, sum_by_push}
 use Rattle.std.proofs.lemmas.Option.{slice_get_within, slice_get-get_or, same_Some}
 use Rattle.saga_def.specs.declared.steps.Need.{Need}
@@ -175,16 +175,3 @@ link_at t i d lt =
     ∙ ap Some (link_get t (t.count + (t.count + i)) (any_arc t) (omega arith) (omega (arith, lt))
     ∙ ap (λ j. link_arc (get_or t.needs j any_need)) e
     ∙ ap link_arc (same_Some _ _ (sym (slice_get-get_or t.needs i any_need lt) ∙ slice_get-get_or t.needs i d lt)))
-
--- ---- the loops that list the arcs
-
-pub arcs_start : (before : List Arc) (arc : ℕ → Arc) → before ≡ before ++ arcs_below 0 arc
-arcs_start before arc = rw (arcs_none arc) (sym (append-nil before))
-
-pub arcs_pushed : (before now : List Arc) (n : ℕ) (arc : ℕ → Arc) (a : Arc) → now ≡ before ++ arcs_below n arc → a ≡ arc n → now ++ a ∷ [] ≡ before ++ arcs_below (n + 1) arc
-arcs_pushed before now n arc a so_far same =
-    rw (so_far, same, arcs_more n arc) (append_assoc before (arcs_below n arc) (arc n ∷ []))
-
-pub listed_in_turn : (t : Terms) (none leave stand links : List Arc) → none ≡ [] → leave ≡ none ++ arcs_below t.count (leave_arc t) → stand ≡ leave ++ arcs_below t.count (stand_arc t) → links ≡ stand ++ map link_arc t.needs → links ≡ (network_of t).arcs
-listed_in_turn t none leave stand links p q r s =
-    rw (s, r, q, p) (append_assoc (arcs_below t.count (leave_arc t)) (arcs_below t.count (stand_arc t)) (map link_arc t.needs))

@@ -20,6 +20,3 @@ mod walking;
 pub use flows::ClosureFlow;
 pub use solutions::Solution;
 pub use solving::solve;
-
-#[cfg(test)]
-mod tests;

@@ -8,8 +8,6 @@ mod journals;
 mod laws;
 mod numbers;
 mod refusals;
-#[cfg(test)]
-mod tests;
 
 pub use books::{Book, MAX_SAGAS};
 pub use laws::refusal_laws;

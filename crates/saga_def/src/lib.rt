@@ -13,8 +13,6 @@ mod laws;
 mod limits;
 mod rules;
 mod steps;
-#[cfg(test)]
-mod tests;
 mod texts;
 
 pub use definitions::Definition;

@@ -11,8 +11,6 @@ mod jobs;
 mod receipts;
 mod refusals;
 mod shards;
-#[cfg(test)]
-mod tests;
 
 pub use desks::{Desk, FinishRefused};
 pub use jobs::{Claim, Job, PlanJob};

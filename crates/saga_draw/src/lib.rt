@@ -7,7 +7,5 @@
 mod drawings;
 mod lines;
 mod marks;
-#[cfg(test)]
-mod tests;
 
 pub use drawings::draw;

@@ -12,8 +12,6 @@ mod requests;
 mod restarts;
 mod shown;
 mod tasks;
-#[cfg(test)]
-mod tests;
 mod verbs;
 
 pub use answers::answer;

@@ -27,8 +27,3 @@ pub use pushes::push;
 pub use reaching::{reach, unbounded_path};
 pub use residual_arcs::ResidualArc;
 pub use rounds::Progress;
-
-#[cfg(test)]
-mod plain;
-#[cfg(test)]
-mod tests;

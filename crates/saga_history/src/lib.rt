@@ -13,8 +13,6 @@ mod laws;
 mod questions;
 mod states;
 mod tasks;
-#[cfg(test)]
-mod tests;
 mod transitions;
 mod turns;
 

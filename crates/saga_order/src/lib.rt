@@ -8,8 +8,6 @@ mod laws;
 mod orders;
 mod ranks;
 mod step_sets;
-#[cfg(test)]
-mod tests;
 mod topological;
 mod transitive;
 

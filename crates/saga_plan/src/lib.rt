@@ -11,10 +11,3 @@ mod plans;
 
 pub use laws::plan_laws;
 pub use planning::{plan, plan_counted};
-
-#[cfg(test)]
-mod compared;
-#[cfg(test)]
-mod networks;
-#[cfg(test)]
-mod tests;

@@ -9,9 +9,6 @@ ghost use Rattle.saga_read.specs.More.{ReadsMore};
 use std::alloc::Global;
 use std::io::{self, ErrorKind, Read};
 
-#[cfg(test)]
-mod tests;
-
 /// How many bytes are asked for at once.
 const AT_ONCE: usize = 8_192;
 

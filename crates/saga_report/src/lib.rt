@@ -8,7 +8,5 @@ mod follow;
 mod lines;
 mod reports;
 mod sagas;
-#[cfg(test)]
-mod tests;
 
 pub use reports::{CountedReport, report, report_counted};

@@ -10,8 +10,6 @@ mod faults;
 mod limits;
 mod scripts;
 mod statements;
-#[cfg(test)]
-mod tests;
 
 pub use faults::ScriptFault;
 pub use limits::MAX_SCRIPT;

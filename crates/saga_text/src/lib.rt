@@ -13,8 +13,6 @@ mod kinds;
 mod limits;
 mod numbers;
 mod steps;
-#[cfg(test)]
-mod tests;
 
 pub use definitions::read_definition;
 pub use faults::TextFault;

@@ -23,8 +23,6 @@ mod responses;
 mod runs;
 mod shelves;
 mod showing;
-#[cfg(test)]
-mod tests;
 mod texts;
 mod words;
 

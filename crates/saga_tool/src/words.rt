@@ -10,7 +10,7 @@ use clap::{Arg, ArgAction, Command, Error};
 use std::alloc::{AllocError, Global};
 use std::convert::From;
 
-const VERSION: &str = "0.1.0";
+const VERSION: &str = "0.3.0";
 
 const ABOUT: &str =
     "Coordinates sagas: runs them, finds the cheapest way to end a saga in which a step has failed, judges such plans, and draws them

@@ -9,8 +9,6 @@ mod bells;
 mod faults;
 mod opening;
 mod runs;
-#[cfg(test)]
-mod tests;
 mod workers;
 
 pub use actors::Actor;

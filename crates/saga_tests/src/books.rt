@@ -1,0 +1,307 @@
+//! Books that are called at random, against a plain search of what may happen next and the plain follower; and a history of four
+//! sagas that is changed in each event, judged by the auditor and by the follower.
+ghost use Rattle.std.specs.Prelude.{◌<◌};
+
+use saga_audit::{AuditAnswer, audit, audit_with};
+use saga_case::StepState;
+use saga_check::verify;
+use saga_core::Book;
+use saga_def::Definition;
+use saga_history::{Event, Outcome, Phase, Task, first_not_allowed, is_busy, is_off, is_standing};
+use saga_log::read_log;
+use saga_plan::plan;
+use saga_text::read_definition;
+use std::alloc::{AllocError, Global};
+use std::test::Fail;
+use std::thread::Threads;
+
+/// Six steps that cost nothing, with needs between them, each tried twice.
+const WEB: &str = "format = 2
+name = \"web\"
+step = [
+  { name = \"s0\", tries = 2, undo_tries = 2 },
+  { name = \"s1\", tries = 2, undo_tries = 2 },
+  { name = \"s2\", needs = [\"s0\", \"s1\"], tries = 2, undo_tries = 2 },
+  { name = \"s3\", needs = [\"s2\"], tries = 2, undo_tries = 2 },
+  { name = \"s4\", needs = [\"s1\"], tries = 2, undo_tries = 2 },
+  { name = \"s5\", needs = [\"s3\", \"s4\"], tries = 2, undo_tries = 2 },
+]
+";
+
+const RETRY: &str =
+    "format = 2\nname = \"retry\"\nstep = [{ name = \"s0\", tries = 3, undo_tries = 3 }]\n";
+
+/// A flight, a hotel that needs it, and a tour that needs the hotel.
+const TRIP: &str = "format = 2
+name = \"trip\"
+step = [
+  { name = \"flight\", undo = 1, keep = 5, tries = 2, undo_tries = 2 },
+  { name = \"hotel\", needs = [\"flight\"], undo = 2, keep = 5, tries = 2, undo_tries = 2 },
+  { name = \"tour\", needs = [\"hotel\"], tries = 2, undo_tries = 2 },
+]
+";
+
+const FORCED: &str =
+    "format = 1\nname = \"forced\"\nstep = [{ name = \"s0\", skip = \"never\" }]\n";
+
+/// An aborted trip between the events of three other sagas.
+const FOUR: &str = r#"{"format":2}
+{"def":0,"event":"open","saga":4000000000}
+{"def":1,"event":"open","saga":17}
+{"event":"start_run","saga":4000000000,"step":0}
+{"event":"start_run","saga":17,"step":0}
+{"def":1,"event":"open","saga":3}
+{"event":"commit","saga":17,"step":0}
+{"event":"commit","saga":4000000000,"step":0}
+{"def":0,"event":"open","saga":1}
+{"event":"abort","saga":4000000000}
+{"event":"start_plan","saga":4000000000}
+{"event":"start_run","saga":1,"step":0}
+{"answer":{"cost":1,"kept":[],"kind":"plan","leave":[1,0,0],"links":[0,0],"stand":[1,0,0]},"event":"adopt","saga":4000000000}
+{"event":"start_undo","saga":4000000000,"step":0}
+{"event":"start_run","saga":3,"step":0}
+{"event":"undo_missed","saga":4000000000,"step":0}
+{"event":"fail","saga":3,"step":0}
+{"event":"start_undo","saga":4000000000,"step":0}
+{"event":"start_plan","saga":3}
+{"event":"undone","saga":4000000000,"step":0}
+{"event":"drop_plan","saga":3}
+"#;
+
+/// A shelf of the definitions of these texts.
+fn shelf_of(alloc: Global, texts: &[&str]) -> Result<Vec<Definition>, AllocError> {
+    let mut shelf = Vec::new(alloc);
+    for text in texts {
+        if let Ok(definition) = read_definition(alloc, text.as_bytes()) {
+            shelf.push(definition)?;
+        }
+    }
+    Ok(shelf)
+}
+
+/// The first busy step of a saga.
+fn first_busy(book: &Book, saga: u32) -> Option<u16> {
+    for step in 0..1024 {
+        match book.state(saga, step) {
+            Some(state) if is_busy(state) => return Some(step),
+            Some(_) => {}
+            None => return None,
+        }
+    }
+    None
+}
+
+/// The first task of a going saga.
+fn first_going(book: &Book, definition: &Definition, saga: u32) -> Option<Task> {
+    for step in 0..definition.steps() as u16 {
+        let wanted = book.in_goal(saga, step) == Some(true);
+        let mut needs_stand = true;
+        let mut dependants_are_off = true;
+        for need in definition.all_needs() {
+            let on = book.state(saga, u16::try_from(need.on).unwrap_or(u16::MAX));
+            let by = book.state(saga, u16::try_from(need.step).unwrap_or(u16::MAX));
+            if need.step == u32::from(step) {
+                needs_stand = needs_stand && is_standing(on.unwrap_or(StepState::Waiting));
+            }
+            if need.on == u32::from(step) {
+                dependants_are_off = dependants_are_off
+                    && is_off(by.unwrap_or(StepState::Committed));
+            }
+        }
+        match book.state(saga, step) {
+            Some(StepState::Waiting) if wanted && needs_stand => {
+                return Some(Task::Run(saga, step));
+            }
+            Some(StepState::Committed) if !wanted && dependants_are_off => {
+                return Some(Task::Undo(saga, step));
+            }
+            _ => {}
+        }
+    }
+    None
+}
+
+/// The first task of a book whose sagas are numbered 0, 1 and so on, by a search over its sagas and their steps.
+fn first_by_search(book: &Book) -> Option<Task> {
+    for saga in 0..1000 {
+        let task = match (book.phase(saga), book.definition(saga)) {
+            (Some(Phase::Going), Some(definition)) => first_going(book, definition, saga),
+            (Some(Phase::Draining), Some(_)) if first_busy(book, saga).is_none() => {
+                Some(Task::Plan(saga))
+            }
+            (None, _) => return None,
+            _ => None,
+        };
+        if task.is_some() {
+            return task;
+        }
+    }
+    None
+}
+
+/// Numbers that look drawn (Knuth's linear congruential generator).
+#[derive(Drop)]
+struct Draws {
+    state: u64,
+}
+
+impl Draws {
+    fn next(&mut self, below: u64) -> u64
+        requires { 0 < below }
+        ensures { result < below }
+    {
+        self.state = self
+            .state
+            .wrapping_mul(6364136223846793005)
+            .wrapping_add(1442695040888963407);
+        (self.state >> 33) % below
+    }
+}
+
+/// Begins a plan, and drops it or adopts an answer. Gives whether that went well.
+fn plan_at(alloc: Global, book: &mut Book, saga: u32, drops: bool) -> bool {
+    let Ok(case) = book.take_plan(saga) else {
+        return false;
+    };
+    match plan(alloc, &case) {
+        Ok(answer) if !drops => match verify(case, answer) {
+            Ok(verdict) => book.adopt(saga, verdict).is_ok(),
+            Err(_) => false,
+        },
+        _ => book.drop_plan(saga).is_ok(),
+    }
+}
+
+/// Makes one call. Gives whether it went as it must.
+fn call_at_random(alloc: Global, book: &mut Book, draws: &mut Draws) -> bool {
+    let saga = draws.next(4) as u32;
+    if draws.next(40) == 0 {
+        let _ = book.abort(saga);
+        return true;
+    }
+    if draws.next(2) == 0 {
+        let Some(step) = first_busy(book, saga) else {
+            return true;
+        };
+        let outcome = if draws.next(4) == 0 {
+            Outcome::Failed
+        } else {
+            Outcome::Done
+        };
+        return book.report_run(saga, step, outcome).is_ok()
+            || book.report_undo(saga, step, outcome).is_ok();
+    }
+    match book.next() {
+        Some(Task::Run(saga, step)) => book.take_run(saga, step).is_ok(),
+        Some(Task::Undo(saga, step)) => book.take_undo(saga, step).is_ok(),
+        Some(Task::Plan(saga)) => plan_at(alloc, book, saga, draws.next(3) == 0),
+        None => true,
+    }
+}
+
+/// The number of the first of many random calls that goes wrong, or after which `next` differs from the search; the number of
+/// calls where the history is not one by the follower.
+fn first_difference(
+    alloc: Global,
+    shelf: &[Definition],
+    seed: u64,
+) -> Result<Option<u32>, AllocError> {
+    let mut book = Book::new(alloc, shelf, 0, 1);
+    let mut draws = Draws { state: seed };
+    for _ in 0..5 {
+        let _ = book.open(0);
+    }
+    for call in 0..150 {
+        let went_well = call_at_random(alloc, &mut book, &mut draws);
+        if !went_well || book.next() != first_by_search(&book) {
+            return Ok(Some(call));
+        }
+    }
+    let first = first_not_allowed(alloc, shelf, book.history())?;
+    Ok(if first.is_some() { Some(150) } else { None })
+}
+
+#[test]
+fn random_runs(rt: HostRuntime) -> Result<(), Fail> {
+    let alloc = rt.alloc();
+    for text in [WEB, RETRY, TRIP] {
+        let shelf = shelf_of(alloc, [text].as_slice())?;
+        assert_eq!(rt; shelf.len(), 1);
+        for seed in 1..9 {
+            assert_eq!(rt;
+                first_difference(alloc, &shelf, seed)?,
+                None,
+                "seed {seed} of {text}"
+            );
+        }
+    }
+    Ok(())
+}
+
+/// A text of which the lines of a place and of the next one give way to some of them: 0 is the one, and 1 the other.
+fn changed(
+    alloc: Global,
+    text: &str,
+    place: usize,
+    chosen: &[usize],
+) -> Result<String, AllocError> {
+    let mut out = String::new(alloc);
+    for (i, line) in text.lines().enumerate() {
+        if i != place && i != place.saturating_add(1) {
+            out.push_str(line)?;
+            out.push_str("\n")?;
+        }
+        if i == place {
+            for offset in chosen {
+                let line = text
+                    .lines()
+                    .nth(place.saturating_add(*offset))
+                    .unwrap_or("");
+                out.push_str(line)?;
+                out.push_str(if line.is_empty() { "" } else { "\n" })?;
+            }
+        }
+    }
+    Ok(out)
+}
+
+/// Whether the auditor, alone and by several workers, names the event that the follower names, or none.
+fn agree(
+    rt: &(impl Threads + Sync),
+    alloc: Global,
+    shelf: &[Definition],
+    events: &[Event],
+) -> Result<bool, AllocError> {
+    let answer = audit(alloc, shelf, events)?;
+    for workers in [1u32, 2, 16] {
+        if audit_with(rt, alloc, workers, shelf, events)? != answer {
+            return Ok(false);
+        }
+    }
+    let first = first_not_allowed(alloc, shelf, events)?;
+    Ok(match answer {
+        AuditAnswer::Yes { .. } => first.is_none(),
+        AuditAnswer::No { position, .. } => first == Some(position),
+    })
+}
+
+/// Each event is left out, comes twice, or comes after the next one.
+#[test]
+fn each_event_changed(rt: HostRuntime) -> Result<(), Fail> {
+    let alloc = rt.alloc();
+    let shelf = shelf_of(alloc, [TRIP, FORCED].as_slice())?;
+    assert_eq!(rt; shelf.len(), 2);
+    let edits: [&[usize]; 4] = [&[0, 1], &[1], &[0, 0, 1], &[1, 0]];
+    for place in 1..21 {
+        for chosen in edits {
+            let text = changed(alloc, FOUR, place, chosen)?;
+            match read_log(alloc, text.as_bytes()) {
+                Ok(events) => {
+                    assert!(rt; agree(&rt, alloc, &shelf, &events)?, "at {place}: {text}");
+                }
+                Err(_) => assert!(rt; false, "a log: {text}"),
+            }
+        }
+    }
+    Ok(())
+}

@@ -1,0 +1,65 @@
+//! Definitions whose steps cost nothing, and what tests look at.
+use saga_core::Book;
+use saga_def::Price::Of;
+use saga_def::{Definition, Need, Step, Text};
+use std::alloc::{Alloc, Global};
+use std::fmt::Debug;
+use std::process::Abort;
+
+fn step<R: Abort + Alloc<A = Global>>(rt: &R, place: u32, tries: u64) -> Step {
+    let name = format!(in rt.alloc(); "s{place}").expect(rt, "a name");
+    Step {
+        name: Text::new(name),
+        run: Of(0),
+        undo: Of(0),
+        skip: Of(0),
+        keep: Of(0),
+        tries,
+        undo_tries: tries,
+    }
+}
+
+/// A shelf of one definition, of so many steps, each of which, and its compensation, is tried so often; in a row, each needs
+/// the one before it.
+pub fn shelf_of<R: Abort + Alloc<A = Global>>(
+    rt: &R,
+    count: u32,
+    tries: u64,
+    in_a_row: bool,
+) -> Vec<Definition> {
+    let alloc = rt.alloc();
+    let mut steps = Vec::new(alloc);
+    let mut needs = Vec::new(alloc);
+    for place in 0..count {
+        steps.push(step(rt, place, tries)).expect(rt, "a step");
+        if in_a_row && place > 0 {
+            let need = Need {
+                step: place,
+                on: place - 1,
+            };
+            needs.push(need).expect(rt, "a need");
+        }
+    }
+    let name = Text::new(String::from_str(alloc, "saga").expect(rt, "a name"));
+    let definition = Definition::build(alloc, name, steps, needs).expect(rt, "a definition");
+    let mut shelf = Vec::new(alloc);
+    shelf.push(definition).expect(rt, "a shelf");
+    shelf
+}
+
+/// How many events the first two books have.
+pub fn lengths<R: Abort + Alloc<A = Global>>(rt: &R, books: &[Book<'_>]) -> String {
+    let first = books.first().map_or(0, |book| book.history().len());
+    let second = books.get(1).map_or(0, |book| book.history().len());
+    format!(in rt.alloc(); "books {first} {second}").expect(rt, "a text")
+}
+
+/// A value as it is printed to whoever mends a program.
+pub fn told<R: Abort + Alloc<A = Global>, T: Debug>(rt: &R, value: &T) -> String {
+    format!(in rt.alloc(); "{value:?}").expect(rt, "a text")
+}
+
+/// A word as a text of its own.
+pub fn text<R: Abort + Alloc<A = Global>>(rt: &R, word: &str) -> String {
+    String::from_str(rt.alloc(), word).expect(rt, "a text")
+}

@@ -1,0 +1,296 @@
+#!/usr/bin/env python3
+"""Proves and tests everything, and says what it cost.
+
+    ./test                    the gate: the cheap checks, then `rt ci`, then the other checks over the program that it built
+    ./test --quick [NAME ..]  all checks but `rt ci`, over what is built, or the checks named
+
+A check is a script `tests/NAME.sh`, which ends with status 0, or with 77 where the machine lacks what it is about. The checks that cost
+seconds run before the hour of proofs, so that a typing mistake shows at once. The last line on standard output is `N passed, M failed`, and
+`, K skipped` where something was; what everything cost stands before it, on standard error.
+
+Without the kit (`rt`) nothing can be proved: then the checks run over the release, and each crate counts as skipped.
+"""
+
+from __future__ import annotations
+
+import argparse
+import os
+import re
+import resource
+import shutil
+import subprocess
+import sys
+import threading
+import time
+from collections import defaultdict
+from collections.abc import Iterator
+from dataclasses import dataclass, field
+from pathlib import Path
+
+TOP = Path(__file__).resolve().parent.parent
+SKIPPED = 77
+
+# The checks that take seconds, over the release where nothing is built.
+CHEAP = ("format", "definitions", "release", "pages", "errors", "pictures", "rows")
+
+# How often the processes of `rt ci` are looked at, in seconds.
+PAUSE = 0.5
+TICKS = os.sysconf("SC_CLK_TCK")
+
+
+@dataclass
+class Cost:
+    """Processor seconds and wall seconds."""
+
+    processor: float = 0.0
+    wall: float = 0.0
+
+
+@dataclass
+class Tally:
+    """What passed, failed and was skipped, and what each part cost."""
+
+    passed: int = 0
+    failed: int = 0
+    skipped: int = 0
+    costs: dict[str, Cost] = field(default_factory=dict)
+    crates: dict[str, dict[str, float]] = field(default_factory=dict)
+
+    def last_line(self) -> str:
+        """The line that ends a run."""
+        skipped = f", {self.skipped} skipped" if self.skipped else ""
+        return f"{self.passed} passed, {self.failed} failed{skipped}"
+
+
+def spent_by_children() -> float:
+    """The processor seconds of all children that have ended."""
+    used = resource.getrusage(resource.RUSAGE_CHILDREN)
+    return used.ru_utime + used.ru_stime
+
+
+@dataclass(frozen=True)
+class Process:
+    """A process below `rt ci`, as /proc has it."""
+
+    number: int
+    parent: int
+    seconds: float
+
+
+def processes() -> Iterator[Process]:
+    """All processes of the machine."""
+    for name in os.listdir("/proc"):
+        if name.isdigit():
+            try:
+                fields = Path(f"/proc/{name}/stat").read_text().rpartition(")")[2].split()
+            except OSError:
+                continue
+            yield Process(int(name), int(fields[1]), (int(fields[11]) + int(fields[12])) / TICKS)
+
+
+class Watch:
+    """Sums up what the processes below one process take, by kind of work and by crate, until it is stopped."""
+
+    def __init__(self, top: int, below_the_program: set[str]) -> None:
+        self.top = top
+        self.below_the_program = below_the_program
+        self.kinds: dict[int, tuple[str, str]] = {}
+        self.seconds: dict[int, float] = {}
+        self.walls: dict[str, float] = defaultdict(float)
+        self.ended = threading.Event()
+        self.thread = threading.Thread(target=self.run)
+        self.thread.start()
+
+    def run(self) -> None:
+        """Looks again and again."""
+        before = time.monotonic()
+        while not self.ended.wait(PAUSE):
+            now = time.monotonic()
+            for kind in self.look():
+                self.walls[kind] += now - before
+            before = now
+
+    def look(self) -> set[str]:
+        """Looks once at each process; gives the kinds of work that are under way."""
+        found = {process.number: process for process in processes()}
+        kinds: set[str] = set()
+        for process in found.values():
+            at = process
+            while at.number != self.top and at.parent in found:
+                at = found[at.parent]
+            if at.number != self.top or process.number == self.top:
+                continue
+            if process.number not in self.kinds:
+                self.kinds[process.number] = self.kind_of(process.number)
+            self.seconds[process.number] = process.seconds
+            kinds.add(self.kinds[process.number][0])
+        return kinds
+
+    def kind_of(self, number: int) -> tuple[str, str]:
+        """What a process works for: a kind of work, and a crate."""
+        try:
+            words = Path(f"/proc/{number}/cmdline").read_bytes().decode(errors="replace").split("\0")
+            folder = os.readlink(f"/proc/{number}/cwd")
+        except OSError:
+            return "programs", ""
+        if os.path.basename(words[0]) != "rattle":
+            return "programs", ""
+        crate = words[words.index("--crate-name") + 1] if "--crate-name" in words else ""
+        if "/rt-edit-" in folder:
+            return "edits", crate
+        if "--test" in words:
+            return "tests", crate
+        return ("proofs" if crate in self.below_the_program or not crate else "programs"), crate
+
+    def stop(self) -> None:
+        """Stops looking."""
+        self.ended.set()
+        self.thread.join()
+
+    def costs(self) -> dict[str, Cost]:
+        """What each kind of work took."""
+        costs = {kind: Cost() for kind in ("proofs", "tests", "edits", "programs")}
+        for number, seconds in self.seconds.items():
+            costs[self.kinds[number][0]].processor += seconds
+        for kind, wall in self.walls.items():
+            costs[kind].wall = wall
+        return costs
+
+    def crates(self) -> dict[str, dict[str, float]]:
+        """The processor seconds of each crate by kind of work."""
+        crates: dict[str, dict[str, float]] = defaultdict(lambda: defaultdict(float))
+        for number, seconds in self.seconds.items():
+            kind, crate = self.kinds[number]
+            if crate:
+                crates[crate][kind] += seconds
+        return crates
+
+
+def libraries() -> dict[str, list[str]]:
+    """Each crate of crates.txt with the libraries that it names."""
+    found: dict[str, list[str]] = {}
+    for line in (TOP / "crates.txt").read_text().splitlines():
+        name, colon, rest = line.partition("#")[0].partition(":")
+        if colon:
+            found[name.split()[0]] = rest.split()
+    return found
+
+
+def below(top: str) -> set[str]:
+    """A crate and all those of the repository below it."""
+    crates, found, left = libraries(), set[str](), [top]
+    while left:
+        name = left.pop()
+        if name in crates and name not in found:
+            found.add(name)
+            left += crates[name]
+    return found
+
+
+def prove(tally: Tally) -> None:
+    """Runs `rt ci`, and adds what it says to the tally."""
+    began, spent = time.monotonic(), spent_by_children()
+    gate = subprocess.Popen(["rt", "ci"], cwd=TOP, stdout=subprocess.PIPE, stderr=subprocess.STDOUT, text=True, errors="replace")
+    watch = Watch(gate.pid, below("saga_tool"))
+    last = ""
+    assert gate.stdout
+    for line in gate.stdout:
+        print(line, end="", flush=True)
+        last = line if re.fullmatch(r"\d+ passed, \d+ failed\n", line) else last
+    status = gate.wait()
+    watch.stop()
+    passed, failed = (int(number) for number in re.findall(r"\d+", last)) if last else (0, 1)
+    tally.passed += passed
+    tally.failed += failed if failed or status == 0 else 1
+    tally.costs |= watch.costs()
+    tally.crates = watch.crates()
+    seen = sum(cost.processor for cost in tally.costs.values())
+    tally.costs["rt itself"] = Cost(max(0.0, spent_by_children() - spent - seen), time.monotonic() - began)
+
+
+def check(name: str, tally: Tally, is_quick: bool = False) -> None:
+    """Runs one check, which builds nothing where it is to be quick, and adds it to the tally."""
+    began, spent = time.monotonic(), spent_by_children()
+    print(f"== tests/{name}.sh", flush=True)
+    environment = {**os.environ, "QUICK": "1"} if is_quick else None
+    script = str(TOP / "tests" / f"{name}.sh")
+    status = subprocess.run(["bash", script], cwd=TOP, stdin=subprocess.DEVNULL, env=environment).returncode
+    if status == 0:
+        tally.passed += 1
+    elif status == SKIPPED:
+        tally.skipped += 1
+        print(f"skipped: tests/{name}.sh", flush=True)
+    else:
+        tally.failed += 1
+        print(f"failed: tests/{name}.sh", flush=True)
+    tally.costs[f"tests/{name}.sh"] = Cost(spent_by_children() - spent, time.monotonic() - began)
+
+
+def table(tally: Tally) -> str:
+    """What everything cost, as text."""
+    lines = [f"{'':28}{'processor minutes':>20}{'wall minutes':>15}"]
+    for name, cost in tally.costs.items():
+        lines.append(f"{name:28}{cost.processor / 60:20.1f}{cost.wall / 60:15.1f}")
+    lines.append(f"{'in all':28}{sum(cost.processor for cost in tally.costs.values()) / 60:20.1f}")
+    if tally.crates:
+        lines.append(f"\n{'processor seconds':28}{'proof':>10}{'tests':>10}{'edits':>10}")
+    for crate, kinds in sorted(tally.crates.items()):
+        proof = kinds.get("proofs", 0.0) + kinds.get("programs", 0.0)
+        lines.append(f"{crate:28}{proof:10.0f}{kinds.get('tests', 0.0):10.0f}{kinds.get('edits', 0.0):10.0f}")
+    return "\n".join(lines)
+
+
+def checks() -> list[str]:
+    """The names of all checks, the cheap ones first."""
+    names = {path.stem for path in (TOP / "tests").glob("*.sh")}
+    return [name for name in CHEAP if name in names] + sorted(names - set(CHEAP))
+
+
+def arguments() -> argparse.Namespace:
+    """The words of the command line."""
+    parser = argparse.ArgumentParser(prog="./test", description="Proves and tests everything; the last line is 'N passed, M failed'.")
+    parser.add_argument("--quick", action="store_true", help="run the checks alone, over what is built")
+    parser.add_argument("names", nargs="*", metavar="NAME", help=f"with --quick: {', '.join(checks())}")
+    words = parser.parse_args()
+    if words.names and not words.quick:
+        parser.error("names of checks go with --quick")
+    unknown = sorted(set(words.names) - set(checks()))
+    if unknown:
+        parser.error(f"there is no check {', '.join(unknown)}; there are {', '.join(checks())}")
+    return words
+
+
+def run(words: argparse.Namespace) -> Tally:
+    """Runs what the words ask for."""
+    tally = Tally()
+    names: list[str] = words.names or checks()
+    has_kit = shutil.which("rt") is not None
+    if not has_kit:
+        print("test: there is no kit (rt) on this machine: nothing is proved, and the checks run over the release in dist/", flush=True)
+    if words.quick or not has_kit:
+        for name in names:
+            check(name, tally, is_quick=True)
+        tally.skipped += 0 if has_kit or words.names else len(libraries())
+        return tally
+    for name in [name for name in names if name in CHEAP]:
+        check(name, tally)
+    if tally.failed:
+        print("test: nothing is proved before these are mended", flush=True)
+        return tally
+    prove(tally)
+    if not tally.failed:
+        for name in ["built", *(name for name in names if name not in CHEAP and name != "built")]:
+            check(name, tally)
+    return tally
+
+
+def main() -> int:
+    """Runs the gate; gives its status."""
+    tally = run(arguments())
+    print(table(tally), file=sys.stderr, flush=True)
+    print(tally.last_line())
+    return 0 if tally.failed == 0 and tally.passed > 0 else 1
+
+
+if __name__ == "__main__":
+    sys.exit(main())

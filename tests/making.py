@@ -1,0 +1,131 @@
+"""Texts that the rows make: those at the edge of a limit, and those of a regular form."""
+
+from __future__ import annotations
+
+import json
+
+
+def padded(content: str, size: int, with_: str) -> str:
+    """The text, filled up to so many bytes with a character of one byte."""
+    return content + with_ * (size - len(content.encode()))
+
+
+def chain(steps: int) -> str:
+    """A definition of steps in a chain; once committed, each costs 1 to leave out and 2 to keep."""
+    text = 'format = 1\nname = "chain"\n'
+    for step in range(steps):
+        text += f'\n[[step]]\nname = "s{step}"\nundo = 1\nkeep = 2\n'
+        text += f'needs = ["s{step - 1}"]\n' if step else ""
+    return text
+
+
+def greatest(steps: int) -> str:
+    """A definition of steps that cost the most, and cannot be run or kept."""
+    price = 'run = "never"\nundo = 1000000000\nskip = 1000000000\nkeep = "never"\n'
+    return 'format = 1\nname = "greatest"\n' + "".join(f'\n[[step]]\nname = "s{step}"\n{price}' for step in range(steps))
+
+
+def greatest_plan(steps: int, first: int = 2_000_000_000) -> str:
+    """The plan of such steps, all committed; with another amount for leaving out the first."""
+    amounts = [2_000_000_000] * steps
+    plan = {"cost": sum(amounts), "kept": [], "kind": "plan", "leave": [first, *amounts[1:]], "links": [], "stand": amounts}
+    return json.dumps(plan, separators=(",", ":")) + "\n"
+
+
+def states(count: int, word: str, last: str) -> str:
+    """A case of so many steps, all of one state but the last."""
+    return json.dumps({"states": [word] * (count - 1) + [last]}, separators=(",", ":"))
+
+
+def named(name: str, needs: int, steps: int = 1024) -> str:
+    """A definition of steps with so many needs, of which the first step has that name. A step needs nine steps at most, the nearest before it."""
+    names = [name] + [f"s{step}" for step in range(1, steps)]
+    text, left = 'format = 1\nname = "named"\n', needs
+    for step in range(steps):
+        count = min(9, step, left)
+        left -= count
+        needed = ",".join(f'"{names[step - before]}"' for before in range(1, count + 1))
+        text += f'\n[[step]]\nname = "{names[step]}"\nneeds = [{needed}]\n'
+    return text
+
+
+def alike(steps: int, lines: str) -> str:
+    """A definition of so many steps without needs, each of which has these lines."""
+    return 'format = 1\nname = "alike"\n' + "".join(f'\n[[step]]\nname = "s{step}"\n{lines}\n' for step in range(steps))
+
+
+def backward(steps: int) -> str:
+    """A definition of steps in a chain, each of which needs the one behind it in the file."""
+    needs = [f'needs = ["s{step}"]\n' for step in range(1, steps)] + [""]
+    return 'format = 1\nname = "backward"\n' + "".join(f'\n[[step]]\nname = "s{step}"\n{need}' for step, need in enumerate(needs))
+
+
+def plan_of(cost: int, kept: list[int], leave: list[int], stand: list[int], links: list[int]) -> str:
+    """The text of a plan as the program writes it."""
+    plan = {"cost": cost, "kept": kept, "kind": "plan", "leave": leave, "links": links, "stand": stand}
+    return json.dumps(plan, separators=(",", ":")) + "\n"
+
+
+def broken(content: str, place: int, byte: int = ord("}")) -> bytes:
+    """The text with another byte at a place."""
+    whole = content.encode()
+    return whole[:place] + bytes([byte]) + whole[place + 1 :]
+
+
+NEW_EVENTS = ("missed", "undo_missed", "abort")
+
+
+def event(deed: str, answer: str = "null") -> str:
+    """The line of a deed, as `start_run 2`, `7:abort` or `open 1` (of the second definition); of saga 0 where none is named."""
+    saga, _, said = deed.rpartition(":")
+    word, _, number = said.partition(" ")
+    keys = {"event": word, "saga": int(saga or 0)}
+    if word == "open":
+        keys["def"] = int(number or 0)
+    elif number:
+        keys["step"] = int(number)
+    if word == "adopt":
+        keys["answer"] = json.loads(answer)
+    return json.dumps(keys, separators=(",", ":"), sort_keys=True) + "\n"
+
+
+def log(deeds: str, *answers: str, header: bool = False) -> str:
+    """The log of deeds with commas between them, with the adopted answers in order; the header stands where it must, or is asked for."""
+    left = iter(answers)
+    said = [deed.strip() for deed in deeds.split(",") if deed.strip()]
+    lines = [event(deed, next(left) if deed.endswith("adopt") else "null") for deed in said]
+    is_new = any(deed.rpartition(":")[2].partition(" ")[0] in NEW_EVENTS for deed in said)
+    return ('{"format":2}\n' if header or is_new else "") + "".join(lines)
+
+
+def changed(deeds: str, place: int, *others: str) -> str:
+    """Deeds of which the one of that place gives way to others, or to none."""
+    said = deeds.split(",")
+    return ",".join(said[:place] + list(others) + said[place + 1 :])
+
+
+def doubled(deeds: str, place: int) -> str:
+    """Deeds of which one comes twice."""
+    deed = deeds.split(",")[place]
+    return changed(deeds, place, deed, deed)
+
+
+def swapped(deeds: str, place: int) -> str:
+    """Deeds of which one, and the one after it, change places."""
+    said = deeds.split(",")
+    return ",".join(said[:place] + [said[place + 1], said[place]] + said[place + 2 :])
+
+
+def up_to(deeds: str, count: int) -> str:
+    """The first deeds."""
+    return ",".join(deeds.split(",")[:count])
+
+
+def asked(talk: str, first: int = 0) -> str:
+    """The requests of a talk, whose replies stand below them, each by four spaces further in; from the one of that number on."""
+    return "".join(f"{line}\n" for line in [line for line in talk.splitlines() if not line.startswith("    ")][first:])
+
+
+def answered(talk: str, first: int = 0) -> str:
+    """The replies of a talk, likewise."""
+    return "".join(f"{line[4:]}\n" for line in [line for line in talk.splitlines() if line.startswith("    ")][first:])
