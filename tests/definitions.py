@@ -1,7 +1,8 @@
-"""Lists the words of specs/ that contracts of public calls cite and docs/DEFINITIONS.md does not have.
+"""Lists the words of specs/ that contracts of public calls cite and docs/DEFINITIONS.md does not have, and looks whether the crates of
+docs/ARCHITECTURE.md are those of crates.txt.
 
 A public call is a function that a crate's src/lib.rt exports, or a public method of a type that it exports; of the program
-those that the README names. Prints a line for each word that is missing, and ends with status 1 where there is one.
+those that the README names. Prints a line for each word that is missing, and ends with status 1 where there is one; likewise for each crate.
 """
 import pathlib
 import re
@@ -46,6 +47,20 @@ def cited(crate):
             yield from ((word, file) for word, file in words.items() if re.search(rf"(?<![\w.]){re.escape(word)}(?!\w)", head))
 
 
+def misplaced_crates():
+    """What is wrong with the list of crates: one that is missing or too many, or one that stands before a crate that it stands on."""
+    page = (ROOT / "docs" / "ARCHITECTURE.md").read_text(encoding="utf-8")
+    listed = re.findall(r"^\| `(saga_\w+)` \|", page, re.M)
+    lines = [line.partition(":") for line in (ROOT / "crates.txt").read_text(encoding="utf-8").splitlines()]
+    stands_on = {name.split()[0]: below.split() for name, colon, below in lines if colon}
+    for name in sorted(set(stands_on) ^ set(listed)):
+        yield f"{name} stands in {'crates.txt' if name in stands_on else 'docs/ARCHITECTURE.md'} alone"
+    for place, name in enumerate(listed):
+        for below in stands_on.get(name, []):
+            if below in listed[place:]:
+                yield f"docs/ARCHITECTURE.md has {name} before {below}, which it stands on"
+
+
 def main():
     known = set(re.findall(r"`([^`]+)`", (ROOT / "docs" / "DEFINITIONS.md").read_text(encoding="utf-8")))
     crates = [crate for crate in sorted((ROOT / "crates").iterdir()) if crate.name not in SILENT]
@@ -54,8 +69,11 @@ def main():
     missing = sorted((file, word) for word, file in words if word not in known and "/declared." not in file)
     for file, word in missing:
         print(f"docs/DEFINITIONS.md has no {word} ({file})")
-    print(f"definitions: {len(words)} words of public contracts, {len(missing)} missing")
-    return 1 if missing else 0
+    wrong = list(misplaced_crates())
+    for line in wrong:
+        print(line)
+    print(f"definitions: {len(words)} words of public contracts, {len(missing)} missing; {len(wrong)} crates out of place")
+    return 1 if missing or wrong else 0
 
 
 if __name__ == "__main__":
