@@ -16,7 +16,8 @@ import time
 
 HERE = os.path.dirname(os.path.abspath(__file__))
 SAGAS = os.path.join(HERE, "..", "sagas")
-PROGRAM = os.path.join(HERE, "..", "crates", "saga_tool", "out", "saga_tool")
+# The program that ./sagas starts.
+PROGRAM = subprocess.run([os.path.join(HERE, "..", "tests", "program")], capture_output=True, text=True, check=True).stdout.strip()
 SIZES = [128, 256, 512, 1024]
 NEEDS = 8
 RUNS = 60

@@ -36,7 +36,7 @@ def options():
     parser.add_argument("--events", type=int, default=1024, help="how many events a part has")
     parser.add_argument("--sagas", type=int, default=1000, help="how many sagas the long log has")
     parser.add_argument("--folder", help="where the files are put, in place of the system's folder for such")
-    parser.add_argument("--program", type=pathlib.Path, help="a built program, in place of crates/saga_tool's")
+    parser.add_argument("--program", type=pathlib.Path, help="a program, in place of the one that ./sagas starts")
     return parser.parse_args()
 
 
@@ -44,8 +44,7 @@ def built(words):
     """The program, built where its sources changed."""
     if words.program:
         return words.program
-    subprocess.run([ROOT / "build", "saga_tool"], check=True)
-    return ROOT / "crates" / "saga_tool" / "out" / "saga_tool"
+    return pathlib.Path(subprocess.run([ROOT / "tests" / "program"], capture_output=True, text=True, check=True).stdout.strip())
 
 
 def definition(steps):

@@ -907,8 +907,16 @@ def story(state, log, settings, at_once):
     return replies, *driven.end()
 
 
+def refusal(log, kind, error):
+    """The line on a refused call: on the log, or a read of standard input."""
+    if kind != "read":
+        return f"sagas: cannot write {log}\n"
+    return "sagas: out of memory\n" if error == errno.ENOMEM else "sagas: cannot read -\n"
+
+
 def refused_once(state, kind, number, error, at_once, cut):
-    """A run in which a call on the log is refused: nothing was told that is not in it. Gives whether there was such a call."""
+    """A run in which a call on the log, or a read of requests, is refused: nothing was told that is not in the log. Gives whether there
+    was such a call."""
     name = f"writes: {kind} {number} {errno.errorcode[error]}{' at once' if at_once else ''}"
     log = state.folder / f"writes.{kind}.{number}.{error}.{at_once}"
     told_by = log.with_name(f"{log.name}.told")
@@ -922,8 +930,7 @@ def refused_once(state, kind, number, error, at_once, cut):
     state.expect(f"{name}: replies before a sync", early, 0)
     note = f"sagas: log: cut line taken away: {len(cut) - cut.rfind(LF) - 1} bytes\n" if cut else ""
     if refusals != 0:
-        line = f"sagas: cannot write {log}\n"
-        state.expect(name, (refusals > 0, status, said_then.removeprefix(note)), (True, 4, line))
+        state.expect(name, (refusals > 0, status, said_then.removeprefix(note)), (True, 4, refusal(log, kind, error)))
         if cut and not replies and log.read_bytes() == cut:
             return True
     else:
@@ -943,12 +950,17 @@ def refused_once(state, kind, number, error, at_once, cut):
 
 LF = b"\n"
 
+# How many calls of a kind there are, by whether all requests come at once: then the header, its folder and all events have one sync each.
+CALLS = {("folder", False): 1, ("sync", True): 3}
+
 
 def writes(state):
-    """Each write, sync and cut of the log's file is refused in turn, with one request at a time and with all at once."""
+    """Each write, sync and cut of the log's file, the sync of its folder and each read of requests is refused in turn, with one request at
+    a time and with all at once."""
     refused = 0
     cases = [(kind, error, at_once, b"") for kind in ("write", "half", "sync") for error in (errno.ENOSPC, errno.EIO) for at_once in (False, True)]
-    cases.append(("truncate", errno.EIO, False, HEADER + OPEN[:7]))
+    cases += [("read", error, at_once, b"") for error in (errno.EIO, errno.ENOMEM) for at_once in (False, True)]
+    cases += [("folder", errno.EIO, False, b""), ("truncate", errno.EIO, False, HEADER + OPEN[:7])]
 
     def tried(case):
         kind, error, at_once, cut = case
@@ -962,6 +974,7 @@ def writes(state):
     for case, count in zip(cases, found):
         if count == 0:
             state.fail("writes: none was refused:", case)
+        state.expect(f"writes: calls of {case}", count, CALLS.get((case[0], case[2]), count))
         refused += count
     return refused, "refused calls"
 

@@ -1,8 +1,9 @@
-/* Refuses writes to files to the program that it is preloaded into (LD_PRELOAD): to descriptors other than 0, 1 and 2.
+/* Refuses writes to files to the program that it is preloaded into (LD_PRELOAD): to descriptors other than 0, 1 and 2. And it refuses
+ * reads of standard input.
  *
- * FAIL names what is refused: `write`, `half`, `sync` or `truncate`, and NUMBER which of them, from 1; ERROR is the error's number.
- * With `half` the write of that number takes half of its bytes, and the next one is refused. What is refused once is refused from
- * then on.
+ * FAIL names what is refused: `write`, `half`, `sync` (of a file or a folder), `folder` (its sync), `truncate` or `read`, and NUMBER
+ * which of them, from 1; ERROR is the error's number. With `half` the write of that number takes half of its bytes, and the next one
+ * is refused. What is refused once is refused from then on.
  *
  * The file that TOLD names gets one line in the end: `calls C refused R early E`, with how many calls of the kind there were, and how
  * many writes to standard output while something was written to a file that was not synced yet.
@@ -95,8 +96,9 @@ ssize_t writev(int file, const struct iovec *parts, int count) {
 /* A sync by a call of the system. A folder's is none of what was written. */
 static int synced(long call, int file) {
   struct stat about;
-  if (is_refused("sync")) return -1;
-  if (!fstat(file, &about) && S_ISREG(about.st_mode)) unsynced = 0;
+  int is_file = !fstat(file, &about) && S_ISREG(about.st_mode);
+  if (is_refused("sync") || (!is_file && is_refused("folder"))) return -1;
+  if (is_file) unsynced = 0;
   return (int)syscall(call, file);
 }
 
@@ -107,3 +109,8 @@ int fdatasync(int file) { return synced(SYS_fdatasync, file); }
 int ftruncate64(int file, off64_t length) { return is_refused("truncate") ? -1 : (int)syscall(SYS_ftruncate, file, length); }
 
 int ftruncate(int file, off_t length) { return ftruncate64(file, length); }
+
+ssize_t read(int file, void *bytes, size_t count) {
+  if (file == 0 && is_refused("read")) return -1;
+  return syscall(SYS_read, file, bytes, count);
+}
