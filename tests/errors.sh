@@ -1,7 +1,7 @@
 #!/usr/bin/env bash
 # Goes through docs/ERRORS.md: runs each command of the page, in a folder that has the examples and the program, and compares what
-# it prints, and its status, with the page; and looks whether each entry has a command or says that no input gives it, and whether
-# each word of docs/FORMATS.md has an entry.
+# it prints, and its status, with the page; and looks whether each entry has a command or says that no input gives it, whether
+# each word of docs/FORMATS.md has an entry, and whether the table at the head of the page has a row for each entry and no other.
 set -uo pipefail
 cd "$(dirname "$0")/.."
 ./sagas --help >/dev/null || { echo "the program is not built"; exit 1; }
@@ -29,6 +29,25 @@ bare() {
     /^### / { entry = $0 }
     /^\$ / || /No input gives it/ { shown = 1 }
     END { tell() }' docs/ERRORS.md
+}
+
+# The rows of the table, and the entries, each by its letters, its link (as GitHub makes it of a heading) and its status.
+rows() {
+  awk -F ' [|] ' '
+    /\(#.*\) \|$/ {
+      word = tolower($1); gsub(/[^a-z0-9]/, "", word)
+      link = $NF; gsub(/.*#|\).*/, "", link)
+      print word, link, $2
+    }' docs/ERRORS.md
+}
+headings() {
+  awk '
+    /^## / { status = $NF }
+    /^### / {
+      word = link = tolower(substr($0, 5)); gsub(/[^a-z0-9]/, "", word)
+      gsub(/[^a-z0-9 _-]/, "", link); gsub(/ /, "-", link)
+      print word, link, status
+    }' docs/ERRORS.md
 }
 
 # The words of FORMATS.md that a fault, a verdict or a line is told by: those with a hyphen within, those that its lists of faults
@@ -79,6 +98,11 @@ done < <(commands)
 while IFS= read -r entry; do
   complain "without an input: $entry"
 done < <(bare)
+
+while IFS= read -r row; do
+  complain "a row (<) or an entry (>) alone: $row"
+done < <(diff <(rows | sort) <(headings | sort) | grep '^[<>]')
+sed -n 's/^| `\(.*\)` | [0-4] | .*/\1/p' docs/ERRORS.md | LC_ALL=C sort -c || complain "the table is not in order"
 
 entries=$(sed -n 's/^### `\(.*\)`$/\1/p' docs/ERRORS.md)
 while IFS= read -r word; do
