@@ -1,159 +1,146 @@
-//! Trials of a book's calls.
-use crate::samples;
+//! Trials of a book's calls: scripts of calls, of which those that begin something may be refused memory, and those that end it
+//! are made where each growth is refused.
+use crate::runs::is_legal;
+use crate::samples::{self, FAILED, FREE, RETRIED, Sample};
 use crate::trial::Trial;
-use anyhow::{Result, bail, ensure};
+use anyhow::{Context, Result, ensure};
 use saga_case::{Case, StepState};
-use saga_check::verify;
-use saga_core::{Book, SagaRefusal};
+use saga_check::Verdict;
+use saga_core::{AdoptRefusal, Book, DropRefusal, ReportRefusal, SagaRefusal};
+use saga_def::Definition;
 use saga_history::{Outcome, Phase, Task};
-use std::alloc::Global;
 
+/// A trial: the example, the calls that are made before, and those that are tried.
+///
+/// A call is a word, with a number behind a colon: `open` a saga of that number; `run` or `undo` a step, which `did`, `miss`,
+/// `undid` or `lost`; `plan` (which gives the example's case, as `present` does), `adopt` (of another definition: `stale`), `drop`;
+/// `abort` a saga. `no-run`, `no-step`, `no-saga` and `no-plan` are refused. Then so many `events` there are, and `to-run`, `to-undo`
+/// or `to-plan` is next, or `none`.
 #[derive(Clone, Copy)]
-pub enum BookTrial {
-    Open,
-    TakeRun,
-    TakeUndo,
-    TakePlan,
-    Abort,
-}
+pub struct Script(Sample, &'static str, &'static str);
 
-pub const TRIALS: &[(&str, BookTrial)] = &[
-    ("saga_core::Book::open", BookTrial::Open),
-    ("saga_core::Book::take_run", BookTrial::TakeRun),
-    ("saga_core::Book::take_undo", BookTrial::TakeUndo),
-    ("saga_core::Book::take_plan", BookTrial::TakePlan),
-    ("saga_core::Book::abort", BookTrial::Abort),
+/// The trip's last step has failed.
+const FAIL: &str = "open run:0 did:0 run:1 did:1 run:2 miss:2";
+
+/// The second of the steps that are tried often has failed, and the first is to be compensated.
+const RETRY: &str = "open run:0 did:0 run:1 miss:1 plan adopt";
+
+const OPENS: &str =
+    "open:0 open:1 open:2 open:3 open:4 open:5 open:6 open:7 open:8 events:9 to-run:0";
+
+const ABORTS: &str =
+    "abort:0 abort:1 abort:2 abort:3 abort:4 abort:5 abort:6 abort:7 abort:8 events:18 to-plan";
+
+const MISSES: &str =
+    "run:0 miss:0 run:0 miss:0 run:0 miss:0 run:0 miss:0 run:0 miss:0 events:11 to-run:0";
+
+const LOSSES: &str =
+    "undo:0 lost:0 undo:0 lost:0 undo:0 lost:0 undo:0 lost:0 undo:0 lost:0 events:17 to-undo:0";
+
+const PLANS: &str = "plan drop plan drop plan drop plan drop plan drop events:17 to-plan";
+
+const REPORTS: &str = "run:0 miss:0 no-run run:0 did:0 no-run no-step no-saga events:5 to-run:1";
+
+const UNDOES: &str = "undo:0 lost:0 no-run undo:0 undid:0 no-run events:11 none";
+
+const ADOPTS: &str = "plan stale adopt no-plan events:9 to-undo:1";
+
+const END: &str = "plan adopt undo:1 undid:1 undo:0 undid:0 events:13 none";
+
+/// The trials in which one growth after the other is refused.
+pub const EACH: &[(&str, Script)] = &[
+    ("saga_core::Book::open", Script(FAILED, "", OPENS)),
+    ("saga_core::Book::take_run", Script(RETRIED, "open", MISSES)),
+    ("saga_core::Book::take_undo", Script(RETRIED, RETRY, LOSSES)),
+    ("saga_core::Book::take_plan", Script(FAILED, FAIL, PLANS)),
+    (
+        "saga_core::Book::present_case",
+        Script(FAILED, FAIL, "present"),
+    ),
+    ("saga_core::Book::abort", Script(FAILED, OPENS, ABORTS)),
 ];
 
-pub fn run(trial: &mut Trial<'_>, which: BookTrial) -> Result<()> {
-    match which {
-        BookTrial::Open => open(trial),
-        BookTrial::TakeRun => take_run(trial),
-        BookTrial::TakeUndo => take_undo(trial),
-        BookTrial::TakePlan => take_plan(trial),
-        BookTrial::Abort => abort(trial),
+/// The trials in which each growth is refused.
+pub const NONE: &[(&str, Script)] = &[
+    (
+        "saga_core::Book::report_run",
+        Script(RETRIED, "open", REPORTS),
+    ),
+    (
+        "saga_core::Book::report_undo",
+        Script(RETRIED, RETRY, UNDOES),
+    ),
+    (
+        "saga_core::Book::drop_plan",
+        Script(FAILED, FAIL, "plan drop no-plan"),
+    ),
+    ("saga_core::Book::adopt", Script(FAILED, FAIL, ADOPTS)),
+    ("saga_core::Book::next", Script(FAILED, FAIL, "to-plan")),
+    ("saga_core::Book::history", Script(FAILED, FAIL, END)),
+];
+
+/// A call and its number, by the word of a script.
+pub fn call_of(word: &str) -> Result<(&str, u16)> {
+    match word.split_once(':') {
+        Some((verb, number)) => Ok((verb, number.parse::<u16>().context("a number")?)),
+        None => Ok((word, 0)),
     }
 }
 
-/// How often a call is made, so that it takes memory more than once.
-const TIMES: u32 = 9;
-
-/// What is seen of a book whose first saga has three steps.
-#[derive(Clone, Copy, PartialEq, Eq)]
-struct Look {
-    events: usize,
-    sagas: usize,
-    next: Option<Task>,
-    phase: Option<Phase>,
-    first: Option<StepState>,
-    second: Option<StepState>,
-    third: Option<StepState>,
-}
+/// What is seen of a book: how many events and sagas it has, what is next, and of saga 0 the phase and the states.
+type Look = (
+    usize,
+    usize,
+    Option<Task>,
+    Option<Phase>,
+    [Option<StepState>; 3],
+);
 
 fn look_at(book: &Book<'_>) -> Look {
-    Look {
-        events: book.history().len(),
-        sagas: book.sagas(),
-        next: book.next(),
-        phase: book.phase(0),
-        first: book.state(0, 0),
-        second: book.state(0, 1),
-        third: book.state(0, 2),
-    }
+    let states = [book.state(0, 0), book.state(0, 1), book.state(0, 2)];
+    (
+        book.history().len(),
+        book.sagas(),
+        book.next(),
+        book.phase(0),
+        states,
+    )
 }
 
-/// Runs the action of a step of saga 0.
-pub fn run_step(book: &mut Book<'_>, step: u16, outcome: Outcome) -> Result<()> {
-    ensure!(book.take_run(0, step).is_ok(), "not taken");
-    ensure!(book.report_run(0, step, outcome).is_ok(), "not reported");
-    Ok(())
-}
-
-/// Compensates a step of saga 0.
-fn undo_step(book: &mut Book<'_>, step: u16) -> Result<()> {
-    ensure!(book.take_undo(0, step).is_ok(), "not taken");
-    let reported = book.report_undo(0, step, Outcome::Done).is_ok();
-    ensure!(reported, "not reported");
-    Ok(())
-}
-
-/// Plans saga 0 and adopts an answer.
-pub fn settle(alloc: Global, book: &mut Book<'_>, by: &str) -> Result<()> {
-    let Ok(case) = book.take_plan(0) else {
-        bail!("no case");
-    };
-    let Ok(verdict) = verify(case, samples::answer(alloc, by)?) else {
-        bail!("not right");
-    };
-    ensure!(book.adopt(0, verdict).is_ok(), "not adopted");
-    Ok(())
-}
-
-/// Drives the trip of saga 0 until a plan is to be made.
-pub fn fail_trip(book: &mut Book<'_>) -> Result<()> {
-    ensure!(book.open(0).is_ok(), "not opened");
-    run_step(book, 0, Outcome::Done)?;
-    run_step(book, 1, Outcome::Done)?;
-    run_step(book, 2, Outcome::Failed)
-}
-
-/// Drives the trip of saga 0 to its end.
-pub fn end_trip(alloc: Global, book: &mut Book<'_>) -> Result<()> {
-    fail_trip(book)?;
-    settle(alloc, book, samples::TRIP_ANSWER)?;
-    undo_step(book, 1)?;
-    undo_step(book, 0)
-}
-
-fn open(trial: &mut Trial<'_>) -> Result<()> {
-    let alloc = trial.alloc();
-    let shelf = samples::shelf(alloc, samples::TRIP)?;
-    let mut book = Book::new(alloc, &shelf, 1, 2);
-    for time in 0..TIMES {
-        let saga = trial.twice(&mut book, look_at, |book: &mut Book<'_>| book.open(0))?;
-        ensure!(saga == 1 + 2 * time, "another number");
-    }
-    ensure!(book.sagas() == TIMES as usize, "another number of sagas");
-    Ok(())
-}
-
-fn take_run(trial: &mut Trial<'_>) -> Result<()> {
-    let alloc = trial.alloc();
-    let shelf = samples::shelf(alloc, samples::STUBBORN)?;
-    let mut book = Book::new(alloc, &shelf, 0, 1);
-    ensure!(book.open(0).is_ok(), "not opened");
-    for _ in 0..TIMES {
-        trial.twice(
-            &mut book,
-            look_at,
-            |book: &mut Book<'_>| book.take_run(0, 0),
-        )?;
-        let reported = book.report_run(0, 0, Outcome::Failed).is_ok();
-        ensure!(reported, "not reported");
-    }
-    ensure!(book.state(0, 0) == Some(StepState::Failed), "another state");
-    Ok(())
-}
-
-fn take_undo(trial: &mut Trial<'_>) -> Result<()> {
-    let alloc = trial.alloc();
-    let shelf = samples::shelf(alloc, samples::STUBBORN)?;
-    let mut book = Book::new(alloc, &shelf, 0, 1);
-    ensure!(book.open(0).is_ok(), "not opened");
-    run_step(&mut book, 0, Outcome::Done)?;
-    run_step(&mut book, 1, Outcome::Failed)?;
-    settle(alloc, &mut book, samples::STUBBORN_ANSWER)?;
-    for _ in 0..TIMES {
-        trial.twice(
-            &mut book,
-            look_at,
-            |book: &mut Book<'_>| book.take_undo(0, 0),
-        )?;
-        let reported = book.report_undo(0, 0, Outcome::Failed).is_ok();
-        ensure!(reported, "not reported");
-    }
-    ensure!(book.state(0, 0) == Some(StepState::Fixed), "another state");
-    Ok(())
+/// Makes a call that begins something, and tells whether it gave what is expected.
+fn begin(
+    trial: &mut Trial<'_>,
+    book: &mut Book<'_>,
+    case: &Case<'_>,
+    verb: &str,
+    number: u16,
+) -> Result<bool> {
+    let saga = u32::from(number);
+    Ok(match verb {
+        "open" => trial.twice(book, look_at, |book: &mut Book<'_>| book.open(0))? == saga,
+        "run" => {
+            trial.twice(
+                book,
+                look_at,
+                |book: &mut Book<'_>| book.take_run(0, number),
+            )?;
+            book.state(0, number) == Some(StepState::Running)
+        }
+        "undo" => {
+            trial.twice(
+                book,
+                look_at,
+                |book: &mut Book<'_>| book.take_undo(0, number),
+            )?;
+            book.state(0, number) == Some(StepState::Undoing)
+        }
+        "plan" => is_same(&trial.twice(book, look_at, take_first_plan)?, case),
+        "present" => is_same(&trial.again(|| book.present_case(0))?, case),
+        _ => {
+            trial.twice(book, look_at, |book: &mut Book<'_>| book.abort(saga))?;
+            book.phase(saga) == Some(Phase::Draining)
+        }
+    })
 }
 
 /// Begins to plan saga 0.
@@ -161,32 +148,114 @@ fn take_first_plan<'d>(book: &mut Book<'d>) -> Result<Case<'d>, SagaRefusal> {
     book.take_plan(0)
 }
 
-fn take_plan(trial: &mut Trial<'_>) -> Result<()> {
-    let alloc = trial.alloc();
-    let shelf = samples::shelf(alloc, samples::TRIP)?;
-    let expected = samples::case(alloc, samples::first(&shelf)?, samples::TRIP_CASE)?;
-    let mut book = Book::new(alloc, &shelf, 0, 1);
-    fail_trip(&mut book)?;
-    for _ in 0..TIMES {
-        let case = trial.twice(&mut book, look_at, take_first_plan)?;
-        let same = case.is_of(expected.definition(), expected.states(), false);
-        ensure!(same, "another case");
-        ensure!(book.drop_plan(0).is_ok(), "not dropped");
+fn is_same(case: &Case<'_>, expected: &Case<'_>) -> bool {
+    case.is_of(expected.definition(), expected.states(), false)
+}
+
+/// The cause of a refused adoption, which hands the verdict back.
+fn why_not<'d>(book: &mut Book<'d>, verdict: Verdict<'d>) -> Option<AdoptRefusal> {
+    match book.adopt(0, verdict) {
+        Ok(()) => None,
+        Err(refused) => Some(refused.why),
     }
-    ensure!(book.next() == Some(Task::Plan(0)), "another task");
+}
+
+/// Whether reports of a saga and a step are refused so.
+fn is_refused(book: &mut Book<'_>, saga: u32, step: u16, why: ReportRefusal) -> bool {
+    book.report_run(saga, step, Outcome::Done) == Err(why)
+        && book.report_undo(saga, step, Outcome::Done) == Err(why)
+}
+
+/// A call that ends something, or is refused, or looks: whether it answers what is expected.
+fn ends(book: &mut Book<'_>, verb: &str, number: u16) -> bool {
+    match verb {
+        "did" => book.report_run(0, number, Outcome::Done).is_ok(),
+        "miss" => book.report_run(0, number, Outcome::Failed).is_ok(),
+        "undid" => book.report_undo(0, number, Outcome::Done).is_ok(),
+        "lost" => book.report_undo(0, number, Outcome::Failed).is_ok(),
+        "drop" => book.drop_plan(0).is_ok(),
+        "no-run" => is_refused(book, 0, 0, ReportRefusal::NotTaken),
+        "no-step" => is_refused(book, 0, 5, ReportRefusal::NoSuchStep),
+        "no-saga" => is_refused(book, 5, 0, ReportRefusal::NoSuchSaga),
+        "no-plan" => book.drop_plan(0) == Err(DropRefusal::NotPlanning),
+        "events" => book.history().len() == number as usize,
+        "to-run" => book.next() == Some(Task::Run(0, number)),
+        "to-undo" => book.next() == Some(Task::Undo(0, number)),
+        "to-plan" => book.next() == Some(Task::Plan(0)),
+        "none" => book.next().is_none(),
+        _ => false,
+    }
+}
+
+/// Offers an answer to a case where each growth is refused, and gives the cause of a refusal.
+fn offer<'d>(
+    trial: &Trial<'_>,
+    book: &mut Book<'d>,
+    by: &'d Definition,
+    texts: Sample,
+) -> Result<Option<AdoptRefusal>> {
+    let verdict = samples::verdict(trial.alloc(), by, texts.case, texts.answer)?;
+    trial.none();
+    let why = why_not(book, verdict);
+    trial.ample();
+    Ok(why)
+}
+
+/// Makes calls one after the other, those that end something where each growth is refused.
+fn make<'d>(
+    trial: &mut Trial<'_>,
+    book: &mut Book<'d>,
+    on: Offered<'d>,
+    calls: &str,
+) -> Result<()> {
+    for word in calls.split_whitespace() {
+        let (verb, number) = call_of(word)?;
+        let right = match verb {
+            "open" | "run" | "undo" | "plan" | "present" | "abort" => {
+                begin(trial, book, on.case, verb, number)?
+            }
+            "adopt" => offer(trial, book, on.definition, on.texts)?.is_none(),
+            "stale" => offer(trial, book, on.other, FREE)? == Some(AdoptRefusal::Stale),
+            _ => {
+                trial.none();
+                ends(book, verb, number)
+            }
+        };
+        trial.ample();
+        ensure!(right, "another answer to {word}");
+    }
     Ok(())
 }
 
-fn abort(trial: &mut Trial<'_>) -> Result<()> {
+/// What is offered to a book: the example's definition and case, and another definition.
+#[derive(Clone, Copy)]
+struct Offered<'d> {
+    texts: Sample,
+    definition: &'d Definition,
+    case: &'d Case<'d>,
+    other: &'d Definition,
+}
+
+/// Makes a trial.
+pub fn run(trial: &mut Trial<'_>, script: Script) -> Result<()> {
     let alloc = trial.alloc();
-    let shelf = samples::shelf(alloc, samples::TRIP)?;
+    let Script(texts, before, tried) = script;
+    let shelf = samples::shelf(alloc, texts.definition)?;
+    let other = samples::definition(alloc, samples::FREE_TRIP)?;
+    let definition = samples::first(&shelf)?;
+    let case = samples::case(alloc, definition, texts.case)?;
+    let on = Offered {
+        texts,
+        definition,
+        case: &case,
+        other: &other,
+    };
     let mut book = Book::new(alloc, &shelf, 0, 1);
-    for _ in 0..TIMES {
-        ensure!(book.open(0).is_ok(), "not opened");
-    }
-    for saga in 0..TIMES {
-        trial.twice(&mut book, look_at, |book: &mut Book<'_>| book.abort(saga))?;
-        ensure!(book.phase(saga) == Some(Phase::Draining), "another phase");
-    }
+    let refuses = trial.refuses;
+    trial.refuses = false;
+    make(trial, &mut book, on, before)?;
+    trial.refuses = refuses;
+    make(trial, &mut book, on, tried)?;
+    ensure!(is_legal(alloc, &book), "not legal");
     Ok(())
 }

@@ -1,76 +1,113 @@
-//! Trials of the calls of a desk and of a shard.
-use crate::samples;
+//! Trials of the calls of a desk and of a shard: scripts of calls, of which those that open, claim and abort may be refused memory,
+//! and those that end what was claimed are made where each growth is refused.
+use crate::books::call_of;
+use crate::samples::{self, FAILED, RETRIED, STUCK, Sample, TRIP};
 use crate::trial::Trial;
 use anyhow::{Result, bail, ensure};
-use saga_case::Case;
-use saga_check::verify;
+use saga_case::Answer;
+use saga_check::{Verdict, verify};
 use saga_core::{Book, OpenRefusal, SagaRefusal};
 use saga_def::Definition;
 use saga_desk::{Claim, Desk, FinishRefused, Job, PlanJob, Seat, Shard};
 use saga_history::Outcome;
-use saga_script::Script;
-use saga_work::Actor;
 use std::alloc::{AllocError, Global};
 use std::sync::Wait;
 
+/// A trial: the example, whether a shard is called and not a desk, the calls that are made before, and those that are tried.
+///
+/// A call is a word, with a number behind a colon: `open` a saga (of a definition that is not there: `other`); claim an action or a
+/// compensation, which `did` or `miss`; claim a plan and `give-back`, or `adopt` the example's answer; claim nothing, since all is
+/// `settled`; `abort` a saga, which cannot be done `again`. Then so many `events` there are.
 #[derive(Clone, Copy)]
-pub enum DeskTrial {
-    Open,
-    OpenSaga,
-    Claim,
-    Abort,
-    Finish,
-    ShardOpenSaga,
-    ShardClaim,
-    ShardAbort,
-}
+pub struct Script(Sample, bool, &'static str, &'static str);
 
-pub const TRIALS: &[(&str, DeskTrial)] = &[
-    ("saga_desk::Desk::open", DeskTrial::Open),
-    ("saga_desk::Desk::open_saga", DeskTrial::OpenSaga),
-    ("saga_desk::Desk::claim", DeskTrial::Claim),
-    ("saga_desk::Desk::abort", DeskTrial::Abort),
-    ("saga_desk::Desk::finish", DeskTrial::Finish),
-    ("saga_desk::Shard::open_saga", DeskTrial::ShardOpenSaga),
-    ("saga_desk::Shard::claim", DeskTrial::ShardClaim),
-    ("saga_desk::Shard::abort", DeskTrial::ShardAbort),
+const OPENS: &str = "open open open open open open open open open events:9";
+
+const ABORTS: &str =
+    "abort:0 abort:1 abort:2 abort:3 abort:4 abort:5 abort:6 abort:7 abort:8 again:0 events:18";
+
+/// The trip, whose last step fails, and whose plan is given back once.
+const CLAIMS: &str = "did did miss give-back adopt did did settled events:15";
+
+const MISSES: &str = "miss miss miss miss miss miss miss miss miss events:19";
+
+const REPORTS: &str = "settled other open did did did settled events:7";
+
+const PLANS: &str = "open miss give-back give-back give-back events:9";
+
+const STOPS: &str = "open miss give-back adopt settled events:7";
+
+/// The trials in which one growth after the other is refused.
+pub const EACH: &[(&str, Script)] = &[
+    (
+        "saga_desk::Desk::open_saga",
+        Script(FAILED, false, "", OPENS),
+    ),
+    (
+        "saga_desk::Desk::claim",
+        Script(FAILED, false, "open", CLAIMS),
+    ),
+    (
+        "saga_desk::Desk::abort",
+        Script(FAILED, false, OPENS, ABORTS),
+    ),
+    (
+        "saga_desk::Shard::open_saga",
+        Script(FAILED, true, "", OPENS),
+    ),
+    (
+        "saga_desk::Shard::claim",
+        Script(RETRIED, true, "open", MISSES),
+    ),
+    (
+        "saga_desk::Shard::abort",
+        Script(FAILED, true, OPENS, ABORTS),
+    ),
 ];
 
-pub fn run<R: Wait>(rt: &R, trial: &mut Trial<'_>, which: DeskTrial) -> Result<()> {
-    match which {
-        DeskTrial::Open => open(trial),
-        DeskTrial::OpenSaga => open_saga(rt, trial),
-        DeskTrial::Claim => claim(rt, trial),
-        DeskTrial::Abort => abort(rt, trial),
-        DeskTrial::Finish => finish(rt, trial),
-        DeskTrial::ShardOpenSaga => shard_open_saga(trial),
-        DeskTrial::ShardClaim => shard_claim(trial),
-        DeskTrial::ShardAbort => shard_abort(trial),
+/// The trials in which each growth is refused.
+pub const NONE: &[(&str, Script)] = &[
+    (
+        "saga_desk::Desk::report",
+        Script(FAILED, false, "", REPORTS),
+    ),
+    ("saga_desk::Desk::adopt", Script(STUCK, false, "", STOPS)),
+    (
+        "saga_desk::Desk::give_back",
+        Script(STUCK, false, "", PLANS),
+    ),
+    ("saga_desk::Shard,calls", Script(STUCK, true, "", STOPS)),
+];
+
+/// A desk of one seat, or a shard.
+#[derive(Drop)]
+enum Place<'d> {
+    Desk(Desk<'d>),
+    Shard(Shard<'d>),
+}
+
+/// A place, and its seat.
+#[derive(Drop)]
+struct At<'d> {
+    place: Place<'d>,
+    seat: Seat,
+}
+
+/// The first seat alone.
+pub fn only(seats: Vec<Seat>) -> Result<Seat> {
+    for seat in seats {
+        return Ok(seat);
     }
+    bail!("no seat")
 }
 
-/// How often a call is made, so that it takes memory more than once.
-const TIMES: usize = 9;
-
-/// How many receipts a seat has.
-fn receipts(seat: &Seat) -> usize {
-    seat.receipts().len()
-}
-
-/// The first seat.
-pub fn first_of(seats: &mut Vec<Seat>) -> Result<&mut Seat> {
-    match seats.first_mut() {
-        Some(seat) => Ok(seat),
-        None => bail!("no seat"),
-    }
-}
-
-fn open(trial: &mut Trial<'_>) -> Result<()> {
-    let alloc = trial.alloc();
-    let shelf = samples::shelf(alloc, samples::TRIP)?;
-    let (desk, seats) = trial.again(|| Desk::open(alloc, &shelf, 16, 16))?;
-    ensure!(desk.shards() == 16 && seats.len() == 16, "another desk");
-    Ok(())
+/// What is seen: how many receipts there are, and how many events, where they can be seen.
+fn seen(at: &At<'_>) -> (usize, usize) {
+    let events = match &at.place {
+        Place::Desk(_) => 0,
+        Place::Shard(shard) => shard.history().len(),
+    };
+    (at.seat.receipts().len(), events)
 }
 
 /// Opens a saga on the first shard.
@@ -78,124 +115,126 @@ pub fn open_on_first<R: Wait>(
     rt: &R,
     desk: &Desk<'_>,
     seat: &mut Seat,
+    definition: u32,
 ) -> Result<u32, OpenRefusal> {
     if desk.shards() == 0 {
         return Err(OpenRefusal::NoSuchDefinition);
     }
-    desk.open_saga(rt, seat, 0, 0)
+    desk.open_saga(rt, seat, 0, definition)
 }
 
-fn open_saga<R: Wait>(rt: &R, trial: &mut Trial<'_>) -> Result<()> {
-    let alloc = trial.alloc();
-    let shelf = samples::shelf(alloc, samples::TRIP)?;
-    let (desk, mut seats) = Desk::open(alloc, &shelf, 1, 1)?;
-    let seat = first_of(&mut seats)?;
-    for saga in 0..TIMES {
-        let number = trial.twice(
-            seat,
-            receipts,
-            |seat: &mut Seat| open_on_first(rt, &desk, seat),
-        )?;
-        ensure!(number as usize == saga, "another number");
+fn open_at<R: Wait>(rt: &R, at: &mut At<'_>, definition: u32) -> Result<u32, OpenRefusal> {
+    match &mut at.place {
+        Place::Desk(desk) => open_on_first(rt, desk, &mut at.seat, definition),
+        Place::Shard(shard) => shard.open_saga(&mut at.seat, definition),
     }
-    ensure!(receipts(seat) == TIMES, "another number of receipts");
-    Ok(())
 }
 
-/// The job of a step that was claimed.
-pub fn job_of<'d>(claim: Claim<'d>) -> Result<Job<'d>> {
+fn claim_at<'d, R: Wait>(rt: &R, at: &mut At<'d>) -> Result<Claim<'d>, AllocError> {
+    match &mut at.place {
+        Place::Desk(desk) => desk.claim(rt, &mut at.seat),
+        Place::Shard(shard) => match shard.claim(&mut at.seat) {
+            Ok(Some(claim)) => Ok(claim),
+            Ok(None) => Ok(Claim::Settled),
+            Err(fault) => Err(fault),
+        },
+    }
+}
+
+fn report_at<'d, R: Wait>(rt: &R, at: &mut At<'d>, job: Job<'d>, outcome: Outcome) -> bool {
+    match &mut at.place {
+        Place::Desk(desk) => desk.report(rt, &mut at.seat, job, outcome).is_ok(),
+        Place::Shard(shard) => shard.report(&mut at.seat, job, outcome).is_ok(),
+    }
+}
+
+fn give_back_at<R: Wait>(rt: &R, at: &mut At<'_>, job: PlanJob) -> bool {
+    match &mut at.place {
+        Place::Desk(desk) => desk.give_back(rt, &mut at.seat, job).is_ok(),
+        Place::Shard(shard) => shard.give_back(&mut at.seat, job).is_ok(),
+    }
+}
+
+fn adopt_at<'d, R: Wait>(rt: &R, at: &mut At<'d>, job: PlanJob, verdict: Verdict<'d>) -> bool {
+    match &mut at.place {
+        Place::Desk(desk) => desk.adopt(rt, &mut at.seat, job, verdict).is_ok(),
+        Place::Shard(shard) => shard.adopt(&mut at.seat, job, verdict).is_ok(),
+    }
+}
+
+fn abort_at<R: Wait>(rt: &R, at: &mut At<'_>, saga: u32) -> Result<(), SagaRefusal> {
+    match &mut at.place {
+        Place::Desk(desk) => desk.abort(rt, &mut at.seat, saga),
+        Place::Shard(shard) => shard.abort(&mut at.seat, saga),
+    }
+}
+
+/// Ends what was claimed where each growth is refused, and tells whether it was as expected.
+fn end<'d, R: Wait>(rt: &R, at: &mut At<'d>, claim: Claim<'d>, answer: Answer, verb: &str) -> bool {
     match claim {
-        Claim::Run(job) | Claim::Undo(job) => Ok(job),
-        _ => bail!("no job"),
+        Claim::Run(job) | Claim::Undo(job) => match verb {
+            "did" => report_at(rt, at, job, Outcome::Done),
+            _ => verb == "miss" && report_at(rt, at, job, Outcome::Failed),
+        },
+        Claim::Plan(job, case) => match verb {
+            "adopt" => match verify(case, answer) {
+                Ok(verdict) => adopt_at(rt, at, job, verdict),
+                Err(_) => false,
+            },
+            _ => verb == "give-back" && give_back_at(rt, at, job),
+        },
+        Claim::Idle => false,
+        Claim::Settled => verb == "settled",
     }
 }
 
-/// The planning that was claimed.
-pub fn plan_of(claim: Claim<'_>) -> Result<PlanJob> {
-    match claim {
-        Claim::Plan(job, _case) => Ok(job),
-        _ => bail!("no plan"),
-    }
-}
-
-/// The outcome of a claim's job by a script.
-pub fn outcome_of(script: &Script, claim: &Claim<'_>) -> Outcome {
-    match claim {
-        Claim::Run(job) if !job.is_undo() => script.run(job),
-        Claim::Undo(job) if job.is_undo() => script.undo(job),
-        _ => Outcome::Failed,
-    }
-}
-
-/// Ends a planning where each growth of memory is refused: the first time it gives the plan back, then it adopts the trip's
-/// answer.
-fn end_plan<'d, R: Wait>(
+/// Claims what there is, and ends it.
+fn claim_and_end<R: Wait>(
     rt: &R,
-    trial: &Trial<'_>,
-    desk: &Desk<'d>,
-    seat: &mut Seat,
-    job: PlanJob,
-    case: Case<'d>,
-) -> Result<()> {
-    if receipts(seat) < 9 {
-        let given_back = trial.without_memory(|| desk.give_back(rt, seat, job).is_ok())?;
-        ensure!(given_back, "not given back");
-        return Ok(());
-    }
-    let Ok(verdict) = verify(case, samples::answer(trial.alloc(), samples::TRIP_ANSWER)?) else {
-        bail!("not right");
-    };
-    let adopted = trial.without_memory(|| desk.adopt(rt, seat, job, verdict).is_ok())?;
-    ensure!(adopted, "not adopted");
-    Ok(())
-}
-
-/// Ends what was claimed where each growth of memory is refused, and answers whether there was anything.
-fn end_claim<'d, R: Wait>(
-    rt: &R,
-    trial: &Trial<'_>,
-    desk: &Desk<'d>,
-    seat: &mut Seat,
-    claim: Claim<'d>,
-    outcome: Outcome,
+    trial: &mut Trial<'_>,
+    at: &mut At<'_>,
+    texts: Sample,
+    verb: &str,
 ) -> Result<bool> {
-    match claim {
-        Claim::Run(job) | Claim::Undo(job) => {
-            let reported = trial.without_memory(|| desk.report(rt, seat, job, outcome).is_ok())?;
-            ensure!(reported, "not reported");
-        }
-        Claim::Plan(job, case) => end_plan(rt, trial, desk, seat, job, case)?,
-        Claim::Idle => bail!("idle"),
-        Claim::Settled => return Ok(false),
-    }
-    Ok(true)
+    let answer = samples::answer(trial.alloc(), texts.answer)?;
+    let claim = trial.twice(
+        at,
+        seen,
+        |at: &mut At<'_>|
+            ensures { Unit {0} }
+        { claim_at(rt, at) },
+    )?;
+    trial.none();
+    let ended = end(rt, at, claim, answer, verb);
+    trial.ample();
+    Ok(ended)
 }
 
-/// Each claim of the trip is made where one growth may be refused, and what ends it where each is.
-fn claim<R: Wait>(rt: &R, trial: &mut Trial<'_>) -> Result<()> {
-    let alloc = trial.alloc();
-    let shelf = samples::shelf(alloc, samples::TRIP)?;
-    let script = samples::script(alloc, samples::TRIP_SCRIPT)?;
-    let (desk, mut seats) = Desk::open(alloc, &shelf, 1, 1)?;
-    let seat = first_of(&mut seats)?;
-    ensure!(open_on_first(rt, &desk, seat).is_ok(), "not opened");
-    for _ in 0..16u32 {
-        let claim = trial.twice(
-            seat,
-            receipts,
-            |seat: &mut Seat|
-                ensures { Unit {0} }
-            { desk.claim(rt, seat) },
-        )?;
-        let outcome = outcome_of(&script, &claim);
-        if !end_claim(rt, trial, &desk, seat, claim, outcome)? {
-            break;
-        }
+/// Makes calls one after the other.
+fn make<R: Wait>(
+    rt: &R,
+    trial: &mut Trial<'_>,
+    at: &mut At<'_>,
+    texts: Sample,
+    calls: &str,
+) -> Result<()> {
+    for word in calls.split_whitespace() {
+        let (verb, number) = call_of(word)?;
+        let saga = u32::from(number);
+        let right = match verb {
+            "open" => trial
+                .twice(at, seen, |at: &mut At<'_>| open_at(rt, at, 0))
+                .is_ok(),
+            "other" => open_at(rt, at, 1) == Err(OpenRefusal::NoSuchDefinition),
+            "abort" => trial
+                .twice(at, seen, |at: &mut At<'_>| abort_at(rt, at, saga))
+                .is_ok(),
+            "again" => abort_at(rt, at, saga) == Err(SagaRefusal::NotNow),
+            "events" => at.seat.receipts().len() == number as usize,
+            _ => claim_and_end(rt, trial, at, texts, verb)?,
+        };
+        ensure!(right, "another answer to {word}");
     }
-    let Ok(books) = desk.finish(seats) else {
-        bail!("not ended");
-    };
-    ensure!(events_in(&books) == 15, "another number of events");
     Ok(())
 }
 
@@ -204,25 +243,55 @@ fn events_in(books: &[Book<'_>]) -> usize {
     books.iter().fold(0usize, |sum, book| sum.saturating_add(book.history().len()))
 }
 
-fn abort<R: Wait>(rt: &R, trial: &mut Trial<'_>) -> Result<()> {
-    let alloc = trial.alloc();
-    let shelf = samples::shelf(alloc, samples::TRIP)?;
-    let (desk, mut seats) = Desk::open(alloc, &shelf, 1, 1)?;
-    let seat = first_of(&mut seats)?;
-    for _ in 0..TIMES {
-        ensure!(open_on_first(rt, &desk, seat).is_ok(), "not opened");
+/// How many events there are in the end.
+fn events_at(alloc: Global, at: At<'_>) -> Result<usize> {
+    let At { place, seat } = at;
+    match place {
+        Place::Shard(shard) => Ok(shard.history().len()),
+        Place::Desk(desk) => match desk.finish(vec![in alloc; seat]?) {
+            Ok(books) => Ok(events_in(&books)),
+            Err(_) => bail!("not ended"),
+        },
     }
-    for saga in 0..TIMES as u32 {
-        trial.twice(seat, receipts, |seat: &mut Seat| desk.abort(rt, seat, saga))?;
-    }
-    ensure!(
-        desk.abort(rt, seat, 0) == Err(SagaRefusal::NotNow),
-        "aborted again"
-    );
-    let Ok(books) = desk.finish(seats) else {
-        bail!("not ended");
+}
+
+/// A place on which nothing has happened.
+fn make_place<'d>(alloc: Global, shelf: &'d [Definition], is_shard: bool) -> Result<At<'d>> {
+    let (desk, seats) = Desk::open(alloc, shelf, 1, 1)?;
+    let seat = only(seats)?;
+    let place = if is_shard {
+        Place::Shard(Shard::new(alloc, shelf, 0, 1))
+    } else {
+        Place::Desk(desk)
     };
-    ensure!(events_in(&books) == 2 * TIMES, "another number of events");
+    Ok(At { place, seat })
+}
+
+/// Makes a trial of a script.
+pub fn run<R: Wait>(rt: &R, trial: &mut Trial<'_>, script: Script) -> Result<()> {
+    let alloc = trial.alloc();
+    let Script(texts, is_shard, before, tried) = script;
+    let shelf = samples::shelf(alloc, texts.definition)?;
+    let mut at = make_place(alloc, &shelf, is_shard)?;
+    let refuses = trial.refuses;
+    trial.refuses = false;
+    make(rt, trial, &mut at, texts, before)?;
+    trial.refuses = refuses;
+    make(rt, trial, &mut at, texts, tried)?;
+    let receipts = at.seat.receipts().len();
+    ensure!(
+        events_at(alloc, at)? == receipts,
+        "another number of events"
+    );
+    Ok(())
+}
+
+/// A desk that is opened.
+pub fn open(trial: &mut Trial<'_>) -> Result<()> {
+    let alloc = trial.alloc();
+    let shelf = samples::shelf(alloc, TRIP)?;
+    let (desk, seats) = trial.again(|| Desk::open(alloc, &shelf, 16, 16))?;
+    ensure!(desk.shards() == 16 && seats.len() == 16, "another desk");
     Ok(())
 }
 
@@ -231,129 +300,40 @@ fn finish_again<'d>(refused: FinishRefused<'d>, count: usize) -> Result<Vec<Book
     let FinishRefused::OutOfMemory(desk, seats) = refused else {
         bail!("another fault than want of memory");
     };
-    ensure!(seats.len() == 2 && desk.shards() == 2, "not as before");
-    let told = seats
-        .iter()
-        .fold(0usize, |sum, seat| sum.saturating_add(receipts(seat)));
-    ensure!(told == count, "not as before");
+    let told = seats.iter().fold(
+        0usize,
+        |sum, seat| sum.saturating_add(seat.receipts().len()),
+    );
+    ensure!(
+        seats.len() == 2 && desk.shards() == 2 && told == count,
+        "not as before"
+    );
     match desk.finish(seats) {
         Ok(books) => Ok(books),
         Err(_) => bail!("refused again, with ample memory"),
     }
 }
 
-fn finish<R: Wait>(rt: &R, trial: &mut Trial<'_>) -> Result<()> {
+/// A desk of two seats and two shards that is ended.
+pub fn finish<R: Wait>(rt: &R, trial: &mut Trial<'_>) -> Result<()> {
     let alloc = trial.alloc();
-    let shelf = samples::shelf(alloc, samples::TRIP)?;
+    let shelf = samples::shelf(alloc, TRIP)?;
     let (desk, mut seats) = Desk::open(alloc, &shelf, 2, 2)?;
     for seat in &mut seats {
         for shard in 0..desk.shards() {
             ensure!(desk.open_saga(rt, seat, shard, 0).is_ok(), "not opened");
         }
     }
-    trial.each()?;
+    trial.each();
     let ended = desk.finish(seats);
-    trial.ample()?;
+    trial.ample();
     let books = match ended {
         Ok(books) => books,
         Err(refused) => {
-            trial.tell_refused();
+            trial.refused = true;
             finish_again(refused, 4)?
         }
     };
     ensure!(events_in(&books) == 4, "another number of events");
-    Ok(())
-}
-
-/// A shard, and a seat for it.
-#[derive(Drop)]
-pub struct Place<'d> {
-    pub shard: Shard<'d>,
-    pub seat: Seat,
-}
-
-pub fn make_place<'d>(alloc: Global, shelf: &'d [Definition]) -> Result<Place<'d>> {
-    let (_, seats) = Desk::open(alloc, shelf, 1, 1)?;
-    for seat in seats {
-        let shard = Shard::new(alloc, shelf, 0, 1);
-        return Ok(Place { shard, seat });
-    }
-    bail!("no seat")
-}
-
-/// How many events and receipts there are.
-pub fn seen(place: &Place<'_>) -> (usize, usize) {
-    (place.shard.history().len(), receipts(&place.seat))
-}
-
-fn shard_open_saga(trial: &mut Trial<'_>) -> Result<()> {
-    let alloc = trial.alloc();
-    let shelf = samples::shelf(alloc, samples::TRIP)?;
-    let mut at = make_place(alloc, &shelf)?;
-    for _ in 0..TIMES {
-        trial.twice(&mut at, seen, open_at)?;
-    }
-    ensure!(seen(&at) == (TIMES, TIMES), "another number of events");
-    Ok(())
-}
-
-/// A job of a shard fails where each growth is refused.
-pub fn fail_on_shard<'d>(trial: &Trial<'_>, at: &mut Place<'d>, job: Job<'d>) -> Result<()> {
-    let failed = trial.without_memory(|| at
-        .shard
-        .report(&mut at.seat, job, Outcome::Failed)
-        .is_ok())?;
-    ensure!(failed, "not reported");
-    Ok(())
-}
-
-/// Opens a saga on a shard.
-pub fn open_at(at: &mut Place<'_>) -> Result<u32, OpenRefusal> {
-    at.shard.open_saga(&mut at.seat, 0)
-}
-
-/// Claims what there is on a shard.
-pub fn claim_at<'d>(at: &mut Place<'d>) -> Result<Option<Claim<'d>>, AllocError> {
-    at.shard.claim(&mut at.seat)
-}
-
-/// One claim of a shard, and its end.
-fn claim_and_fail(trial: &mut Trial<'_>, at: &mut Place<'_>) -> Result<()> {
-    match trial.twice(at, seen, claim_at)? {
-        Some(claim) => fail_on_shard(trial, at, job_of(claim)?),
-        None => bail!("no task"),
-    }
-}
-
-fn shard_claim(trial: &mut Trial<'_>) -> Result<()> {
-    let alloc = trial.alloc();
-    let shelf = samples::shelf(alloc, samples::STUBBORN)?;
-    let mut at = make_place(alloc, &shelf)?;
-    ensure!(open_at(&mut at).is_ok(), "not opened");
-    for _ in 0..TIMES {
-        claim_and_fail(trial, &mut at)?;
-    }
-    let count = 2 * TIMES + 1;
-    ensure!(seen(&at) == (count, count), "another number of events");
-    Ok(())
-}
-
-/// Aborts a saga of a shard.
-fn abort_at(at: &mut Place<'_>, saga: u32) -> Result<(), SagaRefusal> {
-    at.shard.abort(&mut at.seat, saga)
-}
-
-fn shard_abort(trial: &mut Trial<'_>) -> Result<()> {
-    let alloc = trial.alloc();
-    let shelf = samples::shelf(alloc, samples::TRIP)?;
-    let mut at = make_place(alloc, &shelf)?;
-    for saga in 0..TIMES as u32 {
-        ensure!(open_at(&mut at).is_ok(), "not opened");
-        trial.twice(&mut at, seen, |at: &mut Place<'_>| abort_at(at, saga))?;
-    }
-    ensure!(
-        seen(&at) == (2 * TIMES, 2 * TIMES),
-        "another number of events"
-    );
     Ok(())
 }

@@ -1,7 +1,8 @@
 //! Which answers tell that a growth of memory was refused.
 use saga_cert::CertFault;
-use saga_core::{OpenRefusal, SagaRefusal, TakeRefusal};
+use saga_core::{OpenRefusal, ReplayRefusal, SagaRefusal, TakeRefusal};
 use saga_def::DefFault;
+use saga_drive::RestartRefusal;
 use saga_log::LogFault;
 use saga_script::ScriptFault;
 use saga_text::TextFault;
@@ -65,6 +66,18 @@ impl Fault for TakeRefusal {
 impl Fault for SagaRefusal {
     fn is_for_memory(&self) -> bool {
         matches!(self, SagaRefusal::OutOfMemory)
+    }
+}
+
+impl Fault for ReplayRefusal {
+    fn is_for_memory(&self) -> bool {
+        matches!(self, ReplayRefusal::OutOfMemory)
+    }
+}
+
+impl Fault for RestartRefusal {
+    fn is_for_memory(&self) -> bool {
+        matches!(self, RestartRefusal::OutOfMemory)
     }
 }
 

@@ -12,58 +12,121 @@
 mod books;
 mod desks;
 mod faults;
-mod free_books;
-mod free_values;
+mod free;
 mod greatest;
-mod histories;
 mod hostile;
-mod plans;
+mod nets;
+mod rows;
 mod runs;
 mod samples;
-mod texts;
 mod trial;
+mod values;
 
 use crate::hostile::Files;
 use crate::trial::{Trial, named};
-use anyhow::{Context, Result, bail};
+use anyhow::{Context, Result, bail, ensure};
+use saga_work::Bell;
 use std::alloc::Global;
 use std::env;
 use std::sync::Wait;
 use std::thread::Threads;
 
-/// Makes the trial of a name.
-fn run<R: Threads + Wait + Sync>(rt: &R, trial: &mut Trial<'_>, name: &str) -> Result<()> {
-    if let Some(which) = named(texts::TRIALS, name) {
-        return texts::run(trial, which);
-    }
-    if let Some(which) = named(plans::TRIALS, name) {
-        return plans::run(trial, which);
-    }
-    if let Some(which) = named(histories::TRIALS, name) {
-        return histories::run(rt, trial, which);
-    }
-    if let Some(which) = named(books::TRIALS, name) {
-        return books::run(trial, which);
-    }
-    if let Some(which) = named(desks::TRIALS, name) {
-        return desks::run(rt, trial, which);
-    }
-    if let Some(which) = named(runs::TRIALS, name) {
-        return runs::run(rt, trial, which);
-    }
-    if let Some(which) = named(free_values::TRIALS, name) {
-        return free_values::run(trial, which);
-    }
-    if let Some(which) = named(free_books::TRIALS, name) {
-        return free_books::run(rt, trial, which);
-    }
-    if let Some(which) = named(greatest::TRIALS, name) {
-        return greatest::run(trial, which);
-    }
-    bail!("no trial {name}")
+/// A trial that has a function of its own.
+#[derive(Clone, Copy)]
+enum Single {
+    OpenDesk,
+    FinishDesk,
+    Work,
+    RunAll(u32),
+    Converse,
+    Job,
+    Bell,
 }
 
-/// A trial's name, and how it is made.
+/// Those in which one growth after the other is refused.
+const EACH: &[(&str, Single)] = &[
+    ("saga_desk::Desk::open", Single::OpenDesk),
+    ("saga_desk::Desk::finish", Single::FinishDesk),
+    ("saga_work::work", Single::Work),
+    ("saga_work::run_all", Single::RunAll(1)),
+    ("saga_work::run_all,two-workers", Single::RunAll(2)),
+    ("saga_drive::answer", Single::Converse),
+];
+
+/// Those in which each growth is refused.
+const NONE: &[(&str, Single)] = &[
+    ("saga_desk,readers", Single::Job),
+    ("saga_script::Script,calls", Single::Job),
+    ("saga_work::Bell::new", Single::Bell),
+];
+
+fn run_single<R: Threads + Wait + Sync>(
+    rt: &R,
+    trial: &mut Trial<'_>,
+    which: Single,
+) -> Result<()> {
+    match which {
+        Single::OpenDesk => desks::open(trial),
+        Single::FinishDesk => desks::finish(rt, trial),
+        Single::Work => runs::work_alone(rt, trial),
+        Single::RunAll(workers) => runs::run_trips(rt, trial, workers),
+        Single::Converse => runs::converse(trial),
+        Single::Job => free::job(rt, trial),
+        Single::Bell => {
+            trial.none();
+            let _bell = Bell::new();
+            trial.ample();
+            Ok(())
+        }
+    }
+}
+
+/// Makes the trial of a name in which one growth may be refused, if there is one.
+fn run_each<R: Threads + Wait + Sync>(rt: &R, trial: &mut Trial<'_>, name: &str) -> Result<bool> {
+    if let Some(which) = named(values::TRIALS, name) {
+        values::run(rt, trial, which)?;
+    } else if let Some(script) = named(books::EACH, name) {
+        books::run(trial, script)?;
+    } else if let Some(script) = named(desks::EACH, name) {
+        desks::run(rt, trial, script)?;
+    } else if let Some(which) = named(EACH, name) {
+        run_single(rt, trial, which)?;
+    } else {
+        return Ok(false);
+    }
+    Ok(true)
+}
+
+/// Makes the trial of a name in which each growth is refused, or none, if there is one.
+fn run_other<R: Threads + Wait + Sync>(rt: &R, trial: &mut Trial<'_>, name: &str) -> Result<bool> {
+    if let Some(which) = named(free::TRIALS, name) {
+        free::run(trial, which)?;
+    } else if let Some(script) = named(books::NONE, name) {
+        books::run(trial, script)?;
+    } else if let Some(script) = named(desks::NONE, name) {
+        desks::run(rt, trial, script)?;
+    } else if let Some(which) = named(NONE, name) {
+        run_single(rt, trial, which)?;
+    } else if let Some(which) = named(greatest::TRIALS, name) {
+        greatest::run(trial, which)?;
+    } else {
+        return Ok(false);
+    }
+    Ok(true)
+}
+
+/// Makes the trial of a name.
+fn run<R: Threads + Wait + Sync>(rt: &R, trial: &mut Trial<'_>, name: &str) -> Result<()> {
+    trial.refuses = true;
+    if run_each(rt, trial, name)? {
+        return Ok(());
+    }
+    trial.refuses = false;
+    ensure!(run_other(rt, trial, name)?, "no trial {name}");
+    Ok(())
+}
+
+/// How a trial is made, and its name.
 #[derive(Clone, Copy)]
 struct Listed {
     how: &'static str,
@@ -84,49 +147,39 @@ fn list<T: Copy>(
 /// All trials.
 fn all_trials(alloc: Global) -> Result<Vec<Listed>> {
     let mut all = Vec::new(alloc);
-    list(&mut all, "each", texts::TRIALS)?;
-    list(&mut all, "each", plans::TRIALS)?;
-    list(&mut all, "each", histories::TRIALS)?;
-    list(&mut all, "each", books::TRIALS)?;
-    list(&mut all, "each", desks::TRIALS)?;
-    list(&mut all, "each", runs::TRIALS)?;
-    list(&mut all, "none", free_values::TRIALS)?;
-    list(&mut all, "none", free_books::TRIALS)?;
+    list(&mut all, "each", values::TRIALS)?;
+    list(&mut all, "each", books::EACH)?;
+    list(&mut all, "each", desks::EACH)?;
+    list(&mut all, "each", EACH)?;
+    list(&mut all, "none", free::TRIALS)?;
+    list(&mut all, "none", books::NONE)?;
+    list(&mut all, "none", desks::NONE)?;
+    list(&mut all, "none", NONE)?;
     list(&mut all, "ample", greatest::TRIALS)?;
     Ok(all)
-}
-
-/// Makes each trial once.
-fn run_all<R: Threads + Wait + Sync + Print>(
-    rt: &R,
-    trial: &mut Trial<'_>,
-    all: &[Listed],
-) -> Result<()> {
-    for listed in all {
-        run(rt, trial, listed.name).context(format_args!("{}", listed.name))?;
-    }
-    println!(rt; "trials {} whole", all.len())?;
-    Ok(())
 }
 
 fn main(rt: HostRuntime) -> Result<()> {
     let mut words = env::args(&rt)?.skip(1);
     let what = words.next();
+    let all = all_trials(rt.alloc())?;
     let mut trial = Trial::new(&rt);
     match what.as_deref() {
-        None => run_all(&rt, &mut trial, &all_trials(rt.alloc())?),
+        None => {
+            for listed in &all {
+                run(&rt, &mut trial, listed.name).context(format_args!("{}", listed.name))?;
+            }
+            println!(rt; "trials {} whole", all.len())?;
+        }
         Some("names") => {
-            for listed in &all_trials(rt.alloc())? {
+            for listed in &all {
                 println!(rt; "{} {}", listed.how, listed.name)?;
             }
-            Ok(())
         }
         Some("try") => {
             let name = words.next().context("a name is missing")?;
             run(&rt, &mut trial, name.as_str())?;
-            let ending = if trial.refused() { "refused" } else { "whole" };
-            println!(rt; "{ending}")?;
-            Ok(())
+            println!(rt; "{}", if trial.refused { "refused" } else { "whole" })?;
         }
         Some("hostile") => {
             let kind = words.next().context("a kind is missing")?;
@@ -135,8 +188,9 @@ fn main(rt: HostRuntime) -> Result<()> {
                 definition: words.next(),
                 case: words.next(),
             };
-            hostile::run(&rt, kind.as_str(), files)
+            hostile::run(&rt, kind.as_str(), files)?;
         }
         _ => bail!("names, try or hostile?"),
     }
+    Ok(())
 }

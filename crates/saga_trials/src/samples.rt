@@ -3,9 +3,10 @@ use anyhow::{Result, bail};
 use saga_case::{Answer, Case};
 use saga_cert::{read_answer, read_case, write_answer};
 use saga_check::{Verdict, verify};
+use saga_core::Book;
 use saga_def::Definition;
 use saga_history::Event;
-use saga_log::{LogFault, read_log};
+use saga_log::read_log;
 use saga_script::Script;
 use saga_text::read_definition;
 use std::alloc::Global;
@@ -14,21 +15,11 @@ use std::alloc::Global;
 pub const TRIP: &str = "\
 format = 1
 name = \"trip\"
-
-[[step]]
-name = \"a\"
-undo = 1
-keep = 5
-
-[[step]]
-name = \"b\"
-needs = [\"a\"]
-undo = 2
-keep = 5
-
-[[step]]
-name = \"c\"
-needs = [\"b\"]
+step = [
+  { name = \"a\", undo = 1, keep = 5 },
+  { name = \"b\", needs = [\"a\"], undo = 2, keep = 5 },
+  { name = \"c\", needs = [\"b\"] },
+]
 ";
 
 /// The same steps, which cost nothing.
@@ -85,6 +76,21 @@ pub const TRIP_LOG: &str = "\
 {\"event\":\"undone\",\"saga\":0,\"step\":0}
 ";
 
+/// What has happened where the last step has failed.
+pub const FAILED_LOG: &str = "\
+{\"def\":0,\"event\":\"open\",\"saga\":0}
+{\"event\":\"start_run\",\"saga\":0,\"step\":0}
+{\"event\":\"commit\",\"saga\":0,\"step\":0}
+{\"event\":\"start_run\",\"saga\":0,\"step\":1}
+{\"event\":\"commit\",\"saga\":0,\"step\":1}
+{\"event\":\"start_run\",\"saga\":0,\"step\":2}
+{\"event\":\"fail\",\"saga\":0,\"step\":2}
+";
+
+/// The line of the adoption in it, without its line feed.
+pub const ADOPTION: &str =
+    "{\"answer\":{\"cost\":3,\"kept\":[],\"kind\":\"plan\",\"leave\":[1,2,0],\"links\":[0,0],\"stand\":[1,2,0]},\"event\":\"adopt\",\"saga\":0}";
+
 /// The report of that.
 pub const TRIP_REPORT: &str = "\
 saga 0 trip ended
@@ -108,19 +114,11 @@ pub const FORCED_ANSWER: &str = "{\"chain\":[0],\"kind\":\"blocked\"}";
 /// It fails.
 pub const FORCED_SCRIPT: &str = "0 a run fail\n";
 
-/// Two steps, of which the second needs the first. Each, and its compensation, is tried nine times.
+/// Two steps, of which the second needs the first. The first, and its compensation, is tried nine times.
 pub const STUBBORN: &str = "\
 format = 2
 name = \"stubborn\"
-
-[[step]]
-name = \"a\"
-tries = 9
-undo_tries = 9
-
-[[step]]
-name = \"b\"
-needs = [\"a\"]
+step = [{ name = \"a\", tries = 9, undo_tries = 9 }, { name = \"b\", needs = [\"a\"] }]
 ";
 
 /// The second has failed.
@@ -152,11 +150,62 @@ pub const ABORTED_LOG: &str = "\
 {\"event\":\"drop_plan\",\"saga\":0}
 ";
 
+/// The texts of an example.
+#[derive(Clone, Copy)]
+pub struct Sample {
+    pub definition: &'static str,
+    pub case: &'static str,
+    pub answer: &'static str,
+    pub log: &'static str,
+}
+
+/// The trip, whose last step fails.
+pub const FAILED: Sample = Sample {
+    definition: TRIP,
+    case: TRIP_CASE,
+    answer: TRIP_ANSWER,
+    log: TRIP_LOG,
+};
+
+/// The same for nothing.
+pub const FREE: Sample = Sample {
+    definition: FREE_TRIP,
+    answer: FREE_ANSWER,
+    ..FAILED
+};
+
+/// The step that must not be left out.
+pub const STUCK: Sample = Sample {
+    definition: FORCED,
+    case: FORCED_CASE,
+    answer: FORCED_ANSWER,
+    log: "",
+};
+
+/// The steps that are tried often.
+pub const RETRIED: Sample = Sample {
+    definition: STUBBORN,
+    case: STUBBORN_CASE,
+    answer: STUBBORN_ANSWER,
+    log: "",
+};
+
+/// A log of the second format whose last line is cut.
+pub const CUT_LOG: &str = "\
+{\"format\":2}
+{\"def\":0,\"event\":\"open\",\"saga\":0}
+{\"event\":\"start_run\",\"saga\":0,\"step\":0}
+{\"event\":\"abort\",\"saga\":0}
+{\"event\":\"comm";
+
+/// How many bytes its whole lines have.
+pub const WHOLE: usize = 114;
+
 /// The definition of a text.
 pub fn definition(alloc: Global, text: &str) -> Result<Definition> {
     match read_definition(alloc, text.as_bytes()) {
         Ok(definition) => Ok(definition),
-        Err(fault) => bail!("no definition: {}", fault.word()),
+        Err(_) => bail!("no definition"),
     }
 }
 
@@ -179,7 +228,7 @@ pub fn first(shelf: &[Definition]) -> Result<&Definition> {
 pub fn case<'d>(alloc: Global, definition: &'d Definition, text: &str) -> Result<Case<'d>> {
     match read_case(alloc, definition, text.as_bytes()) {
         Ok(case) => Ok(case),
-        Err(fault) => bail!("no case: {}", fault.word()),
+        Err(_) => bail!("no case"),
     }
 }
 
@@ -187,7 +236,7 @@ pub fn case<'d>(alloc: Global, definition: &'d Definition, text: &str) -> Result
 pub fn answer(alloc: Global, text: &str) -> Result<Answer> {
     match read_answer(alloc, text.as_bytes()) {
         Ok(answer) => Ok(answer),
-        Err(fault) => bail!("no answer: {}", fault.word()),
+        Err(_) => bail!("no answer"),
     }
 }
 
@@ -206,7 +255,7 @@ pub fn verdict<'d>(
     let asked = case(alloc, definition, of)?;
     match verify(asked, answer(alloc, by)?) {
         Ok(verdict) => Ok(verdict),
-        Err(refused) => bail!("not right: {}", refused.fault.word()),
+        Err(_) => bail!("not right"),
     }
 }
 
@@ -214,8 +263,7 @@ pub fn verdict<'d>(
 pub fn events(alloc: Global, log: &str) -> Result<Vec<Event>> {
     match read_log(alloc, log.as_bytes()) {
         Ok(events) => Ok(events),
-        Err(LogFault::BadLine { line, why }) => bail!("line {line}: {}", why.word()),
-        Err(LogFault::OutOfMemory) => bail!("no log: out of memory"),
+        Err(_) => bail!("no log"),
     }
 }
 
@@ -224,5 +272,13 @@ pub fn script(alloc: Global, text: &str) -> Result<Script> {
     match Script::read(alloc, text.as_bytes()) {
         Ok(script) => Ok(script),
         Err(_) => bail!("no script"),
+    }
+}
+
+/// The book of a log's history.
+pub fn book<'d>(alloc: Global, shelf: &'d [Definition], log: &str) -> Result<Book<'d>> {
+    match Book::replay(alloc, shelf, 0, 1, events(alloc, log)?) {
+        Ok(book) => Ok(book),
+        Err(_) => bail!("no book"),
     }
 }

@@ -8,43 +8,50 @@ use std::alloc::{Alloc, Global};
 #[derive(Drop)]
 pub struct Trial<'a> {
     rt: &'a HostRuntime,
-    refused: bool,
+    /// Whether growths are refused one by one; else only calls that take no memory are tried.
+    pub refuses: bool,
+    /// Whether a call told of a refusal.
+    pub refused: bool,
 }
 
 impl<'a> Trial<'a> {
     pub fn new(rt: &'a HostRuntime) -> Trial<'a> {
-        Trial { rt, refused: false }
+        Trial {
+            rt,
+            refuses: true,
+            refused: false,
+        }
     }
 
     pub fn alloc(&self) -> Global {
         self.rt.alloc()
     }
 
-    /// Whether a call told of a refusal.
-    pub fn refused(&self) -> bool {
-        self.refused
-    }
-
-    /// A call told of a refusal.
-    pub fn tell_refused(&mut self) {
-        self.refused = true;
+    /// Tells by a word what becomes of growths from here on. Where it cannot be told, none is refused.
+    fn tell(&self, word: &str) {
+        let _ = eprintln!(self.rt; "{word}");
     }
 
     /// From here on one growth may be refused.
-    pub fn each(&self) -> Result<()> {
-        eprintln!(self.rt; "each")?;
-        Ok(())
+    pub fn each(&self) {
+        if self.refuses {
+            self.tell("each");
+        }
+    }
+
+    /// From here on each growth is refused.
+    pub fn none(&self) {
+        self.tell("none");
     }
 
     /// From here on none is refused.
-    pub fn ample(&self) -> Result<()> {
-        eprintln!(self.rt; "ample")?;
-        Ok(())
+    pub fn ample(&self) {
+        self.tell("ample");
     }
 
     /// What a call that was tried gave, or none where it told of a refusal.
     fn first<T: Drop, E: Fault>(&mut self, answer: Result<T, E>) -> Result<Option<T>> {
-        self.ample()?;
+        self.ample();
         match answer {
             Ok(value) => Ok(Some(value)),
             Err(fault) => {
@@ -59,7 +66,7 @@ impl<'a> Trial<'a> {
     pub fn again<T: Drop, E: Fault, F: FnMut() -> Result<T, E>>(&mut self, mut call: F) -> Result<T>
         requires { F.IsAlwaysCallable call }
     {
-        self.each()?;
+        self.each();
         match self.first(call())? {
             Some(value) => Ok(value),
             None => second(call()),
@@ -77,7 +84,7 @@ impl<'a> Trial<'a> {
         requires calls { F.IsAlwaysCallable call }
     {
         let input = make()?;
-        self.each()?;
+        self.each();
         match self.first(call(input))? {
             Some(value) => Ok(value),
             None => second(call(make()?)),
@@ -97,7 +104,7 @@ impl<'a> Trial<'a> {
         requires calls { F.IsAlwaysCallable call }
     {
         let before = look(changed);
-        self.each()?;
+        self.each();
         match self.first(call(changed))? {
             Some(value) => Ok(value),
             None => {
@@ -106,16 +113,6 @@ impl<'a> Trial<'a> {
                 second(call(changed))
             }
         }
-    }
-
-    /// Makes a call that is to succeed where each growth is refused.
-    pub fn without_memory<T: Drop, F: FnOnce() -> T>(&self, call: F) -> Result<T>
-        requires { F.IsAlwaysCallable call }
-    {
-        eprintln!(self.rt; "none")?;
-        let given = call();
-        self.ample()?;
-        Ok(given)
     }
 }
 
