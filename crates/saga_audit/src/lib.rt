@@ -5,6 +5,16 @@
 //!
 //! One saga is followed after the other, each over the places of its own events, so there are the tables of one saga at a
 //! time.
+//!
+//! Which event of a history was not allowed, if one was:
+//!
+//! ```
+//! match audit(alloc, shelf, events)? {
+//!     AuditAnswer::Yes { .. } => Ok(None),
+//!     // The place of the first event that the rules do not allow after those before it.
+//!     AuditAnswer::No { position, .. } => Ok(Some(position)),
+//! }
+//! ```
 #![tactic(auto)]
 
 mod answers;

@@ -1,7 +1,7 @@
 //! Timing of logs: reading, writing, and the reading of the same lines to JSON values alone.
 use anyhow::{Result, bail};
+use saga_bytes::split_line;
 use saga_history::Event;
-use saga_lines::split_line;
 use saga_log::{LogFault, read_log, write_log};
 use serde_json::Value;
 use std::alloc::Global;

@@ -38,6 +38,8 @@ impl Actor for Ready {
 
     ghost may_abort = { λ ready job. ⊥ };
 
+    ghost must_abort = { λ ready job. ⊥ };
+
     fn run(&self, job: &Job<'_>) -> Outcome {
         let _ = job;
         Outcome::Done
@@ -46,6 +48,11 @@ impl Actor for Ready {
     fn undo(&self, job: &Job<'_>) -> Outcome {
         let _ = job;
         Outcome::Done
+    }
+
+    fn asks_abort(&self, job: &Job<'_>) -> bool {
+        let _ = job;
+        false
     }
 }
 

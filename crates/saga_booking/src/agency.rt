@@ -62,11 +62,17 @@ impl Actor for Agency {
 
     ghost may_abort = { λ agency job. ⊥ };
 
+    ghost must_abort = { λ agency job. ⊥ };
+
     fn run(&self, job: &Job<'_>) -> Outcome {
         self.book(job.saga(), job.step(), job.attempt())
     }
 
     fn undo(&self, _job: &Job<'_>) -> Outcome {
         Outcome::Done
+    }
+
+    fn asks_abort(&self, _job: &Job<'_>) -> bool {
+        false
     }
 }

@@ -1,5 +1,5 @@
 //! The amounts of a flow, which contracts see as a list of numbers.
-ghost use Rattle.std.specs.Prelude.{◌≡◌, ◌<◌, ◌↔◌, IfOk, IfSome, IsTrue, length, slice_index};
+ghost use Rattle.std.specs.Prelude.{◌≡◌, ◌<◌, IfOk, IfSome, length, slice_index};
 
 use std::alloc::{AllocError, Global};
 use std::marker::Model;
@@ -97,20 +97,5 @@ impl Amounts {
             Widths::Four(list) => u64::from(list[place]),
             Widths::Eight(list) => list[place],
         }
-    }
-
-    /// Whether they are those of a list. Takes no memory.
-    pub fn are(&self, list: &[u64]) -> bool
-        ensures { IsTrue result ↔ (self.now ≡ list.now) }
-    {
-        if self.len() != list.len() {
-            return false;
-        }
-        for place in 0..list.len() {
-            if self.get(place) != list[place] {
-                return false;
-            }
-        }
-        true
     }
 }

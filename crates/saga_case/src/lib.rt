@@ -1,6 +1,24 @@
 //! A case is a saga at rest, for which a plan is wanted: its definition, the state of each step, and whether it was
 //! aborted. This crate says what each step costs, what a set of steps costs, which sets are allowed, and when an
 //! answer to a case is right.
+//!
+//! A trip of flight, hotel and tour, whose tour has failed:
+//!
+//! ```
+//! let mut states = Vec::new(alloc);
+//! for state in [
+//!     StepState::Committed,
+//!     StepState::Committed,
+//!     StepState::Failed,
+//! ] {
+//!     states.push(state).ok()?;
+//! }
+//! let case = Case::new(trip, states).ok()?;
+//! let none = vec![in alloc; false; trip.steps()].ok()?;
+//! let all = vec![in alloc; true; trip.steps()].ok()?;
+//! // Never, both of them: the flight cannot be undone, and the tour has failed.
+//! Some((case.cost(&none), case.cost(&all)))
+//! ```
 #![tactic(auto)]
 
 mod amounts;

@@ -31,14 +31,6 @@ impl Marks {
     {
         self.marks.as_slice()
     }
-
-    /// The list that it was made of.
-    pub fn into_vec(self) -> Vec<bool>
-        ensures { result.items ≡ self }
-    {
-        let Marks { marks } = self;
-        marks
-    }
 }
 
 /// A chain of steps by their numbers.
@@ -68,13 +60,5 @@ impl Chain {
         ensures { result.now ≡ self.now }
     {
         self.steps.as_slice()
-    }
-
-    /// The list that it was made of.
-    pub fn into_vec(self) -> Vec<u16>
-        ensures { result.items ≡ self }
-    {
-        let Chain { steps } = self;
-        steps
     }
 }

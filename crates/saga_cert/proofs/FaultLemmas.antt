@@ -4,24 +4,25 @@ use Rattle.std.specs.Str.{bytes_eq}
 use Rattle.serde_json.specs.Data.{Data, null, boolean, number, string, array, object, unsigned, negative, float}
 use Rattle.serde_json.specs.Find.{get}
 use Rattle.saga_def.specs.Contents.{Contents}
-use Rattle.saga_case.specs.declared.answers.Plan.{Plan as PlanParts}
 use Rattle.saga_case.specs.declared.answers.Answer.{Answer}
 use Rattle.saga_case.specs.declared.answers.Answer.TheVariants.{Plan, Blocked}
 use Rattle.saga_case.specs.declared.states.StepState.{StepState}
 use Rattle.saga_case.specs.declared.states.StepState.TheVariants.{Waiting, Running, Committed, Failed, Undoing, Undone, Fixed}
 use Rattle.saga_case.specs.Situation.{Situation, situation, HasStates}
-use Rattle.saga_cert.specs.declared.faults.CertFault.{CertFault}
-use Rattle.saga_cert.specs.declared.faults.CertFault.TheVariants.{NotJson, Kind, UnknownKey, MissingKey, BadType, Kept, WrongLength, Busy, OutOfMemory}
-use Rattle.saga_cert.specs.Outcomes.{◌>>=◌, each, Fails, Gives}
-use Rattle.saga_cert.specs.Trees.{IsTextOf, is_object}
-use Rattle.saga_cert.specs.Kinds.{has_key, has_only, text_at, amount_of, step_of, items_of, value_in, list_of_each, amount_at, amounts_at, steps_at}
+use Rattle.saga_json.specs.declared.faults.JsonFault.{JsonFault}
+use Rattle.saga_json.specs.declared.faults.JsonFault.TheVariants.{NotJson, Kind, UnknownKey, MissingKey, BadType, Kept, WrongLength, Busy, OutOfMemory}
+use Rattle.saga_json.specs.Reads.{◌>>=◌, each, Fails, Gives}
+use Rattle.saga_json.specs.Trees.{is_object}
+use Rattle.saga_json.specs.Texts.{IsTextOf}
+use Rattle.saga_json.specs.Fields.{text_at, below, u16_of, u64_of, items_of, value_in, at_key, list_of_each}
+use Rattle.saga_json.specs.Keys.{has_only, has_each, keys_fit}
 use Rattle.saga_cert.specs.Kept.{is_kept, marks_of, kept_of}
-use Rattle.saga_cert.specs.Answers.{is_plan_key, is_chain_key, has_plan_keys, plan_parts_of, plan_of, chain_of, answer_of_kind, answer_of}
-use Rattle.saga_cert.specs.Cases.{Written, is_case_key, state_named, state_of, flag_in, case_parts_of, written_of}
+use Rattle.saga_cert.specs.Answers.{plan_keys, chain_keys, plan_parts_of, plan_of, chain_of, answer_of_kind, answer_of}
+use Rattle.saga_cert.specs.Cases.{Written, state_named, state_of, flag_in, case_parts_of, written_of}
 use Rattle.saga_cert.specs.Reads.{ReadsAnswer, HoldsCase, ReadsCase, IsCaseFault}
 
 -- a fault of a value, and not of its text or of a case
-abbrev OfValue : CertFault → Type 0
+abbrev OfValue : JsonFault → Type 0
 OfValue Kind = Unit {0}
 OfValue UnknownKey = Unit {0}
 OfValue MissingKey = Unit {0}
@@ -30,41 +31,41 @@ OfValue Kept = Unit {0}
 OfValue _ = ⊥
 
 -- the reading has no other fault
-abbrev Stays : {A : Type 0} → Result A CertFault → Type 0
+abbrev Stays : {A : Type 0} → Result A JsonFault → Type 0
 Stays (Ok x) = Unit {0}
 Stays (Err fault) = OfValue fault
 
-then : {A B : Type 0} (first : Result A CertFault) (next : A → Result B CertFault) → Stays first → ((x : A) → Stays (next x)) → Stays (first >>= next)
+then : {A B : Type 0} (first : Result A JsonFault) (next : A → Result B JsonFault) → Stays first → ((x : A) → Stays (next x)) → Stays (first >>= next)
 then (Ok x) next h more = more x
 then (Err fault) next h more = h
 
-each-stays : {A B : Type 0} (read : A → Result B CertFault) (xs : List A) → ((x : A) → Stays (read x)) → Stays (each read xs)
+each-stays : {A B : Type 0} (read : A → Result B JsonFault) (xs : List A) → ((x : A) → Stays (read x)) → Stays (each read xs)
 each-stays read [] h = tt {0}
 each-stays read (x ∷ xs) h = then (read x) _ (h x) (λ y. then (each read xs) _ (each-stays read xs h) (λ ys. tt {0}))
 
-either : {A : Type 0} (test : Bool) (x y : Result A CertFault) → Stays x → Stays y → Stays (cond test x y)
+either : {A : Type 0} (test : Bool) (x y : Result A JsonFault) → Stays x → Stays y → Stays (cond test x y)
 either true x y h k = h
 either false x y h k = k
 
-amount_of-stays : (value : Data) → Stays (amount_of value)
-amount_of-stays (number (unsigned n)) = tt {0}
-amount_of-stays (number (negative z)) = tt {0}
-amount_of-stays (number (float x)) = tt {0}
-amount_of-stays null = tt {0}
-amount_of-stays (boolean b) = tt {0}
-amount_of-stays (string text) = tt {0}
-amount_of-stays (array items) = tt {0}
-amount_of-stays (object entries) = tt {0}
+u64_of-stays : (value : Data) → Stays (u64_of value)
+u64_of-stays (number (unsigned n)) = tt {0}
+u64_of-stays (number (negative z)) = tt {0}
+u64_of-stays (number (float x)) = tt {0}
+u64_of-stays null = tt {0}
+u64_of-stays (boolean b) = tt {0}
+u64_of-stays (string text) = tt {0}
+u64_of-stays (array items) = tt {0}
+u64_of-stays (object entries) = tt {0}
 
-step_of-stays : (value : Data) → Stays (step_of value)
-step_of-stays (number (unsigned n)) = either {A = ℕ} (nat_lt n (2 ^ 16)) (Ok n) (Err BadType) (tt {0}) (tt {0})
-step_of-stays (number (negative z)) = tt {0}
-step_of-stays (number (float x)) = tt {0}
-step_of-stays null = tt {0}
-step_of-stays (boolean b) = tt {0}
-step_of-stays (string text) = tt {0}
-step_of-stays (array items) = tt {0}
-step_of-stays (object entries) = tt {0}
+below-stays : (limit : ℕ) (value : Data) → Stays (below limit value)
+below-stays limit (number (unsigned n)) = either {A = ℕ} (nat_lt n limit) (Ok n) (Err BadType) (tt {0}) (tt {0})
+below-stays limit (number (negative z)) = tt {0}
+below-stays limit (number (float x)) = tt {0}
+below-stays limit null = tt {0}
+below-stays limit (boolean b) = tt {0}
+below-stays limit (string text) = tt {0}
+below-stays limit (array items) = tt {0}
+below-stays limit (object entries) = tt {0}
 
 items_of-stays : (value : Data) → Stays (items_of value)
 items_of-stays (number n) = tt {0}
@@ -78,17 +79,21 @@ value_in-stays : (value : Option Data) → Stays (value_in value)
 value_in-stays None = tt {0}
 value_in-stays (Some value) = tt {0}
 
-list_of_each-stays : {A : Type 0} (read : Data → Result A CertFault) (value : Data) → ((d : Data) → Stays (read d)) → Stays (list_of_each read value)
+list_of_each-stays : {A : Type 0} (read : Data → Result A JsonFault) (value : Data) → ((d : Data) → Stays (read d)) → Stays (list_of_each read value)
 list_of_each-stays read value h = then (items_of value) _ (items_of-stays value) (λ items. each-stays read items h)
 
-amount_at-stays : (key : List ℕ) (value : Data) → Stays (amount_at key value)
-amount_at-stays key value = then (value_in (get key value)) _ (value_in-stays (get key value)) amount_of-stays
+at_key-stays : {A : Type 0} (read : Data → Result A JsonFault) (key : List ℕ) (value : Data) → ((d : Data) → Stays (read d)) → Stays (at_key read key value)
+at_key-stays read key value h = then (value_in (get key value)) _ (value_in-stays (get key value)) h
 
-amounts_at-stays : (key : List ℕ) (value : Data) → Stays (amounts_at key value)
-amounts_at-stays key value = then (value_in (get key value)) _ (value_in-stays (get key value)) (λ found. list_of_each-stays amount_of found amount_of-stays)
+amounts-stay : (key : List ℕ) (value : Data) → Stays (at_key (list_of_each u64_of) key value)
+amounts-stay key value = at_key-stays (list_of_each u64_of) key value (λ found. list_of_each-stays u64_of found u64_of-stays)
 
-steps_at-stays : (key : List ℕ) (value : Data) → Stays (steps_at key value)
-steps_at-stays key value = then (value_in (get key value)) _ (value_in-stays (get key value)) (λ found. list_of_each-stays step_of found step_of-stays)
+keys_fit-stays : (must may : List (List ℕ)) (value : Data) → Stays (keys_fit must may value)
+unfolding keys_fit
+keys_fit-stays must may value =
+    let rest = cond (not (has_each must value)) (Err MissingKey) (Ok (tt {0})) in
+    either {A = Unit {0}} (not (has_only must may value)) (Err UnknownKey) rest (tt {0})
+    (either {A = Unit {0}} (not (has_each must value)) (Err MissingKey) (Ok (tt {0})) (tt {0}) (tt {0}))
 
 kept_of-stays : (count : ℕ) (kept : List ℕ) → Stays (kept_of count kept)
 kept_of-stays count kept = either {A = List Bool} (is_kept count kept) (Ok (marks_of count kept)) (Err Kept) (tt {0}) (tt {0})
@@ -96,24 +101,22 @@ kept_of-stays count kept = either {A = List Bool} (is_kept count kept) (Ok (mark
 plan_parts_of-stays : (value : Data) → Stays (plan_parts_of value)
 unfolding plan_parts_of
 plan_parts_of-stays value =
-    then (amount_at (codes "cost") value) _ (amount_at-stays (codes "cost") value) (λ cost.
-    then (amounts_at (codes "kept") value) _ (amounts_at-stays (codes "kept") value) (λ numbers.
-    then (amounts_at (codes "leave") value) _ (amounts_at-stays (codes "leave") value) (λ leave.
-    then (amounts_at (codes "stand") value) _ (amounts_at-stays (codes "stand") value) (λ stand.
-    then (amounts_at (codes "links") value) _ (amounts_at-stays (codes "links") value) (λ links.
+    then (at_key u64_of (codes "cost") value) _ (at_key-stays u64_of (codes "cost") value u64_of-stays) (λ cost.
+    then (at_key (list_of_each u64_of) (codes "kept") value) _ (amounts-stay (codes "kept") value) (λ numbers.
+    then (at_key (list_of_each u64_of) (codes "leave") value) _ (amounts-stay (codes "leave") value) (λ leave.
+    then (at_key (list_of_each u64_of) (codes "stand") value) _ (amounts-stay (codes "stand") value) (λ stand.
+    then (at_key (list_of_each u64_of) (codes "links") value) _ (amounts-stay (codes "links") value) (λ links.
     then (kept_of (length stand) numbers) _ (kept_of-stays (length stand) numbers) (λ kept. tt {0}))))))
 
 plan_of-stays : (value : Data) → Stays (plan_of value)
 unfolding plan_of
-plan_of-stays value =
-    either {A = PlanParts} (not (has_only is_plan_key value)) (Err UnknownKey) (cond (not (has_plan_keys value)) (Err MissingKey) (plan_parts_of value)) (tt {0})
-    (either {A = PlanParts} (not (has_plan_keys value)) (Err MissingKey) (plan_parts_of value) (tt {0}) (plan_parts_of-stays value))
+plan_of-stays value = then (keys_fit plan_keys [] value) _ (keys_fit-stays plan_keys [] value) (λ u. plan_parts_of-stays value)
 
 chain_of-stays : (value : Data) → Stays (chain_of value)
 unfolding chain_of
 chain_of-stays value =
-    either {A = List ℕ} (not (has_only is_chain_key value)) (Err UnknownKey) (cond (not (has_key (codes "chain") value)) (Err MissingKey) (steps_at (codes "chain") value)) (tt {0})
-    (either {A = List ℕ} (not (has_key (codes "chain") value)) (Err MissingKey) (steps_at (codes "chain") value) (tt {0}) (steps_at-stays (codes "chain") value))
+    then (keys_fit chain_keys [] value) _ (keys_fit-stays chain_keys [] value) (λ u.
+    at_key-stays (list_of_each u16_of) (codes "chain") value (λ found. list_of_each-stays u16_of found (below-stays (2 ^ 16))))
 
 answer_of_kind-stays : (kind : Option (List ℕ)) (value : Data) → Stays (answer_of_kind kind value)
 answer_of_kind-stays None value = tt {0}
@@ -127,7 +130,7 @@ answer_of-stays : (value : Data) → Stays (answer_of value)
 answer_of-stays value = answer_of_kind-stays (text_at (codes "kind") value) value
 
 -- what is read of a value is what is read of its text
-pub reads_answer : (text : List ℕ) (value : Data) (outcome : Result Answer CertFault) → IsTextOf value text → Gives (λ a. a) outcome (answer_of value) → ReadsAnswer text outcome
+pub reads_answer : (text : List ℕ) (value : Data) (outcome : Result Answer JsonFault) → IsTextOf value text → Gives (λ a. a) outcome (answer_of value) → ReadsAnswer text outcome
 reads_answer text value (Ok answer) is given = (value, is, given)
 reads_answer text value (Err OutOfMemory) is given = tt {0}
 reads_answer text value (Err NotJson) is given = absurd (rw given at (answer_of-stays value))
@@ -139,7 +142,7 @@ reads_answer text value (Err MissingKey) is given = (value, is, given)
 reads_answer text value (Err BadType) is given = (value, is, given)
 reads_answer text value (Err Kept) is given = (value, is, given)
 
-known : (test : Bool) (state : StepState) (rest : Result StepState CertFault) → Stays rest → Stays (cond test (Ok state) rest)
+known : (test : Bool) (state : StepState) (rest : Result StepState JsonFault) → Stays rest → Stays (cond test (Ok state) rest)
 known test state rest h = either {A = StepState} test (Ok state) rest (tt {0}) h
 
 state_named-stays : (word : List ℕ) → Stays (state_named word)
@@ -173,20 +176,17 @@ flag_in-stays (Some (object entries)) = tt {0}
 case_parts_of-stays : (value : Data) → Stays (case_parts_of value)
 unfolding case_parts_of
 case_parts_of-stays value =
-    then (value_in (get (codes "states") value)) _ (value_in-stays (get (codes "states") value)) (λ found.
-    then (list_of_each state_of found) _ (list_of_each-stays state_of found state_of-stays) (λ states.
+    let must = codes "states" ∷ [] in
+    let may = codes "aborted" ∷ [] in
+    then (keys_fit must may value) _ (keys_fit-stays must may value) (λ u.
+    then (at_key (list_of_each state_of) (codes "states") value) _ (at_key-stays (list_of_each state_of) (codes "states") value (λ found. list_of_each-stays state_of found state_of-stays)) (λ states.
     then (flag_in (get (codes "aborted") value)) _ (flag_in-stays (get (codes "aborted") value)) (λ aborted. tt {0})))
 
 written_of-stays : (value : Data) → Stays (written_of value)
-written_of-stays value =
-    let parts = cond (not (has_key (codes "states") value)) (Err MissingKey) (case_parts_of value) in
-    let keys = cond (not (has_only is_case_key value)) (Err UnknownKey) parts in
-    either {A = Written} (not (is_object value)) (Err Kind) keys (tt {0})
-    (either {A = Written} (not (has_only is_case_key value)) (Err UnknownKey) parts (tt {0})
-    (either {A = Written} (not (has_key (codes "states") value)) (Err MissingKey) (case_parts_of value) (tt {0}) (case_parts_of-stays value)))
+written_of-stays value = either {A = Written} (is_object value) (case_parts_of value) (Err Kind) (case_parts_of-stays value) (tt {0})
 
 -- a fault of what is written is the text's
-pub reads_case_fault : (definition : Contents) (text : List ℕ) (value : Data) (fault : CertFault) → IsTextOf value text → Fails fault (written_of value) → ReadsCase definition text (Err fault)
+pub reads_case_fault : (definition : Contents) (text : List ℕ) (value : Data) (fault : JsonFault) → IsTextOf value text → Fails fault (written_of value) → ReadsCase definition text (Err fault)
 reads_case_fault definition text value OutOfMemory is given = tt {0}
 reads_case_fault definition text value NotJson is given = absurd (rw given at (written_of-stays value))
 reads_case_fault definition text value WrongLength is given = absurd (rw given at (written_of-stays value))
@@ -198,7 +198,7 @@ reads_case_fault definition text value BadType is given = (value, is, given)
 reads_case_fault definition text value Kept is given = (value, is, given)
 
 -- the case of what is written is the text's
-pub reads_case_made : (definition : Contents) (text : List ℕ) (w : Written) (made : Result Situation CertFault) → HoldsCase text (Ok w)
+pub reads_case_made : (definition : Contents) (text : List ℕ) (w : Written) (made : Result Situation JsonFault) → HoldsCase text (Ok w)
     → IfOk made (λ c. (c ≡ situation definition w.states w.aborted) × HasStates definition w.states) → IfErr made (IsCaseFault definition w.states) → ReadsCase definition text made
 reads_case_made definition text w (Ok c) held made fault = rw made.0 (held, refl, made.1)
 reads_case_made definition text w (Err WrongLength) held made fault = (w, held, fault)

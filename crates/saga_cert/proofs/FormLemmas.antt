@@ -18,14 +18,16 @@ use Rattle.saga_case.specs.declared.states.StepState.{StepState}
 use Rattle.saga_case.specs.declared.states.StepState.TheVariants.{Waiting, Running, Committed, Failed, Undoing, Undone, Fixed}
 use Rattle.saga_case.specs.States.{word_of}
 use Rattle.saga_case.specs.Situation.{Situation, situation, IsAtRest}
-use Rattle.saga_cert.specs.Outcomes.{each}
-use Rattle.saga_cert.specs.Trees.{IsTextOf, list_of, items_from}
-use Rattle.saga_cert.specs.Kinds.{amount_of, step_of}
+use Rattle.saga_json.specs.Reads.{each}
+use Rattle.saga_json.specs.Trees.{list_of, items_from}
+use Rattle.saga_json.specs.Texts.{IsTextOf}
+use Rattle.saga_json.specs.Fields.{u16_of, u64_of}
+use Rattle.saga_json.specs.Keys.{keys_fit}
 use Rattle.saga_cert.specs.Kept.{kept_of, places_from}
-use Rattle.saga_cert.specs.Answers.{has_plan_keys, plan_parts_of, plan_of, chain_of, answer_of, plan_form, chain_form, answer_form, IsPaired}
+use Rattle.saga_cert.specs.Answers.{plan_parts_of, plan_of, chain_of, answer_of, plan_form, chain_form, answer_form, IsPaired}
 use Rattle.saga_cert.specs.Cases.{state_named, state_of, case_parts_of, written_of, case_form}
 use Rattle.saga_cert.specs.Reads.{ReadsAnswer, ReadsCase}
-use Rattle.saga_cert.proofs.TreeLemmas.{list_of-items_from}
+use Rattle.saga_json.proofs.TreeLemmas.{list_of-items_from}
 use Rattle.saga_cert.proofs.KeptLemmas.{is_kept-places, marks_of-places}
 
 -- ---- lists
@@ -52,24 +54,24 @@ items_depth-words : (states : List StepState) → items_depth (items_from (map w
 items_depth-words [] = refl
 items_depth-words (s ∷ states) = rw (items_depth-words states)
 
-each-amounts : (ns : List ℕ) → each amount_of (map whole ns) ≡ Ok ns
+each-amounts : (ns : List ℕ) → each u64_of (map whole ns) ≡ Ok ns
 each-amounts [] = refl
 each-amounts (n ∷ ns) = rw (each-amounts ns)
 
-amounts-read : (ns : List ℕ) → each amount_of (list_of (items_from (map whole ns))) ≡ Ok ns
+amounts-read : (ns : List ℕ) → each u64_of (list_of (items_from (map whole ns))) ≡ Ok ns
 amounts-read ns = rw (list_of-items_from (map whole ns)) (each-amounts ns)
 
 small : (n : ℕ) → n < 65536 → nat_lt n 65536 ≡ true
 small n h = grind (arith, nat_tests)
 
-each-steps : (ns : List ℕ) → All (λ n. n < 65536) ns → each step_of (map whole ns) ≡ Ok ns
+each-steps : (ns : List ℕ) → All (λ n. n < 65536) ns → each u16_of (map whole ns) ≡ Ok ns
 each-steps [] h = refl
 each-steps (n ∷ ns) h =
     let first = small n (All-head (λ s. s < 65536) n ns h) in
     let rest = each-steps ns (All-tail (λ s. s < 65536) n ns h) in
     rw (first, rest)
 
-pub steps-read : (ns : List ℕ) → All (λ n. n < 65536) ns → each step_of (list_of (items_from (map whole ns))) ≡ Ok ns
+pub steps-read : (ns : List ℕ) → All (λ n. n < 65536) ns → each u16_of (list_of (items_from (map whole ns))) ≡ Ok ns
 steps-read ns h = rw (list_of-items_from (map whole ns)) (each-steps ns h)
 
 state_named-word : (s : StepState) → state_named (word_of s) ≡ Ok s
@@ -109,7 +111,7 @@ plan_parts-read plan same =
     rw (amounts-read (places_from 0 plan.kept), amounts-read plan.leave, amounts-read plan.stand, amounts-read plan.links, kept-read plan.kept (length plan.stand) same)
 
 plan-read : (plan : PlanParts) → length plan.kept ≡ length plan.stand → plan_of (plan_form plan) ≡ Ok plan
-unfolding plan_of has_plan_keys
+unfolding plan_of keys_fit
 plan-read plan same = plan_parts-read plan same
 
 -- the value of a plan is read back
@@ -117,7 +119,7 @@ pub answer_of-plan_form : (plan : PlanParts) → length plan.kept ≡ length pla
 answer_of-plan_form plan same = rw (plan-read plan same)
 
 chain-read : (chain : List ℕ) → All (λ n. n < 65536) chain → chain_of (chain_form chain) ≡ Ok chain
-unfolding chain_of
+unfolding chain_of keys_fit
 chain-read chain small = steps-read chain small
 
 -- the value of a chain is read back
@@ -141,7 +143,7 @@ depth-case c = depth_at c.aborted
     depth_at false = rw (items_depth-words c.states) (lit≤ tt)
 
 case-read : (definition : Contents) (states : List StepState) (aborted : Bool) → written_of (case_form (situation definition states aborted)) ≡ Ok (record { states = states; aborted = aborted })
-unfolding case_parts_of
+unfolding case_parts_of keys_fit
 case-read definition states true = rw (states-read states)
 case-read definition states false = rw (states-read states)
 

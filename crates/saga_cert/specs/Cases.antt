@@ -1,5 +1,5 @@
 -- The states that a JSON value holds, and the value that is written for a case.
-use Rattle.std.specs.Prelude.{ℕ, List, Bool, true, false, not, ◌||◌, Option, Some, None, Result, Ok, Err, codes, if◌then◌else◌, map}
+use Rattle.std.specs.Prelude.{ℕ, List, [], ◌∷◌, Bool, true, false, Option, Some, None, Result, Ok, Err, codes, if◌then◌else◌, map}
 use Rattle.std.specs.Str.{bytes_eq}
 use Rattle.serde_json.specs.Data.{Data, boolean, string, array, object, no_members, member, Members}
 use Rattle.serde_json.specs.Find.{get}
@@ -7,19 +7,17 @@ use Rattle.saga_case.specs.States.{word_of}
 use Rattle.saga_case.specs.declared.states.StepState.{StepState}
 use Rattle.saga_case.specs.declared.states.StepState.TheVariants.{Waiting, Running, Committed, Failed, Undoing, Undone, Fixed}
 use Rattle.saga_case.specs.Situation.{Situation}
-use Rattle.saga_cert.specs.declared.faults.CertFault.{CertFault}
-use Rattle.saga_cert.specs.declared.faults.CertFault.TheVariants.{Kind, UnknownKey, MissingKey, BadType}
-use Rattle.saga_cert.specs.Outcomes.{◌>>=◌}
-use Rattle.saga_cert.specs.Trees.{items_from, is_object}
-use Rattle.saga_cert.specs.Kinds.{has_key, has_only, value_in, list_of_each}
+use Rattle.saga_json.specs.declared.faults.JsonFault.{JsonFault}
+use Rattle.saga_json.specs.declared.faults.JsonFault.TheVariants.{Kind, BadType}
+use Rattle.saga_json.specs.Reads.{◌>>=◌}
+use Rattle.saga_json.specs.Trees.{items_from, is_object}
+use Rattle.saga_json.specs.Fields.{at_key, list_of_each}
+use Rattle.saga_json.specs.Keys.{keys_fit}
 
 -- ---- reading
 
-abbrev pub is_case_key : List ℕ → Bool
-is_case_key key = bytes_eq key (codes "states") || bytes_eq key (codes "aborted")
-
 -- the state of a word
-abbrev pub state_named : List ℕ → Result StepState CertFault
+abbrev pub state_named : List ℕ → Result StepState JsonFault
 state_named word =
     if bytes_eq word (codes "waiting") then Ok Waiting
     else (if bytes_eq word (codes "running") then Ok Running
@@ -29,12 +27,12 @@ state_named word =
     else (if bytes_eq word (codes "undone") then Ok Undone
     else (if bytes_eq word (codes "fixed") then Ok Fixed else Err BadType))))))
 
-abbrev pub state_of : Data → Result StepState CertFault
+abbrev pub state_of : Data → Result StepState JsonFault
 state_of (string word) = state_named word
 state_of _ = Err BadType
 
 -- a truth value; false where missing
-abbrev pub flag_in : Option Data → Result Bool CertFault
+abbrev pub flag_in : Option Data → Result Bool JsonFault
 flag_in None = Ok false
 flag_in (Some (boolean flag)) = Ok flag
 flag_in _ = Err BadType
@@ -44,19 +42,16 @@ pub record Written : Type 0 where
   pub states : List StepState
   pub aborted : Bool
 
-unfoldable pub case_parts_of : Data → Result Written CertFault
+unfoldable pub case_parts_of : Data → Result Written JsonFault
 case_parts_of value = do
-  found ← value_in (get (codes "states") value)
-  states ← list_of_each state_of found
+  _ ← keys_fit (codes "states" ∷ []) (codes "aborted" ∷ []) value
+  states ← at_key (list_of_each state_of) (codes "states") value
   aborted ← flag_in (get (codes "aborted") value)
   Ok (record { states = states; aborted = aborted })
 
 -- what a value holds, or the first fault
-abbrev pub written_of : Data → Result Written CertFault
-written_of value =
-    if not (is_object value) then Err Kind
-    else (if not (has_only is_case_key value) then Err UnknownKey
-    else (if not (has_key (codes "states") value) then Err MissingKey else case_parts_of value))
+abbrev pub written_of : Data → Result Written JsonFault
+written_of value = if is_object value then case_parts_of value else Err Kind
 
 -- ---- writing
 

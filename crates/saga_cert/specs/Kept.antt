@@ -1,8 +1,8 @@
 -- The list `kept` of a plan: the numbers of the steps that it keeps, which stand for a mark of each step.
 use Rattle.std.specs.Prelude.{ℕ, ◌+◌, List, [], ◌∷◌, Bool, true, false, ◌&&◌, ◌==◌, nat_lt, map, Result, Ok, Err, if◌then◌else◌}
 use Rattle.std.specs.List.{list_all, list_any, range_with_len}
-use Rattle.saga_cert.specs.declared.faults.CertFault.{CertFault}
-use Rattle.saga_cert.specs.declared.faults.CertFault.TheVariants.{Kept}
+use Rattle.saga_json.specs.declared.faults.JsonFault.{JsonFault}
+use Rattle.saga_json.specs.declared.faults.JsonFault.TheVariants.{Kept}
 
 -- the test of `IsStrictlyIncreasing`: each number is below the next
 abbrev pub is_increasing : List ℕ → Bool
@@ -18,7 +18,7 @@ is_kept count kept = is_increasing kept && list_all (λ n. nat_lt n count) kept
 abbrev pub marks_of : ℕ → List ℕ → List Bool
 marks_of count kept = map (λ step. list_any (λ n. n == step) kept) (range_with_len 0 count)
 
-abbrev pub kept_of : ℕ → List ℕ → Result (List Bool) CertFault
+abbrev pub kept_of : ℕ → List ℕ → Result (List Bool) JsonFault
 kept_of count kept = if is_kept count kept then Ok (marks_of count kept) else Err Kept
 
 -- the numbers of the true marks, where the first mark has the number `first`

@@ -5,35 +5,29 @@ use Rattle.saga_def.specs.Contents.{Contents}
 use Rattle.saga_case.specs.declared.answers.Answer.{Answer}
 use Rattle.saga_case.specs.declared.states.StepState.{StepState}
 use Rattle.saga_case.specs.Situation.{Situation, HasStates, IsFirstBusy}
-use Rattle.saga_cert.specs.declared.faults.CertFault.{CertFault}
-use Rattle.saga_cert.specs.declared.faults.CertFault.TheVariants.{NotJson, WrongLength, Busy, OutOfMemory}
-use Rattle.saga_cert.specs.Trees.{IsTextOf}
+use Rattle.saga_json.specs.declared.faults.JsonFault.{JsonFault}
+use Rattle.saga_json.specs.declared.faults.JsonFault.TheVariants.{NotJson, WrongLength, Busy, OutOfMemory}
+use Rattle.saga_json.specs.Texts.{IsTextOf}
 use Rattle.saga_cert.specs.Answers.{answer_of}
 use Rattle.saga_cert.specs.Cases.{Written, written_of}
 
--- the text is no JSON; or want of memory
-abbrev pub IsJsonFault : List ℕ → CertFault → Type 0
-IsJsonFault text NotJson = (value : Data) → IsTextOf value text → ⊥
-IsJsonFault text OutOfMemory = Unit {0}
-IsJsonFault text _ = ⊥
-
 -- the text is of a value that holds what this reading gives
-abbrev pub HoldsAnswer : List ℕ → Result Answer CertFault → Type 0
+abbrev pub HoldsAnswer : List ℕ → Result Answer JsonFault → Type 0
 HoldsAnswer text outcome = (value : Data) × IsTextOf value text × (answer_of value ≡ outcome)
 
 -- the answer that the text holds, or else the first fault, want of memory apart
-abbrev pub ReadsAnswer : List ℕ → Result Answer CertFault → Type 0
+abbrev pub ReadsAnswer : List ℕ → Result Answer JsonFault → Type 0
 ReadsAnswer text (Err NotJson) = (value : Data) → IsTextOf value text → ⊥
 ReadsAnswer text (Err OutOfMemory) = Unit {0}
 ReadsAnswer text (Err WrongLength) = ⊥
 ReadsAnswer text (Err (Busy step)) = ⊥
 ReadsAnswer text outcome = HoldsAnswer text outcome
 
-abbrev pub HoldsCase : List ℕ → Result Written CertFault → Type 0
+abbrev pub HoldsCase : List ℕ → Result Written JsonFault → Type 0
 HoldsCase text outcome = (value : Data) × IsTextOf value text × (written_of value ≡ outcome)
 
 -- the case of that definition that the text holds, or else the first fault, want of memory apart
-abbrev pub ReadsCase : Contents → List ℕ → Result Situation CertFault → Type 0
+abbrev pub ReadsCase : Contents → List ℕ → Result Situation JsonFault → Type 0
 ReadsCase definition text (Ok c) =
     HoldsCase text (Ok (record { states = c.states; aborted = c.aborted }))
     × (c.definition ≡ definition) × HasStates definition c.states
@@ -46,7 +40,7 @@ ReadsCase definition text (Err OutOfMemory) = Unit {0}
 ReadsCase definition text (Err fault) = HoldsCase text (Err fault)
 
 -- why states make no case of the definition
-abbrev pub IsCaseFault : Contents → List StepState → CertFault → Type 0
+abbrev pub IsCaseFault : Contents → List StepState → JsonFault → Type 0
 IsCaseFault definition states WrongLength = length states ≢ length definition.steps
 IsCaseFault definition states (Busy step) = (length states ≡ length definition.steps) × IsFirstBusy states step
 IsCaseFault definition states _ = ⊥

@@ -3,13 +3,13 @@ ghost use Rattle.std.specs.Prelude.{◌≡◌, IfOk, IfErr};
 ghost use Rattle.saga_case.specs.Situation.{situation, HasStates};
 ghost use Rattle.saga_cert.specs.Reads.{IsCaseFault};
 
-use crate::faults::CertFault;
 use crate::states::Written;
 use saga_case::{Case, CaseFault};
 use saga_def::Definition;
+use saga_json::JsonFault;
 
 /// The case, which takes no memory.
-pub fn case_of<'d>(definition: &'d Definition, written: Written) -> Result<Case<'d>, CertFault>
+pub fn case_of<'d>(definition: &'d Definition, written: Written) -> Result<Case<'d>, JsonFault>
     ensures made { IfOk result
         (λ c. (c ≡ situation definition.entry.now written.states.items written.aborted)
         × HasStates definition.entry.now written.states.items) }
@@ -23,7 +23,7 @@ pub fn case_of<'d>(definition: &'d Definition, written: Written) -> Result<Case<
     };
     match made {
         Ok(case) => Ok(case),
-        Err(CaseFault::WrongLength(_)) => Err(CertFault::WrongLength),
-        Err(CaseFault::Busy(step, _)) => Err(CertFault::Busy(step)),
+        Err(CaseFault::WrongLength(_)) => Err(JsonFault::WrongLength),
+        Err(CaseFault::Busy(step, _)) => Err(JsonFault::Busy(step)),
     }
 }

@@ -2,10 +2,10 @@
 ghost use Rattle.std.specs.Prelude.{◌≡◌, ◌↔◌, nat_lt, IsTrue, IfOk};
 ghost use Rattle.std.specs.List.{list_all};
 ghost use Rattle.std.specs.List.Sorted.{IsStrictlyIncreasing};
-ghost use Rattle.saga_cert.specs.Outcomes.{Gives};
+ghost use Rattle.saga_json.specs.Reads.{Gives};
 ghost use Rattle.saga_cert.specs.Kept.{is_kept, marks_of, kept_of};
 
-use crate::faults::CertFault;
+use saga_json::JsonFault;
 use std::alloc::{AllocError, Global};
 
 /// Whether each number is below the next.
@@ -40,11 +40,11 @@ fn marks_of(alloc: Global, numbers: &[u64], count: usize) -> Result<Vec<bool>, A
 }
 
 /// The marks of a list whose numbers increase below the count.
-pub fn kept_of(alloc: Global, numbers: &[u64], count: usize) -> Result<Vec<bool>, CertFault>
+pub fn kept_of(alloc: Global, numbers: &[u64], count: usize) -> Result<Vec<bool>, JsonFault>
     ensures { Gives (λ marks. marks.items) result (kept_of count numbers.now) }
 {
     if !is_kept(numbers, count) {
-        return Err(CertFault::Kept);
+        return Err(JsonFault::Kept);
     }
     Ok(marks_of(alloc, numbers, count)?)
 }

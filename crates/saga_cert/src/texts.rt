@@ -1,45 +1,26 @@
 //! Reading and writing the texts.
-ghost use Rattle.std.specs.Prelude.{◌≡◌, MatchResult, IfOk, Ok, string_bytes};
-ghost use Rattle.serde_json.specs.View.{view};
+ghost use Rattle.std.specs.Prelude.{◌≡◌, IfOk, Ok, string_bytes};
 ghost use Rattle.serde_json.specs.Written.{compact_text};
-ghost use Rattle.saga_cert.specs.Trees.{IsTextOf};
 ghost use Rattle.saga_cert.specs.Answers.{answer_form, IsPaired};
 ghost use Rattle.saga_cert.specs.Cases.{case_form};
-ghost use Rattle.saga_cert.specs.Reads.{IsJsonFault, ReadsAnswer, ReadsCase};
+ghost use Rattle.saga_cert.specs.Reads.{ReadsAnswer, ReadsCase};
 
 use crate::answers::answer_of_value;
 use crate::cases::case_of;
-use crate::faults::CertFault;
 use crate::states::written_of;
 use crate::written_answers::value_of_answer;
 use crate::written_cases::value_of_case;
 use saga_case::{Answer, Case};
 use saga_def::Definition;
-use serde_json::Value;
+use saga_json::{JsonFault, value_of_text};
 use std::alloc::{AllocError, Global};
-
-/// The JSON value of a text, as `serde_json` reads it; `NotJson`, or want of memory.
-pub fn value_of_text(alloc: Global, bytes: &[u8]) -> Result<Value, CertFault>
-    ensures { MatchResult result (λ v. IsTextOf (view v) bytes.now) (IsJsonFault bytes.now) }
-{
-    match Value::from_slice(alloc, bytes) {
-        Ok(value) => Ok(value),
-        Err(error) => {
-            if error.is_memory() {
-                Err(CertFault::OutOfMemory)
-            } else {
-                Err(CertFault::NotJson)
-            }
-        }
-    }
-}
 
 /// Reads a case of a definition, in time linear in the text.
 pub fn read_case<'d>(
     alloc: Global,
     definition: &'d Definition,
     bytes: &[u8],
-) -> Result<Case<'d>, CertFault>
+) -> Result<Case<'d>, JsonFault>
     ensures { ReadsCase definition.entry.now bytes.now result }
 {
     let value = value_of_text(alloc, bytes)?;
@@ -48,7 +29,7 @@ pub fn read_case<'d>(
 }
 
 /// Reads an answer, in time linear in the text. Its lists may have any lengths.
-pub fn read_answer(alloc: Global, bytes: &[u8]) -> Result<Answer, CertFault>
+pub fn read_answer(alloc: Global, bytes: &[u8]) -> Result<Answer, JsonFault>
     ensures { ReadsAnswer bytes.now result }
 {
     let value = value_of_text(alloc, bytes)?;

@@ -4,7 +4,7 @@ ghost use Rattle.serde_json.specs.Data.{array, string};
 ghost use Rattle.serde_json.specs.View.{view};
 ghost use Rattle.saga_case.specs.States.{word_of};
 ghost use Rattle.saga_case.specs.Situation.{IsAtRest};
-ghost use Rattle.saga_cert.specs.Trees.{items_from};
+ghost use Rattle.saga_json.specs.Trees.{items_from};
 ghost use Rattle.saga_cert.specs.Cases.{case_form};
 
 use saga_case::{Case, StepState};

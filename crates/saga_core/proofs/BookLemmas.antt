@@ -1,34 +1,29 @@
 -- A book, one event further.
 use Rattle.std.proofs.Common.{◌≡◌, ℕ, ◌+◌, ◌*◌, ◌/◌, ◌%◌, ◌-◌, ◌<◌, ◌≤◌, Bool, true, false, List, [], ◌∷◌, ◌++◌, length, Option, Some, refl, sym, ap, ◌∙◌, subst, inl, inr, arith, get_or, set, eqb, IsSomeAnd}
 use Rattle.std.specs.Prelude.{if◌then◌else◌}
-use Rattle.std.proofs.lemmas.Option.{slice_get-get_or}
 use Rattle.std.proofs.Math.Nat.{mul-mod_left, mul-div_cancel}
 use Rattle.std.proofs.lemmas.Bool.{cases_eq, eq-eqb, ne_eqb}
 use Rattle.std.proofs.lemmas.List.{get_or-set_other, get_or-set_same, length-set}
 use Rattle.std.proofs.lemmas.List.Sums.{get_or-le-sum_by, sum_by-set}
 use Rattle.saga_def.specs.Contents.{Contents}
-use Rattle.saga_def.specs.Sound.{IsSound}
 use Rattle.saga_case.specs.declared.states.StepState.{StepState}
 use Rattle.saga_case.specs.declared.states.StepState.TheVariants.{Waiting}
 use Rattle.saga_history.specs.declared.events.Event.{Event}
-use Rattle.saga_history.specs.declared.tasks.Outcome.{Outcome}
-use Rattle.saga_history.specs.declared.tasks.Outcome.TheVariants.{Done, Failed}
 use Rattle.saga_history.specs.declared.transitions.Transition.{Transition}
 use Rattle.saga_history.specs.declared.transitions.Transition.TheVariants as transition
 use Rattle.saga_history.specs.declared.turns.Turn.{Turn}
 use Rattle.saga_history.specs.Changes.{moves, saga_of, change_of, past, changes, step_event}
 use Rattle.saga_history.specs.Merges.{is_opening, opened_sagas}
-use Rattle.saga_history.specs.Rules.{definition, IsAllowed, StepMay, tries, undo_tries}
+use Rattle.saga_history.specs.Rules.{definition, IsAllowed, StepMay}
 use Rattle.saga_history.specs.States.{is_busy, state_after}
 use Rattle.saga_history.specs.Turns.{opened_with, turn_after_transition}
 use Rattle.saga_history.proofs.MergeLemmas.{changes_push_other, legal_push, past_push}
 use Rattle.saga_history.proofs.SagaLemmas.{IsLegalUnder, changes_own, legal_under, saga_is_legal}
-use Rattle.saga_history.proofs.TallyLemmas.{few_of}
-use Rattle.saga_history.proofs.TurnLemmas.{any_step}
-use Rattle.saga_rows.specs.Row.{HasRoom, Row, miss_in, one_if, row_after, state_at, undo_miss_in}
+use Rattle.saga_rows.specs.Row.{HasRoom, Row, one_if, row_after, state_at}
 use Rattle.saga_rows.specs.Rows.{no_row, row_at}
-use Rattle.saga_rows.specs.Follows.{Follows, IsEndOfRun, IsEndOfUndo, RowMay}
+use Rattle.saga_rows.specs.Follows.{Follows, RowMay}
 use Rattle.saga_rows.proofs.FollowLemmas.{follows_move, may_from, may_into}
+use Rattle.saga_rows.proofs.FollowLemmas as follow
 use Rattle.saga_core.specs.Book.{IsBook, busy_in, number, plans_in, plans_in_turn}
 use Rattle.saga_core.specs.Journal.{Journal}
 use Rattle.saga_core.specs.Tasks.{begins}
@@ -114,30 +109,6 @@ follow_push shelf number_of rows h e k row lt named apart follow now j below = e
       rw (changes_push_other (number_of j) h e away, get_or-set_other rows k j row no_row other) (follow j (omega (arith, length-set rows k row, below)))
 ]
 
-miss_small : (t : Transition) → (miss_in t ≤ 1) × (undo_miss_in t ≤ 1)
-miss_small transition.StartRun = (omega arith, omega arith)
-miss_small transition.Commit = (omega arith, omega arith)
-miss_small transition.Missed = (omega arith, omega arith)
-miss_small transition.Fail = (omega arith, omega arith)
-miss_small transition.StartUndo = (omega arith, omega arith)
-miss_small transition.Undone = (omega arith, omega arith)
-miss_small transition.UndoMissed = (omega arith, omega arith)
-miss_small transition.UndoFail = (omega arith, omega arith)
-
-most_tries : (d : Contents) (s : ℕ) → IsSound d → s < length d.steps → (tries d s ≤ 9) × (undo_tries d s ≤ 9)
-most_tries d s sound lt =
-    let t = sound.tries s any_step lt in
-    rw (slice_get-get_or d.steps s any_step lt) (t.few, t.few_undo)
-
--- the transitions that end something begin nothing
-pub run_ends : (outcome : Outcome) (t : Transition) → IsEndOfRun outcome t → begins t ≡ false
-run_ends Done t is = ap begins is
-run_ends Failed t is = elim is [ inl e ↦ ap begins e | inr e ↦ ap begins e ]
-
-pub undo_ends : (outcome : Outcome) (t : Transition) → IsEndOfUndo outcome t → begins t ≡ false
-undo_ends Done t is = ap begins is
-undo_ends Failed t is = elim is [ inl e ↦ ap begins e | inr e ↦ ap begins e ]
-
 -- a transition that begins something leads from a state in which nothing is owed to one in which an end is
 begin_busy : (t : Transition) (row : Row) (s : ℕ) → begins t ≡ true → RowMay row s t → (one_if (is_busy (state_at row.states s)) ≡ 0) × (one_if (is_busy (state_after t)) ≡ 1)
 begin_busy transition.StartRun row s e may = (ap (λ x. one_if (is_busy x)) may.waiting, refl)
@@ -196,15 +167,7 @@ module _ (shelf : List Contents) (first stride : ℕ) (rows : List Row) (j : Jou
     legal_row = legal_under shelf (row_at rows k).definition (changes (number first stride k) (past j.history)) (saga_is_legal shelf (number first stride k) (past j.history) b.legal) (b.follow k lt).defined
 
     pub has_room : (s : ℕ) (t : Transition) → s < length (row_at rows k).definition.steps → HasRoom (row_at rows k) s t
-    has_room s t below =
-        let f = b.follow k lt in
-        let few = few_of (row_at rows k).definition (changes (number first stride k) (past j.history)) s f.sound legal_row below in
-        let small = miss_small t in
-        let most = most_tries (row_at rows k).definition s f.sound below in
-        record {
-          few = omega (arith, few.few, small.0, most.0, f.misses_are s below);
-          few_undo = omega (arith, few.few_undo, small.1, most.1, f.undo_misses_are s below);
-        }
+    has_room s t = follow.has_room shelf (row_at rows k) (changes (number first stride k) (past j.history)) (b.follow k lt) s t legal_row
 
     pub move_allowed : (i s : ℕ) (t : Transition) → i ≡ number first stride k → RowMay (row_at rows k) s t → IsAllowed shelf (past j.history) (step_event i s t)
     move_allowed i s t is may =
@@ -224,7 +187,7 @@ module _ (shelf : List Contents) (first stride : ℕ) (rows : List Row) (j : Jou
     busy_step : (s : ℕ) (t : Transition) → s < length (row_at rows k).definition.steps → busy_in (row_after (row_at rows k) s t) + one_if (is_busy (state_at (row_at rows k).states s)) ≡ busy_in (row_at rows k) + one_if (is_busy (state_after t))
     busy_step s t below = sum_by-set (λ (x : StepState). one_if (is_busy x)) (row_at rows k).states s (state_after t) Waiting (omega (arith, below, (b.follow k lt).sized.states))
 
-    is_step : (s : ℕ) (t : Transition) → RowMay (row_at rows k) s t → s < length (row_at rows k).definition.steps
+    pub is_step : (s : ℕ) (t : Transition) → RowMay (row_at rows k) s t → s < length (row_at rows k).definition.steps
     is_step s t may = (may_into shelf (row_at rows k) _ (b.follow k lt) s t legal_row may).is_step
 
     pub begin_book : (i s : ℕ) (t : Transition) → i ≡ number first stride k → begins t ≡ true → RowMay (row_at rows k) s t → IsBook shelf first stride (set rows k (row_after (row_at rows k) s t)) (record { history = j.history ++ step_event i s t ∷ []; owed = j.owed + 1; plans = j.plans })

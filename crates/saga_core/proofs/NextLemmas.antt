@@ -1,6 +1,6 @@
 -- The first task of a book, and what follows where there is none.
-use Rattle.std.proofs.Common.{◌≡◌, ℕ, zero, suc, ◌*◌, ◌<◌, ◌⊎◌, List, length, None, refl, sym, ap, ◌∙◌, subst, inl, inr, arith, IsSomeAnd}
-use Rattle.std.proofs.Math.Nat.{mul-lt-mul_of_pos_right}
+use Rattle.std.proofs.Common.{◌≡◌, ℕ, zero, suc, ◌+◌, ◌*◌, ◌<◌, ◌≤◌, ◌⊎◌, List, length, None, refl, sym, ap, ◌∙◌, subst, inl, inr, arith, IsSomeAnd}
+use Rattle.std.proofs.Math.Nat.{mul-le-mul, mul-lt-mul_of_pos_right}
 use Rattle.std.proofs.lemmas.Bool.{cases_eq, cases_lt}
 use Rattle.saga_def.specs.Contents.{Contents}
 use Rattle.saga_history.specs.declared.events.Event.{Event}
@@ -15,13 +15,14 @@ use Rattle.saga_history.proofs.ProgressLemmas.{all_ended_or_wait}
 use Rattle.saga_history.proofs.SagaLemmas.{holds_at}
 use Rattle.saga_rows.specs.declared.tasks.RowTask.{RowTask}
 use Rattle.saga_rows.specs.declared.tasks.RowTask.TheVariants as row
-use Rattle.saga_rows.specs.Row.{Row, RowAllows, RowAllowsNone, task_step}
+use Rattle.saga_rows.specs.Row.{IsFirstOfRow, Row, RowAllows, RowAllowsNone, task_step}
 use Rattle.saga_rows.specs.Rows.{IsNext, row_at}
 use Rattle.saga_rows.proofs.FollowLemmas.{may_from, plan_from, plan_into}
+use Rattle.saga_rows.specs.declared.rows.TheConstants.{MAX_ROWS}
 use Rattle.saga_core.specs.Book.{IsBook, number}
 use Rattle.saga_core.specs.Journal.{Journal}
-use Rattle.saga_core.specs.Tasks.{AllRest, IsFirstTask, NoTaskIsAllowed, saga_of_task, step_of_task, task_of}
-use Rattle.saga_core.proofs.BookLemmas.{move_allowed}
+use Rattle.saga_core.specs.Tasks.{AllRest, IsFirstTask, IsFirstTaskFrom, NoTaskIsAllowed, NoTaskIsAllowedFrom, row_task, saga_of_task, step_of_task, task_of}
+use Rattle.saga_core.proofs.BookLemmas.{move_allowed, number_apart}
 use Rattle.saga_core.proofs.SagaLemmas.{of_saga}
 
 -- a number is that of a row, or of none
@@ -43,11 +44,6 @@ abbrev Asks : RowTask → Contents → List Change → Type 0
 Asks (row.Run s) d l = SagaMay d l (moves s transition.StartRun)
 Asks (row.Undo s) d l = SagaMay d l (moves s transition.StartUndo)
 Asks row.Plan d l = SagaMay d l starts_plan
-
-abbrev row_task : Task → RowTask
-row_task (Run i s) = row.Run s
-row_task (Undo i s) = row.Undo s
-row_task (Plan i) = row.Plan
 
 asked : (shelf : List Contents) (h : List Event) (u : Task) → TaskIsAllowed shelf h u → IsSomeAnd (definition shelf (changes (saga_of_task u) h)) (λ d. Asks (row_task u) d (changes (saga_of_task u) h))
 asked shelf h (Run i s) may = may
@@ -115,3 +111,53 @@ module _ (shelf : List Contents) (first stride : ℕ) (rows : List Row) (j : Jou
 
   pub next_rests : ((k : ℕ) → k < length rows → RowAllowsNone (row_at rows k)) → AllRest shelf (past j.history)
   next_rests none i d at = all_ended_or_wait shelf (past j.history) b.sound b.legal i d at (λ t named may. next_none none t may)
+
+  -- the same of the sagas from a number on
+  pub from_none : (from : ℕ) → ((k : ℕ) → k < length rows → from ≤ number first stride k → RowAllowsNone (row_at rows k))
+      → NoTaskIsAllowedFrom shelf (past j.history) from
+  from_none from none u may within =
+      let r = task_row u may in none r.0 r.1 (subst (λ (v : ℕ). from ≤ v) r.2 within) (row_task u) r.3
+
+  pub from_first : (from k : ℕ) (t : RowTask) → k < length rows → from ≤ number first stride k → IsFirstOfRow (row_at rows k) t
+      → ((m : ℕ) → m < k → from ≤ number first stride m → RowAllowsNone (row_at rows m))
+      → IsFirstTaskFrom shelf (past j.history) from (task_of (number first stride k) t)
+  from_first from k t lt far may before = record {
+    allowed = row_into k lt t may.0;
+    within = let own = saga_same t (number first stride k) in omega (arith, own.0, far);
+    first = λ u allowed within.
+        let r = task_row u allowed in
+        let own = saga_same t (number first stride k) in
+        elim (cases_lt r.0 k) [
+          | inl less ↦ absurd (before r.0 less (subst (λ (v : ℕ). from ≤ v) r.2 within) (row_task u) r.3)
+          | inr more ↦ elim (cases_eq k r.0) [
+            | inl e ↦ inr (
+              own.0 ∙ ap (number first stride) e ∙ sym r.2,
+              let le = may.1 (row_task u) (subst (λ (v : ℕ). RowAllows (row_at rows v) (row_task u)) (sym e) r.3) in omega (arith, le, own.1, step_same u),
+            )
+            | inr ne ↦ inl (let far = number_below k r.0 (omega (arith, more, ne)) in omega (arith, far, own.0, r.2))
+          ]
+        ];
+  }
+
+  pub from_small : (k : ℕ) (t : RowTask) → k < length rows → saga_of_task (task_of (number first stride k) t) < 16 * (MAX_ROWS + 1)
+  from_small k t lt =
+      let own = saga_same t (number first stride k) in
+      let few : k ≤ MAX_ROWS = omega (arith, lt, b.few) in
+      let many : k * stride ≤ MAX_ROWS * 16 = mul-le-mul few b.near in
+      omega (arith, own.0, many, b.begins, b.near)
+
+  -- a task is allowed where its row allows it, and none is of a saga without a row
+  pub begin_into : (u : Task) (k : ℕ) → k < length rows → saga_of_task u ≡ number first stride k → RowAllows (row_at rows k) (row_task u)
+      → TaskIsAllowed shelf (past j.history) u
+  begin_into (Run i s) k lt is may = subst (λ (v : ℕ). TaskIsAllowed shelf (past j.history) (Run v s)) (sym is) (row_into k lt (row.Run s) may)
+  begin_into (Undo i s) k lt is may = subst (λ (v : ℕ). TaskIsAllowed shelf (past j.history) (Undo v s)) (sym is) (row_into k lt (row.Undo s) may)
+  begin_into (Plan i) k lt is may = subst (λ (v : ℕ). TaskIsAllowed shelf (past j.history) (Plan v)) (sym is) (row_into k lt row.Plan may)
+
+  pub begin_from : (u : Task) (k : ℕ) → saga_of_task u ≡ number first stride k → TaskIsAllowed shelf (past j.history) u → RowAllows (row_at rows k) (row_task u)
+  begin_from u k is may =
+      let r = task_row u may in
+      let same : r.0 ≡ k = number_apart first stride r.0 k (omega (arith, b.begins)) (sym r.2 ∙ is) in
+      subst (λ (v : ℕ). RowAllows (row_at rows v) (row_task u)) same r.3
+
+  pub begin_none : (u : Task) → ((k : ℕ) → k < length rows → saga_of_task u ≡ number first stride k → ⊥) → TaskIsAllowed shelf (past j.history) u → ⊥
+  begin_none u none may = let r = task_row u may in none r.0 r.1 r.2

@@ -4,14 +4,15 @@ use Rattle.saga_def.specs.Contents.{Contents}
 use Rattle.saga_case.specs.declared.states.StepState.{StepState}
 use Rattle.saga_case.specs.Situation.{Situation}
 use Rattle.saga_history.specs.declared.events.Event.{Event}
+use Rattle.saga_history.specs.declared.tasks.Kind.{Kind}
 use Rattle.saga_history.specs.declared.tasks.Outcome.{Outcome}
 use Rattle.saga_history.specs.declared.transitions.Transition.{Transition}
 use Rattle.saga_history.specs.declared.turns.Turn.TheVariants.{Planning}
 use Rattle.saga_history.specs.Changes.{Change, past, changes, step_event}
 use Rattle.saga_history.specs.Rules.{definition, IsAllowed, SagaMay, StepMay}
 use Rattle.saga_history.specs.States.{state}
+use Rattle.saga_history.specs.Tasks.{IsEndOf}
 use Rattle.saga_history.specs.Turns.{opened_with, present_case, turn}
-use Rattle.saga_rows.specs.Follows.{IsEndOfRun, IsEndOfUndo}
 use Rattle.saga_rows.specs.declared.rows.TheConstants.{MAX_ROWS}
 use Rattle.saga_core.specs.Book.{Book, sagas_in, with_event}
 use Rattle.saga_core.specs.declared.refusals.AdoptRefusal.{AdoptRefusal}
@@ -59,12 +60,9 @@ pub record GainsTransition (old new : Book) (i s : ℕ) (t : Transition) : Type 
   pub allowed : IsAllowed old.shelf (past old.history) (step_event i s t)
   pub gains : new ≡ with_event old (step_event i s t)
 
--- of the transitions by which an action ends with that outcome, the book gained the one that was allowed
-abbrev pub RunIsReported : Book → Book → ℕ → ℕ → Outcome → Type 0
-RunIsReported old new i s outcome = (t : Transition) × IsEndOfRun outcome t × GainsTransition old new i s t
-
-abbrev pub UndoIsReported : Book → Book → ℕ → ℕ → Outcome → Type 0
-UndoIsReported old new i s outcome = (t : Transition) × IsEndOfUndo outcome t × GainsTransition old new i s t
+-- of the transitions by which an action, or a compensation, ends with that outcome, the book gained the one that was allowed
+abbrev pub IsReported : Kind → Book → Book → ℕ → ℕ → Outcome → Type 0
+IsReported kind old new i s outcome = (t : Transition) × IsEndOf kind outcome t × GainsTransition old new i s t
 
 -- why a change of the saga as a whole is not made
 abbrev pub SagaRefused : List Contents → List Event → ℕ → Change → SagaRefusal → Type 0

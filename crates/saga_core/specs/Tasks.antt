@@ -42,11 +42,25 @@ pub record IsFirstTask (shelf : List Contents) (h : List Event) (t : Task) : Typ
 abbrev pub NoTaskIsAllowed : List Contents → List Event → Type 0
 NoTaskIsAllowed shelf h = (t : Task) → TaskIsAllowed shelf h t → ⊥
 
+-- the same of the sagas from a number on
+pub record IsFirstTaskFrom (shelf : List Contents) (h : List Event) (from : ℕ) (t : Task) : Type 0 where
+  pub allowed : TaskIsAllowed shelf h t
+  pub within : from ≤ saga_of_task t
+  pub first : (u : Task) → TaskIsAllowed shelf h u → from ≤ saga_of_task u → IsNotAfter t u
+
+abbrev pub NoTaskIsAllowedFrom : List Contents → List Event → ℕ → Type 0
+NoTaskIsAllowedFrom shelf h from = (t : Task) → TaskIsAllowed shelf h t → from ≤ saga_of_task t → ⊥
+
 -- the task of a row, as one of its saga
 abbrev pub task_of : ℕ → RowTask → Task
 task_of i (row.Run s) = Run i s
 task_of i (row.Undo s) = Undo i s
 task_of i row.Plan = Plan i
+
+abbrev pub row_task : Task → RowTask
+row_task (Run i s) = row.Run s
+row_task (Undo i s) = row.Undo s
+row_task (Plan i) = row.Plan
 
 -- the transition begins an action or a compensation
 abbrev pub begins : Transition → Bool

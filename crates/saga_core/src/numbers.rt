@@ -1,11 +1,12 @@
 //! The numbers of a book's sagas, and of their tasks.
-ghost use Rattle.std.specs.Prelude.{ℕ, ◌≡◌, ◌<◌, ◌≤◌, MatchOption, length};
+ghost use Rattle.std.specs.Prelude.{ℕ, ◌≡◌, ◌<◌, ◌≤◌, ◌↔◌, IsTrue, MatchOption, length};
 ghost use Rattle.saga_core.specs.Book.{number};
 ghost use Rattle.saga_core.specs.Tasks as tasks;
+ghost use Rattle.saga_rows.specs.Row.{RowAllows};
 ghost use Rattle.saga_rows.specs.declared.rows.TheConstants.{MAX_ROWS};
 
 use saga_history::Task;
-use saga_rows::{RowTask, Rows};
+use saga_rows::{Row, RowTask, Rows};
 
 /// The place of a saga among the rows, by its number.
 pub fn place_of(rows: &Rows, first: u32, stride: u32, saga: u32) -> Option<usize>
@@ -44,5 +45,25 @@ pub fn task_of(saga: u32, task: RowTask) -> Task
         RowTask::Run(step) => Task::Run(saga, step),
         RowTask::Undo(step) => Task::Undo(saga, step),
         RowTask::Plan => Task::Plan(saga),
+    }
+}
+
+/// The saga of a task.
+pub fn saga_of(task: Task) -> u32
+    ensures { result ≡ tasks.saga_of_task task }
+{
+    match task {
+        Task::Run(saga, _) | Task::Undo(saga, _) | Task::Plan(saga) => saga,
+    }
+}
+
+/// Whether a row allows a task of its saga.
+pub fn allows(row: &Row, task: Task) -> bool
+    ensures { IsTrue result ↔ RowAllows row.now (tasks.row_task task) }
+{
+    match task {
+        Task::Run(_, step) => (step as usize) < row.steps() && row.may_run(step),
+        Task::Undo(_, step) => (step as usize) < row.steps() && row.may_undo(step),
+        Task::Plan(_) => row.may_plan(),
     }
 }

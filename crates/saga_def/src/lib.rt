@@ -2,6 +2,32 @@
 //!
 //! A [`Definition`] is made by [`Definition::build`] alone. Each one is sound: within the limits, with good and
 //! distinct names, needs that are known and single, prices and tries in range, and no step that precedes itself.
+//!
+//! A hotel that needs a flight:
+//!
+//! ```
+//! let mut steps = Vec::new(alloc);
+//! for name in ["flight", "hotel"] {
+//!     let name = Text::new(String::from_str(alloc, name).ok()?);
+//!     let (run, undo, skip, keep) = (Of(0), Of(2), Of(0), Of(5));
+//!     steps
+//!         .push(Step {
+//!             name,
+//!             run,
+//!             undo,
+//!             skip,
+//!             keep,
+//!             tries: 1,
+//!             undo_tries: 1,
+//!         })
+//!         .ok()?;
+//! }
+//! // The hotel needs the flight.
+//! let mut needs = Vec::new(alloc);
+//! needs.push(Need { step: 1, on: 0 }).ok()?;
+//! let name = Text::new(String::from_str(alloc, "trip").ok()?);
+//! Definition::build(alloc, name, steps, needs).ok()
+//! ```
 #![tactic(auto)]
 
 mod adjacency;

@@ -1,8 +1,10 @@
 -- What is known of books that a desk gives.
-use Rattle.std.proofs.Common.{◌≡◌, ℕ, suc, ◌<◌, ◌≤◌, ◌+◌, List, [], ◌∷◌, length, get_or, refl, sym, ap, ◌∙◌, subst, arith, inl, inr, Some}
+use Rattle.std.proofs.Common.{◌≡◌, ℕ, suc, ◌<◌, ◌≤◌, ◌+◌, List, [], ◌∷◌, ◌++◌, length, length-append, get_or, refl, sym, ap, ◌∙◌, subst, arith, inl, inr, Some}
 use Rattle.std.specs.List.{slice_get}
 use Rattle.std.proofs.lemmas.Bool.{cases_eq}
-use Rattle.std.proofs.lemmas.Option.{get_or_from_slice_get, slice_get-get_or}
+use Rattle.std.proofs.lemmas.Option.{get_or_from_slice_get, slice_get-get_or, slice_get_within}
+use Rattle.std.proofs.lemmas.List.{get_or_append_left}
+use Rattle.std.proofs.Math.Seq.{get_or-append_seam}
 use Rattle.saga_def.specs.Contents.{Contents}
 use Rattle.saga_history.specs.Changes.{past}
 use Rattle.saga_history.specs.Merges.{AllDisjoint, AreDisjoint, EachHistory, IsNumbered}
@@ -76,3 +78,20 @@ keep_more books i x lt is kept before k b below at = elim (cases_eq k i) [
       subst KeepsLegalHistory same kept
   | inr ne ↦ before k b (omega arith) at
 ]
+
+-- ---- slots that are numbered by their places
+pub numbered_more : {X : Type 0} (number : X → ℕ) (xs : List X) (x : X) (n : ℕ) → length xs ≡ n → number x ≡ n
+    → ((k : ℕ) (y : X) → slice_get xs k ≡ Some y → number y ≡ k)
+    → (k : ℕ) (y : X) → slice_get (xs ++ x ∷ []) k ≡ Some y → number y ≡ k
+numbered_more number xs x n len is before k y at =
+    let within = slice_get_within (xs ++ x ∷ []) k y at in
+    let here : get_or (xs ++ x ∷ []) k x ≡ y = get_or_from_slice_get (xs ++ x ∷ []) k y x at in
+    elim (cases_eq k n) [
+      | inl e ↦
+          let last : get_or (xs ++ x ∷ []) k x ≡ x = ap (λ z. get_or (xs ++ x ∷ []) z x) (e ∙ sym len) ∙ get_or-append_seam xs x [] x in
+          ap number (sym here ∙ last) ∙ (is ∙ sym e)
+      | inr ne ↦
+          let lt : k < length xs = omega (arith, length-append xs (x ∷ [])) in
+          let same : get_or xs k x ≡ y = sym (get_or_append_left xs (x ∷ []) x k lt) ∙ here in
+          before k y (slice_get-get_or xs k x lt ∙ ap Some same)
+    ]

@@ -3,3 +3,4 @@ pub mod MergeLemmas
 pub mod RestLemmas
 mod StepLemmas
 mod FinishLemmas
+mod ServeLemmas

@@ -1,5 +1,5 @@
 -- What calls do to a book and to a seat.
-use Rattle.std.specs.Prelude.{◌≡◌, ℕ, ◌+◌, ◌-◌, ◌⊎◌, Bool, true, false, List, [], ◌∷◌, ◌++◌, length, slice_get, IsSomeAnd}
+use Rattle.std.specs.Prelude.{◌≡◌, ℕ, ◌+◌, ◌-◌, Bool, true, false, List, [], ◌∷◌, ◌++◌, length, slice_get, IsSomeAnd}
 use Rattle.saga_def.specs.Contents.{Contents}
 use Rattle.saga_def.specs.declared.steps.Step.{Step}
 use Rattle.saga_history.specs.declared.events.Event.{Event}
@@ -7,16 +7,16 @@ use Rattle.saga_history.specs.declared.events.Event.TheVariants as event
 use Rattle.saga_history.specs.declared.events.Mark.{Mark}
 use Rattle.saga_history.specs.declared.events.Mark.TheVariants as mark
 use Rattle.saga_history.specs.declared.tasks.Outcome.{Outcome}
-use Rattle.saga_history.specs.declared.tasks.Outcome.TheVariants.{Done, Failed}
 use Rattle.saga_history.specs.declared.tasks.Task.TheVariants as task
 use Rattle.saga_history.specs.declared.transitions.Transition.{Transition}
 use Rattle.saga_history.specs.declared.transitions.Transition.TheVariants as transition
-use Rattle.saga_history.specs.Changes.{Change, past, changes, mark_of, step_event}
-use Rattle.saga_history.specs.Rules.{IsAllowed, misses_of, undo_misses_of}
+use Rattle.saga_history.specs.Changes.{past, changes, mark_of, step_event}
+use Rattle.saga_history.specs.Rules.{IsAllowed}
+use Rattle.saga_history.specs.Tasks.{IsEndOf, missed}
 use Rattle.saga_core.specs.Book.{Book, with_event}
 use Rattle.saga_core.specs.Refusals.{IsPresentCase, OfSaga}
-use Rattle.saga_core.specs.Tasks.{IsFirstTask}
-use Rattle.saga_desk.specs.Job.{Job}
+use Rattle.saga_core.specs.Tasks.{AllAreOver, IsFirstTask, NoTaskIsAllowed}
+use Rattle.saga_desk.specs.Job.{Job, kind_of}
 use Rattle.saga_desk.specs.Seat.{Seat}
 use Rattle.saga_desk.specs.declared.jobs.Claim.{Claim}
 use Rattle.saga_desk.specs.declared.jobs.Claim.TheVariants.{Run, Undo, Plan, Idle, Settled}
@@ -41,18 +41,6 @@ abbrev pub start_of : Bool → Transition
 start_of false = transition.StartRun
 start_of true = transition.StartUndo
 
--- the transitions with which it may end, by its outcome
-abbrev pub IsEndOf : Bool → Outcome → Transition → Type 0
-IsEndOf false Done t = t ≡ transition.Commit
-IsEndOf false Failed t = (t ≡ transition.Missed) ⊎ (t ≡ transition.Fail)
-IsEndOf true Done t = t ≡ transition.Undone
-IsEndOf true Failed t = (t ≡ transition.UndoMissed) ⊎ (t ≡ transition.UndoFail)
-
--- how often it was missed
-abbrev pub misses_before : Bool → List Change → ℕ → ℕ
-misses_before false l s = misses_of l s
-misses_before true l s = undo_misses_of l s
-
 -- the step of a definition has that name
 abbrev pub IsNamed : Contents → ℕ → List ℕ → Type 0
 IsNamed d s name = IsSomeAnd (slice_get d.steps s) (λ (step : Step). step.name ≡ name)
@@ -65,7 +53,7 @@ pub record IsJob (book : Book) (k i s : ℕ) (undo : Bool) (job : Job) : Type 0 
   pub step : job.step ≡ s
   pub is_undo : job.is_undo ≡ undo
   pub name : OfSaga book.shelf (past book.history) i (λ d l. IsNamed d s job.name)
-  pub attempt : job.attempt ≡ misses_before undo (changes i (past book.history)) s + 1
+  pub attempt : job.attempt ≡ missed (kind_of undo) (changes i (past book.history)) s + 1
 
 -- of the tasks of the book the first was claimed, and nothing else happened
 abbrev pub ClaimsFirst : Book → Book → Seat → Seat → Claim → Type 0
@@ -85,9 +73,23 @@ ClaimsFirst old new before after (Plan job case) =
 ClaimsFirst old new before after Idle = ⊥
 ClaimsFirst old new before after Settled = ⊥
 
+-- what a seat that asks for work is given: the first task of the book, claimed; or why there is none, and then nothing
+-- happened: not every saga is ended or stuck, or each is
+abbrev pub Serves : Book → Book → Seat → Seat → Claim → Type 0
+Serves old new before after (Run job) = ClaimsFirst old new before after (Run job)
+Serves old new before after (Undo job) = ClaimsFirst old new before after (Undo job)
+Serves old new before after (Plan job case) = ClaimsFirst old new before after (Plan job case)
+Serves old new before after Idle =
+    NoTaskIsAllowed old.shelf (past old.history) × (AllAreOver old.shelf (past old.history) → ⊥) × StayAsTheyWere old new before after
+Serves old new before after Settled = AllAreOver old.shelf (past old.history) × StayAsTheyWere old new before after
+
+-- the claim says that each saga is ended or stuck
+abbrev pub IsSettled : Claim → Type 0
+IsSettled claim = claim ≡ Settled
+
 -- the job ended by its outcome, with a transition that was allowed
 pub record EndsBy (old new : Book) (before after : Seat) (job : Job) (outcome : Outcome) (t : Transition) : Type 0 where
-  pub ends : IsEndOf job.is_undo outcome t
+  pub ends : IsEndOf (kind_of job.is_undo) outcome t
   pub allowed : IsAllowed old.shelf (past old.history) (step_event job.saga job.step t)
   pub records : Records old new before after (step_event job.saga job.step t) (before.claims - 1)
 
@@ -119,4 +121,4 @@ Claims before after Settled = after ≡ before
 -- the seat gained the receipt of an end of the job by its outcome
 abbrev pub GainsEnd : Seat → Seat → Job → Outcome → Type 0
 GainsEnd before after job outcome =
-    (t : Transition) × IsEndOf job.is_undo outcome t × Gains before after (mark_of (step_event job.saga job.step t)) (before.claims - 1)
+    (t : Transition) × IsEndOf (kind_of job.is_undo) outcome t × Gains before after (mark_of (step_event job.saga job.step t)) (before.claims - 1)

@@ -57,10 +57,17 @@ MergesAreLegal shelf books = (m : List Event) → IsMergeOf (events_of books) m 
 abbrev pub HeadlineHolds : List Contents → List Book → Type 0
 HeadlineHolds shelf books = (m : List Event) → IsMergeOf (events_of books) m → Headline shelf (past m)
 
--- why a desk is not finished; what was handed in comes back, where the books do not fit in place of the desk
+-- a book for each shard, of which each has a legal history, whose sagas are numbered as the book says
+pub record AreBooks (shards : ℕ) (books : List Book) : Type 0 where
+  pub all : length books ≡ shards
+  pub legal : KeepLegalHistories books
+
+-- why a desk is not finished; what was handed in comes back, where the books do not fit in place of the desk: those that lay
+-- under its locks
 abbrev pub FinishIsRefused : Desk → List Seat → FinishRefused → Type 0
 FinishIsRefused desk seats (Stranger d ss) = (d ≡ desk) × (ss.items ≡ seats) × (AreOwn desk seats → ⊥)
 FinishIsRefused desk seats (Missing d ss) = (d ≡ desk) × (ss.items ≡ seats) × AreOwn desk seats × (length seats ≢ desk.seats)
 FinishIsRefused desk seats (OutOfMemory d ss) = (d ≡ desk) × (ss.items ≡ seats) × AreAll desk seats
 FinishIsRefused desk seats (Torn books ss) =
-    (ss.items ≡ seats) × AreAll desk seats × (AreOfShards desk.shelf desk.shards books.items × Agree books.items seats → ⊥)
+    (ss.items ≡ seats) × AreAll desk seats × AreBooks desk.shards books.items
+    × (AreOfShards desk.shelf desk.shards books.items × Agree books.items seats → ⊥)

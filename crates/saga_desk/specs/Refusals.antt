@@ -1,15 +1,16 @@
 -- Why a call is refused.
-use Rattle.std.specs.Prelude.{◌≡◌, ℕ, ◌<◌, Bool, true, false}
-use Rattle.saga_case.specs.declared.states.StepState.{StepState}
-use Rattle.saga_case.specs.declared.states.StepState.TheVariants.{Running, Undoing}
+use Rattle.std.specs.Prelude.{◌≡◌, ℕ, ◌<◌, ◌≤◌}
 use Rattle.saga_case.specs.Situation.{Situation}
 use Rattle.saga_history.specs.Changes.{past}
+use Rattle.saga_history.specs.Tasks.{busy_state}
 use Rattle.saga_core.specs.Book.{Book}
 use Rattle.saga_core.specs.Refusals.{AdoptIsRefused, DropRefused, ReportRefused}
 use Rattle.saga_core.specs.declared.refusals.AdoptRefusal.{AdoptRefusal}
 use Rattle.saga_core.specs.declared.refusals.DropRefusal.{DropRefusal}
+use Rattle.saga_core.specs.declared.refusals.OpenRefusal.{OpenRefusal}
+use Rattle.saga_core.specs.declared.refusals.OpenRefusal.TheVariants as opening
 use Rattle.saga_core.specs.declared.refusals.ReportRefusal.{ReportRefusal}
-use Rattle.saga_desk.specs.Job.{Job, PlanJob}
+use Rattle.saga_desk.specs.Job.{Job, PlanJob, kind_of}
 use Rattle.saga_desk.specs.Seat.{Seat}
 use Rattle.saga_desk.specs.declared.refusals.EndRefusal.{EndRefusal}
 use Rattle.saga_desk.specs.declared.refusals.EndRefusal.TheVariants as end
@@ -19,20 +20,22 @@ pub record HasClaimed (number : ℕ) (seat : Seat) : Type 0 where
   pub own : number ≡ seat.number
   pub some : 0 < seat.claims
 
+-- why a desk with so many definitions opens no saga: its definition is not on the shelf; or it is, and the shard is full or
+-- memory is wanting
+abbrev pub OpenIsRefused : ℕ → ℕ → OpenRefusal → Type 0
+OpenIsRefused shelf k opening.NoSuchDefinition = shelf ≤ k
+OpenIsRefused shelf k opening.Full = k < shelf
+OpenIsRefused shelf k opening.OutOfMemory = k < shelf
+
 -- why the end of what a seat of that number claimed is not taken: another seat hands it in, or the book refuses it
 abbrev pub EndIsRefused : {W : Type 0} → ℕ → Seat → (W → Type 0) → EndRefusal W → Type 0
 EndIsRefused number seat P end.OtherSeat = HasClaimed number seat → ⊥
 EndIsRefused number seat P (end.Book why) = HasClaimed number seat × P why
 
--- the state in which a step is whose action, or compensation, is claimed
-abbrev pub busy_state : Bool → StepState
-busy_state false = Running
-busy_state true = Undoing
-
 -- why a report, an adoption or a plan that is given back is not taken
 abbrev pub ReportIsRefused : Book → Seat → Job → EndRefusal ReportRefusal → Type 0
 ReportIsRefused book seat job why =
-    EndIsRefused job.seat seat (ReportRefused book.shelf (past book.history) job.saga job.step (busy_state job.is_undo)) why
+    EndIsRefused job.seat seat (ReportRefused book.shelf (past book.history) job.saga job.step (busy_state (kind_of job.is_undo))) why
 
 abbrev pub AdoptionIsRefused : Book → Seat → PlanJob → Situation → EndRefusal AdoptRefusal → Type 0
 AdoptionIsRefused book seat job case why =

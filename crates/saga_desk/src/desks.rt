@@ -1,9 +1,9 @@
 //! The desk: shards under locks of their own, which seats share.
-ghost use Rattle.std.specs.Prelude.{◌≡◌, ◌<◌, ◌≤◌, ◌-◌, IfOk, IfErr, OnOk, OnErr};
+ghost use Rattle.std.specs.Prelude.{◌≡◌, ◌<◌, ◌≤◌, ◌-◌, ◌%◌, IfOk, IfErr, OnOk, OnErr, length};
 ghost use Rattle.saga_history.specs.declared.events.Mark.TheVariants as mark;
 ghost use Rattle.saga_desk.specs.Effects.{Claims, Gains, GainsEnd, GainsOn};
 ghost use Rattle.saga_desk.specs.Finish.{AreFirstSeats};
-ghost use Rattle.saga_desk.specs.Refusals.{EndIsRefused, HasClaimed};
+ghost use Rattle.saga_desk.specs.Refusals.{EndIsRefused, HasClaimed, OpenIsRefused};
 
 mod finish;
 
@@ -20,38 +20,44 @@ use std::marker::Model;
 use std::sync::atomic::{AtomicBool, Ordering};
 use std::sync::{Mutex, Wait};
 
-/// A shard under its lock, and a flag that a claim may look at without the lock. The flag is written under the lock alone:
-/// it is set only where each saga of the shard is ended or stuck, and cleared where one is opened.
+/// A shard under its lock, with its number, and a flag that a claim may look at without the lock. The flag is written under
+/// the lock alone: it is set only where each saga of the shard is ended or stuck, and cleared where one is opened.
 #[derive(Drop)]
 struct Slot<'d> {
+    number: u32,
     shard: Mutex<Shard<'d>>,
     settled: AtomicBool,
 }
 
 impl<'d> Slot<'d> {
-    fn new(shard: Shard<'d>) -> Slot<'d> {
+    fn new(shard: Shard<'d>) -> Slot<'d>
+        ensures { result.number ≡ shard.entry.first }
+    {
         Slot {
+            number: shard.first(),
             shard: Mutex::new(shard),
             settled: AtomicBool::new(true),
         }
     }
 
-    /// Opens a saga on this shard.
+    /// Opens a saga on this shard, whose shelf has so many definitions.
     fn open_saga<R: Wait>(
         &self,
         rt: &R,
         seat: &mut Seat,
-        number: u32,
+        shelf: usize,
         definition: u32,
     ) -> Result<u32, OpenRefusal>
+        ensures known { OnOk result (definition < shelf) }
         ensures ok { IfOk result
-            (λ saga. GainsOn number seat.old seat.new (mark.Open saga definition)) }
+            (λ saga. GainsOn self.now.number seat.old seat.new (mark.Open saga definition)) }
         ensures err { OnErr result (seat.new ≡ seat.old) }
+        ensures why { IfErr result (λ why. OpenIsRefused shelf definition why) }
     {
         let mut locked = self.shard.lock(rt);
         let shard: &mut Shard<'d> = &mut *locked;
-        if shard.first() != number {
-            // Never taken: a shard keeps its number. Nothing is known of what a lock holds but its type.
+        if shard.first() != self.number || shard.definitions() != shelf {
+            // Never taken: a shard keeps its number and its shelf. Nothing is known of what a lock holds but its type.
             for _ in rt.forever() {}
             unreachable!()
         }
@@ -60,7 +66,7 @@ impl<'d> Slot<'d> {
         Ok(saga)
     }
 
-    /// Claims the first task of this shard. Where there is none, the shard is settled or idle.
+    /// What this shard has for the seat, as [`Shard::serve`] tells it. Where the flag is set, the lock is not taken.
     fn claim<R: Wait>(&self, rt: &R, seat: &mut Seat) -> Result<Claim<'d>, AllocError>
         ensures ok { IfOk result (λ claim. Claims seat.old seat.new claim) }
         ensures err { OnErr result (seat.new ≡ seat.old) }
@@ -70,18 +76,15 @@ impl<'d> Slot<'d> {
         }
         let mut locked = self.shard.lock(rt);
         let shard: &mut Shard<'d> = &mut *locked;
-        if let Some(claim) = shard.claim(seat)? {
-            return Ok(claim);
+        let claim = shard.serve(seat)?;
+        if let Claim::Settled = claim {
+            self.settled.store(true, Ordering::SeqCst);
         }
-        if !shard.settled() {
-            return Ok(Claim::Idle);
-        }
-        self.settled.store(true, Ordering::SeqCst);
-        Ok(Claim::Settled)
+        Ok(claim)
     }
 
     fn into_book(self) -> Book<'d> {
-        let Slot { shard, settled: _ } = self;
+        let Slot { shard, .. } = self;
         shard.into_inner().into_book()
     }
 }
@@ -98,7 +101,8 @@ pub struct Desk<'d> {
 }
 
 impl<'d> Model for Desk<'d> {
-    ghost use Rattle.std.specs.Prelude.{◌<◌, ◌≤◌, vec_len};
+    ghost use Rattle.std.specs.Prelude.{◌≡◌, ℕ, ◌<◌, ◌≤◌, Some, slice_get, vec_len};
+    ghost use Rattle.saga_desk.specs.declared.desks.Slot.{Slot};
     ghost use Rattle.saga_desk.specs.Desk.{Desk};
 
     ghost Value = { Desk };
@@ -107,7 +111,8 @@ impl<'d> Model for Desk<'d> {
         { shelf = d.definitions.now; seats = d.seat_count; shards = vec_len d.slots } };
 
     ghost invariant = { λ d. (0 < vec_len d.slots) × (vec_len d.slots ≤ 16) × (0 < d.seat_count)
-        × (d.seat_count ≤ 16) };
+        × (d.seat_count ≤ 16)
+        × ((k : ℕ) (s : Slot) → slice_get d.slots.items k ≡ Some s → s.number ≡ k) };
 }
 
 impl<'d> Desk<'d> {
@@ -149,7 +154,8 @@ impl<'d> Desk<'d> {
         self.slots.len() as u32
     }
 
-    /// Opens a saga on a shard by a definition on the shelf, and gives its number.
+    /// Opens a saga on a shard by a definition on the shelf, and gives its number. NoSuchDefinition where the definition is not
+    /// on the shelf; what else refuses it is told by the shard.
     pub fn open_saga<R: Wait>(
         &self,
         rt: &R,
@@ -158,11 +164,14 @@ impl<'d> Desk<'d> {
         definition: u32,
     ) -> Result<u32, OpenRefusal>
         requires { shard < self.now.shards }
+        ensures known { OnOk result (definition < length self.now.shelf) }
         ensures ok { IfOk result
             (λ saga. GainsOn shard seat.old seat.new (mark.Open saga definition)) }
         ensures err { OnErr result (seat.new ≡ seat.old) }
+        ensures why { IfErr result (λ why. OpenIsRefused (length self.now.shelf) definition why) }
     {
-        self.slots[shard as usize].open_saga(rt, seat, shard, definition)
+        let shelf = self.definitions.len();
+        self.slots[shard as usize].open_saga(rt, seat, shelf, definition)
     }
 
     /// Claims the first task of the first shard that has one, beginning at the shard of the seat's number modulo
@@ -266,7 +275,8 @@ impl<'d> Desk<'d> {
 
     /// The place of the shard that has the sagas of such a number.
     fn place_of(&self, saga: u32) -> usize
-        ensures { result < self.now.shards }
+        ensures which { result ≡ saga % self.now.shards }
+        ensures within { result < self.now.shards }
     {
         saga as usize % self.slots.len()
     }

@@ -1,7 +1,9 @@
 //! What a seat has claimed.
 ghost use Rattle.std.specs.Prelude.{◌≡◌};
+ghost use Rattle.saga_desk.specs.Job.{kind_of};
 
 use saga_case::Case;
+use saga_history::Kind;
 use std::marker::Model;
 
 /// A step's action, or its compensation, that a seat has claimed. A job that is dropped leaves its step busy.
@@ -57,6 +59,13 @@ impl<'d> Job<'d> {
         ensures { result ≡ self.now.is_undo }
     {
         self.is_undo
+    }
+
+    /// Whether it is an action or a compensation.
+    pub(crate) fn kind(&self) -> Kind
+        ensures { result ≡ kind_of self.now.is_undo }
+    {
+        if self.is_undo { Kind::Undo } else { Kind::Run }
     }
 
     /// Which attempt at it this is, counted from 1 over the whole life of the saga.

@@ -1,4 +1,10 @@
 -- Lemmas of driven books.
-pub mod RangeLemmas
 pub mod BookLemmas
+pub mod KnownLemmas
+pub mod PhaseLemmas
 pub mod PlanLemmas
+pub mod ManyLemmas
+pub mod ReportLemmas
+pub mod PairLemmas
+pub mod LogLemmas
+pub mod StartLemmas

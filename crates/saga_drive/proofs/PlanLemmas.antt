@@ -19,7 +19,9 @@ use Rattle.saga_core.specs.Refusals.{OfSaga, AdoptIsRefused, IsPresentCase}
 use Rattle.saga_core.specs.declared.refusals.AdoptRefusal.{AdoptRefusal}
 use Rattle.saga_core.specs.declared.refusals.AdoptRefusal.TheVariants as adopt
 use Rattle.saga_log.specs.Logs.{event_line}
-use Rattle.saga_drive.specs.Answers.{HoldsPlan}
+use Rattle.saga_drive.specs.declared.tellings.Telling.{Telling}
+use Rattle.saga_drive.specs.Begins.{HoldsPlan}
+use Rattle.saga_drive.specs.Tellings.{TellsMore, TellsSame}
 
 -- the case stays the present one
 case_stays : (d : Contents) (l : List Change) → present_case d (starts_plan ∷ l) ≡ present_case d l
@@ -73,3 +75,12 @@ grown old mid new e f first second =
 
 pub two_lines : (e f : Event) → event_line e ++ event_line f ≡ flat_map event_line (e ∷ f ∷ [])
 two_lines e f = sym (ap (λ rest. event_line e ++ rest) (append-nil (event_line f)))
+
+-- a task is told behind what was told before room was made for it
+pub more_after : (a b c : Telling) (told told' added added' : List ℕ) → TellsSame a b → TellsMore b c told added → told ≡ told' → added ≡ added'
+    → TellsMore a c told' added'
+more_after a b c told told' added added' same more text lines = record {
+  text = more.text ∙ rw (same.text, same.apart, text) refl;
+  lines = more.lines ∙ rw (same.lines, lines) refl;
+  apart = more.apart;
+}

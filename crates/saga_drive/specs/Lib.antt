@@ -1,6 +1,13 @@
 -- A coordinator that is driven by requests.
 pub mod Verbs
+pub mod Fields
+pub mod Attempts
+pub mod Openings
 pub mod Requests
 pub mod Replies
+pub mod Happenings
+pub mod Tellings
+pub mod Begins
+pub mod Many
 pub mod Answers
 pub mod Restarts

@@ -1,125 +1,49 @@
 //! Answers: a request is met, and the reply tells what happened.
 //!
 //! What will be told is written before it happens, so where memory lacks, nothing has happened.
-ghost use Rattle.std.specs.Prelude.{◌≡◌, IfOk, OnErr, OnOk};
+ghost use Rattle.std.specs.Prelude.{◌≡◌, ◌++◌, ℕ, List, IfOk, OnErr};
 ghost use Rattle.saga_history.specs.Changes.{past};
-ghost use Rattle.saga_history.specs.Rules.{IsAllowed};
-ghost use Rattle.saga_history.specs.declared.events.Event.TheVariants as event;
-ghost use Rattle.saga_core.specs.Book.{with_event};
-ghost use Rattle.saga_core.specs.Tasks.{IsFirstTask, NoTaskIsAllowed};
-ghost use Rattle.saga_history.specs.declared.tasks.Task.TheVariants as task;
-ghost use Rattle.saga_drive.specs.Answers.{HoldsPlan, IsAnswer, IsMet};
+ghost use Rattle.saga_core.specs.Tasks.{NoTaskIsAllowed};
+ghost use Rattle.saga_kept.specs.BookLog.{IsBookLog};
+ghost use Rattle.saga_drive.specs.Replies.{lines_of};
+ghost use Rattle.saga_drive.specs.Answers.{IsAnswer, IsMet};
 ghost use Rattle.saga_drive.specs.declared.requests.Request.TheVariants as request;
 
-use crate::replies::{
-    Reply, out_of_memory, reply_of_idle, reply_to_event, reply_to_fault, reply_to_plan,
-    reply_to_task, told,
-};
+use crate::beginnings::{begin_next, begin_run, begin_undo, plan_case};
+use crate::happenings::Happening;
+use crate::many::next_many;
+use crate::openings::{Wanted, is_next, place_of_wanted};
+use crate::questions::{busy, ready, sagas, show, status};
+use crate::replies::{Reply, out_of_memory, reply_of_idle, reply_to_fault};
 use crate::reports::report;
 use crate::requests::{Request, read_request};
-use crate::shown::{busy_text, show_text};
-use crate::tasks::{run_text, undo_text};
-use saga_check::{Verdict, verify};
-use saga_core::{Book, OpenRefusal, SagaRefusal, TakeRefusal};
-use saga_history::{Event, Task};
-use saga_plan::plan;
+use crate::tellings::Telling;
+use saga_core::{Book, OpenRefusal, SagaRefusal};
+use saga_history::Event;
 use std::alloc::{AllocError, Global};
 
-fn open(alloc: Global, book: &mut Book<'_>, definition: u32) -> Result<Reply, AllocError>
-    ensures ok { IfOk result (IsMet book.old book.new (request.Open definition)) }
+fn open(
+    alloc: Global,
+    book: &mut Book<'_>,
+    wanted: Wanted,
+    saga: Option<u32>,
+) -> Result<Reply, AllocError>
+    ensures ok { IfOk result (IsMet book.old book.new (request.Open wanted saga)) }
     ensures err { OnErr result (book.new ≡ book.old) }
 {
-    let event = Event::Open(book.next_number(), definition);
-    let reply = reply_to_event(alloc, &event)?;
+    let Some(definition) = place_of_wanted(book.shelf(), &wanted) else {
+        return Ok(Reply::Refusal("{\"refused\":\"no-such-definition\"}\n"));
+    };
+    if !is_next(book, saga) {
+        return Ok(Reply::Refusal("{\"refused\":\"not-next\"}\n"));
+    }
+    let happening = Happening::new(alloc, &Event::Open(book.next_number(), definition))?;
     match book.open(definition) {
-        Ok(_) => Ok(reply),
-        Err(OpenRefusal::NoSuchDefinition) => {
-            Ok(Reply::Refusal("{\"refused\":\"no-such-definition\"}\n"))
-        }
+        Ok(opened) => Ok(happening.told(book, opened)),
+        Err(OpenRefusal::NoSuchDefinition) => unreachable!(),
         Err(OpenRefusal::Full) => Ok(Reply::Refusal("{\"refused\":\"full\"}\n")),
         Err(OpenRefusal::OutOfMemory) => Err(AllocError),
     }
-}
-
-/// The action of a step begins.
-fn take_run(alloc: Global, book: &mut Book<'_>, saga: u32, step: u16) -> Result<Reply, AllocError>
-    requires { IsFirstTask book.old.shelf (past book.old.history) (task.Run saga step) }
-    ensures ok { IfOk result (IsMet book.old book.new request.Next) }
-    ensures err { OnErr result (book.new ≡ book.old) }
-{
-    let Some(definition) = book.definition(saga) else {
-        unreachable!()
-    };
-    let text = run_text(alloc, book, definition, saga, step)?;
-    let reply = reply_to_task(alloc, text, &Event::StartRun(saga, step))?;
-    match book.take_run(saga, step) {
-        Ok(()) => Ok(reply),
-        Err(TakeRefusal::OutOfMemory) => Err(AllocError),
-        Err(_) => unreachable!(),
-    }
-}
-
-/// The compensation of a step begins.
-fn take_undo(alloc: Global, book: &mut Book<'_>, saga: u32, step: u16) -> Result<Reply, AllocError>
-    requires { IsFirstTask book.old.shelf (past book.old.history) (task.Undo saga step) }
-    ensures ok { IfOk result (IsMet book.old book.new request.Next) }
-    ensures err { OnErr result (book.new ≡ book.old) }
-{
-    let Some(definition) = book.definition(saga) else {
-        unreachable!()
-    };
-    let text = undo_text(alloc, book, definition, saga, step)?;
-    let reply = reply_to_task(alloc, text, &Event::StartUndo(saga, step))?;
-    match book.take_undo(saga, step) {
-        Ok(()) => Ok(reply),
-        Err(TakeRefusal::OutOfMemory) => Err(AllocError),
-        Err(_) => unreachable!(),
-    }
-}
-
-/// A plan begins.
-fn begin_plan(book: &mut Book<'_>, saga: u32) -> Result<(), AllocError>
-    requires { IsAllowed book.old.shelf (past book.old.history) (event.StartPlan saga) }
-    ensures ok { OnOk result (book.new ≡ with_event book.old (event.StartPlan saga)) }
-    ensures err { OnErr result (book.new ≡ book.old) }
-{
-    match book.take_plan(saga) {
-        Ok(_) => Ok(()),
-        Err(SagaRefusal::OutOfMemory) => Err(AllocError),
-        Err(_) => unreachable!(),
-    }
-}
-
-/// A plan ends by an answer that is right for the present case.
-fn end_plan<'d>(book: &mut Book<'d>, saga: u32, verdict: Verdict<'d>)
-    requires planned { HoldsPlan book.old.shelf (past book.old.history) saga verdict.case }
-    ensures { book.new ≡ with_event book.old (event.Adopt saga verdict.entry.answer) }
-{
-    match book.adopt(saga, verdict) {
-        Ok(()) => {}
-        Err(_) => unreachable!(),
-    }
-}
-
-/// A saga is planned, and goes on by the plan or stops by the chain. Takes the time and memory of [`plan`].
-fn take_plan(alloc: Global, book: &mut Book<'_>, saga: u32) -> Result<Reply, AllocError>
-    requires { IsFirstTask book.old.shelf (past book.old.history) (task.Plan saga) }
-    ensures ok { IfOk result (IsMet book.old book.new request.Next) }
-    ensures err { OnErr result (book.new ≡ book.old) }
-{
-    let case = match book.present_case(saga) {
-        Ok(case) => case,
-        Err(SagaRefusal::OutOfMemory) => return Err(AllocError),
-        Err(_) => unreachable!(),
-    };
-    let answer = plan(alloc, &case)?;
-    let reply = reply_to_plan(alloc, saga, &answer)?;
-    let Ok(verdict) = verify(case, answer) else {
-        unreachable!()
-    };
-    begin_plan(book, saga)?;
-    end_plan(book, saga, verdict);
-    Ok(reply)
 }
 
 /// Nothing may begin.
@@ -136,11 +60,49 @@ fn next(alloc: Global, book: &mut Book<'_>) -> Result<Reply, AllocError>
     ensures ok { IfOk result (IsMet book.old book.new request.Next) }
     ensures err { OnErr result (book.new ≡ book.old) }
 {
-    match book.next() {
-        None => idle(alloc, book),
-        Some(Task::Run(saga, step)) => take_run(alloc, book, saga, step),
-        Some(Task::Undo(saga, step)) => take_undo(alloc, book, saga, step),
-        Some(Task::Plan(saga)) => take_plan(alloc, book, saga),
+    let mut telling = Telling::new(alloc)?;
+    if begin_next(alloc, book, &mut telling)? {
+        Ok(telling.end("", "\n"))
+    } else {
+        idle(alloc, book)
+    }
+}
+
+/// The task of a step is taken, whichever of the two may begin.
+fn take_step(alloc: Global, book: &mut Book<'_>, saga: u32, step: u16) -> Result<Reply, AllocError>
+    ensures ok { IfOk result (IsMet book.old book.new (request.TakeStep saga step)) }
+    ensures err { OnErr result (book.new ≡ book.old) }
+{
+    let Some(definition) = book.definition(saga) else {
+        return Ok(Reply::Refusal("{\"refused\":\"no-such-saga\"}\n"));
+    };
+    if step as usize >= definition.steps() {
+        return Ok(Reply::Refusal("{\"refused\":\"no-such-step\"}\n"));
+    }
+    let mut telling = Telling::new(alloc)?;
+    if begin_run(alloc, book, definition, saga, step, &mut telling)? {
+        return Ok(telling.end("", "\n"));
+    }
+    if begin_undo(alloc, book, definition, saga, step, &mut telling)? {
+        return Ok(telling.end("", "\n"));
+    }
+    Ok(Reply::Refusal("{\"refused\":\"not-now\"}\n"))
+}
+
+/// The plan of a saga is made.
+fn take_plan(alloc: Global, book: &mut Book<'_>, saga: u32) -> Result<Reply, AllocError>
+    ensures ok { IfOk result (IsMet book.old book.new (request.TakePlan saga)) }
+    ensures err { OnErr result (book.new ≡ book.old) }
+{
+    let mut telling = Telling::new(alloc)?;
+    match book.present_case(saga) {
+        Ok(case) => {
+            plan_case(alloc, book, saga, case, &mut telling)?;
+            Ok(telling.end("", "\n"))
+        }
+        Err(SagaRefusal::NoSuchSaga) => Ok(Reply::Refusal("{\"refused\":\"no-such-saga\"}\n")),
+        Err(SagaRefusal::NotNow) => Ok(Reply::Refusal("{\"refused\":\"not-now\"}\n")),
+        Err(SagaRefusal::OutOfMemory) => Err(AllocError),
     }
 }
 
@@ -148,30 +110,13 @@ fn abort(alloc: Global, book: &mut Book<'_>, saga: u32) -> Result<Reply, AllocEr
     ensures ok { IfOk result (IsMet book.old book.new (request.Abort saga)) }
     ensures err { OnErr result (book.new ≡ book.old) }
 {
-    let reply = reply_to_event(alloc, &Event::Abort(saga))?;
+    let happening = Happening::new(alloc, &Event::Abort(saga))?;
     match book.abort(saga) {
-        Ok(()) => Ok(reply),
+        Ok(()) => Ok(happening.told(book, saga)),
         Err(SagaRefusal::NoSuchSaga) => Ok(Reply::Refusal("{\"refused\":\"no-such-saga\"}\n")),
         Err(SagaRefusal::NotNow) => Ok(Reply::Refusal("{\"refused\":\"not-now\"}\n")),
         Err(SagaRefusal::OutOfMemory) => Err(AllocError),
     }
-}
-
-/// How a saga stands.
-fn show(alloc: Global, book: &Book<'_>, saga: u32) -> Result<Reply, AllocError>
-    ensures { IfOk result (IsMet book.now book.now (request.Show saga)) }
-{
-    match book.definition(saga) {
-        None => Ok(Reply::Refusal("{\"refused\":\"no-such-saga\"}\n")),
-        Some(definition) => Ok(told(alloc, show_text(alloc, book, definition, saga)?)),
-    }
-}
-
-/// What was taken and not reported.
-fn busy(alloc: Global, book: &Book<'_>) -> Result<Reply, AllocError>
-    ensures { IfOk result (IsMet book.now book.now request.Busy) }
-{
-    Ok(told(alloc, busy_text(alloc, book)?))
 }
 
 fn meet(alloc: Global, book: &mut Book<'_>, request: Request) -> Result<Reply, AllocError>
@@ -179,25 +124,28 @@ fn meet(alloc: Global, book: &mut Book<'_>, request: Request) -> Result<Reply, A
     ensures err { OnErr result (book.new ≡ book.old) }
 {
     match request {
-        Request::Open(definition) => open(alloc, book, definition),
+        Request::Open { wanted, saga } => open(alloc, book, wanted, saga),
         Request::Next => next(alloc, book),
+        Request::NextMany(most) => next_many(alloc, book, most),
+        Request::TakeStep { saga, step } => take_step(alloc, book, saga, step),
+        Request::TakePlan(saga) => take_plan(alloc, book, saga),
         Request::Report {
             saga,
             step,
+            attempt,
             outcome,
-        } => report(alloc, book, saga, step, outcome),
+        } => report(alloc, book, saga, step, attempt, outcome),
         Request::Abort(saga) => abort(alloc, book, saga),
         Request::Show(saga) => show(alloc, book, saga),
         Request::Busy => busy(alloc, book),
+        Request::Ready(from) => ready(alloc, book, from),
+        Request::Sagas { from, phase } => sagas(alloc, book, from, phase),
+        Request::Status => status(alloc, book),
     }
 }
 
-/// The answer to a line of input, which is given without its line feed: what it asks is done, or the reply says why not.
-///
-/// Each event that the book's history gains has a line in the reply, in order, and nothing else has. A refusal, a fault of the
-/// line and want of memory leave the book as it is. A plan is made, judged and adopted at once. Takes time linear in the line
-/// and in the steps of one saga, but for a plan, and for `busy`, which goes over all sagas.
-pub fn answer(alloc: Global, book: &mut Book<'_>, line: &[u8]) -> Reply
+/// What a line of input asks is done, or the reply says why not.
+fn answer_to(alloc: Global, book: &mut Book<'_>, line: &[u8]) -> Reply
     ensures { IsAnswer book.old book.new line.now result }
 {
     let request = match read_request(alloc, line) {
@@ -208,4 +156,20 @@ pub fn answer(alloc: Global, book: &mut Book<'_>, line: &[u8]) -> Reply
         Ok(reply) => reply,
         Err(AllocError) => out_of_memory(),
     }
+}
+
+/// The answer to a line of input, which is given without its line feed: what it asks is done, or the reply says why not.
+///
+/// Each event that the book's history gains has a line in the reply, in order, and nothing else has: with these lines the log of
+/// the book is the log of what it is then. A refusal, a fault of the line and want of memory leave the book as it is. A plan is
+/// made, judged and adopted at once. Takes time linear in the line and in the steps of one saga, but for a plan, for what goes over
+/// the sagas (`busy`, `ready`, `list`, `status`), and for `show`, which goes back over the events to the saga's last answer.
+pub fn answer(alloc: Global, book: &mut Book<'_>, line: &[u8]) -> Reply
+    ensures answer { IsAnswer book.old book.new line.now result }
+    ensures log { (l : List ℕ) → IsBookLog book.old l → IsBookLog book.new (l ++ lines_of result) }
+{
+    let reply = answer_to(alloc, book, line);
+    // it is legal
+    let _history = book.history();
+    reply
 }

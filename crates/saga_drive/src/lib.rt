@@ -2,19 +2,43 @@
 //! the events that it added.
 //!
 //! `docs/FORMATS.md` of the repository has the requests and the replies. [`answer`] is the whole of it: it reads no file and
-//! writes none, so whoever calls it decides when the lines are kept.
+//! writes none, so whoever calls it decides when the lines are kept. [`audit_trail`] is what the log then is worth: an audit of
+//! it says yes.
+//!
+//! Two requests, one after the other:
+//!
+//! ```
+//! let mut book = Book::new(alloc, shelf, 0, 1);
+//! let opened = answer(alloc, &mut book, br#"{"def":0,"do":"open"}"#);
+//! // First the lines go to the log, and are synced; then the text is told.
+//! let _lines = opened.lines();
+//! let _text = opened.text();
+//! let task = answer(alloc, &mut book, br#"{"do":"next"}"#);
+//! (opened.lines().len(), task.lines().len())
+//! ```
 #![tactic(auto)]
 
 mod answers;
+mod attempts;
+mod beginnings;
+mod fields;
+mod happenings;
+mod many;
+mod openings;
+mod phases;
+mod questions;
 mod replies;
 mod reports;
 mod requests;
 mod restarts;
-mod shown;
-mod tasks;
+mod tellings;
+mod trails;
 mod verbs;
 
 pub use answers::answer;
+pub use attempts::Attempt;
+pub use openings::Wanted;
 pub use replies::Reply;
 pub use requests::{MAX_REQUEST, Request, RequestFault, read_request};
 pub use restarts::{Restart, RestartRefusal, restart_from};
+pub use trails::{Trail, audit_trail};

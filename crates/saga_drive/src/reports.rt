@@ -1,100 +1,76 @@
 //! Reports: how an action or a compensation ended.
-ghost use Rattle.std.specs.Prelude.{◌≡◌, IfOk, OnErr};
-ghost use Rattle.saga_case.specs.declared.states.StepState.TheVariants.{Running};
-ghost use Rattle.saga_history.specs.declared.transitions.Transition.{Transition};
-ghost use Rattle.saga_history.specs.Changes.{past, step_event};
-ghost use Rattle.saga_history.specs.Rules.{IsAllowed};
-ghost use Rattle.saga_rows.specs.Follows.{IsEndOfRun, IsEndOfUndo};
-ghost use Rattle.saga_core.specs.Refusals.{ReportRefused};
-ghost use Rattle.saga_core.specs.declared.refusals.ReportRefusal.TheVariants.{NotTaken};
+ghost use Rattle.std.specs.Prelude.{◌≡◌, ◌<◌, IfOk, OnErr, length};
+ghost use Rattle.saga_history.specs.Changes.{changes, past};
+ghost use Rattle.saga_history.specs.States.{state};
+ghost use Rattle.saga_history.specs.Tasks.{busy_state};
+ghost use Rattle.saga_core.specs.Tasks.{IsDefinedBy};
 ghost use Rattle.saga_drive.specs.Answers.{IsMet};
+ghost use Rattle.saga_drive.specs.Attempts.{IsMeant, number_of};
 ghost use Rattle.saga_drive.specs.declared.requests.Request.TheVariants as request;
 
-use crate::replies::{Reply, reply_to_event};
-use saga_core::{Book, ReportRefusal};
-use saga_history::{Event, Outcome, Transition};
+use crate::attempts::{Attempt, is_meant, on_its_way};
+use crate::happenings::Happening;
+use crate::replies::Reply;
+use saga_core::Book;
+use saga_def::Definition;
+use saga_history::{Event, Kind, Outcome};
+use saga_views::{missed, state_of};
 use std::alloc::{AllocError, Global};
 
-/// Ends the action of a step by the one transition that its outcome asks for.
-fn end_run(
+/// Ends the action or the compensation that is on its way at a step, and is the attempt that is meant.
+fn end(
     alloc: Global,
     book: &mut Book<'_>,
+    definition: &Definition,
     saga: u32,
     step: u16,
+    kind: Kind,
+    meant: Option<Attempt>,
     outcome: Outcome,
-    t: Transition,
 ) -> Result<Reply, AllocError>
-    requires ends { IsEndOfRun outcome t }
-    requires allowed { IsAllowed book.old.shelf (past book.old.history) (step_event saga step t) }
-    requires only { (u : Transition) → IsEndOfRun outcome u
-        → IsAllowed book.old.shelf (past book.old.history) (step_event saga step u) → u ≡ t }
-    ensures ok { IfOk result (IsMet book.old book.new (request.Report saga step outcome)) }
+    requires defined { IsDefinedBy book.old.shelf (past book.old.history) saga definition.now }
+    requires step { step < length definition.now.steps }
+    requires busy { state (changes saga (past book.old.history)) step ≡ busy_state kind }
+    requires meant { IsMeant meant kind
+        (number_of kind (changes saga (past book.old.history)) step) }
+    ensures ok { IfOk result (IsMet book.old book.new (request.Report saga step meant outcome)) }
     ensures err { OnErr result (book.new ≡ book.old) }
 {
-    let reply = reply_to_event(alloc, &Event::of_step(saga, step, t))?;
-    match book.report_run(saga, step, outcome) {
-        Ok(()) => Ok(reply),
+    let _ = definition;
+    let Ok(t) = book.end_of(saga, step, kind, outcome) else {
+        unreachable!()
+    };
+    let happening = Happening::new(alloc, &Event::of_step(saga, step, t))?;
+    match book.report(saga, step, kind, outcome) {
+        Ok(()) => Ok(happening.told(book, saga)),
         Err(_) => unreachable!(),
     }
 }
 
-/// Ends the compensation of a step by the one transition that its outcome asks for.
-fn end_undo(
-    alloc: Global,
-    book: &mut Book<'_>,
-    saga: u32,
-    step: u16,
-    outcome: Outcome,
-    t: Transition,
-) -> Result<Reply, AllocError>
-    requires ends { IsEndOfUndo outcome t }
-    requires allowed { IsAllowed book.old.shelf (past book.old.history) (step_event saga step t) }
-    requires only { (u : Transition) → IsEndOfUndo outcome u
-        → IsAllowed book.old.shelf (past book.old.history) (step_event saga step u) → u ≡ t }
-    ensures ok { IfOk result (IsMet book.old book.new (request.Report saga step outcome)) }
-    ensures err { OnErr result (book.new ≡ book.old) }
-{
-    let reply = reply_to_event(alloc, &Event::of_step(saga, step, t))?;
-    match book.report_undo(saga, step, outcome) {
-        Ok(()) => Ok(reply),
-        Err(_) => unreachable!(),
-    }
-}
-
-/// A report on a step that is not running: on its compensation, if that is on its way.
-fn report_undo(
-    alloc: Global,
-    book: &mut Book<'_>,
-    saga: u32,
-    step: u16,
-    outcome: Outcome,
-) -> Result<Reply, AllocError>
-    requires { ReportRefused book.old.shelf (past book.old.history) saga step Running NotTaken }
-    ensures ok { IfOk result (IsMet book.old book.new (request.Report saga step outcome)) }
-    ensures err { OnErr result (book.new ≡ book.old) }
-{
-    match book.end_of_undo(saga, step, outcome) {
-        Ok(t) => end_undo(alloc, book, saga, step, outcome, t),
-        Err(ReportRefusal::NotTaken) => Ok(Reply::Refusal("{\"refused\":\"not-taken\"}\n")),
-        Err(_) => unreachable!(),
-    }
-}
-
-/// An action or a compensation of a step ended, whichever is on its way.
+/// An action or a compensation of a step ended, whichever is on its way; where an attempt is meant, only that one.
 pub fn report(
     alloc: Global,
     book: &mut Book<'_>,
     saga: u32,
     step: u16,
+    meant: Option<Attempt>,
     outcome: Outcome,
 ) -> Result<Reply, AllocError>
-    ensures ok { IfOk result (IsMet book.old book.new (request.Report saga step outcome)) }
+    ensures ok { IfOk result (IsMet book.old book.new (request.Report saga step meant outcome)) }
     ensures err { OnErr result (book.new ≡ book.old) }
 {
-    match book.end_of_run(saga, step, outcome) {
-        Ok(t) => end_run(alloc, book, saga, step, outcome, t),
-        Err(ReportRefusal::NotTaken) => report_undo(alloc, book, saga, step, outcome),
-        Err(ReportRefusal::NoSuchSaga) => { Ok(Reply::Refusal("{\"refused\":\"no-such-saga\"}\n")) }
-        Err(ReportRefusal::NoSuchStep) => { Ok(Reply::Refusal("{\"refused\":\"no-such-step\"}\n")) }
+    let Some(definition) = book.definition(saga) else {
+        return Ok(Reply::Refusal("{\"refused\":\"no-such-saga\"}\n"));
+    };
+    if step as usize >= definition.steps() {
+        return Ok(Reply::Refusal("{\"refused\":\"no-such-step\"}\n"));
     }
+    let Some(kind) = on_its_way(state_of(book, definition, saga, step)) else {
+        return Ok(Reply::Refusal("{\"refused\":\"not-taken\"}\n"));
+    };
+    let number = u16::from(missed(book, definition, saga, step, kind)) + 1;
+    if !is_meant(meant, kind, number) {
+        return Ok(Reply::Refusal("{\"refused\":\"other-attempt\"}\n"));
+    }
+    end(alloc, book, definition, saga, step, kind, meant, outcome)
 }

@@ -1,14 +1,16 @@
 //! Reading a request.
 ghost use Rattle.std.specs.Prelude.{◌≡◌, ◌↔◌, ◌<◌, IsTrue, length, option_and_then, codes};
 ghost use Rattle.serde_json.specs.View.{view};
-ghost use Rattle.saga_cert.specs.Kinds.{text_at as text_in};
-ghost use Rattle.saga_cert.specs.Outcomes.{Gives};
+ghost use Rattle.saga_json.specs.Fields.{text_at as text_in};
+ghost use Rattle.saga_json.specs.Reads.{Gives};
 ghost use Rattle.saga_drive.specs.Requests as spec;
 
-use crate::verbs::{Verb, keys_of_verb};
-use saga_cert::{CertFault, step_at, text_at, value_at};
-use saga_history::Outcome;
-use saga_log::{number_at, read_value};
+use crate::attempts::Attempt;
+use crate::fields::{attempt_of, has, most_of, u32_if, wanted_of};
+use crate::openings::Wanted;
+use crate::verbs::Verb;
+use saga_history::{Outcome, Phase};
+use saga_json::{JsonFault, check_keys, text_at, u16_at, u32_at, value_at, value_of_text};
 use serde_json::Value;
 use std::alloc::Global;
 
@@ -16,16 +18,29 @@ use std::alloc::Global;
 pub const MAX_REQUEST: usize = 65536;
 
 /// What a line of input asks.
-#[derive(Clone, Copy, Debug, PartialEq, Eq)]
+#[derive(Debug, Drop)]
 pub enum Request {
-    /// Open a saga by the definition of that place on the shelf.
-    Open(u32),
+    /// Open a saga with a definition; where a number is given, only as the saga of that number.
+    Open {
+        wanted: Wanted,
+        saga: Option<u32>,
+    },
     /// Take the next task.
     Next,
-    /// A step's action or compensation ended.
+    /// Take the next tasks, at most so many.
+    NextMany(u16),
+    /// Take the task of a step: its action, or its compensation.
+    TakeStep {
+        saga: u32,
+        step: u16,
+    },
+    /// Plan a saga.
+    TakePlan(u32),
+    /// A step's action or compensation ended; where an attempt is given, only as that one.
     Report {
         saga: u32,
         step: u16,
+        attempt: Option<Attempt>,
         outcome: Outcome,
     },
     Abort(u32),
@@ -33,6 +48,15 @@ pub enum Request {
     Show(u32),
     /// Tell what was taken and not reported.
     Busy,
+    /// Tell which tasks may begin, of the sagas from that number on.
+    Ready(u32),
+    /// Tell where the sagas from that number on stand, or those of a phase.
+    Sagas {
+        from: u32,
+        phase: Option<Phase>,
+    },
+    /// Tell how the book stands as a whole.
+    Status,
 }
 
 /// Why a line is no request.
@@ -41,64 +65,136 @@ pub enum RequestFault {
     /// It has more than [`MAX_REQUEST`] bytes.
     TooLong,
     /// The first fault of its form, or want of memory.
-    Form(CertFault),
+    Form(JsonFault),
 }
 
 /// How an action or a compensation ended, by its word.
-fn outcome_named(word: &str) -> Result<Outcome, CertFault>
+fn outcome_named(word: &str) -> Result<Outcome, JsonFault>
     ensures { result ≡ spec.outcome_named word.now }
 {
     match word {
         "ok" => Ok(Outcome::Done),
         "fail" => Ok(Outcome::Failed),
-        _ => Err(CertFault::BadType),
+        _ => Err(JsonFault::BadType),
     }
 }
 
-fn outcome_of(value: &Value) -> Result<Outcome, CertFault>
+fn outcome_of(value: &Value) -> Result<Outcome, JsonFault>
     ensures { result ≡ spec.outcome_of (view value.now) }
 {
     match value {
         Value::String(word) => outcome_named(word.as_str()),
-        _ => Err(CertFault::BadType),
+        _ => Err(JsonFault::BadType),
     }
 }
 
-fn outcome_at(value: &Value, key: &str) -> Result<Outcome, CertFault>
-    ensures { result ≡ spec.outcome_at key.now (view value.now) }
+/// The task that is to be taken: that of a step, or where none is named the plan of the saga.
+fn taken_of(saga: u32, value: &Value) -> Result<Request, JsonFault>
+    ensures { result ≡ spec.taken_of saga (view value.now) }
 {
-    outcome_of(value_at(value, key)?)
+    if !has(value, "step") {
+        return Ok(Request::TakePlan(saga));
+    }
+    let step = u16_at(value, "step")?;
+    Ok(Request::TakeStep { saga, step })
+}
+
+/// The next task, or as many as are asked for.
+fn next_of(value: &Value) -> Result<Request, JsonFault>
+    ensures { result ≡ spec.next_of (view value.now) }
+{
+    if has(value, "most") {
+        return Ok(Request::NextMany(most_of(value)?));
+    }
+    Ok(Request::Next)
+}
+
+/// The number from which sagas are gone over: 0, where none is named.
+fn from_of(value: &Value) -> Result<u32, JsonFault>
+    ensures { result ≡ spec.from_of (view value.now) }
+{
+    if value.get("from").is_none() {
+        return Ok(0);
+    }
+    u32_at(value, "from")
+}
+
+/// A phase, by its word.
+fn phase_named(word: &str) -> Result<Phase, JsonFault>
+    ensures { result ≡ spec.phase_named word.now }
+{
+    match word {
+        "going" => Ok(Phase::Going),
+        "draining" => Ok(Phase::Draining),
+        "planning" => Ok(Phase::Planning),
+        "ended" => Ok(Phase::Ended),
+        "stuck" => Ok(Phase::Stuck),
+        _ => Err(JsonFault::BadType),
+    }
+}
+
+fn phase_of(value: &Value) -> Result<Phase, JsonFault>
+    ensures { result ≡ spec.phase_of (view value.now) }
+{
+    match value {
+        Value::String(word) => phase_named(word.as_str()),
+        _ => Err(JsonFault::BadType),
+    }
+}
+
+/// The sagas from a number on: those of a phase, or all where none is named.
+fn sagas_of(from: u32, value: &Value) -> Result<Request, JsonFault>
+    ensures { result ≡ spec.sagas_of from (view value.now) }
+{
+    if value.get("phase").is_none() {
+        return Ok(Request::Sagas { from, phase: None });
+    }
+    let phase = phase_of(value_at(value, "phase")?)?;
+    Ok(Request::Sagas {
+        from,
+        phase: Some(phase),
+    })
 }
 
 /// The request of a verb, with what its line has beside.
-fn fields_of(verb: Verb, value: &Value) -> Result<Request, CertFault>
-    ensures { result ≡ spec.fields_of verb (view value.now) }
+fn fields_of(alloc: Global, verb: Verb, value: &Value) -> Result<Request, JsonFault>
+    ensures { Gives (λ r. r) result (spec.fields_of verb (view value.now)) }
 {
     match verb {
-        Verb::Open => Ok(Request::Open(number_at(value, "def")?)),
-        Verb::Next => Ok(Request::Next),
+        Verb::Open => {
+            let wanted = wanted_of(alloc, value)?;
+            let saga = u32_if(value, "saga")?;
+            Ok(Request::Open { wanted, saga })
+        }
+        Verb::Next => next_of(value),
+        Verb::Take => taken_of(u32_at(value, "saga")?, value),
         Verb::Report => {
-            let saga = number_at(value, "saga")?;
-            let step = step_at(value, "step")?;
-            let outcome = outcome_at(value, "outcome")?;
+            let attempt = attempt_of(value)?;
+            let saga = u32_at(value, "saga")?;
+            let step = u16_at(value, "step")?;
+            let outcome = outcome_of(value_at(value, "outcome")?)?;
             Ok(Request::Report {
                 saga,
                 step,
+                attempt,
                 outcome,
             })
         }
-        Verb::Abort => Ok(Request::Abort(number_at(value, "saga")?)),
-        Verb::Show => Ok(Request::Show(number_at(value, "saga")?)),
+        Verb::Abort => Ok(Request::Abort(u32_at(value, "saga")?)),
+        Verb::Show => Ok(Request::Show(u32_at(value, "saga")?)),
         Verb::Busy => Ok(Request::Busy),
+        Verb::Ready => Ok(Request::Ready(from_of(value)?)),
+        Verb::Sagas => sagas_of(from_of(value)?, value),
+        Verb::Status => Ok(Request::Status),
     }
 }
 
 #[tactic(auto, unfolding(crate::specs::Requests::request_of_verb))]
-fn request_of_verb(verb: Verb, value: &Value) -> Result<Request, CertFault>
+fn request_of_verb(alloc: Global, verb: Verb, value: &Value) -> Result<Request, JsonFault>
     ensures { Gives (λ r. r) result (spec.request_of_verb verb (view value.now)) }
 {
-    keys_of_verb(verb, value)?;
-    fields_of(verb, value)
+    check_keys(value, verb.keys(), verb.optional_keys())?;
+    fields_of(alloc, verb, value)
 }
 
 fn verb_of_value(value: &Value) -> Option<Verb>
@@ -107,21 +203,21 @@ fn verb_of_value(value: &Value) -> Option<Verb>
     Verb::named(text_at(value, "do")?)
 }
 
-fn request_of_value(value: &Value) -> Result<Request, CertFault>
+fn request_of_value(alloc: Global, value: &Value) -> Result<Request, JsonFault>
     ensures { Gives (λ r. r) result (spec.request_of (view value.now)) }
 {
     match verb_of_value(value) {
-        Some(verb) => request_of_verb(verb, value),
-        None => Err(CertFault::Kind),
+        Some(verb) => request_of_verb(alloc, verb, value),
+        None => Err(JsonFault::Kind),
     }
 }
 
 #[tactic(auto, unfolding(crate::specs::Requests::request_of_text))]
-fn request_of_text(alloc: Global, line: &[u8]) -> Result<Request, CertFault>
+fn request_of_text(alloc: Global, line: &[u8]) -> Result<Request, JsonFault>
     ensures { Gives (λ r. r) result (spec.request_of_text line.now) }
 {
-    let value = read_value(alloc, line)?;
-    request_of_value(&value)
+    let value = value_of_text(alloc, line)?;
+    request_of_value(alloc, &value)
 }
 
 fn is_too_long(line: &[u8]) -> bool

@@ -14,3 +14,4 @@ pub mod PlanLemmas
 pub mod PartLemmas
 pub mod QuestionLemmas
 pub mod LawLemmas
+pub mod TaskLemmas

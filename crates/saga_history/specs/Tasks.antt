@@ -1,15 +1,20 @@
 -- What a task begins with, and what an outcome ends it with.
-use Rattle.std.specs.Prelude.{ℕ, ◌+◌, nat_lt, if◌then◌else◌, List}
+use Rattle.std.specs.Prelude.{◌≡◌, ℕ, ◌+◌, nat_lt, if◌then◌else◌, List}
 use Rattle.saga_def.specs.Contents.{Contents}
+use Rattle.saga_case.specs.declared.states.StepState.{StepState}
+use Rattle.saga_case.specs.declared.states.StepState.TheVariants.{Running, Undoing}
 use Rattle.saga_history.specs.declared.events.Event.{Event}
 use Rattle.saga_history.specs.declared.events.Event.TheVariants as event
+use Rattle.saga_history.specs.declared.tasks.Kind.{Kind}
+use Rattle.saga_history.specs.declared.tasks.Kind.TheVariants as kind
 use Rattle.saga_history.specs.declared.tasks.Task.{Task}
 use Rattle.saga_history.specs.declared.tasks.Task.TheVariants as task
 use Rattle.saga_history.specs.declared.tasks.Outcome.{Outcome}
 use Rattle.saga_history.specs.declared.tasks.Outcome.TheVariants.{Done, Failed}
 use Rattle.saga_history.specs.declared.transitions.Transition.{Transition}
 use Rattle.saga_history.specs.declared.transitions.Transition.TheVariants as transition
-use Rattle.saga_history.specs.Rules.{IsAllowed}
+use Rattle.saga_history.specs.Changes.{Change}
+use Rattle.saga_history.specs.Rules.{IsAllowed, misses_of, tries, undo_misses_of, undo_tries}
 
 -- the event with which a task begins
 abbrev pub event_of_task : Task → Event
@@ -21,12 +26,27 @@ event_of_task (task.Plan i) = event.StartPlan i
 abbrev pub TaskIsAllowed : List Contents → List Event → Task → Type 0
 TaskIsAllowed shelf h t = IsAllowed shelf h (event_of_task t)
 
--- how an action ends by its outcome, after so many misses of so many tries
-abbrev pub end_of_run : Outcome → ℕ → ℕ → Transition
-end_of_run Done misses tries = transition.Commit
-end_of_run Failed misses tries = if nat_lt (misses + 1) tries then transition.Missed else transition.Fail
+-- the state of a step whose action, or compensation, is on its way
+abbrev pub busy_state : Kind → StepState
+busy_state kind.Run = Running
+busy_state kind.Undo = Undoing
 
--- and a compensation
-abbrev pub end_of_undo : Outcome → ℕ → ℕ → Transition
-end_of_undo Done misses tries = transition.Undone
-end_of_undo Failed misses tries = if nat_lt (misses + 1) tries then transition.UndoMissed else transition.UndoFail
+-- how often that was missed, and how often it is tried
+abbrev pub missed : Kind → List Change → ℕ → ℕ
+missed kind.Run l s = misses_of l s
+missed kind.Undo l s = undo_misses_of l s
+
+abbrev pub tries_of : Kind → Contents → ℕ → ℕ
+tries_of kind.Run d s = tries d s
+tries_of kind.Undo d s = undo_tries d s
+
+-- how an action, or a compensation, ends by its outcome, after so many misses of so many tries
+abbrev pub end_of : Kind → Outcome → ℕ → ℕ → Transition
+end_of kind.Run Done misses tries = transition.Commit
+end_of kind.Run Failed misses tries = if nat_lt (misses + 1) tries then transition.Missed else transition.Fail
+end_of kind.Undo Done misses tries = transition.Undone
+end_of kind.Undo Failed misses tries = if nat_lt (misses + 1) tries then transition.UndoMissed else transition.UndoFail
+
+-- the transition ends it by that outcome, after some misses of some tries
+abbrev pub IsEndOf : Kind → Outcome → Transition → Type 0
+IsEndOf kind outcome t = (misses : ℕ) × (tries : ℕ) × (t ≡ end_of kind outcome misses tries)

@@ -25,6 +25,6 @@ pub use questions::{
     state_of, times, turn_of,
 };
 pub use states::{is_busy, is_off, is_standing};
-pub use tasks::{Outcome, Phase, Task};
+pub use tasks::{Kind, Outcome, Phase, Task};
 pub use transitions::Transition;
 pub use turns::Turn;

@@ -2,8 +2,8 @@
 ghost use Rattle.std.specs.Prelude.{◌≡◌};
 ghost use Rattle.saga_history.specs.Tasks as spec;
 
-use crate::events::Event;
 use crate::transitions::Transition;
+use saga_case::StepState;
 
 /// Where a saga stands.
 #[derive(Clone, Copy, Debug, PartialEq, Eq)]
@@ -29,6 +29,13 @@ pub enum Task {
     Plan(u32),
 }
 
+/// What is done at a step: its action, or its compensation.
+#[derive(Clone, Copy, Debug, PartialEq, Eq)]
+pub enum Kind {
+    Run,
+    Undo,
+}
+
 /// How an action or a compensation ended.
 #[derive(Clone, Copy, Debug, PartialEq, Eq)]
 pub enum Outcome {
@@ -36,39 +43,31 @@ pub enum Outcome {
     Failed,
 }
 
-impl Task {
-    /// The event with which the task begins.
-    pub fn event(self) -> Event
-        ensures { result ≡ spec.event_of_task self }
+impl Kind {
+    /// The state of a step whose action, or compensation, is on its way.
+    pub fn busy_state(self) -> StepState
+        ensures { result ≡ spec.busy_state self }
     {
         match self {
-            Task::Run(saga, step) => Event::StartRun(saga, step),
-            Task::Undo(saga, step) => Event::StartUndo(saga, step),
-            Task::Plan(saga) => Event::StartPlan(saga),
+            Kind::Run => StepState::Running,
+            Kind::Undo => StepState::Undoing,
         }
     }
 }
 
 impl Outcome {
-    /// How an action ends that had so many misses before, of so many tries.
-    pub fn end_of_run(self, misses: u64, tries: u64) -> Transition
-        ensures { result ≡ spec.end_of_run self misses tries }
+    /// How an action, or a compensation, ends that had so many misses before, of so many tries.
+    pub fn end_of(self, kind: Kind, misses: u64, tries: u64) -> Transition
+        ensures { result ≡ spec.end_of kind self misses tries }
     {
-        match self {
-            Outcome::Done => Transition::Commit,
-            Outcome::Failed if misses < tries && misses + 1 < tries => Transition::Missed,
-            Outcome::Failed => Transition::Fail,
-        }
-    }
-
-    /// How a compensation ends that had so many misses before, of so many tries.
-    pub fn end_of_undo(self, misses: u64, tries: u64) -> Transition
-        ensures { result ≡ spec.end_of_undo self misses tries }
-    {
-        match self {
-            Outcome::Done => Transition::Undone,
-            Outcome::Failed if misses < tries && misses + 1 < tries => Transition::UndoMissed,
-            Outcome::Failed => Transition::UndoFail,
+        let again = misses < tries && misses + 1 < tries;
+        match (kind, self) {
+            (Kind::Run, Outcome::Done) => Transition::Commit,
+            (Kind::Run, Outcome::Failed) if again => Transition::Missed,
+            (Kind::Run, Outcome::Failed) => Transition::Fail,
+            (Kind::Undo, Outcome::Done) => Transition::Undone,
+            (Kind::Undo, Outcome::Failed) if again => Transition::UndoMissed,
+            (Kind::Undo, Outcome::Failed) => Transition::UndoFail,
         }
     }
 }

@@ -1,5 +1,5 @@
 -- When a row tells what changed in its saga, and what the row then allows.
-use Rattle.std.specs.Prelude.{◌≡◌, ℕ, ◌<◌, ◌≤◌, ◌+◌, ◌⊎◌, false, List, Some, length, slice_index}
+use Rattle.std.specs.Prelude.{◌≡◌, ℕ, ◌<◌, ◌≤◌, ◌+◌, false, List, Some, length, slice_index}
 use Rattle.saga_def.specs.Contents.{Contents}
 use Rattle.saga_def.specs.Sound.{IsSound}
 use Rattle.saga_case.specs.declared.states.StepState.{StepState}
@@ -10,12 +10,14 @@ use Rattle.saga_history.specs.declared.transitions.Transition.TheVariants as tra
 use Rattle.saga_history.specs.declared.turns.Turn.{Turn}
 use Rattle.saga_history.specs.declared.turns.Turn.TheVariants.{Going, Draining, Planning, Stuck}
 use Rattle.saga_history.specs.declared.tasks.Outcome.{Outcome}
-use Rattle.saga_history.specs.declared.tasks.Outcome.TheVariants.{Done, Failed}
+use Rattle.saga_history.specs.declared.tasks.Kind.{Kind}
+use Rattle.saga_history.specs.declared.tasks.Kind.TheVariants as kind
 use Rattle.saga_history.specs.declared.tasks.Phase.{Phase}
 use Rattle.saga_history.specs.declared.tasks.Phase.TheVariants as phase
 use Rattle.saga_history.specs.Changes.{Change}
 use Rattle.saga_history.specs.States.{is_busy, state}
 use Rattle.saga_history.specs.Turns.{turn, goal, aborted}
+use Rattle.saga_history.specs.Tasks.{end_of, tries_of}
 use Rattle.saga_history.specs.Rules.{definition, tries, undo_tries, misses_of, undo_misses_of}
 use Rattle.saga_rows.specs.Row.{Row, state_at, mark_at, IsSized, MayRun, MayUndo, RowIsEnded}
 
@@ -57,14 +59,14 @@ RowMay row s transition.Undone = IsIn row s Undoing
 RowMay row s transition.UndoMissed = IsIn row s Undoing × (undo_misses_at row s + 1 < undo_tries row.definition s)
 RowMay row s transition.UndoFail = IsIn row s Undoing × (undo_tries row.definition s ≤ undo_misses_at row s + 1)
 
--- the transitions by which an action, or a compensation, ends with an outcome
-abbrev pub IsEndOfRun : Outcome → Transition → Type 0
-IsEndOfRun Done t = t ≡ transition.Commit
-IsEndOfRun Failed t = (t ≡ transition.Missed) ⊎ (t ≡ transition.Fail)
+-- how often a step's action, or its compensation, was missed
+abbrev pub missed_at : Row → Kind → ℕ → ℕ
+missed_at row kind.Run s = misses_at row s
+missed_at row kind.Undo s = undo_misses_at row s
 
-abbrev pub IsEndOfUndo : Outcome → Transition → Type 0
-IsEndOfUndo Done t = t ≡ transition.Undone
-IsEndOfUndo Failed t = (t ≡ transition.UndoMissed) ⊎ (t ≡ transition.UndoFail)
+-- how it ends with an outcome
+abbrev pub row_end : Row → ℕ → Kind → Outcome → Transition
+row_end row s kind outcome = end_of kind outcome (missed_at row kind s) (tries_of kind row.definition s)
 
 -- the saga is neither ended nor stuck
 abbrev pub IsNotOver : Turn → Row → Type 0

@@ -1,15 +1,14 @@
 //! What the tables of a row allow, and where its saga stands. None of it goes over the steps, but for
 //! [`Row::present_case`], [`Row::drained_case`] and [`Row::is_present`].
-ghost use Rattle.std.specs.Prelude.{◌≡◌, ◌<◌, ◌+◌, ◌↔◌, IsTrue, IfOk, MatchOption, length};
-ghost use Rattle.saga_case.specs.declared.states.StepState.TheVariants.{Running, Undoing};
-ghost use Rattle.saga_history.specs.Rules.{tries, undo_tries};
+ghost use Rattle.std.specs.Prelude.{◌≡◌, ◌<◌, ◌+◌, ◌↔◌, IsTrue, IfOk, IfSome, MatchOption, length};
+ghost use Rattle.saga_history.specs.Tasks.{busy_state, tries_of};
 ghost use Rattle.saga_history.specs.declared.turns.Turn.TheVariants.{Planning};
 ghost use Rattle.saga_rows.specs.Row.{MayPlan};
-ghost use Rattle.saga_rows.specs.Follows.{IsDrained, IsEndOfRun, IsEndOfUndo, IsIn, RowHasPhase, RowMay, RowMayAbort, misses_at, undo_misses_at, row_case};
+ghost use Rattle.saga_rows.specs.Follows.{IsDrained, IsIn, RowHasPhase, RowMay, RowMayAbort, missed_at, row_case, row_end};
 
 use crate::row::Row;
 use saga_case::{Case, StepState};
-use saga_history::{Outcome, Phase, Transition, Turn};
+use saga_history::{Kind, Outcome, Phase, Transition, Turn};
 use std::alloc::{AllocError, Global};
 
 impl<'d> Row<'d> {
@@ -22,25 +21,37 @@ impl<'d> Row<'d> {
         self.states()[step as usize] == state
     }
 
-    /// Whether the action of a step is tried again where it fails now.
-    fn is_run_again(&self, step: u16) -> bool
+    /// How often the action of a step was missed, or its compensation.
+    fn missed(&self, step: u16, kind: Kind) -> u8
         requires { step < length self.now.definition.steps }
-        ensures { IsTrue result ↔ (misses_at self.now step + 1 < tries self.now.definition step) }
+        ensures { result ≡ missed_at self.now kind step }
     {
         let _ = self.steps();
-        let tries = self.definition().step(step).tries;
-        u64::from(self.misses()[step as usize]) + 1 < tries
+        match kind {
+            Kind::Run => self.misses()[step as usize],
+            Kind::Undo => self.undo_misses()[step as usize],
+        }
     }
 
-    /// Whether the compensation of a step is tried again where it fails now.
-    fn is_undone_again(&self, step: u16) -> bool
+    /// How often it is tried.
+    fn tries(&self, step: u16, kind: Kind) -> u64
+        requires { step < length self.now.definition.steps }
+        ensures { result ≡ tries_of kind self.now.definition step }
+    {
+        let step = self.definition().step(step);
+        match kind {
+            Kind::Run => step.tries,
+            Kind::Undo => step.undo_tries,
+        }
+    }
+
+    /// Whether it is tried again where it fails now.
+    fn is_tried_again(&self, step: u16, kind: Kind) -> bool
         requires { step < length self.now.definition.steps }
         ensures { IsTrue result
-            ↔ (undo_misses_at self.now step + 1 < undo_tries self.now.definition step) }
+            ↔ (missed_at self.now kind step + 1 < tries_of kind self.now.definition step) }
     {
-        let _ = self.steps();
-        let tries = self.definition().step(step).undo_tries;
-        u64::from(self.undo_misses()[step as usize]) + 1 < tries
+        u64::from(self.missed(step, kind)) + 1 < self.tries(step, kind)
     }
 
     /// Whether a step may make a transition.
@@ -52,60 +63,33 @@ impl<'d> Row<'d> {
             Transition::StartRun => self.may_run(step),
             Transition::Commit => self.is_in(step, StepState::Running),
             Transition::Missed => {
-                self.is_in(step, StepState::Running) && self.is_run_again(step)
+                self.is_in(step, StepState::Running) && self.is_tried_again(step, Kind::Run)
             }
-            Transition::Fail => self.is_in(step, StepState::Running) && !self.is_run_again(step),
+            Transition::Fail => self.is_in(step, StepState::Running)
+                && !self.is_tried_again(step, Kind::Run),
             Transition::StartUndo => self.may_undo(step),
             Transition::Undone => self.is_in(step, StepState::Undoing),
             Transition::UndoMissed => {
-                self.is_in(step, StepState::Undoing) && self.is_undone_again(step)
+                self.is_in(step, StepState::Undoing) && self.is_tried_again(step, Kind::Undo)
             }
             Transition::UndoFail => {
-                self.is_in(step, StepState::Undoing) && !self.is_undone_again(step)
+                self.is_in(step, StepState::Undoing) && !self.is_tried_again(step, Kind::Undo)
             }
         }
     }
 
-    /// The transition by which the action of a step ends with an outcome, if the step is running.
-    pub fn end_of_run(&self, step: u16, outcome: Outcome) -> Option<Transition>
+    /// The transition by which the action of a step, or its compensation, ends with an outcome, if it is on its way.
+    pub fn end_of(&self, step: u16, kind: Kind, outcome: Outcome) -> Option<Transition>
         requires { step < length self.now.definition.steps }
-        ensures { MatchOption result (IsIn self.now step Running → ⊥)
-            (λ t. RowMay self.now step t × IsEndOfRun outcome t) }
+        ensures may { IfSome result (λ t. RowMay self.now step t) }
+        ensures value { MatchOption result (IsIn self.now step (busy_state kind) → ⊥)
+            (λ t. t ≡ row_end self.now step kind outcome) }
     {
-        if !self.is_in(step, StepState::Running) {
+        if !self.is_in(step, kind.busy_state()) {
             return None;
         }
-        match outcome {
-            Outcome::Done => Some(Transition::Commit),
-            Outcome::Failed => {
-                if self.is_run_again(step) {
-                    Some(Transition::Missed)
-                } else {
-                    Some(Transition::Fail)
-                }
-            }
-        }
-    }
-
-    /// The transition by which the compensation of a step ends with an outcome, if it is undoing.
-    pub fn end_of_undo(&self, step: u16, outcome: Outcome) -> Option<Transition>
-        requires { step < length self.now.definition.steps }
-        ensures { MatchOption result (IsIn self.now step Undoing → ⊥)
-            (λ t. RowMay self.now step t × IsEndOfUndo outcome t) }
-    {
-        if !self.is_in(step, StepState::Undoing) {
-            return None;
-        }
-        match outcome {
-            Outcome::Done => Some(Transition::Undone),
-            Outcome::Failed => {
-                if self.is_undone_again(step) {
-                    Some(Transition::UndoMissed)
-                } else {
-                    Some(Transition::UndoFail)
-                }
-            }
-        }
+        let missed = u64::from(self.missed(step, kind));
+        Some(outcome.end_of(kind, missed, self.tries(step, kind)))
     }
 
     /// Whether a plan is being made.

@@ -1,7 +1,8 @@
 //! One saga by its tables.
-ghost use Rattle.std.specs.Prelude.{ℕ, Bool, ◌≡◌, ◌<◌, ◌≤◌, ◌↔◌, IsTrue, IfOk, MatchOption, true, length, replicate, slice_set};
+ghost use Rattle.std.specs.Prelude.{ℕ, Bool, ◌≡◌, ◌<◌, ◌≤◌, ◌↔◌, IsTrue, IfOk, MatchOption, true, length, replicate, slice_index, slice_set};
 ghost use Rattle.saga_case.specs.declared.states.StepState.TheVariants.{Waiting};
 ghost use Rattle.saga_history.specs.declared.turns.Turn.TheVariants.{Going};
+ghost use Rattle.saga_def.specs.Neighbours.{needs_of};
 ghost use Rattle.saga_rows.specs.Row as spec;
 ghost use Rattle.saga_rows.specs.Tables.{IsCounted, unfinished_in};
 
@@ -91,6 +92,19 @@ fn count_unfinished(definition: &Definition, states: &[StepState], goal: &[bool]
     unfinished
 }
 
+/// How many needs each step has.
+fn count_needs(alloc: Global, definition: &Definition) -> Result<Vec<u16>, AllocError>
+    ensures sized { IfOk result (λ counts. length counts.items ≡ length definition.now.steps) }
+    ensures each { IfOk result (λ counts. (s : ℕ) → s < length definition.now.steps
+        → slice_index counts.items s ≡ length (needs_of definition.now s)) }
+{
+    let mut counts = Vec::new(alloc);
+    for s in 0..definition.steps() as u16 {
+        counts.push(definition.needs_of(s).len() as u16)?;
+    }
+    Ok(counts)
+}
+
 impl<'d> Row<'d> {
     ghost use Rattle.saga_rows.specs.Row.{FitsIn, HasRoom, IsFirstOfRow, IsSized, MayPlan, MayRun, MayUndo, RowAllowsNone, RowIsEnded, new_row, row_aborting, row_adopting, row_after};
     ghost use Rattle.saga_rows.specs.Rows.{is_over};
@@ -102,10 +116,7 @@ impl<'d> Row<'d> {
         let count = definition.steps();
         let states = vec![in alloc; StepState::Waiting; count]?;
         let goal = vec![in alloc; true; count]?;
-        let mut unmet = Vec::new(alloc);
-        for s in 0..count as u16 {
-            unmet.push(definition.needs_of(s).len() as u16)?;
-        }
+        let unmet = count_needs(alloc, definition)?;
         let held: Vec<u16> = vec![in alloc; 0; count]?;
         let mut ready = BitSet::new(alloc, count)?;
         let misses: Vec<u8> = vec![in alloc; 0; count]?;

@@ -5,7 +5,7 @@ use Rattle.std.proofs.lemmas.Bool.Decides.{nat_tests}
 use Rattle.std.specs.Global.{Global}
 use Rattle.std.specs.HashMap.{HashMap}
 use Rattle.std.specs.List.{filter, last_or}
-use Rattle.saga_lines.specs.Lines.{lines_of}
+use Rattle.saga_bytes.specs.Lines.{lines_of}
 use Rattle.saga_script.specs.declared.endings.Ending.{Ending}
 use Rattle.saga_script.specs.declared.endings.Ending.TheVariants.{Done}
 use Rattle.saga_script.specs.declared.faults.ScriptFault.{ScriptFault}

@@ -12,12 +12,12 @@ use Rattle.saga_script.specs.Table.{ending_in}
 abbrev pub question_of : Job → Question
 question_of job = question job.saga job.name job.is_undo job.attempt
 
--- a script may answer to a job what it tells of it, and ask for an abort where it tells that
+-- a script may answer to a job what it tells of it, and asks for an abort just where it tells that
 abbrev pub MayAnswer : Script → Job → Outcome → Type 0
 MayAnswer script job outcome = outcome ≡ outcome_of (ending_in script (question_of job))
 
-abbrev pub MayAskAbort : Script → Job → Type 0
-MayAskAbort script job = asks_abort (ending_in script (question_of job)) ≡ true
+abbrev pub AsksAbort : Script → Job → Type 0
+AsksAbort script job = asks_abort (ending_in script (question_of job)) ≡ true
 
 -- the same, of what the lines of a script's text say
 abbrev pub IsTold : List Statement → Job → Outcome → Type 0

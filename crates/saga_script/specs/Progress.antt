@@ -1,6 +1,6 @@
 -- What lines tell of one question, line by line.
 use Rattle.std.specs.Prelude.{ℕ, ◌+◌, List, [], ◌∷◌, Option, Some, None, Result, Ok, Err, if◌then◌else◌}
-use Rattle.saga_lines.specs.Lines.{lines_of}
+use Rattle.saga_bytes.specs.Lines.{lines_of}
 use Rattle.saga_script.specs.declared.endings.Ending.{Ending}
 use Rattle.saga_script.specs.declared.endings.Ending.TheVariants.{Done}
 use Rattle.saga_script.specs.declared.faults.ScriptFault.{ScriptFault}

@@ -1,6 +1,6 @@
 -- What the text of a script says.
 use Rattle.std.specs.Prelude.{ℕ, ◌+◌, ◌≡◌, List, [], ◌∷◌, length, nat_lt, Option, Some, None, Result, Ok, Err, if◌then◌else◌}
-use Rattle.saga_lines.specs.Lines.{lines_of}
+use Rattle.saga_bytes.specs.Lines.{lines_of}
 use Rattle.saga_script.specs.declared.faults.ScriptFault.{ScriptFault}
 use Rattle.saga_script.specs.declared.faults.ScriptFault.TheVariants.{TooLong, BadLine, OutOfMemory}
 use Rattle.saga_script.specs.declared.limits.TheConstants.{MAX_SCRIPT}

@@ -5,11 +5,13 @@ use saga_history::Outcome;
 use saga_work::Actor;
 
 impl Actor for Script {
-    ghost use Rattle.saga_script.specs.Jobs.{MayAnswer, MayAskAbort};
+    ghost use Rattle.saga_script.specs.Jobs.{AsksAbort, MayAnswer};
 
     ghost may = { λ script job outcome. MayAnswer script job outcome };
 
-    ghost may_abort = { λ script job. MayAskAbort script job };
+    ghost may_abort = { λ script job. AsksAbort script job };
+
+    ghost must_abort = { λ script job. AsksAbort script job };
 
     fn run(&self, job: &Job<'_>) -> Outcome {
         self.outcome(job.saga(), job.name(), job.is_undo(), job.attempt())

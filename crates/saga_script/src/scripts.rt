@@ -8,8 +8,8 @@ use crate::endings::{Ending, PLACES, place_of, with_ending};
 use crate::faults::ScriptFault;
 use crate::limits::MAX_SCRIPT;
 use crate::statements::{Statement, statement_of};
+use saga_bytes::split_line;
 use saga_history::Outcome;
-use saga_lines::split_line;
 use std::alloc::{AllocError, Global};
 use std::collections::HashMap;
 

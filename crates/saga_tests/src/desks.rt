@@ -1,6 +1,6 @@
 //! Desks, call by call: ends of what another seat claimed, verdicts that come too late, and desks that end with other seats than
 //! their own.
-use crate::samples::{lengths, shelf_of, text, told};
+use crate::samples::{Needs, lengths, shelf_of, text, told, within};
 use saga_check::verify;
 use saga_desk::{AdoptionRefused, Claim, Desk, FinishRefused, Seat};
 use saga_history::Outcome;
@@ -30,7 +30,7 @@ struct Talk {
     name: &'static str,
     steps: u32,
     tries: u64,
-    two_shards: bool,
+    shards: u32,
     /// The seat, its call, and the answer.
     calls: &'static [(usize, Call, &'static str)],
     /// The places in the receipts of a seat, in the end.
@@ -57,7 +57,7 @@ const TALKS: &[Talk] = &[
         name: "a saga from its opening to its end",
         steps: 1,
         tries: 1,
-        two_shards: false,
+        shards: 1,
         calls: &[
             (0, Take, "settled"),
             (0, Open(0, 1), "Err(NoSuchDefinition)"),
@@ -74,7 +74,7 @@ const TALKS: &[Talk] = &[
         name: "a job of another seat",
         steps: 2,
         tries: 1,
-        two_shards: false,
+        shards: 1,
         calls: &[
             (0, Open(0, 0), "Ok(0)"),
             (0, Take, "run 0 0 1"),
@@ -93,7 +93,7 @@ const TALKS: &[Talk] = &[
         name: "jobs of another desk: of a step that was reported, and of a saga that this desk has not",
         steps: 2,
         tries: 1,
-        two_shards: true,
+        shards: 2,
         calls: &[
             (0, Open(0, 0), "Ok(0)"),
             (2, Open(0, 0), "Ok(0)"),
@@ -117,7 +117,7 @@ const TALKS: &[Talk] = &[
         name: "two seats on two shards, of which the first has no saga",
         steps: 1,
         tries: 1,
-        two_shards: true,
+        shards: 2,
         calls: &[
             (0, Open(1, 0), "Ok(1)"),
             (0, Open(1, 0), "Ok(3)"),
@@ -132,10 +132,62 @@ const TALKS: &[Talk] = &[
         ends: &[(&[0, 1], "books 0 6")],
     },
     Talk {
+        name: "each seat begins at its own shard",
+        steps: 1,
+        tries: 1,
+        shards: 2,
+        calls: &[
+            (0, Open(0, 0), "Ok(0)"),
+            (0, Open(1, 0), "Ok(1)"),
+            (1, Take, "run 1 0 1"),
+            (0, Take, "run 0 0 1"),
+        ],
+        numbers: &[(0, &[0, 0, 1]), (1, &[1])],
+        ends: &[(&[0, 1], "books 2 2")],
+    },
+    Talk {
+        name: "the first shard is busy, and the last is settled",
+        steps: 1,
+        tries: 1,
+        shards: 3,
+        calls: &[
+            (0, Open(0, 0), "Ok(0)"),
+            (0, Open(2, 0), "Ok(2)"),
+            (0, Take, "run 0 0 1"),
+            (1, Take, "run 2 0 1"),
+            (1, Do(1), OK),
+            (0, Take, "idle"),
+            (1, Take, "idle"),
+            (0, Do(0), OK),
+            (1, Take, "settled"),
+        ],
+        numbers: &[(0, &[0, 0, 1, 2]), (1, &[1, 2])],
+        ends: &[(&[0, 1], "books 3 0")],
+    },
+    Talk {
+        name: "a seat aborts a saga of another shard than its own",
+        steps: 1,
+        tries: 1,
+        shards: 3,
+        calls: &[
+            (0, Open(1, 0), "Ok(1)"),
+            (0, Open(1, 0), "Ok(4)"),
+            (0, Abort(4), OK),
+            (0, Abort(7), "Err(NoSuchSaga)"),
+            (1, Take, "run 1 0 1"),
+            (1, Do(0), OK),
+            (1, Take, "plan 4"),
+            (1, Do(1), OK),
+            (0, Take, "settled"),
+        ],
+        numbers: &[(0, &[0, 1, 2]), (1, &[3, 4, 5, 6])],
+        ends: &[(&[0, 1], "books 0 7")],
+    },
+    Talk {
         name: "each place and mark of the other desk's seat fits, but the orders of the two seats cross",
         steps: 1,
         tries: 1,
-        two_shards: true,
+        shards: 2,
         calls: CROSSING,
         numbers: &[(0, &[0, 1]), (1, &[1, 0]), (2, &[1, 0])],
         ends: &[(&[2, 1], "torn")],
@@ -144,7 +196,7 @@ const TALKS: &[Talk] = &[
         name: "the same desk with its own seats",
         steps: 1,
         tries: 1,
-        two_shards: true,
+        shards: 2,
         calls: CROSSING,
         numbers: &[(0, &[0, 1]), (1, &[1, 0])],
         ends: &[(&[0, 1], "books 2 2")],
@@ -153,7 +205,7 @@ const TALKS: &[Talk] = &[
         name: "a seat is missing, a stranger stands in its place, and an unused seat of the other desk",
         steps: 1,
         tries: 1,
-        two_shards: false,
+        shards: 1,
         calls: &[(0, Open(0, 0), "Ok(0)")],
         numbers: &[(0, &[0]), (1, &[]), (2, &[])],
         ends: &[
@@ -167,7 +219,7 @@ const TALKS: &[Talk] = &[
         name: "a plan is given back, and made again",
         steps: 1,
         tries: 1,
-        two_shards: false,
+        shards: 1,
         calls: &[
             (0, Open(0, 0), "Ok(0)"),
             (0, Open(0, 0), "Ok(1)"),
@@ -190,7 +242,7 @@ const TALKS: &[Talk] = &[
         name: "a saga is aborted while it is planned: the adoption is stale",
         steps: 1,
         tries: 1,
-        two_shards: false,
+        shards: 1,
         calls: &[
             (0, Open(0, 0), "Ok(0)"),
             (0, Take, "run 0 0 1"),
@@ -214,7 +266,7 @@ const TALKS: &[Talk] = &[
         name: "a saga is aborted between a claim and its report: its step is compensated, in two attempts that fail, and stands",
         steps: 2,
         tries: 2,
-        two_shards: false,
+        shards: 1,
         calls: &[
             (0, Open(0, 0), "Ok(0)"),
             (0, Take, "run 0 0 1"),
@@ -238,7 +290,7 @@ const TALKS: &[Talk] = &[
         name: "three attempts, of which the last one is done",
         steps: 1,
         tries: 3,
-        two_shards: false,
+        shards: 1,
         calls: &[
             (0, Open(0, 0), "Ok(0)"),
             (0, Take, "run 0 0 1"),
@@ -256,7 +308,7 @@ const TALKS: &[Talk] = &[
         name: "a compensation that is done",
         steps: 1,
         tries: 1,
-        two_shards: false,
+        shards: 1,
         calls: &[
             (0, Open(0, 0), "Ok(0)"),
             (0, Take, "run 0 0 1"),
@@ -436,8 +488,8 @@ fn end_all<R: process::Abort + Alloc<A = Global>>(
 
 fn check<R: process::Abort + Wait + Alloc<A = Global>>(rt: &R, talk: &Talk) {
     let alloc = rt.alloc();
-    let shelf = shelf_of(rt, talk.steps, talk.tries, false);
-    let shards = if talk.two_shards { 2 } else { 1 };
+    let shelf = shelf_of(rt, talk.steps, talk.tries, Needs::Nothing);
+    let shards = within(talk.shards);
     let (desk, own) = Desk::open(alloc, &shelf, 2, shards).expect(rt, "a desk");
     let (other, others) = Desk::open(alloc, &shelf, 2, shards).expect(rt, "a desk");
     let mut seats = Vec::new(alloc);
@@ -448,10 +500,71 @@ fn check<R: process::Abort + Wait + Alloc<A = Global>>(rt: &R, talk: &Talk) {
     end_all(rt, desk, &mut seats, talk);
 }
 
+/// Sagas of one step on the last of so many shards, of which each is opened, run and settled before the next one.
+struct Turns {
+    shards: u32,
+    tries: u64,
+    /// Another seat has begun the first one's action, and does not end it.
+    is_one_held: bool,
+}
+
+const TURNS: &[Turns] = &[
+    Turns {
+        shards: 16,
+        tries: 1,
+        is_one_held: false,
+    },
+    Turns {
+        shards: 3,
+        tries: 1,
+        is_one_held: false,
+    },
+    // More than 4,096 events, while an action is on its way.
+    Turns {
+        shards: 3,
+        tries: 9,
+        is_one_held: true,
+    },
+];
+
+/// Runs 300 sagas in turn. Each action fails but in its last attempt.
+fn take_turns<R: process::Abort + Wait + Alloc<A = Global>>(rt: &R, turns: &Turns) {
+    let shelf = shelf_of(rt, 1, turns.tries, Needs::Nothing);
+    let shards = within(turns.shards);
+    let (desk, mut seats) = Desk::open(rt.alloc(), &shelf, 2, shards).expect(rt, "a desk");
+    let mut other = seats.pop().expect(rt, "a seat");
+    let mut seat = seats.pop().expect(rt, "a seat");
+    let last = shards - 1;
+    let mut rest = "settled";
+    for turn in 0..300u32 {
+        let saga = desk.open_saga(rt, &mut seat, last, 0).expect(rt, "a saga");
+        assert_eq!(rt; saga, last + turn * shards);
+        if turn == 0 && turns.is_one_held {
+            let held = desk.claim(rt, &mut other).expect(rt, "memory");
+            assert!(rt; matches!(&held, Claim::Run(_)));
+            rest = "idle";
+            continue;
+        }
+        for missed in 0..turns.tries {
+            let attempt = missed + 1;
+            let mut claim = desk.claim(rt, &mut seat).expect(rt, "memory");
+            let expected = format!(in rt.alloc(); "run {saga} 0 {attempt}").expect(rt, "a text");
+            assert_eq!(rt; kind_of(rt, &claim).as_str(), expected.as_str());
+            let well = attempt == turns.tries;
+            assert_eq!(rt; end(rt, &desk, &mut seat, &mut claim, well).as_str(), OK);
+        }
+        let claim = desk.claim(rt, &mut seat).expect(rt, "memory");
+        assert_eq!(rt; kind_of(rt, &claim).as_str(), rest);
+    }
+}
+
 #[test]
 fn talks(rt: HostRuntime) -> Result<(), test::Fail> {
     for talk in TALKS {
         check(&rt, talk);
+    }
+    for turns in TURNS {
+        take_turns(&rt, turns);
     }
     Ok(())
 }

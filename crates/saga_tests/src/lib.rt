@@ -5,7 +5,11 @@
 #[cfg(test)]
 mod books;
 #[cfg(test)]
+mod calls;
+#[cfg(test)]
 mod desks;
+#[cfg(test)]
+mod examples;
 #[cfg(test)]
 mod readers;
 #[cfg(test)]

@@ -1,5 +1,5 @@
 //! Readers that never end, are interrupted, or fail.
-use saga_read::{read_once, read_up_to};
+use saga_bytes::{read_once, read_up_to};
 use std::io::{self, ErrorKind, Read};
 use std::test::Fail;
 

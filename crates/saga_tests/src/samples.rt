@@ -1,4 +1,6 @@
 //! Definitions whose steps cost nothing, and what tests look at.
+ghost use Rattle.std.specs.Prelude.{◌<◌, ◌≤◌};
+
 use saga_core::Book;
 use saga_def::Price::Of;
 use saga_def::{Definition, Need, Step, Text};
@@ -19,25 +21,35 @@ fn step<R: Abort + Alloc<A = Global>>(rt: &R, place: u32, tries: u64) -> Step {
     }
 }
 
-/// A shelf of one definition, of so many steps, each of which, and its compensation, is tried so often; in a row, each needs
-/// the one before it.
+/// What the steps of a definition need.
+#[derive(Clone, Copy)]
+pub enum Needs {
+    Nothing,
+    /// Each needs the one before it.
+    InARow,
+    /// Each but the first needs the first.
+    First,
+}
+
+/// A shelf of one definition, of so many steps, each of which, and its compensation, is tried so often.
 pub fn shelf_of<R: Abort + Alloc<A = Global>>(
     rt: &R,
     count: u32,
     tries: u64,
-    in_a_row: bool,
+    needs_of: Needs,
 ) -> Vec<Definition> {
     let alloc = rt.alloc();
     let mut steps = Vec::new(alloc);
     let mut needs = Vec::new(alloc);
     for place in 0..count {
         steps.push(step(rt, place, tries)).expect(rt, "a step");
-        if in_a_row && place > 0 {
-            let need = Need {
-                step: place,
-                on: place - 1,
-            };
-            needs.push(need).expect(rt, "a need");
+        let on = match needs_of {
+            Needs::InARow if place > 0 => Some(place - 1),
+            Needs::First if place > 0 => Some(0),
+            _ => None,
+        };
+        if let Some(on) = on {
+            needs.push(Need { step: place, on }).expect(rt, "a need");
         }
     }
     let name = Text::new(String::from_str(alloc, "saga").expect(rt, "a name"));
@@ -62,4 +74,12 @@ pub fn told<R: Abort + Alloc<A = Global>, T: Debug>(rt: &R, value: &T) -> String
 /// A word as a text of its own.
 pub fn text<R: Abort + Alloc<A = Global>>(rt: &R, word: &str) -> String {
     String::from_str(rt.alloc(), word).expect(rt, "a text")
+}
+
+/// A number of workers or shards, from 1 to 16.
+pub fn within(count: u32) -> u32
+    ensures some { 0 < result }
+    ensures few { result ≤ 16 }
+{
+    if count == 0 { 1 } else { count.min(16) }
 }

@@ -1,6 +1,6 @@
 //! Runs whose actions wait for each other, which they can only where as many begin side by side; and runs that are asked for what
 //! there is not.
-use crate::samples::{lengths, shelf_of, told};
+use crate::samples::{Needs, lengths, shelf_of, told, within};
 use saga_def::Definition;
 use saga_desk::Job;
 use saga_history::Outcome;
@@ -21,6 +21,8 @@ struct Waiting {
     wanted: u64,
     /// Then each action fails, and asks for an abort, which is not heard after a failure.
     fails: bool,
+    /// But the first step's action, which begins before the others and lasts a while.
+    first_alone: bool,
     /// In place of all that, the first action of saga 0 waits until a compensation of saga 1 has begun, whose second action
     /// fails.
     crosses: bool,
@@ -44,11 +46,19 @@ impl Actor for Waiting {
 
     ghost may_abort = { λ a j. Unit {0} };
 
+    ghost must_abort = { λ a j. ⊥ };
+
     fn run(&self, job: &Job<'_>) -> Outcome {
         let fails = match (self.crosses, job.saga(), job.step()) {
             (true, 0, 0) => !self.waits(1),
             (true, 1, 1) => true,
             (true, _, _) => false,
+            (false, _, 0) if self.first_alone => {
+                for _ in 0..20_000u32 {
+                    thread::yield_now();
+                }
+                false
+            }
             (false, _, _) => {
                 self.begun.fetch_add(1, Ordering::SeqCst);
                 !self.waits(self.wanted) || self.fails
@@ -77,7 +87,7 @@ impl Actor for Waiting {
 struct Row {
     name: &'static str,
     steps: u32,
-    in_a_row: bool,
+    needs: Needs,
     sagas: usize,
     /// Behind the sagas a definition is asked for that there is not.
     unknown: bool,
@@ -85,6 +95,7 @@ struct Row {
     shards: u32,
     wanted: u64,
     fails: bool,
+    first_alone: bool,
     crosses: bool,
     ends: &'static str,
     /// How many actions have begun in the end.
@@ -95,13 +106,14 @@ struct Row {
 const ONE: Row = Row {
     name: "one step",
     steps: 1,
-    in_a_row: false,
+    needs: Needs::Nothing,
     sagas: 1,
     unknown: false,
     workers: 1,
     shards: 1,
     wanted: 1,
     fails: false,
+    first_alone: false,
     crosses: false,
     ends: "books 3 0",
     begun: 1,
@@ -139,10 +151,23 @@ const FAILING: Row = Row {
     ..ONE
 };
 
+/// Fifteen workers wait for the first step, and all have to be woken when it is done.
+const WOKEN: Row = Row {
+    name: "sixteen actions wait for a first one, and then for each other",
+    steps: 17,
+    needs: Needs::First,
+    workers: 16,
+    wanted: 16,
+    first_alone: true,
+    ends: "books 35 0",
+    begun: 16,
+    ..ONE
+};
+
 const CROSSING: Row = Row {
     name: "an action waits for a compensation",
     steps: 2,
-    in_a_row: true,
+    needs: Needs::InARow,
     sagas: 2,
     workers: 2,
     crosses: true,
@@ -164,6 +189,9 @@ const ROWS: &[Row] = &[
         shards: 2,
         ..FAILING
     },
+    WOKEN,
+    Row { shards: 2, ..WOKEN },
+    WOKEN,
     CROSSING,
     Row {
         shards: 2,
@@ -185,6 +213,14 @@ const ROWS: &[Row] = &[
         ..ONE
     },
     Row {
+        name: "more sagas than nine books may have",
+        sagas: 9001,
+        shards: 9,
+        ends: "Open(9000, Full)",
+        begun: 0,
+        ..ONE
+    },
+    Row {
         name: "no saga",
         sagas: 0,
         ends: "books 0 0",
@@ -201,16 +237,8 @@ fn end_of<R: Abort + Threads + Wait + Sync + Alloc<A = Global>>(
     row: &Row,
     actor: &Waiting,
 ) -> String {
-    let workers = if row.workers == 0 {
-        1
-    } else {
-        row.workers.min(16)
-    };
-    let shards = if row.shards == 0 {
-        1
-    } else {
-        row.shards.min(16)
-    };
+    let workers = within(row.workers);
+    let shards = within(row.shards);
     match run_all(rt, rt.alloc(), shelf, asks, workers, shards, actor) {
         Ok(run) if run.stopped.is_none() => lengths(rt, run.books.as_slice()),
         Ok(run) => told(rt, &run.stopped),
@@ -219,7 +247,7 @@ fn end_of<R: Abort + Threads + Wait + Sync + Alloc<A = Global>>(
 }
 
 fn check<R: Abort + Threads + Wait + Sync + Alloc<A = Global>>(rt: &R, row: &Row) {
-    let shelf = shelf_of(rt, row.steps, 1, row.in_a_row);
+    let shelf = shelf_of(rt, row.steps, 1, row.needs);
     let mut asks = vec![in rt.alloc(); 0u32; row.sagas].expect(rt, "sagas");
     if row.unknown {
         asks.push(1).expect(rt, "a saga");
@@ -228,6 +256,7 @@ fn check<R: Abort + Threads + Wait + Sync + Alloc<A = Global>>(rt: &R, row: &Row
         begun: AtomicU64::new(0),
         wanted: row.wanted,
         fails: row.fails,
+        first_alone: row.first_alone,
         crosses: row.crosses,
     };
     let end = end_of(rt, &shelf, &asks, row, &actor);

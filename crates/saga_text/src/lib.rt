@@ -2,6 +2,19 @@
 //!
 //! `docs/FORMATS.md` of the repository has the format. [`read_definition`] decides on the tree that `toml` reads, so
 //! any spelling of the same tree is the same definition.
+//!
+//! `TRIP` is such a text:
+//!
+//! ```
+//! match read_definition(alloc, TRIP.as_bytes()) {
+//!     Ok(trip) => Some(trip),
+//!     // The first fault, as the program tells it: bad-key, cycle, ..
+//!     Err(fault) => {
+//!         let _word = fault.word();
+//!         None
+//!     }
+//! }
+//! ```
 #![tactic(auto)]
 
 mod definitions;

@@ -6,7 +6,7 @@ use Rattle.std.proofs.lemmas.List.Elements.{All-drop, All-get_or}
 use Rattle.clap.specs.Walk.{Row, Text}
 use Rattle.clap.specs.Words.{first_of}
 use Rattle.saga_tool.specs.declared.forms.Kind.{Kind}
-use Rattle.saga_tool.specs.declared.forms.Kind.TheVariants.{File, Optional, Files, Path, Number}
+use Rattle.saga_tool.specs.declared.forms.Kind.TheVariants.{File, Optional, Files, Flag, Path, Number}
 use Rattle.saga_tool.specs.Forms.{Argument}
 use Rattle.saga_tool.specs.Given.{Holds, HoldsBy, IsCount, files_by, files_in, files_room, files_wanted, one_or_none, room, takes_more, wanted}
 
@@ -14,6 +14,7 @@ at_least : (rows : List Row) (kind : Kind) (name : Text) → HoldsBy kind name r
 at_least rows File name holds = rw holds.1 (omega arith)
 at_least rows Optional name holds = omega arith
 at_least rows Files name holds = omega arith
+at_least rows Flag name holds = omega arith
 at_least rows Path name holds = omega arith
 at_least rows Number name holds = omega arith
 
@@ -25,6 +26,7 @@ at_most : (rows : List Row) (kind : Kind) (name : Text) → takes_more kind ≡ 
 at_most rows File name one = one_at_most (first_of name rows)
 at_most rows Optional name one = one_at_most (first_of name rows)
 at_most rows Files name one = cc
+at_most rows Flag name one = omega arith
 at_most rows Path name one = omega arith
 at_most rows Number name one = omega arith
 

@@ -11,7 +11,7 @@ use Rattle.saga_tool.specs.declared.forms.Name.{Name}
 use Rattle.saga_tool.specs.declared.forms.Name.TheVariants.{Check, Plan, Run, Audit, Draw, Drive}
 use Rattle.saga_tool.specs.declared.words.WordsFault.{WordsFault}
 use Rattle.saga_tool.specs.declared.words.WordsFault.TheVariants.{Usage, Help, OutOfMemory}
-use Rattle.saga_tool.specs.declared.replies.Reply.{Reply}
+use Rattle.saga_texts.specs.declared.outputs.Output.{Output}
 use Rattle.saga_tool.specs.declared.responses.Response.{Response}
 use Rattle.saga_tool.specs.Responses.{IsAlone}
 use Rattle.saga_tool.specs.Forms.{app_by, outline_for, word_for}
@@ -101,20 +101,20 @@ no_command Audit rest e = let bad : true ≡ false = ap (λ (l : List Text). byt
 no_command Draw rest e = let bad : true ≡ false = ap (λ (l : List Text). bytes_eq (slice_index_or l 0 []) (codes "--help")) e in cc
 no_command Drive rest e = let bad : true ≡ false = ap (λ (l : List Text). bytes_eq (slice_index_or l 0 []) (codes "--help")) e in cc
 
-told_help : (fault : WordsFault) (reply : Reply) → IsFaultOf (kind.DisplayHelp ∷ []) fault → IsTold fault reply → IsHelp reply
-told_help (Usage error) reply of told = elim of.1 [
+told_help : (fault : WordsFault) (output : Output) → IsFaultOf (kind.DisplayHelp ∷ []) fault → IsTold fault output → IsHelp output
+told_help (Usage error) output of told = elim of.1 [
   | inl is ↦ absurd (of.0 (inl is))
   | inr none ↦ elim none [ ]
 ]
-told_help (Help error) reply of told = told
-told_help OutOfMemory reply of told = elim told [ ]
+told_help (Help error) output of told = told
+told_help OutOfMemory output of told = elim told [ ]
 
 -- what is replied to such words is help
 pub is_help : (world : World) (response : Response) → RepliesToWords world help_words response → IsAlone IsHelp response
 is_help world response replies = elim replies [
   | inl r ↦ absurd (no_command r.found.name r.is.rest r.is.named)
   | inr r ↦ record {
-    replies = told_help r.fault response.reply (subst (λ (k : Kinds). IsFaultOf k r.fault) help_kinds (r.is.of_other no_command)) r.told.replies;
+    replies = told_help r.fault response.output (subst (λ (k : Kinds). IsFaultOf k r.fault) help_kinds (r.is.of_other no_command)) r.told.replies;
     none = r.told.none;
   }
 ]

@@ -3,9 +3,4 @@ mod TableLemmas
 mod MatchLemmas
 mod CountLemmas
 mod FaultLemmas
-mod ListLemmas
-mod ShelfLemmas
-mod RunLemmas
-mod LineLemmas
-mod DriveLemmas
 mod ReplyLemmas

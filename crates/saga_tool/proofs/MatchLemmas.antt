@@ -14,7 +14,7 @@ use Rattle.clap.specs.Values.{IsUnsignedIn}
 use Rattle.clap.specs.declared.parser.matches.Found.{Found}
 use Rattle.clap.proofs.WalkLemmas.{first_value-rows, raw_values-rows}
 use Rattle.saga_tool.specs.declared.forms.Kind.{Kind}
-use Rattle.saga_tool.specs.declared.forms.Kind.TheVariants.{File, Optional, Files, Path, Number}
+use Rattle.saga_tool.specs.declared.forms.Kind.TheVariants.{File, Optional, Files, Flag, Path, Number}
 use Rattle.saga_tool.specs.Forms.{Argument}
 use Rattle.saga_tool.specs.Given.{Holds, HoldsBy, IsNumber, files_by, has_number, is_number, number_of, one_or_none}
 
@@ -44,6 +44,7 @@ here rows Number n name holds e = (holds.0, ap (λ (w : Text). one_of w rows) (s
 here rows File n name holds e = cc
 here rows Optional n name holds e = cc
 here rows Files n name holds e = cc
+here rows Flag n name holds e = cc
 here rows Path n name holds e = cc
 
 -- a number that an outline has is there, and in range

@@ -31,7 +31,7 @@ use Rattle.clap.proofs.WalkLemmas.{first_value-rows, one_text-rows}
 use Rattle.std.proofs.lemmas.List.{append-nil, append_assoc}
 use Rattle.clap.specs.declared.builder.value_parser.ValueParser.TheVariants as parser
 use Rattle.saga_tool.specs.declared.forms.Kind.{Kind}
-use Rattle.saga_tool.specs.declared.forms.Kind.TheVariants.{File, Optional, Files, Path, Number}
+use Rattle.saga_tool.specs.declared.forms.Kind.TheVariants.{File, Optional, Files, Flag, Path, Number}
 use Rattle.saga_tool.specs.Forms.{Argument, Outline, added, app_by, bare_app, rule_by, rule_for}
 use Rattle.saga_tool.specs.Given.{Holds, HoldsBy}
 use Rattle.saga_tool.specs.Suited.{is_own, are_apart, is_suited}
@@ -371,6 +371,7 @@ holds_by c m st p k d lt Number name e =
     (read.0, sym (one_text-rows f name) ∙ (ap (one_text f) (sym id) ∙ read.1), read.2)
 holds_by c m st p k d lt Optional name e = tt
 holds_by c m st p k d lt Files name e = tt
+holds_by c m st p k d lt Flag name e = tt
 holds_by c m st p k d lt Path name e = tt
 
 -- a parse by a suited outline has what each of its arguments promises

@@ -1,22 +1,23 @@
 -- A command replies to its files.
 use Rattle.std.proofs.Common.{◌≡◌, ℕ, ◌-◌, ◌<◌, ◌≤◌, List, [], ◌∷◌, length, map, take, drop, get_or, slice_index_or, inl, inr, sym, subst, arith, length-drop}
-use Rattle.std.specs.Prelude.{Option, Result, Err}
+use Rattle.std.specs.Prelude.{Bool, true, false, codes, Option, Some, Result, Err}
 use Rattle.std.specs.Borrow.{Bor}
 use Rattle.std.proofs.lemmas.List.{take_all}
 use Rattle.saga_tool.specs.declared.arguments.Given.{Given}
 use Rattle.saga_tool.specs.declared.forms.Name.{Name}
 use Rattle.saga_tool.specs.declared.forms.Name.TheVariants.{Audit}
 use Rattle.saga_tool.specs.declared.responses.Response.{Response}
-use Rattle.saga_tool.specs.declared.files.Stop.{Stop}
-use Rattle.saga_tool.specs.declared.files.Stop.TheVariants.{Unreadable, OutOfMemory}
-use Rattle.saga_tool.specs.declared.outside.FileFault.TheVariants as file
-use Rattle.saga_tool.specs.declared.runs.RunReply.{RunReply}
-use Rattle.saga_tool.specs.Limits.{max_definition}
+use Rattle.saga_tool.specs.declared.files.Unread.{Unread}
+use Rattle.saga_tool.specs.declared.files.Unread.TheVariants.{Unreadable, OutOfMemory}
+use Rattle.saga_serve.specs.declared.outside.FileFault.TheVariants as file
+use Rattle.saga_texts.specs.declared.runs.RunOutput.{RunOutput}
+use Rattle.saga_serve.specs.Limits.{max_kept}
+use Rattle.saga_tool.specs.Limits.{max_definition, max_script}
 use Rattle.saga_tool.specs.Outside.{Text, FileGives, World}
-use Rattle.saga_tool.specs.Runs.{IsRunReply}
+use Rattle.saga_texts.specs.Runs.{IsRunOutput}
 use Rattle.saga_tool.specs.Responses.{IsAlone}
-use Rattle.saga_tool.specs.Program.{AreGiven, IsFirstUnreadable, IsUnreadable, RunsFiles, AuditsFiles, DrivesFiles, IsScript, CommandReplies, Ends, IsResponseOf, StopsBy}
-use Rattle.saga_tool.proofs.ListLemmas.{text_here}
+use Rattle.saga_tool.specs.Program.{AreGiven, IsFirstUnreadable, IsUnreadable, RunsFiles, AuditsFiles, DrivesFiles, IsOptional, IsOptionalUnreadable, ShowsFiles, IsMisused, DrivesBy, CommandReplies, Ends, IsResponseOf, StopsBy}
+use Rattle.saga_texts.proofs.ListLemmas.{text_here}
 
 abbrev Files : Type 0
 Files = List (Bor Text)
@@ -55,26 +56,48 @@ of_two P given wanted files shown d is same least most holds =
     subst (λ (n : Name). P n (now_of files)) (sym is) (subst (λ (fs : Files). P wanted (now_of fs)) same (two (P wanted) shown d least most holds))
 
 -- a run, one of whose definitions cannot be read
-pub run_unread : (gives : FileGives) (script : Option Text) (lines : Text) (defs : List Text) (shards : ℕ) (log : Option Text) (stop : Stop)
-    → IsScript gives script lines → StopsBy (IsFirstUnreadable gives max_definition defs) stop → Ends (RunsFiles gives script defs shards log) (Err stop)
-run_unread gives script lines defs shards log (Unreadable response) is stops = inl (lines, is, inr stops)
-run_unread gives script lines defs shards log OutOfMemory is stops = tt
+pub run_unread : (world : World) (script : Option Text) (lines : Text) (defs : List Text) (shards : ℕ) (log : Option Text) (stop : Unread)
+    → IsOptional world.file_gives script max_script lines → StopsBy (IsFirstUnreadable world.file_gives max_definition defs) stop
+    → Ends (RunsFiles world script defs shards log) (Err stop)
+run_unread world script lines defs shards log (Unreadable response) is stops = inl (lines, is, inr stops)
+run_unread world script lines defs shards log OutOfMemory is stops = tt
 
 -- a drive, one of whose definitions cannot be read
-pub drive_unread : (world : World) (log : Option Text) (defs : List Text) (stop : Stop) → StopsBy (IsFirstUnreadable world.file_gives max_definition defs) stop
+pub drive_unread : (world : World) (log : Option Text) (defs : List Text) (stop : Unread) → StopsBy (IsFirstUnreadable world.file_gives max_definition defs) stop
     → Ends (DrivesFiles world log defs) (Err stop)
 drive_unread world log defs (Unreadable response) stops = inr stops
 drive_unread world log defs OutOfMemory stops = tt
 
--- the reply to a run of the same texts
-pub run_shown : (texts same : List Text) (script lines : Text) (shards count : ℕ) (shown : RunReply) → IsRunReply texts script shards shown
-    → texts ≡ same → script ≡ lines → shards ≡ count → IsRunReply same lines count shown
+-- the same where lines are shown; and one whose log cannot be read
+pub show_unread : (world : World) (from : Option Text) (defs : List Text) (stop : Unread) → StopsBy (IsFirstUnreadable world.file_gives max_definition defs) stop
+    → Ends (ShowsFiles world from defs) (Err stop)
+show_unread world from defs (Unreadable response) stops = inr stops
+show_unread world from defs OutOfMemory stops = tt
+
+pub show_unread_from : (world : World) (from : Option Text) (defs texts : List Text) (stop : Unread) → AreGiven world.file_gives max_definition defs texts
+    → StopsBy (IsOptionalUnreadable world.file_gives from max_kept) stop → Ends (ShowsFiles world from defs) (Err stop)
+show_unread_from world from defs texts (Unreadable response) given stops = inl (texts, given, inr stops)
+show_unread_from world from defs texts OutOfMemory given stops = tt
+
+-- options that do not go together
+pub lines_with_log : (world : World) (lines : Bool) (log from : Option Text) (path : Text) (defs : List Text) (response : Response) → lines ≡ true → log ≡ Some path
+    → IsAlone (IsMisused (codes "error: the argument '--lines' cannot be used with '--log <F>'")) response → DrivesBy world lines log from defs response
+lines_with_log world lines log from path defs response lines_are log_is told = rw (lines_are, log_is) told
+
+pub from_without_lines : (world : World) (lines : Bool) (log from : Option Text) (path : Text) (defs : List Text) (response : Response) → lines ≡ false
+    → from ≡ Some path → IsAlone (IsMisused (codes "error: the argument '--from <F>' cannot be used without '--lines'")) response
+    → DrivesBy world lines log from defs response
+from_without_lines world lines log from path defs response lines_are from_is told = rw (lines_are, from_is) told
+
+-- the output to a run of the same texts
+pub run_shown : (texts same : List Text) (script lines : Text) (shards count : ℕ) (shown : RunOutput) → IsRunOutput texts script shards shown
+    → texts ≡ same → script ≡ lines → shards ≡ count → IsRunOutput same lines count shown
 run_shown texts same script lines shards count shown r texts_are script_is shards_are =
-    subst (λ (t : List Text). IsRunReply t lines count shown) texts_are
-    (subst (λ (s : Text). IsRunReply texts s count shown) script_is (subst (λ (n : ℕ). IsRunReply texts script n shown) shards_are r))
+    subst (λ (t : List Text). IsRunOutput t lines count shown) texts_are
+    (subst (λ (s : Text). IsRunOutput texts s count shown) script_is (subst (λ (n : ℕ). IsRunOutput texts script n shown) shards_are r))
 
 -- the log and the definitions of an audit: the first file, and the others
-first_and_rest : (world : World) (given : Given) (files : Files) (r : Result Response Stop) (d : Bor Text) → 1 ≤ length files
+first_and_rest : (world : World) (given : Given) (files : Files) (r : Result Response Unread) (d : Bor Text) → 1 ≤ length files
     → Ends (AuditsFiles world.file_gives (slice_index_or files 0 d).now (now_of (drop 1 files))) r
     → Ends (CommandReplies world given Audit (now_of files)) r
 first_and_rest world given [] r d least ends = absurd (omega (arith, least))
@@ -83,7 +106,7 @@ first_and_rest world given (a ∷ more) r d least ends = ends
 all_others : (files : Files) → take (length files - 1) (drop 1 files) ≡ drop 1 files
 all_others files = take_all (length files - 1) (drop 1 files) (omega (arith, length-drop 1 files))
 
-pub audit_replies : (world : World) (given : Given) (name : Name) (files shown : Files) (r : Result Response Stop) (d : Bor Text) → name ≡ Audit → shown ≡ files
+pub audit_replies : (world : World) (given : Given) (name : Name) (files shown : Files) (r : Result Response Unread) (d : Bor Text) → name ≡ Audit → shown ≡ files
     → 1 ≤ length shown
     → Ends (AuditsFiles world.file_gives (slice_index_or shown 0 d).now (now_of (take (length shown - 1) (drop 1 shown)))) r
     → Ends (CommandReplies world given name (now_of files)) r
@@ -93,7 +116,7 @@ audit_replies world given name files shown r d is same least ends =
     (first_and_rest world given shown r d least (subst (λ (fs : Files). Ends (AuditsFiles world.file_gives (slice_index_or shown 0 d).now (now_of fs)) r) (all_others shown) ends)))
 
 -- the first file that cannot be read
-pub first_unreadable : (gives : FileGives) (limit : ℕ) (paths : Files) (i : ℕ) (d : Bor Text) (texts : List Text) (stop : Stop) → i < length paths
+pub first_unreadable : (gives : FileGives) (limit : ℕ) (paths : Files) (i : ℕ) (d : Bor Text) (texts : List Text) (stop : Unread) → i < length paths
     → AreGiven gives limit (take i (now_of paths)) texts
     → StopsBy (λ response. gives (get_or paths i d).now limit (Err file.Unreadable) × IsAlone (IsUnreadable (get_or paths i d).now) response) stop
     → StopsBy (IsFirstUnreadable gives limit (now_of paths)) stop
@@ -109,7 +132,7 @@ first_unreadable gives limit paths i d texts (Unreadable response) lt before sto
 first_unreadable gives limit paths i d texts OutOfMemory lt before stops = tt
 
 -- the response of a command that ended
-pub its_response : (Replies : Response → Type 0) (ended : Result Response Stop) (response : Response) → Ends Replies ended → IsResponseOf ended response
+pub its_response : (Replies : Response → Type 0) (ended : Result Response Unread) (response : Response) → Ends Replies ended → IsResponseOf ended response
     → Replies response
 its_response Replies ended response ends is = elim is [
   | inl e ↦ subst (Ends Replies) e ends

@@ -2,26 +2,29 @@
 use Rattle.std.specs.Prelude.{List, Some, codes, true, ◌∷◌, [], fold, map}
 use Rattle.clap.specs.Words.{Rule, App, new_rule, new_app, with_rule}
 use Rattle.clap.specs.Walk.{Text}
-use Rattle.clap.specs.declared.builder.action.ArgAction.TheVariants.{Set, Append}
+use Rattle.clap.specs.declared.builder.action.ArgAction.TheVariants.{Set, SetTrue, Append}
 use Rattle.clap.specs.declared.builder.value_parser.ValueParser.TheVariants as parser
+use Rattle.saga_tool.specs.Limits.{max_number}
 use Rattle.saga_tool.specs.declared.forms.Kind.{Kind}
-use Rattle.saga_tool.specs.declared.forms.Kind.TheVariants.{File, Optional, Files, Path, Number}
+use Rattle.saga_tool.specs.declared.forms.Kind.TheVariants.{File, Optional, Files, Flag, Path, Number}
 use Rattle.saga_tool.specs.declared.forms.Parameter.{Parameter}
 use Rattle.saga_tool.specs.declared.forms.Form.{Form}
 use Rattle.saga_tool.specs.declared.forms.Name.{Name}
 use Rattle.saga_tool.specs.declared.forms.Name.TheVariants.{Check, Plan, Run, Audit, Draw, Drive}
 
--- a required file, one that may be left out, any number of files, an option with a path, an option with a number from 1 to 16, by default 1
+-- a required file, one that may be left out, any number of files, an option without a value, one with a path, one with a number from 1 to 16,
+-- by default 1
 abbrev pub rule_by : Kind → Text → Rule
 rule_by File name = record (new_rule name) { required = true; action = Some Set; value_names = 1 }
 rule_by Optional name = record (new_rule name) { action = Some Set; value_names = 1 }
 rule_by Files name = record (new_rule name) { action = Some Append; value_names = 1 }
+rule_by Flag name = record (new_rule name) { long = Some name; action = Some SetTrue }
 rule_by Path name = record (new_rule name) { long = Some name; action = Some Set; value_names = 1 }
 rule_by Number name = record (new_rule name) {
   long = Some name;
   action = Some Set;
   value_names = 1;
-  parser = Some (parser.Unsigned 1 16);
+  parser = Some (parser.Unsigned 1 max_number);
   defaults = codes "1" ∷ [];
 }
 
@@ -90,5 +93,6 @@ outline_for Draw = record {
 }
 outline_for Drive = record {
   title = codes "sagas drive";
-  arguments = argument Path (codes "log") ∷ argument File (codes "DEF") ∷ argument Files (codes "MORE") ∷ [];
+  arguments = argument Path (codes "log") ∷ argument Flag (codes "lines") ∷ argument Path (codes "from")
+      ∷ argument File (codes "DEF") ∷ argument Files (codes "MORE") ∷ [];
 }

@@ -6,6 +6,7 @@ use Rattle.std.specs.Str.Parse.{digits_value, without_leading_plus}
 use Rattle.clap.specs.Words.{Row, all_of, first_of, one_of, matches_of, fault_of}
 use Rattle.clap.specs.Values.{IsUnsignedIn}
 use Rattle.clap.specs.Walk.{Text}
+use Rattle.saga_tool.specs.Limits.{max_number}
 use Rattle.saga_tool.specs.declared.forms.Kind.{Kind}
 use Rattle.saga_tool.specs.declared.forms.Kind.TheVariants.{File, Optional, Files, Number}
 use Rattle.saga_tool.specs.declared.arguments.Given.{Given}
@@ -14,7 +15,7 @@ use Rattle.saga_tool.specs.Forms.{Argument, Outline, app_by}
 -- what matches have of an argument: a file is there, and a number is from 1 to 16
 abbrev pub HoldsBy : Kind → Text → List Row → Type 0
 HoldsBy File name rows = (path : Text) × (first_of name rows ≡ Some path)
-HoldsBy Number name rows = (text : Text) × (one_of name rows ≡ Some text) × IsUnsignedIn 1 16 text
+HoldsBy Number name rows = (text : Text) × (one_of name rows ≡ Some text) × IsUnsignedIn 1 max_number text
 HoldsBy _ name rows = ⊤
 
 abbrev pub Holds : List Row → Argument → Type 0
@@ -77,6 +78,11 @@ number_of text = digits_value 10 (without_leading_plus text)
 abbrev pub IsNumber : List Argument → List Row → Text → ℕ → Type 0
 IsNumber args rows name n = Some n ≡ (if has_number name args then option_map number_of (one_of name rows) else Some 1)
 
+-- whether a flag is given: where it is, its text is `true`
+abbrev pub is_set : Option Text → Bool
+is_set None = false
+is_set (Some text) = bytes_eq text (codes "true")
+
 -- `clap` finds no fault among the words, and what is given is what its matches say
 pub record IsGiven (o : Outline) (words : List Text) (given : Given) : Type 0 where
   pub taken : fault_of (app_by o) words ≡ []
@@ -85,7 +91,9 @@ pub record IsGiven (o : Outline) (words : List Text) (given : Given) : Type 0 wh
   pub counted : IsCount o.arguments (length given.files.items)
   pub script : option_map (λ s. s.now) given.script ≡ first_of (codes "script") (matches_of (app_by o) words)
   pub log : option_map (λ s. s.now) given.log ≡ first_of (codes "log") (matches_of (app_by o) words)
+  pub lines : given.lines ≡ is_set (first_of (codes "lines") (matches_of (app_by o) words))
+  pub from : option_map (λ s. s.now) given.from ≡ first_of (codes "from") (matches_of (app_by o) words)
   pub workers : IsNumber o.arguments (matches_of (app_by o) words) (codes "workers") given.workers
-  pub workers_within : (1 ≤ given.workers) × (given.workers ≤ 16)
+  pub workers_within : (1 ≤ given.workers) × (given.workers ≤ max_number)
   pub shards : IsNumber o.arguments (matches_of (app_by o) words) (codes "shards") given.shards
-  pub shards_within : (1 ≤ given.shards) × (given.shards ≤ 16)
+  pub shards_within : (1 ≤ given.shards) × (given.shards ≤ max_number)

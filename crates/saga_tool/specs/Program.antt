@@ -1,39 +1,42 @@
 -- The program over any outside: which texts are read, what is replied, and what is shown.
-use Rattle.std.specs.Prelude.{ℕ, List, [], ◌∷◌, ◌++◌, true, false, Option, Some, None, option_map, take, slice_get, Result, Ok, Err, ⊤, MatchBool, codes, map, ◌≡◌, ◌≢◌, ◌⊎◌}
+use Rattle.std.specs.Prelude.{ℕ, Bool, List, [], ◌∷◌, ◌++◌, true, false, Option, Some, None, option_map, take, slice_get, Result, Ok, Err, ⊤, MatchBool, codes, map, ◌≡◌, ◌≢◌, ◌⊎◌}
 use Rattle.std.specs.List.{AllZip}
 use Rattle.std.specs.declared.alloc.AllocError.{AllocError}
 use Rattle.std.specs.String.{string_bytes}
 use Rattle.saga_tool.specs.declared.forms.Name.{Name}
 use Rattle.saga_tool.specs.declared.forms.Name.TheVariants.{Check, Plan, Run, Audit, Draw, Drive}
-use Rattle.saga_tool.specs.declared.outside.FileFault.{FileFault}
-use Rattle.saga_tool.specs.declared.outside.FileFault.TheVariants as file
-use Rattle.saga_tool.specs.declared.replies.Reply.{Reply}
+use Rattle.saga_serve.specs.declared.outside.FileFault.{FileFault}
+use Rattle.saga_serve.specs.declared.outside.FileFault.TheVariants as file
+use Rattle.saga_texts.specs.declared.outputs.Output.{Output}
 use Rattle.saga_tool.specs.declared.responses.Log.{Log}
 use Rattle.saga_tool.specs.declared.responses.Response.{Response}
-use Rattle.saga_tool.specs.declared.runs.RunReply.{RunReply}
+use Rattle.saga_texts.specs.declared.runs.RunOutput.{RunOutput}
 use Rattle.saga_tool.specs.declared.arguments.Given.{Given}
-use Rattle.saga_tool.specs.declared.files.Stop.{Stop}
-use Rattle.saga_tool.specs.declared.files.Stop.TheVariants as stop
+use Rattle.saga_tool.specs.declared.files.Unread.{Unread}
+use Rattle.saga_tool.specs.declared.files.Unread.TheVariants as unread
 use Rattle.saga_tool.specs.declared.words.Words.{Words}
 use Rattle.saga_tool.specs.declared.words.WordsFault.{WordsFault}
 use Rattle.saga_tool.specs.declared.words.WordsFault.TheVariants.{Usage, Help, OutOfMemory}
-use Rattle.saga_tool.specs.Limits.{max_definition, max_certificate, max_script, max_log, max_input}
-use Rattle.saga_tool.specs.Lines.{line_feed}
-use Rattle.saga_tool.specs.Answers.{IsCheckReply, IsPlanReply, IsDrawReply, IsInputReply}
-use Rattle.saga_tool.specs.Audits.{IsAuditReply}
-use Rattle.saga_tool.specs.Drives.{IsDriveReply}
+use Rattle.saga_texts.specs.Limits.{max_certificate, max_log}
+use Rattle.saga_tool.specs.Limits.{max_definition, max_script, max_input}
+use Rattle.saga_texts.specs.Lines.{line_feed}
+use Rattle.saga_texts.specs.Texts.{IsCheckOutput, IsPlanOutput, IsDrawOutput}
+use Rattle.saga_tool.specs.Input.{AnswersInput}
+use Rattle.saga_texts.specs.Audits.{IsAuditOutput}
+use Rattle.saga_serve.specs.Drives.{IsDriveOutput, IsLinesOutput}
+use Rattle.saga_serve.specs.Limits.{max_kept}
 use Rattle.saga_tool.specs.Responses.{IsAlone, IsLogFor}
-use Rattle.saga_tool.specs.Runs.{IsRunReply}
+use Rattle.saga_texts.specs.Runs.{IsRunOutput}
 use Rattle.saga_tool.specs.Command.{IsCommand, IsWordsFault}
 use Rattle.saga_tool.specs.Outside.{Text, InputGives, FileGives, World}
 
 -- one line on standard error, and status 4
-pub record IsUnreadable (path : Text) (reply : Reply) : Type 0 where
-  pub out : string_bytes reply.out ≡ []
-  pub err : string_bytes reply.err ≡ codes "sagas: cannot read " ++ path ++ line_feed
-  pub status : reply.status ≡ 4
+pub record IsUnreadable (path : Text) (output : Output) : Type 0 where
+  pub out : string_bytes output.out ≡ []
+  pub err : string_bytes output.err ≡ codes "sagas: cannot read " ++ path ++ line_feed
+  pub status : output.status ≡ 4
 
--- a text is read, from which the reply follows; or it cannot be read, and the reply says so
+-- a text is read, from which the output follows; or it cannot be read, and the output says so
 abbrev pub AfterReading : InputGives → Text → ℕ → (Text → Response → Type 0) → Response → Type 0
 AfterReading gives path limit Follows response =
     ((text : Text) × gives limit (Ok text) × Follows text response)
@@ -46,7 +49,7 @@ AfterFile gives path limit Follows response = AfterReading (gives path) path lim
 abbrev pub AreGiven : FileGives → ℕ → List Text → List Text → Type 0
 AreGiven gives limit paths texts = AllZip (λ path text. gives path limit (Ok text)) paths texts
 
--- the file of some place cannot be read, while those before it gave texts, and the reply says so
+-- the file of some place cannot be read, while those before it gave texts, and the output says so
 pub record IsFirstUnreadable (gives : FileGives) (limit : ℕ) (paths : List Text) (response : Response) : Type 0 where
   pub place : ℕ
   pub path : Text
@@ -56,132 +59,175 @@ pub record IsFirstUnreadable (gives : FileGives) (limit : ℕ) (paths : List Tex
   pub fails : gives path limit (Err file.Unreadable)
   pub says : IsAlone (IsUnreadable path) response
 
--- the files are read in order, and the reply follows from their texts, or says which is the first that cannot be read
+-- the files are read in order, and the output follows from their texts, or says which is the first that cannot be read
 abbrev pub AfterFiles : FileGives → List Text → ℕ → (List Text → Response → Type 0) → Response → Type 0
 AfterFiles gives paths limit Follows response =
     ((texts : List Text) × AreGiven gives limit paths texts × Follows texts response) ⊎ IsFirstUnreadable gives limit paths response
 
--- the text of a script, which is empty where there is none
-abbrev pub IsScript : FileGives → Option Text → Text → Type 0
-IsScript gives None text = text ≡ []
-IsScript gives (Some path) text = gives path max_script (Ok text)
+-- the text of a file that may be left out: then it is empty
+abbrev pub IsOptional : FileGives → Option Text → ℕ → Text → Type 0
+IsOptional gives None limit text = text ≡ []
+IsOptional gives (Some path) limit text = gives path limit (Ok text)
 
-abbrev pub IsScriptUnreadable : FileGives → Option Text → Response → Type 0
-IsScriptUnreadable gives None response = ⊥
-IsScriptUnreadable gives (Some path) response = gives path max_script (Err file.Unreadable) × IsAlone (IsUnreadable path) response
+abbrev pub IsOptionalUnreadable : FileGives → Option Text → ℕ → Response → Type 0
+IsOptionalUnreadable gives None limit response = ⊥
+IsOptionalUnreadable gives (Some path) limit response = gives path limit (Err file.Unreadable) × IsAlone (IsUnreadable path) response
 
-abbrev pub AfterScript : FileGives → Option Text → (Text → Response → Type 0) → Response → Type 0
-AfterScript gives path Follows response =
-    ((text : Text) × IsScript gives path text × Follows text response) ⊎ IsScriptUnreadable gives path response
+abbrev pub AfterOptional : FileGives → Option Text → ℕ → (Text → Response → Type 0) → Response → Type 0
+AfterOptional gives path limit Follows response =
+    ((text : Text) × IsOptional gives path limit text × Follows text response) ⊎ IsOptionalUnreadable gives path limit response
 
--- the files are read in order, each up to its limit, and the reply is that to their texts
+-- the files are read in order, each up to its limit, and the output is that to their texts
 abbrev pub ChecksFiles : FileGives → Text → Text → Text → Response → Type 0
 ChecksFiles gives def case answer =
     AfterFile gives def max_definition (λ definition. AfterFile gives case max_certificate (λ states.
-    AfterFile gives answer max_certificate (λ judged. IsAlone (IsCheckReply definition states judged))))
+    AfterFile gives answer max_certificate (λ judged. IsAlone (IsCheckOutput definition states judged))))
 
 abbrev pub PlansFiles : FileGives → Text → Text → Response → Type 0
 PlansFiles gives def case =
-    AfterFile gives def max_definition (λ definition. AfterFile gives case max_certificate (λ states. IsAlone (IsPlanReply definition states)))
+    AfterFile gives def max_definition (λ definition. AfterFile gives case max_certificate (λ states. IsAlone (IsPlanOutput definition states)))
 
 -- the definition, the case where one is given, and then the answer where one is given
 abbrev pub DrawsDefinition : FileGives → Text → Response → Type 0
 DrawsDefinition gives def =
-    AfterFile gives def max_definition (λ definition. IsAlone (IsDrawReply [] definition))
+    AfterFile gives def max_definition (λ definition. IsAlone (IsDrawOutput [] definition))
 
 abbrev pub DrawsCase : FileGives → Text → Text → Response → Type 0
 DrawsCase gives def case =
     AfterFile gives def max_definition (λ definition. AfterFile gives case max_certificate (λ states.
-    IsAlone (IsDrawReply (states ∷ []) definition)))
+    IsAlone (IsDrawOutput (states ∷ []) definition)))
 
 abbrev pub DrawsAnswer : FileGives → Text → Text → Text → Response → Type 0
 DrawsAnswer gives def case answer =
     AfterFile gives def max_definition (λ definition. AfterFile gives case max_certificate (λ states.
-    AfterFile gives answer max_certificate (λ judged. IsAlone (IsDrawReply (states ∷ judged ∷ []) definition))))
+    AfterFile gives answer max_certificate (λ judged. IsAlone (IsDrawOutput (states ∷ judged ∷ []) definition))))
 
 -- the log before the definitions
 abbrev pub AuditsFiles : FileGives → Text → List Text → Response → Type 0
 AuditsFiles gives log defs =
-    AfterFile gives log max_log (λ history. AfterFiles gives defs max_definition (λ texts. IsAlone (IsAuditReply history texts)))
+    AfterFile gives log max_log (λ history. AfterFiles gives defs max_definition (λ texts. IsAlone (IsAuditOutput history texts)))
 
--- the reply to a run of texts, and its log, where it has one, for the file of a path, where there is one
+-- the output to a run of texts, and its log, where it has one, for the file of a path, where there is one
 pub record IsRunResponse (definitions : List Text) (script : Text) (shards : ℕ) (path : Option Text) (response : Response) : Type 0 where
-  pub shown : RunReply
-  pub runs : IsRunReply definitions script shards shown
-  pub reply_is : response.reply ≡ shown.reply
+  pub shown : RunOutput
+  pub runs : IsRunOutput definitions script shards shown
+  pub output_is : response.output ≡ shown.output
   pub log_is : IsLogFor path (option_map string_bytes shown.log) response.log
 
--- the script before the definitions
-abbrev pub RunsFiles : FileGives → Option Text → List Text → ℕ → Option Text → Response → Type 0
-RunsFiles gives script defs shards log =
-    AfterScript gives script (λ lines. AfterFiles gives defs max_definition (λ texts. IsRunResponse texts lines shards log))
+-- one line on standard error, and status 4
+pub record IsLocked (output : Output) : Type 0 where
+  pub out : string_bytes output.out ≡ []
+  pub err : string_bytes output.err ≡ codes "sagas: log: locked" ++ line_feed
+  pub status : output.status ≡ 4
+
+-- a log may be written to the file of a path, where there is one
+abbrev pub IsFree : World → Option Text → Type 0
+IsFree world None = ⊤
+IsFree world (Some path) = world.claims path true
+
+-- another process holds the log of a path
+abbrev pub IsHeld : World → Option Text → Type 0
+IsHeld world None = ⊥
+IsHeld world (Some path) = world.claims path false
+
+-- the log is asked for before anything is run: where another process holds it, nothing is run and no log is written
+abbrev pub RunsUnlessHeld : World → List Text → Text → ℕ → Option Text → Response → Type 0
+RunsUnlessHeld world texts lines shards log response =
+    (IsFree world log × IsRunResponse texts lines shards log response) ⊎ (IsHeld world log × IsAlone IsLocked response)
+
+-- the script before the definitions, and both before the log
+abbrev pub RunsFiles : World → Option Text → List Text → ℕ → Option Text → Response → Type 0
+RunsFiles world script defs shards log =
+    AfterOptional world.file_gives script max_script (λ lines.
+    AfterFiles world.file_gives defs max_definition (λ texts. RunsUnlessHeld world texts lines shards log))
 
 -- the definitions before the log, which is opened once they hold a shelf
 abbrev pub DrivesFiles : World → Option Text → List Text → Response → Type 0
 DrivesFiles world log defs =
-    AfterFiles world.file_gives defs max_definition (λ texts. IsAlone (IsDriveReply world log texts))
+    AfterFiles world.file_gives defs max_definition (λ texts. IsAlone (IsDriveOutput world.drive log texts))
 
--- a command's reply to its files, and what else its words give
+-- the definitions before the log that is only read
+abbrev pub ShowsFiles : World → Option Text → List Text → Response → Type 0
+ShowsFiles world from defs =
+    AfterFiles world.file_gives defs max_definition (λ texts.
+    AfterOptional world.file_gives from max_kept (λ text. IsAlone (IsLinesOutput world.drive text texts)))
+
+-- one line on standard error, and status 2
+pub record IsMisused (line : Text) (output : Output) : Type 0 where
+  pub out : string_bytes output.out ≡ []
+  pub err : string_bytes output.err ≡ line ++ line_feed
+  pub status : output.status ≡ 2
+
+-- whether lines are shown, the log that is written, and that which is only read: lines are shown where no log is written, and a log is
+-- only read where lines are shown
+abbrev pub DrivesBy : World → Bool → Option Text → Option Text → List Text → Response → Type 0
+DrivesBy world true (Some log) from defs = IsAlone (IsMisused (codes "error: the argument '--lines' cannot be used with '--log <F>'"))
+DrivesBy world true None from defs = ShowsFiles world from defs
+DrivesBy world false log (Some from) defs = IsAlone (IsMisused (codes "error: the argument '--from <F>' cannot be used without '--lines'"))
+DrivesBy world false log None defs = DrivesFiles world log defs
+
+-- a command's output to its files, and what else its words give
 abbrev pub CommandReplies : World → Given → Name → List Text → Response → Type 0
 CommandReplies world given Check (def ∷ case ∷ answer ∷ []) response = ChecksFiles world.file_gives def case answer response
 CommandReplies world given Plan (def ∷ case ∷ []) response = PlansFiles world.file_gives def case response
 CommandReplies world given Run defs response =
-    RunsFiles world.file_gives (option_map (λ s. s.now) given.script) defs given.shards (option_map (λ s. s.now) given.log) response
+    RunsFiles world (option_map (λ s. s.now) given.script) defs given.shards (option_map (λ s. s.now) given.log) response
 CommandReplies world given Draw (def ∷ []) response = DrawsDefinition world.file_gives def response
 CommandReplies world given Draw (def ∷ case ∷ []) response = DrawsCase world.file_gives def case response
 CommandReplies world given Draw (def ∷ case ∷ answer ∷ []) response = DrawsAnswer world.file_gives def case answer response
-CommandReplies world given Drive defs response = DrivesFiles world (option_map (λ s. s.now) given.log) defs response
+CommandReplies world given Drive defs response =
+    DrivesBy world given.lines (option_map (λ s. s.now) given.log) (option_map (λ s. s.now) given.from) defs response
 CommandReplies world given Audit (log ∷ defs) response = AuditsFiles world.file_gives log defs response
 CommandReplies world given name files response = ⊥
 
 -- what is made of want of memory
-abbrev pub IsMemoryStop : AllocError → Stop → Type 0
-IsMemoryStop error given = given ≡ stop.OutOfMemory
+abbrev pub IsOutOfMemory : AllocError → Unread → Type 0
+IsOutOfMemory error given = given ≡ unread.OutOfMemory
 
 -- where want of memory does not end it, a response
-abbrev pub Ends : (Response → Type 0) → Result Response Stop → Type 0
+abbrev pub Ends : (Response → Type 0) → Result Response Unread → Type 0
 Ends Replies (Ok response) = Replies response
-Ends Replies (Err (stop.Unreadable response)) = Replies response
-Ends Replies (Err stop.OutOfMemory) = ⊤
+Ends Replies (Err (unread.Unreadable response)) = Replies response
+Ends Replies (Err unread.OutOfMemory) = ⊤
 
-abbrev pub IsResponseOf : Result Response Stop → Response → Type 0
-IsResponseOf ended response = (ended ≡ Ok response) ⊎ (ended ≡ Err (stop.Unreadable response))
+abbrev pub IsResponseOf : Result Response Unread → Response → Type 0
+IsResponseOf ended response = (ended ≡ Ok response) ⊎ (ended ≡ Err (unread.Unreadable response))
 
-abbrev pub StopsBy : (Response → Type 0) → Stop → Type 0
-StopsBy Replies (stop.Unreadable response) = Replies response
-StopsBy Replies stop.OutOfMemory = ⊤
+abbrev pub StopsBy : (Response → Type 0) → Unread → Type 0
+StopsBy Replies (unread.Unreadable response) = Replies response
+StopsBy Replies unread.OutOfMemory = ⊤
 
 -- help goes to standard output, with status 0; usage to standard error, with status 2
-pub record IsHelp (reply : Reply) : Type 0 where
-  pub err : string_bytes reply.err ≡ []
-  pub status : reply.status ≡ 0
+pub record IsHelp (output : Output) : Type 0 where
+  pub err : string_bytes output.err ≡ []
+  pub status : output.status ≡ 0
 
-pub record IsUsage (reply : Reply) : Type 0 where
-  pub out : string_bytes reply.out ≡ []
-  pub status : reply.status ≡ 2
+pub record IsUsage (output : Output) : Type 0 where
+  pub out : string_bytes output.out ≡ []
+  pub status : output.status ≡ 2
 
-abbrev pub IsTold : WordsFault → Reply → Type 0
-IsTold (Usage error) reply = IsUsage reply
-IsTold (Help error) reply = IsHelp reply
-IsTold OutOfMemory reply = ⊥
+abbrev pub IsTold : WordsFault → Output → Type 0
+IsTold (Usage error) output = IsUsage output
+IsTold (Help error) output = IsHelp output
+IsTold OutOfMemory output = ⊥
 
--- the reply of the command that words give
-pub record IsCommandReply (world : World) (words : List Text) (response : Response) : Type 0 where
+-- the output of the command that words give
+pub record IsCommandResponse (world : World) (words : List Text) (response : Response) : Type 0 where
   pub found : Words
   pub is : IsCommand words found
   pub replies : CommandReplies world found.given found.name (map (λ s. s.now) found.given.files.items) response
 
 -- what is told of words that give none
-pub record IsFaultReply (words : List Text) (response : Response) : Type 0 where
+pub record IsFaultResponse (words : List Text) (response : Response) : Type 0 where
   pub fault : WordsFault
   pub is : IsWordsFault words fault
   pub told : IsAlone (IsTold fault) response
 
 abbrev pub RepliesToWords : World → List Text → Response → Type 0
-RepliesToWords world words response = IsCommandReply world words response ⊎ IsFaultReply words response
+RepliesToWords world words response = IsCommandResponse world words response ⊎ IsFaultResponse words response
 
 abbrev pub RepliesToInput : InputGives → Response → Type 0
-RepliesToInput gives response = AfterReading gives (codes "-") max_input (λ input. IsAlone (IsInputReply input)) response
+RepliesToInput gives response = AfterReading gives (codes "-") max_input (λ input. IsAlone (AnswersInput input)) response
 
 -- without words standard input is read, and where that is a terminal, help is given
 abbrev pub Replies : World → List Text → Response → Type 0
@@ -199,7 +245,7 @@ IsLogged world None = ⊤
 IsLogged world (Some log) = world.writes (string_bytes log.path) (string_bytes log.text) true
 
 pub record IsWritten (world : World) (response : Response) : Type 0 where
-  pub printed : IsPrinted world (string_bytes response.reply.out)
+  pub printed : IsPrinted world (string_bytes response.output.out)
   pub logged : IsLogged world response.log
 
 -- there is text, and standard output takes no more
@@ -209,7 +255,7 @@ pub record IsUnprinted (world : World) (text : Text) : Type 0 where
 
 -- the text was printed, there is a log, and its file cannot be written
 pub record IsUnlogged (world : World) (response : Response) (path : Text) : Type 0 where
-  pub printed : IsPrinted world (string_bytes response.reply.out)
+  pub printed : IsPrinted world (string_bytes response.output.out)
   pub log : Log
   pub log_is : response.log ≡ Some log
   pub path_is : path ≡ string_bytes log.path
@@ -219,34 +265,34 @@ pub record IsUnlogged (world : World) (response : Response) (path : Text) : Type
 abbrev pub WritesBut : World → Response → Option Text → Type 0
 WritesBut world response None = IsWritten world response
 WritesBut world response (Some path) =
-    (IsUnprinted world (string_bytes response.reply.out) × (path ≡ codes "-")) ⊎ IsUnlogged world response path
+    (IsUnprinted world (string_bytes response.output.out) × (path ≡ codes "-")) ⊎ IsUnlogged world response path
 
--- a line of the reply's own goes to standard error, whatever could be written
-pub record TellsOwn (world : World) (reply : Reply) (status : ℕ) : Type 0 where
-  pub some : string_bytes reply.err ≢ []
-  pub told : world.complains (string_bytes reply.err)
-  pub status_is : status ≡ reply.status
+-- a line of the output's own goes to standard error, whatever could be written
+pub record TellsOwn (world : World) (output : Output) (status : ℕ) : Type 0 where
+  pub some : string_bytes output.err ≢ []
+  pub told : world.complains (string_bytes output.err)
+  pub status_is : status ≡ output.status
 
 -- where it has none, what cannot be written is told, and the status is 4
-pub record TellsUnwritten (world : World) (reply : Reply) (path : Text) (status : ℕ) : Type 0 where
-  pub none : string_bytes reply.err ≡ []
+pub record TellsUnwritten (world : World) (output : Output) (path : Text) (status : ℕ) : Type 0 where
+  pub none : string_bytes output.err ≡ []
   pub told : world.complains (codes "sagas: cannot write " ++ path ++ line_feed)
   pub status_is : status ≡ 4
 
 -- nothing is told
-pub record TellsNothing (reply : Reply) (status : ℕ) : Type 0 where
-  pub none : string_bytes reply.err ≡ []
-  pub status_is : status ≡ reply.status
+pub record TellsNothing (output : Output) (status : ℕ) : Type 0 where
+  pub none : string_bytes output.err ≡ []
+  pub status_is : status ≡ output.status
 
-abbrev pub Tells : World → Reply → Option Text → ℕ → Type 0
-Tells world reply None status = TellsOwn world reply status ⊎ TellsNothing reply status
-Tells world reply (Some path) status = TellsOwn world reply status ⊎ TellsUnwritten world reply path status
+abbrev pub Tells : World → Output → Option Text → ℕ → Type 0
+Tells world output None status = TellsOwn world output status ⊎ TellsNothing output status
+Tells world output (Some path) status = TellsOwn world output status ⊎ TellsUnwritten world output path status
 
 -- a response is shown: its text, its log, and one line at most on standard error
 pub record IsShown (world : World) (response : Response) (status : ℕ) : Type 0 where
   pub unwritten : Option Text
   pub written : WritesBut world response unwritten
-  pub told : Tells world response.reply unwritten status
+  pub told : Tells world response.output unwritten status
 
 -- the line and the status of want of memory
 pub record TellsOutOfMemory (world : World) (status : ℕ) : Type 0 where
@@ -254,14 +300,14 @@ pub record TellsOutOfMemory (world : World) (status : ℕ) : Type 0 where
   pub status_is : status ≡ 4
 
 -- a response to the words is shown
-pub record ShowsReply (world : World) (words : List Text) (status : ℕ) : Type 0 where
+pub record ShowsResponse (world : World) (words : List Text) (status : ℕ) : Type 0 where
   pub response : Response
   pub replies : Replies world words response
   pub shown : IsShown world response status
 
 -- the whole program
 abbrev pub IsRun : World → List Text → ℕ → Type 0
-IsRun world words status = ShowsReply world words status ⊎ TellsOutOfMemory world status
+IsRun world words status = ShowsResponse world words status ⊎ TellsOutOfMemory world status
 
 -- a word that is not UTF-8 is usage
 pub record TellsBadWord (world : World) (status : ℕ) : Type 0 where

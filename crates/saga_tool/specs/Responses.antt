@@ -1,16 +1,16 @@
 -- What the program answers to words.
 use Rattle.std.specs.Prelude.{List, ℕ, Option, Some, None, ◌≡◌}
 use Rattle.std.specs.String.{string_bytes}
-use Rattle.saga_tool.specs.declared.replies.Reply.{Reply}
+use Rattle.saga_texts.specs.declared.outputs.Output.{Output}
 use Rattle.saga_tool.specs.declared.responses.Log.{Log}
 use Rattle.saga_tool.specs.declared.responses.Response.{Response}
 
--- a reply without a log
-abbrev pub alone : Reply → Response
-alone reply = record { reply = reply; log = None }
+-- an output without a log
+abbrev pub alone : Output → Response
+alone output = record { output = output; log = None }
 
-pub record IsAlone (Replies : Reply → Type 0) (response : Response) : Type 0 where
-  pub replies : Replies response.reply
+pub record IsAlone (Replies : Output → Type 0) (response : Response) : Type 0 where
+  pub replies : Replies response.output
   pub none : response.log ≡ None
 
 -- a text for the file of a path

@@ -1,12 +1,14 @@
 //! The words after a command's name, read by `clap` as the command's row says: one reader for all rows.
 ghost use Rattle.std.specs.Prelude.{◌≡◌, ◌≤◌, ◌++◌, [], IfErr, OnOk, IfOk, false, map, true};
 ghost use Rattle.std.specs.List.{All};
-ghost use Rattle.clap.specs.Words.{rule_of, app_of, rows_of, found_of, matches_of, fault_of, HasKind};
+ghost use Rattle.clap.specs.Words.{rule_of, app_of, rows_of, found_of, first_of, matches_of, fault_of, HasKind};
 ghost use Rattle.saga_tool.specs.Forms.{rule_for, argument_of, app_by, outline_of};
-ghost use Rattle.saga_tool.specs.Given.{Holds, files_by, files_in, IsNumber, has_number, IsGiven};
+ghost use Rattle.saga_tool.specs.Given.{Holds, files_by, files_in, is_set, IsNumber, has_number, IsGiven};
+ghost use Rattle.saga_tool.specs.Limits.{max_number};
 ghost use Rattle.saga_tool.specs.Suited.{is_suited};
 
 use crate::forms::{Form, Kind, Parameter};
+use crate::limits::MAX_NUMBER;
 use clap::builder::ValueParser;
 use clap::{Arg, ArgAction, ArgMatches, Command, Error};
 use std::alloc::{AllocError, Global};
@@ -20,18 +22,22 @@ fn arg_of<'a>(alloc: Global, parameter: &Parameter<'a>) -> Arg<'a>
     ensures rule { rule_of result ≡ rule_for (argument_of parameter.now) }
     ensures own { result.global ≡ false }
 {
-    let arg = Arg::new(alloc, parameter.name)
-        .value_name(parameter.shown)
-        .help(parameter.help);
+    let arg = Arg::new(alloc, parameter.name).help(parameter.help);
+    let shown = parameter.shown;
     match parameter.kind {
-        Kind::File => arg.required(true).action(ArgAction::Set),
-        Kind::Optional => arg.action(ArgAction::Set),
-        Kind::Files => arg.action(ArgAction::Append),
-        Kind::Path => arg.long(parameter.name).action(ArgAction::Set),
+        Kind::Flag => arg.long(parameter.name).action(ArgAction::SetTrue),
+        Kind::File => arg.value_name(shown).required(true).action(ArgAction::Set),
+        Kind::Optional => arg.value_name(shown).action(ArgAction::Set),
+        Kind::Files => arg.value_name(shown).action(ArgAction::Append),
+        Kind::Path => arg
+            .value_name(shown)
+            .long(parameter.name)
+            .action(ArgAction::Set),
         Kind::Number => arg
+            .value_name(shown)
             .long(parameter.name)
             .action(ArgAction::Set)
-            .value_parser(ValueParser::unsigned(1, 16))
+            .value_parser(ValueParser::unsigned(1, MAX_NUMBER))
             .default_value("1"),
     }
 }
@@ -77,6 +83,8 @@ pub struct Given<'a> {
     pub files: Vec<&'a str>,
     pub script: Option<&'a str>,
     pub log: Option<&'a str>,
+    pub lines: bool,
+    pub from: Option<&'a str>,
     /// From 1 to 16, and 1 where the command takes no such number; likewise the shards.
     pub workers: usize,
     pub shards: usize,
@@ -104,7 +112,7 @@ fn push_files<'a>(
                 }
             }
         }
-        Kind::Path | Kind::Number => {}
+        Kind::Flag | Kind::Path | Kind::Number => {}
     }
     Ok(())
 }
@@ -125,6 +133,16 @@ fn files_of<'a>(
     Ok(files)
 }
 
+/// Whether matches have a flag of that name.
+fn has_flag(matches: &ArgMatches<'_>, name: &str) -> bool
+    ensures { result ≡ is_set (first_of name.now (rows_of (found_of matches.now))) }
+{
+    match matches.get_str(name) {
+        Some(text) => text == "true",
+        None => false,
+    }
+}
+
 /// Whether the row has a number of that name.
 fn has_number(form: &Form<'_>, name: &str) -> bool
     ensures { result ≡ has_number name.now (outline_of form.now).arguments }
@@ -142,7 +160,7 @@ fn number_of(form: &Form<'_>, matches: &ArgMatches<'_>, name: &str) -> usize
     requires holds { All (Holds (rows_of (found_of matches.now))) (outline_of form.now).arguments }
     ensures number { IsNumber (outline_of form.now).arguments (rows_of (found_of matches.now))
         name.now result }
-    ensures within { (1 ≤ result) × (result ≤ 16) }
+    ensures within { (1 ≤ result) × (result ≤ max_number) }
 {
     if !has_number(form, name) {
         return 1;
@@ -166,12 +184,16 @@ pub fn read_by<'a>(alloc: Global, form: &Form<'a>, words: &'a [&'a str]) -> Resu
     let files = files_of(alloc, form, &matches)?;
     let script = matches.get_str("script");
     let log = matches.get_str("log");
+    let lines = has_flag(&matches, "lines");
+    let from = matches.get_str("from");
     let workers = number_of(form, &matches, "workers");
     let shards = number_of(form, &matches, "shards");
     Ok(Given {
         files,
         script,
         log,
+        lines,
+        from,
         workers,
         shards,
     })

@@ -1,24 +1,30 @@
 //! What each command replies to its files.
-ghost use Rattle.std.specs.Prelude.{◌≡◌, ◌≤◌, IfErr, IfOk, map, option_map};
+ghost use Rattle.std.specs.Prelude.{◌≡◌, ◌<◌, ◌≤◌, ◌^◌, IfErr, IfOk, false, map, option_map, true};
 ghost use Rattle.saga_tool.specs.Command.{IsCommand};
-ghost use Rattle.saga_tool.specs.Program.{ChecksFiles, PlansFiles, DrawsDefinition, DrawsCase, DrawsAnswer, RunsFiles, AuditsFiles, DrivesFiles, IsScript, IsScriptUnreadable, CommandReplies, Ends, StopsBy};
+ghost use Rattle.saga_tool.specs.Limits.{max_number};
+ghost use Rattle.saga_tool.specs.Program.{ChecksFiles, PlansFiles, DrawsDefinition, DrawsCase, DrawsAnswer, RunsFiles, IsFree, IsHeld, IsLocked, AuditsFiles, DrivesFiles, DrivesBy, ShowsFiles, IsMisused, IsOptional, IsOptionalUnreadable, CommandReplies, Ends, StopsBy};
 
 use crate::arguments::Given;
-use crate::drawings::Scene;
-use crate::drives::drive_texts;
-use crate::files::{Stop, text_of, texts_of};
+use crate::files::{Unread, text_of, texts_of};
 use crate::forms::Name;
-use crate::limits::{MAX_CERTIFICATE, MAX_LOG};
-use crate::outside::Outside;
+use crate::outside::{Locked, Outside};
 use crate::responses::{Response, alone, log_for};
-use crate::runs::RunReply;
-use crate::texts::{audit_text, check_text, draw_text, plan_text, run_text};
 use crate::words::Words;
 use saga_script::MAX_SCRIPT;
+use saga_serve::{MAX_KEPT, drive_lines, drive_texts};
 use saga_text::MAX_DEFINITION;
+use saga_texts::{
+    MAX_CERTIFICATE, MAX_LOG, Output, RunOutput, Scene, audit_text, check_text, draw_text,
+    plan_text, run_text,
+};
 use std::alloc::{AllocError, Global};
 use std::sync::Wait;
 use std::thread::Threads;
+
+const LINES_WITH_LOG: &str = "error: the argument '--lines' cannot be used with '--log <F>'";
+
+const FROM_WITHOUT_LINES: &str =
+    "error: the argument '--from <F>' cannot be used without '--lines'";
 
 fn check<W: Outside>(
     outside: &W,
@@ -26,7 +32,7 @@ fn check<W: Outside>(
     definition: &str,
     case: &str,
     answer: &str,
-) -> Result<Response, Stop>
+) -> Result<Response, Unread>
     ensures { Ends (ChecksFiles (W.world outside.now).file_gives definition.now case.now answer.now)
         result }
 {
@@ -41,7 +47,7 @@ fn plan<W: Outside>(
     alloc: Global,
     definition: &str,
     case: &str,
-) -> Result<Response, Stop>
+) -> Result<Response, Unread>
     ensures { Ends (PlansFiles (W.world outside.now).file_gives definition.now case.now) result }
 {
     let definition = text_of(outside, alloc, definition, MAX_DEFINITION)?;
@@ -50,7 +56,7 @@ fn plan<W: Outside>(
 }
 
 /// Draws a definition.
-fn draw<W: Outside>(outside: &W, alloc: Global, definition: &str) -> Result<Response, Stop>
+fn draw<W: Outside>(outside: &W, alloc: Global, definition: &str) -> Result<Response, Unread>
     ensures { Ends (DrawsDefinition (W.world outside.now).file_gives definition.now) result }
 {
     let definition = text_of(outside, alloc, definition, MAX_DEFINITION)?;
@@ -63,7 +69,7 @@ fn draw_case<W: Outside>(
     alloc: Global,
     definition: &str,
     case: &str,
-) -> Result<Response, Stop>
+) -> Result<Response, Unread>
     ensures { Ends (DrawsCase (W.world outside.now).file_gives definition.now case.now) result }
 {
     let definition = text_of(outside, alloc, definition, MAX_DEFINITION)?;
@@ -78,7 +84,7 @@ fn draw_answer<W: Outside>(
     definition: &str,
     case: &str,
     answer: &str,
-) -> Result<Response, Stop>
+) -> Result<Response, Unread>
     ensures { Ends (DrawsAnswer (W.world outside.now).file_gives definition.now case.now answer.now)
         result }
 {
@@ -106,7 +112,7 @@ fn audit<R: Threads + Wait + Sync, W: Outside>(
     alloc: Global,
     log: &str,
     definitions: &[&str],
-) -> Result<Response, Stop>
+) -> Result<Response, Unread>
     ensures { Ends (AuditsFiles (W.world outside.now).file_gives log.now
         (map (λ s. s.now) definitions.now)) result }
 {
@@ -116,60 +122,148 @@ fn audit<R: Threads + Wait + Sync, W: Outside>(
     Ok(alone(audit_text(rt, alloc, &log, &definitions)?))
 }
 
-/// The text of a script, which is empty where there is none.
-fn script_of<W: Outside>(outside: &W, alloc: Global, script: Option<&str>) -> Result<Vec<u8>, Stop>
+/// The text of a file that may be left out: then it is empty.
+fn text_if_any<W: Outside>(
+    outside: &W,
+    alloc: Global,
+    path: Option<&str>,
+    limit: usize,
+) -> Result<Vec<u8>, Unread>
+    requires { limit < 2 ^ 63 }
     ensures text { IfOk result
-        (λ text. IsScript (W.world outside.now).file_gives
-        (option_map (λ s. s.now) script.entry) text.items) }
+        (λ text. IsOptional (W.world outside.now).file_gives
+        (option_map (λ s. s.now) path.entry) limit text.items) }
     ensures stop { IfErr result
         (StopsBy
-        (IsScriptUnreadable (W.world outside.now).file_gives
-        (option_map (λ s. s.now) script.entry))) }
+        (IsOptionalUnreadable (W.world outside.now).file_gives
+        (option_map (λ s. s.now) path.entry) limit)) }
 {
-    match script {
-        Some(path) => text_of(outside, alloc, path, MAX_SCRIPT),
+    match path {
+        Some(path) => text_of(outside, alloc, path, limit),
         None => Ok(Vec::new(alloc)),
     }
 }
 
-/// What is replied to a command that runs sagas, by what its words give.
+/// Holds the log of a run, where there is one, and whether it may be written: another process may hold it.
+fn may_log<W: Outside>(outside: &W, log: Option<&str>, held: &mut Option<W::Held>) -> bool
+    ensures free { result ≡ true
+        → IsFree (W.world outside.now) (option_map (λ s. s.now) log.entry) }
+    ensures taken { result ≡ false
+        → IsHeld (W.world outside.now) (option_map (λ s. s.now) log.entry) }
+{
+    let Some(path) = log else {
+        return true;
+    };
+    match outside.claim(path) {
+        Ok(claimed) => {
+            *held = claimed;
+            true
+        }
+        Err(Locked) => false,
+    }
+}
+
+/// What is told where another process holds the log.
+fn locked(alloc: Global) -> Result<Output, AllocError>
+    ensures { IfOk result IsLocked }
+{
+    Ok(Output {
+        out: String::new(alloc),
+        err: String::from_str(alloc, "sagas: log: locked\n")?,
+        status: 4,
+    })
+}
+
+/// What is replied to a command that runs sagas, by what its words give. The log is held before anything is run.
 fn run_sagas<R: Threads + Wait + Sync, W: Outside>(
     rt: &R,
     outside: &W,
     alloc: Global,
     given: &Given<'_>,
-) -> Result<Response, Stop>
-    requires workers { (1 ≤ given.now.workers) × (given.now.workers ≤ 16) }
-    requires shards { (1 ≤ given.now.shards) × (given.now.shards ≤ 16) }
-    ensures { Ends (RunsFiles (W.world outside.now).file_gives
+    held: &mut Option<W::Held>,
+) -> Result<Response, Unread>
+    requires workers { (1 ≤ given.now.workers) × (given.now.workers ≤ max_number) }
+    requires shards { (1 ≤ given.now.shards) × (given.now.shards ≤ max_number) }
+    ensures { Ends (RunsFiles (W.world outside.now)
         (option_map (λ s. s.now) given.now.script) (map (λ s. s.now) given.now.files.items)
         given.now.shards (option_map (λ s. s.now) given.now.log)) result }
 {
-    let script = script_of(outside, alloc, given.script)?;
+    let script = text_if_any(outside, alloc, given.script, MAX_SCRIPT)?;
     let texts = texts_of(outside, alloc, &given.files, MAX_DEFINITION)?;
     let definitions = slices_of(alloc, &texts)?;
+    if !may_log(outside, given.log, held) {
+        return Ok(alone(locked(alloc)?));
+    }
     let workers = given.workers as u32;
     let shards = given.shards as u32;
-    let RunReply { reply, log } = run_text(rt, alloc, &definitions, &script, workers, shards)?;
+    let RunOutput { output, log } = run_text(rt, alloc, &definitions, &script, workers, shards)?;
     Ok(Response {
-        reply,
+        output,
         log: log_for(alloc, given.log, log)?,
     })
 }
 
-/// Drives sagas for another program, by what the words of the command give; the reply is what is said in the end.
+/// Drives sagas for another program, by what the words of the command give; the output is what is said in the end.
 fn drive_sagas<R: Wait, W: Outside>(
     rt: &R,
     outside: &W,
     alloc: Global,
     given: &Given<'_>,
-) -> Result<Response, Stop>
+) -> Result<Response, Unread>
     ensures { Ends (DrivesFiles (W.world outside.now) (option_map (λ s. s.now) given.now.log)
         (map (λ s. s.now) given.now.files.items)) result }
 {
     let texts = texts_of(outside, alloc, &given.files, MAX_DEFINITION)?;
     let definitions = slices_of(alloc, &texts)?;
-    Ok(alone(drive_texts(rt, outside, alloc, &definitions, given.log)?))
+    let output = drive_texts(rt, outside.drive(), alloc, &definitions, given.log)?;
+    Ok(alone(output))
+}
+
+/// Drives sagas for another program that keeps their log itself; the output is what is said in the end.
+fn show_sagas<R: Wait, W: Outside>(
+    rt: &R,
+    outside: &W,
+    alloc: Global,
+    given: &Given<'_>,
+) -> Result<Response, Unread>
+    ensures { Ends (ShowsFiles (W.world outside.now) (option_map (λ s. s.now) given.now.from)
+        (map (λ s. s.now) given.now.files.items)) result }
+{
+    let texts = texts_of(outside, alloc, &given.files, MAX_DEFINITION)?;
+    let definitions = slices_of(alloc, &texts)?;
+    let text = text_if_any(outside, alloc, given.from, MAX_KEPT)?;
+    let output = drive_lines(rt, outside.drive(), alloc, &definitions, text)?;
+    Ok(alone(output))
+}
+
+/// What is told where options do not go together.
+fn misused(alloc: Global, line: &str) -> Result<Output, AllocError>
+    ensures { IfOk result (IsMisused line.now) }
+{
+    Ok(Output {
+        out: String::new(alloc),
+        err: format!(in alloc; "{line}\n")?,
+        status: 2,
+    })
+}
+
+/// What is replied to a command that drives sagas, by what its words give.
+fn drive<R: Wait, W: Outside>(
+    rt: &R,
+    outside: &W,
+    alloc: Global,
+    given: &Given<'_>,
+) -> Result<Response, Unread>
+    ensures { Ends (DrivesBy (W.world outside.now) given.now.lines
+        (option_map (λ s. s.now) given.now.log) (option_map (λ s. s.now) given.now.from)
+        (map (λ s. s.now) given.now.files.items)) result }
+{
+    match (given.lines, given.log, given.from) {
+        (true, Some(_), _) => Ok(alone(misused(alloc, LINES_WITH_LOG)?)),
+        (true, None, _) => show_sagas(rt, outside, alloc, given),
+        (false, _, Some(_)) => Ok(alone(misused(alloc, FROM_WITHOUT_LINES)?)),
+        (false, _, None) => drive_sagas(rt, outside, alloc, given),
+    }
 }
 
 /// What is replied to a command that words gave.
@@ -178,7 +272,8 @@ pub fn on_command<R: Threads + Wait + Sync, W: Outside>(
     outside: &W,
     alloc: Global,
     found: &Words<'_>,
-) -> Result<Response, Stop>
+    held: &mut Option<W::Held>,
+) -> Result<Response, Unread>
     requires { (words : _) × IsCommand words found.now }
     ensures { Ends (CommandReplies (W.world outside.now) found.now.given found.now.name
         (map (λ s. s.now) found.now.given.files.items)) result }
@@ -193,8 +288,8 @@ pub fn on_command<R: Threads + Wait + Sync, W: Outside>(
         (Name::Draw, [definition, case, answer]) => {
             draw_answer(outside, alloc, definition, case, answer)
         }
-        (Name::Run, _) => run_sagas(rt, outside, alloc, &found.given),
-        (Name::Drive, _) => drive_sagas(rt, outside, alloc, &found.given),
+        (Name::Run, _) => run_sagas(rt, outside, alloc, &found.given, held),
+        (Name::Drive, _) => drive(rt, outside, alloc, &found.given),
         (Name::Audit, [log, definitions @ ..]) => audit(rt, outside, alloc, log, definitions),
         _ => unreachable!(),
     }

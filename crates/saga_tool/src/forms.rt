@@ -11,6 +11,8 @@ pub enum Kind {
     Optional,
     /// Any number of further files.
     Files,
+    /// An option without a value.
+    Flag,
     /// An option with a path.
     Path,
     /// An option with a number from 1 to 16, by default 1.
@@ -23,7 +25,7 @@ pub struct Parameter<'a> {
     pub kind: Kind,
     /// The name that tells it from the others; of an option, what stands behind `--`.
     pub name: &'a str,
-    /// What stands for its value in the usage.
+    /// What stands for its value in the usage; of a flag nothing.
     pub shown: &'a str,
     pub help: &'a str,
 }
@@ -136,6 +138,20 @@ const KEPT: Parameter<'static> = Parameter {
     help: "the file in which each event is kept before it is told, and from which the program goes on",
 };
 
+const LINES: Parameter<'static> = Parameter {
+    kind: Kind::Flag,
+    name: "lines",
+    shown: "",
+    help: "print the lines of the log, each behind a `+`, before the reply that they belong to; no log is written",
+};
+
+const FROM: Parameter<'static> = Parameter {
+    kind: Kind::Path,
+    name: "from",
+    shown: "F",
+    help: "with --lines: the log from which the program goes on, which is only read",
+};
+
 const FIRST: Parameter<'static> = Parameter {
     kind: Kind::File,
     name: "DEF",
@@ -195,8 +211,8 @@ pub fn form_of(name: Name) -> Form<'static>
             word: "drive",
             title: "sagas drive",
             brief: "drives sagas for another program",
-            about: "Drives sagas for another program, which does the actions: reads one JSON request a line from standard input, and prints one reply a line",
-            parameters: &[KEPT, FIRST, MORE],
+            about: "Drives sagas for another program, which does the actions: reads one JSON request a line from standard input, and prints one output a line",
+            parameters: &[KEPT, LINES, FROM, FIRST, MORE],
         },
     }
 }

@@ -5,29 +5,23 @@
 #![tactic(auto)]
 
 mod arguments;
-mod audits;
 mod commands;
-mod drawings;
-mod drives;
-mod endings;
 mod files;
 mod forms;
+mod input;
 mod limits;
-mod outcomes;
+mod logs;
 mod outside;
 mod parts;
-mod pending;
 mod program;
-mod replies;
 mod responses;
-mod runs;
-mod shelves;
 mod showing;
-mod texts;
+mod system;
 mod words;
 
-use crate::outside::{Outside, System};
+use crate::outside::Outside;
 use crate::program::{run, without_words};
+use crate::system::System;
 use std::alloc::Global;
 use std::env;
 use std::io::{self, IsTerminal};

@@ -2,35 +2,36 @@
 ghost use Rattle.std.specs.Prelude.{◌≡◌, IfOk, map};
 ghost use Rattle.std.specs.IoError.{error_kind};
 ghost use Rattle.saga_tool.specs.Outside.{file_fault_of};
-ghost use Rattle.saga_tool.specs.Program.{IsHelp, IsTold, RepliesToWords, RepliesToInput, Replies, ShowsReply, IsRun, TellsOutOfMemory, TellsNoWords};
+ghost use Rattle.saga_tool.specs.Program.{IsHelp, IsTold, RepliesToWords, RepliesToInput, Replies, ShowsResponse, IsRun, TellsOutOfMemory, TellsNoWords};
 ghost use Rattle.saga_tool.specs.Responses.{IsAlone};
 
 use crate::commands::on_command;
 use crate::files::{settled, unreadable};
+use crate::input::check_input;
 use crate::limits::MAX_INPUT;
-use crate::outside::{FileFault, Outside, fault_of};
-use crate::replies::Reply;
+use crate::outside::{Outside, fault_of};
 use crate::responses::{Response, alone};
 use crate::showing::show;
-use crate::texts::check_input;
 use crate::words::{WordsFault, read_words};
+use saga_serve::FileFault;
+use saga_texts::Output;
 use std::alloc::{AllocError, Global};
 use std::io;
 use std::sync::Wait;
 use std::thread::Threads;
 
 /// What `clap` has to say: help, or why the words are not of the form.
-fn told(alloc: Global, fault: &WordsFault) -> Result<Reply, AllocError>
+fn told(alloc: Global, fault: &WordsFault) -> Result<Output, AllocError>
     ensures { IfOk result (IsTold fault.now) }
 {
     match fault {
         WordsFault::OutOfMemory => Err(AllocError),
-        WordsFault::Help(error) => Ok(Reply {
+        WordsFault::Help(error) => Ok(Output {
             out: format!(in alloc; "{error}")?,
             err: String::new(alloc),
             status: 0,
         }),
-        WordsFault::Usage(error) => Ok(Reply {
+        WordsFault::Usage(error) => Ok(Output {
             out: String::new(alloc),
             err: format!(in alloc; "{error}")?,
             status: 2,
@@ -44,12 +45,13 @@ fn on_words<'a, R: Threads + Wait + Sync, W: Outside>(
     outside: &W,
     alloc: Global,
     words: &'a [&'a str],
+    held: &mut Option<W::Held>,
 ) -> Result<Response, AllocError>
     ensures { IfOk result
         (RepliesToWords (W.world outside.now) (map (λ s. s.now) words.entry.now)) }
 {
     match read_words(alloc, words) {
-        Ok(found) => settled(on_command(rt, outside, alloc, &found)),
+        Ok(found) => settled(on_command(rt, outside, alloc, &found, held)),
         Err(fault) => Ok(alone(told(alloc, &fault)?)),
     }
 }
@@ -59,10 +61,11 @@ fn help<R: Threads + Wait + Sync, W: Outside>(
     rt: &R,
     outside: &W,
     alloc: Global,
+    held: &mut Option<W::Held>,
 ) -> Result<Response, AllocError>
     ensures { IfOk result (IsAlone IsHelp) }
 {
-    on_words(rt, outside, alloc, ["--help"].as_slice())
+    on_words(rt, outside, alloc, ["--help"].as_slice(), held)
 }
 
 /// What is replied to standard input.
@@ -76,20 +79,21 @@ fn on_input<W: Outside>(outside: &W, alloc: Global) -> Result<Response, AllocErr
     }
 }
 
-/// What is replied to the words after the program's name: the reply to the texts that they name, read in order; help or
-/// usage; without words, the reply to standard input, and help where that is a terminal.
+/// What is replied to the words after the program's name, and what is held of the log that it has: the output to the texts that they name, read in order; help or
+/// usage; without words, the output to standard input, and help where that is a terminal.
 pub fn respond<'a, R: Threads + Wait + Sync, W: Outside>(
     rt: &R,
     outside: &W,
     alloc: Global,
     words: &'a [&'a str],
+    held: &mut Option<W::Held>,
 ) -> Result<Response, AllocError>
     ensures { IfOk result (Replies (W.world outside.now) (map (λ s. s.now) words.entry.now)) }
 {
     if !words.is_empty() {
-        on_words(rt, outside, alloc, words)
+        on_words(rt, outside, alloc, words, held)
     } else if outside.is_terminal() {
-        help(rt, outside, alloc)
+        help(rt, outside, alloc, held)
     } else {
         on_input(outside, alloc)
     }
@@ -109,13 +113,14 @@ fn respond_and_show<'a, R: Threads + Wait + Sync, W: Outside>(
     alloc: Global,
     words: &'a [&'a str],
 ) -> Result<u8, AllocError>
-    ensures { IfOk result (ShowsReply (W.world outside.now) (map (λ s. s.now) words.entry.now)) }
+    ensures { IfOk result (ShowsResponse (W.world outside.now) (map (λ s. s.now) words.entry.now)) }
 {
-    let response = respond(rt, outside, alloc, words)?;
-    show(outside, alloc, &response)
+    let mut held = None;
+    let response = respond(rt, outside, alloc, words, &mut held)?;
+    show(outside, alloc, &response, &mut held)
 }
 
-/// Replies to the words after the program's name, and shows the reply; gives the status of the program.
+/// Replies to the words after the program's name, and shows the output; gives the status of the program.
 pub fn run<'a, R: Threads + Wait + Sync, W: Outside>(
     rt: &R,
     outside: &W,

@@ -1,9 +1,9 @@
-//! What the program answers to words: a reply, and the log of a run with the file that it is for.
+//! What the program answers to words: an output, and the log of a run with the file that it is for.
 ghost use Rattle.std.specs.Prelude.{◌≡◌, IfOk, option_map};
 ghost use Rattle.std.specs.String.{string_bytes};
 ghost use Rattle.saga_tool.specs.Responses.{alone, IsLogFor};
 
-use crate::replies::Reply;
+use saga_texts::Output;
 use std::alloc::{AllocError, Global};
 
 /// A log, and the path of the file that it is written to.
@@ -13,18 +13,18 @@ pub struct Log {
     pub text: String,
 }
 
-/// A reply, and the log to write once the reply's text is printed.
+/// An output, and the log to write once the output's text is printed.
 #[derive(Debug, Drop)]
 pub struct Response {
-    pub reply: Reply,
+    pub output: Output,
     pub log: Option<Log>,
 }
 
-/// A reply without a log.
-pub fn alone(reply: Reply) -> Response
-    ensures { result ≡ alone reply }
+/// An output without a log.
+pub fn alone(output: Output) -> Response
+    ensures { result ≡ alone output }
 {
-    Response { reply, log: None }
+    Response { output, log: None }
 }
 
 /// The log for a file, where there are both.

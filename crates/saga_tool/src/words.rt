@@ -64,6 +64,11 @@ fn push_line(lines: &mut String, form: &Form<'_>) -> Result<(), AllocError> {
                 lines.push_str(parameter.shown)?;
                 lines.push_str("]")?;
             }
+            Kind::Flag => {
+                lines.push_str(" [--")?;
+                lines.push_str(parameter.name)?;
+                lines.push_str("]")?;
+            }
             Kind::Path | Kind::Number => {
                 lines.push_str(" [--")?;
                 lines.push_str(parameter.name)?;

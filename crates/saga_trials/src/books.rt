@@ -1,14 +1,16 @@
 //! Trials of a book's calls: scripts of calls, of which those that begin something may be refused memory, and those that end it
 //! are made where each growth is refused.
-use crate::runs::is_legal;
 use crate::samples::{self, FAILED, FREE, RETRIED, Sample};
 use crate::trial::Trial;
 use anyhow::{Context, Result, ensure};
 use saga_case::{Case, StepState};
 use saga_check::Verdict;
-use saga_core::{AdoptRefusal, Book, DropRefusal, ReportRefusal, SagaRefusal};
+use saga_core::{
+    AdoptRefusal, Book, DropRefusal, OpenRefusal, ReportRefusal, SagaRefusal, TakeRefusal,
+};
 use saga_def::Definition;
-use saga_history::{Outcome, Phase, Task};
+use saga_history::{Outcome, Phase, Task, first_not_allowed};
+use std::alloc::Global;
 
 /// A trial: the example, the calls that are made before, and those that are tried.
 ///
@@ -47,37 +49,29 @@ const ADOPTS: &str = "plan stale adopt no-plan events:9 to-undo:1";
 
 const END: &str = "plan adopt undo:1 undid:1 undo:0 undid:0 events:13 none";
 
-/// The trials in which one growth after the other is refused.
-pub const EACH: &[(&str, Script)] = &[
-    ("saga_core::Book::open", Script(FAILED, "", OPENS)),
-    ("saga_core::Book::take_run", Script(RETRIED, "open", MISSES)),
-    ("saga_core::Book::take_undo", Script(RETRIED, RETRY, LOSSES)),
-    ("saga_core::Book::take_plan", Script(FAILED, FAIL, PLANS)),
-    (
-        "saga_core::Book::present_case",
-        Script(FAILED, FAIL, "present"),
-    ),
-    ("saga_core::Book::abort", Script(FAILED, OPENS, ABORTS)),
-];
+pub const OPEN: Script = Script(FAILED, "", OPENS);
 
-/// The trials in which each growth is refused.
-pub const NONE: &[(&str, Script)] = &[
-    (
-        "saga_core::Book::report_run",
-        Script(RETRIED, "open", REPORTS),
-    ),
-    (
-        "saga_core::Book::report_undo",
-        Script(RETRIED, RETRY, UNDOES),
-    ),
-    (
-        "saga_core::Book::drop_plan",
-        Script(FAILED, FAIL, "plan drop no-plan"),
-    ),
-    ("saga_core::Book::adopt", Script(FAILED, FAIL, ADOPTS)),
-    ("saga_core::Book::next", Script(FAILED, FAIL, "to-plan")),
-    ("saga_core::Book::history", Script(FAILED, FAIL, END)),
-];
+pub const RUN: Script = Script(RETRIED, "open", MISSES);
+
+pub const UNDO: Script = Script(RETRIED, RETRY, LOSSES);
+
+pub const PLAN: Script = Script(FAILED, FAIL, PLANS);
+
+pub const PRESENT: Script = Script(FAILED, FAIL, "present");
+
+pub const ABORT: Script = Script(FAILED, OPENS, ABORTS);
+
+pub const REPORT: Script = Script(RETRIED, "open", REPORTS);
+
+pub const UNDONE: Script = Script(RETRIED, RETRY, UNDOES);
+
+pub const DROP: Script = Script(FAILED, FAIL, "plan drop no-plan");
+
+pub const ADOPT: Script = Script(FAILED, FAIL, ADOPTS);
+
+pub const NEXT: Script = Script(FAILED, FAIL, "to-plan");
+
+pub const HISTORY: Script = Script(FAILED, FAIL, END);
 
 /// A call and its number, by the word of a script.
 pub fn call_of(word: &str) -> Result<(&str, u16)> {
@@ -107,49 +101,66 @@ fn look_at(book: &Book<'_>) -> Look {
     )
 }
 
-/// Makes a call that begins something, and tells whether it gave what is expected.
-fn begin(
+/// Whether a case is the expected one.
+fn is_same(case: &Case<'_>, expected: &Case<'_>) -> bool {
+    case.is_of(expected.definition(), expected.states(), false)
+}
+
+/// Makes a call that begins something, and tells whether it gave what is expected; none where it found no memory.
+fn begin(book: &mut Book<'_>, case: &Case<'_>, verb: &str, number: u16) -> Option<bool> {
+    let saga = u32::from(number);
+    match verb {
+        "open" => match book.open(0) {
+            Ok(opened) => Some(opened == saga),
+            Err(why) => unless(why == OpenRefusal::OutOfMemory),
+        },
+        "run" => match book.take_run(0, number) {
+            Ok(()) => Some(book.state(0, number) == Some(StepState::Running)),
+            Err(why) => unless(why == TakeRefusal::OutOfMemory),
+        },
+        "undo" => match book.take_undo(0, number) {
+            Ok(()) => Some(book.state(0, number) == Some(StepState::Undoing)),
+            Err(why) => unless(why == TakeRefusal::OutOfMemory),
+        },
+        "plan" => match book.take_plan(0) {
+            Ok(asked) => Some(is_same(&asked, case)),
+            Err(why) => unless(why == SagaRefusal::OutOfMemory),
+        },
+        "present" => match book.present_case(0) {
+            Ok(asked) => Some(is_same(&asked, case)),
+            Err(why) => unless(why == SagaRefusal::OutOfMemory),
+        },
+        _ => match book.abort(saga) {
+            Ok(()) => Some(book.phase(saga) == Some(Phase::Draining)),
+            Err(why) => unless(why == SagaRefusal::OutOfMemory),
+        },
+    }
+}
+
+/// Nothing where a call found no memory; else it is not right that it was refused.
+pub fn unless(is_for_memory: bool) -> Option<bool> {
+    if is_for_memory { None } else { Some(false) }
+}
+
+/// Makes a call that begins something, and again where memory was refused: what is seen of the book is then as before.
+fn begin_twice(
     trial: &mut Trial<'_>,
     book: &mut Book<'_>,
     case: &Case<'_>,
     verb: &str,
     number: u16,
 ) -> Result<bool> {
-    let saga = u32::from(number);
-    Ok(match verb {
-        "open" => trial.twice(book, look_at, |book: &mut Book<'_>| book.open(0))? == saga,
-        "run" => {
-            trial.twice(
-                book,
-                look_at,
-                |book: &mut Book<'_>| book.take_run(0, number),
-            )?;
-            book.state(0, number) == Some(StepState::Running)
-        }
-        "undo" => {
-            trial.twice(
-                book,
-                look_at,
-                |book: &mut Book<'_>| book.take_undo(0, number),
-            )?;
-            book.state(0, number) == Some(StepState::Undoing)
-        }
-        "plan" => is_same(&trial.twice(book, look_at, take_first_plan)?, case),
-        "present" => is_same(&trial.again(|| book.present_case(0))?, case),
-        _ => {
-            trial.twice(book, look_at, |book: &mut Book<'_>| book.abort(saga))?;
-            book.phase(saga) == Some(Phase::Draining)
-        }
-    })
-}
-
-/// Begins to plan saga 0.
-fn take_first_plan<'d>(book: &mut Book<'d>) -> Result<Case<'d>, SagaRefusal> {
-    book.take_plan(0)
-}
-
-fn is_same(case: &Case<'_>, expected: &Case<'_>) -> bool {
-    case.is_of(expected.definition(), expected.states(), false)
+    let before = look_at(book);
+    trial.each();
+    let first = begin(book, case, verb, number);
+    trial.ample();
+    if let Some(right) = first {
+        return Ok(right);
+    }
+    trial.refused = true;
+    let after = look_at(book);
+    ensure!(after == before, "not as before");
+    Ok(begin(book, case, verb, number) == Some(true))
 }
 
 /// The cause of a refused adoption, which hands the verdict back.
@@ -212,7 +223,7 @@ fn make<'d>(
         let (verb, number) = call_of(word)?;
         let right = match verb {
             "open" | "run" | "undo" | "plan" | "present" | "abort" => {
-                begin(trial, book, on.case, verb, number)?
+                begin_twice(trial, book, on.case, verb, number)?
             }
             "adopt" => offer(trial, book, on.definition, on.texts)?.is_none(),
             "stale" => offer(trial, book, on.other, FREE)? == Some(AdoptRefusal::Stale),
@@ -258,4 +269,12 @@ pub fn run(trial: &mut Trial<'_>, script: Script) -> Result<()> {
     make(trial, &mut book, on, tried)?;
     ensure!(is_legal(alloc, &book), "not legal");
     Ok(())
+}
+
+/// Whether the history of a book is legal.
+pub fn is_legal(alloc: Global, book: &Book<'_>) -> bool {
+    matches!(
+        first_not_allowed(alloc, book.shelf(), book.history()),
+        Ok(None)
+    )
 }

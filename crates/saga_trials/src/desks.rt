@@ -1,7 +1,7 @@
 //! Trials of the calls of a desk and of a shard: scripts of calls, of which those that open, claim and abort may be refused memory,
 //! and those that end what was claimed are made where each growth is refused.
-use crate::books::call_of;
-use crate::samples::{self, FAILED, RETRIED, STUCK, Sample, TRIP};
+use crate::books::{call_of, is_legal, unless};
+use crate::samples::{self, FAILED, RETRIED, STUCK, Sample, TRIP, TRIP_SCRIPT};
 use crate::trial::Trial;
 use anyhow::{Result, bail, ensure};
 use saga_case::Answer;
@@ -9,7 +9,8 @@ use saga_check::{Verdict, verify};
 use saga_core::{Book, OpenRefusal, SagaRefusal};
 use saga_def::Definition;
 use saga_desk::{Claim, Desk, FinishRefused, Job, PlanJob, Seat, Shard};
-use saga_history::Outcome;
+use saga_history::{Outcome, Phase};
+use saga_work::{Bell, Stop, work};
 use std::alloc::{AllocError, Global};
 use std::sync::Wait;
 
@@ -37,47 +38,25 @@ const PLANS: &str = "open miss give-back give-back give-back events:9";
 
 const STOPS: &str = "open miss give-back adopt settled events:7";
 
-/// The trials in which one growth after the other is refused.
-pub const EACH: &[(&str, Script)] = &[
-    (
-        "saga_desk::Desk::open_saga",
-        Script(FAILED, false, "", OPENS),
-    ),
-    (
-        "saga_desk::Desk::claim",
-        Script(FAILED, false, "open", CLAIMS),
-    ),
-    (
-        "saga_desk::Desk::abort",
-        Script(FAILED, false, OPENS, ABORTS),
-    ),
-    (
-        "saga_desk::Shard::open_saga",
-        Script(FAILED, true, "", OPENS),
-    ),
-    (
-        "saga_desk::Shard::claim",
-        Script(RETRIED, true, "open", MISSES),
-    ),
-    (
-        "saga_desk::Shard::abort",
-        Script(FAILED, true, OPENS, ABORTS),
-    ),
-];
+pub const OPEN: Script = Script(FAILED, false, "", OPENS);
 
-/// The trials in which each growth is refused.
-pub const NONE: &[(&str, Script)] = &[
-    (
-        "saga_desk::Desk::report",
-        Script(FAILED, false, "", REPORTS),
-    ),
-    ("saga_desk::Desk::adopt", Script(STUCK, false, "", STOPS)),
-    (
-        "saga_desk::Desk::give_back",
-        Script(STUCK, false, "", PLANS),
-    ),
-    ("saga_desk::Shard,calls", Script(STUCK, true, "", STOPS)),
-];
+pub const CLAIM: Script = Script(FAILED, false, "open", CLAIMS);
+
+pub const ABORT: Script = Script(FAILED, false, OPENS, ABORTS);
+
+pub const OPEN_SHARD: Script = Script(FAILED, true, "", OPENS);
+
+pub const CLAIM_SHARD: Script = Script(RETRIED, true, "open", MISSES);
+
+pub const ABORT_SHARD: Script = Script(FAILED, true, OPENS, ABORTS);
+
+pub const REPORT: Script = Script(FAILED, false, "", REPORTS);
+
+pub const ADOPT: Script = Script(STUCK, false, "", STOPS);
+
+pub const GIVE_BACK: Script = Script(STUCK, false, "", PLANS);
+
+pub const SHARD: Script = Script(STUCK, true, "", STOPS);
 
 /// A desk of one seat, or a shard.
 #[derive(Drop)]
@@ -188,7 +167,7 @@ fn end<'d, R: Wait>(rt: &R, at: &mut At<'d>, claim: Claim<'d>, answer: Answer, v
     }
 }
 
-/// Claims what there is, and ends it.
+/// Claims what there is, and again where memory was refused, and ends it.
 fn claim_and_end<R: Wait>(
     rt: &R,
     trial: &mut Trial<'_>,
@@ -197,17 +176,56 @@ fn claim_and_end<R: Wait>(
     verb: &str,
 ) -> Result<bool> {
     let answer = samples::answer(trial.alloc(), texts.answer)?;
-    let claim = trial.twice(
-        at,
-        seen,
-        |at: &mut At<'_>|
-            ensures { Unit {0} }
-        { claim_at(rt, at) },
-    )?;
+    let before = seen(at);
+    trial.each();
+    let mut claim = claim_at(rt, at);
+    trial.ample();
+    if claim.is_err() {
+        trial.refused = true;
+        ensure!(seen(at) == before, "not as before");
+        claim = claim_at(rt, at);
+    }
+    let Ok(claim) = claim else {
+        bail!("refused again, with ample memory");
+    };
     trial.none();
     let ended = end(rt, at, claim, answer, verb);
     trial.ample();
     Ok(ended)
+}
+
+/// Opens or aborts a saga, and tells whether that was done; none where there was no memory.
+fn begin<R: Wait>(rt: &R, at: &mut At<'_>, verb: &str, saga: u32) -> Option<bool> {
+    match verb {
+        "open" => match open_at(rt, at, 0) {
+            Ok(_) => Some(true),
+            Err(why) => unless(why == OpenRefusal::OutOfMemory),
+        },
+        _ => match abort_at(rt, at, saga) {
+            Ok(()) => Some(true),
+            Err(why) => unless(why == SagaRefusal::OutOfMemory),
+        },
+    }
+}
+
+/// Makes such a call, and again where memory was refused: what is seen is then as before.
+fn begin_twice<R: Wait>(
+    rt: &R,
+    trial: &mut Trial<'_>,
+    at: &mut At<'_>,
+    verb: &str,
+    saga: u32,
+) -> Result<bool> {
+    let before = seen(at);
+    trial.each();
+    let first = begin(rt, at, verb, saga);
+    trial.ample();
+    if let Some(right) = first {
+        return Ok(right);
+    }
+    trial.refused = true;
+    ensure!(seen(at) == before, "not as before");
+    Ok(begin(rt, at, verb, saga) == Some(true))
 }
 
 /// Makes calls one after the other.
@@ -222,13 +240,8 @@ fn make<R: Wait>(
         let (verb, number) = call_of(word)?;
         let saga = u32::from(number);
         let right = match verb {
-            "open" => trial
-                .twice(at, seen, |at: &mut At<'_>| open_at(rt, at, 0))
-                .is_ok(),
+            "open" | "abort" => begin_twice(rt, trial, at, verb, saga)?,
             "other" => open_at(rt, at, 1) == Err(OpenRefusal::NoSuchDefinition),
-            "abort" => trial
-                .twice(at, seen, |at: &mut At<'_>| abort_at(rt, at, saga))
-                .is_ok(),
             "again" => abort_at(rt, at, saga) == Err(SagaRefusal::NotNow),
             "events" => at.seat.receipts().len() == number as usize,
             _ => claim_and_end(rt, trial, at, texts, verb)?,
@@ -286,11 +299,18 @@ pub fn run<R: Wait>(rt: &R, trial: &mut Trial<'_>, script: Script) -> Result<()>
     Ok(())
 }
 
-/// A desk that is opened.
+/// A desk that is opened, and again where memory was refused.
 pub fn open(trial: &mut Trial<'_>) -> Result<()> {
     let alloc = trial.alloc();
     let shelf = samples::shelf(alloc, TRIP)?;
-    let (desk, seats) = trial.again(|| Desk::open(alloc, &shelf, 16, 16))?;
+    trial.each();
+    let mut opened = Desk::open(alloc, &shelf, 16, 16);
+    trial.ample();
+    if opened.is_err() {
+        trial.refused = true;
+        opened = Desk::open(alloc, &shelf, 16, 16);
+    }
+    let (desk, seats) = opened?;
     ensure!(desk.shards() == 16 && seats.len() == 16, "another desk");
     Ok(())
 }
@@ -335,5 +355,40 @@ pub fn finish<R: Wait>(rt: &R, trial: &mut Trial<'_>) -> Result<()> {
         }
     };
     ensure!(events_in(&books) == 4, "another number of events");
+    Ok(())
+}
+
+/// The book that a desk of one seat leaves.
+fn book_of<'d>(alloc: Global, desk: Desk<'d>, seat: Seat) -> Result<Book<'d>> {
+    let Ok(books) = desk.finish(vec![in alloc; seat]?) else {
+        bail!("not ended");
+    };
+    for book in books {
+        return Ok(book);
+    }
+    bail!("no book")
+}
+
+/// A worker that found no memory gives its seat back, and goes on from there.
+pub fn work_alone<R: Wait>(rt: &R, trial: &mut Trial<'_>) -> Result<()> {
+    let alloc = trial.alloc();
+    let shelf = samples::shelf(alloc, TRIP)?;
+    let script = samples::script(alloc, TRIP_SCRIPT)?;
+    let bell = Bell::new();
+    let (desk, seats) = Desk::open(alloc, &shelf, 1, 1)?;
+    let mut seat = only(seats)?;
+    ensure!(open_on_first(rt, &desk, &mut seat, 0).is_ok(), "not opened");
+    trial.each();
+    let (mut seat, mut stop) = work(rt, alloc, &desk, &bell, seat, &script);
+    trial.ample();
+    if stop == Some(Stop::OutOfMemory) {
+        trial.refused = true;
+        (seat, stop) = work(rt, alloc, &desk, &bell, seat, &script);
+    }
+    ensure!(stop.is_none(), "stopped with ample memory");
+    let told = seat.receipts().len();
+    let book = book_of(alloc, desk, seat)?;
+    let whole = book.phase(0) == Some(Phase::Ended) && book.history().len() == told;
+    ensure!(whole && is_legal(alloc, &book), "not ended");
     Ok(())
 }

@@ -1,32 +1,27 @@
 //! Calls that take memory, at the greatest sizes and with ample memory: none gives up.
+use crate::nets::{Link, U, net};
 use crate::trial::Trial;
 use anyhow::{Result, bail, ensure};
 use saga_case::{Answer, Case, StepState};
 use saga_check::judge;
 use saga_def::{Definition, MAX_NEEDS, MAX_STEPS, Need, Price, Step, Text};
-use saga_flow::{Arc, Cap, Net, largest, unbounded_path};
+use saga_flow::{largest, unbounded_path};
 use saga_order::Order;
 use saga_plan::plan_counted;
 use std::alloc::Global;
 
 #[derive(Clone, Copy)]
-pub enum GreatTrial {
+pub enum Size {
     Order,
     Largest,
     Plan,
 }
 
-pub const TRIALS: &[(&str, GreatTrial)] = &[
-    ("saga_order::Order::of,greatest", GreatTrial::Order),
-    ("saga_flow::largest,greatest", GreatTrial::Largest),
-    ("saga_plan::plan,greatest", GreatTrial::Plan),
-];
-
-pub fn run(trial: &mut Trial<'_>, which: GreatTrial) -> Result<()> {
+pub fn run(trial: &mut Trial<'_>, which: Size) -> Result<()> {
     match which {
-        GreatTrial::Order => order(trial),
-        GreatTrial::Largest => flow(trial),
-        GreatTrial::Plan => planned(trial),
+        Size::Order => order(trial),
+        Size::Largest => flow(trial),
+        Size::Plan => planned(trial),
     }
 }
 
@@ -82,52 +77,25 @@ fn order(trial: &mut Trial<'_>) -> Result<()> {
     Ok(())
 }
 
-/// The network of the definition's case in which the last step has failed and all others are committed.
-fn network(alloc: Global) -> Result<Vec<Arc>> {
+/// The arcs of the case in which the last step has failed and all others are committed.
+fn arcs(alloc: Global) -> Result<Vec<Link>> {
     let mut arcs = Vec::new(alloc);
     for step in 0..STEPS {
-        let cap = if step + 1 == STEPS {
-            Cap::Of(0)
-        } else {
-            Cap::Of(1)
-        };
-        arcs.push(Arc {
-            from: 0,
-            to: 2 + step,
-            cap,
-        })?;
-    }
-    for step in 0..STEPS {
-        let cap = if step + 1 == STEPS {
-            Cap::Unbounded
-        } else {
-            Cap::Of(2)
-        };
-        arcs.push(Arc {
-            from: 2 + step,
-            to: 1,
-            cap,
-        })?;
+        let (leave, stand) = if step + 1 == STEPS { (0, U) } else { (1, 2) };
+        arcs.push((0, 2 + step, leave))?;
+        arcs.push((2 + step, 1, stand))?;
     }
     for need in &all_needs(alloc)? {
-        arcs.push(Arc {
-            from: need.step.saturating_add(2),
-            to: need.on.saturating_add(2),
-            cap: Cap::Unbounded,
-        })?;
+        arcs.push((need.step.saturating_add(2), need.on.saturating_add(2), U))?;
     }
     Ok(arcs)
 }
 
 fn flow(trial: &mut Trial<'_>) -> Result<()> {
     let alloc = trial.alloc();
-    let arcs = network(alloc)?;
-    ensure!(Net::accepts(2 + STEPS, arcs.as_slice()), "no net");
-    let net = Net::new(2 + STEPS, arcs);
-    let none = unbounded_path(alloc, &net)?.is_none();
-    ensure!(none, "no greatest flow");
-    let flow = largest(alloc, &net)?;
-    ensure!(flow.value == 1023, "another flow");
+    let net = net(alloc, 2 + STEPS, &arcs(alloc)?)?;
+    ensure!(unbounded_path(alloc, &net)?.is_none(), "no greatest flow");
+    ensure!(largest(alloc, &net)?.value == 1023, "another flow");
     Ok(())
 }
 

@@ -1,196 +1,139 @@
-//! Trials of the public calls where memory is refused, and of their readers by hostile texts.
+//! Trials of public calls where memory is refused that no command of the program shows: those of a book, a shard and a desk, and
+//! those that no command makes.
 //!
 //! `names` prints how each trial is made, and its name: with `each` growth refused in turn, with `none` granted, or with `ample`
 //! memory at the greatest sizes. `try NAME` makes a trial: the call, and where memory was refused the same call again; it prints
-//! `refused` or `whole`, or what is wrong. `hostile KIND FILE ..` reads each prefix of a text and the text with each byte changed.
-//! Without words each trial is made once, with ample memory.
+//! `refused` or `whole`, or what is wrong. Without words each trial is made once, with ample memory.
 //!
 //! The program refuses no memory itself. It tells on standard error where the calls begin and end, for a library that is
-//! loaded before the C library and refuses growths there (`tests/memory.sh`).
+//! loaded before the C library and refuses growths there (`tests/memory.py`).
 #![tactic(auto)]
 
 mod books;
+mod calls;
 mod desks;
-mod faults;
-mod free;
 mod greatest;
-mod hostile;
 mod nets;
-mod rows;
-mod runs;
 mod samples;
 mod trial;
-mod values;
 
-use crate::hostile::Files;
-use crate::trial::{Trial, named};
+use crate::calls::Call;
+use crate::greatest::Size;
+use crate::nets::Flow;
+use crate::trial::Trial;
+use Tried::{Alone, Book, Desk, FinishDesk, Great, Net, OpenDesk, Work};
 use anyhow::{Context, Result, bail, ensure};
-use saga_work::Bell;
-use std::alloc::Global;
 use std::env;
 use std::sync::Wait;
-use std::thread::Threads;
 
-/// A trial that has a function of its own.
+/// What is tried: calls of a book, or of a shard or a desk, by the name of their script, or a call alone.
 #[derive(Clone, Copy)]
-enum Single {
+enum Tried {
+    Book(books::Script),
+    Desk(desks::Script),
     OpenDesk,
     FinishDesk,
     Work,
-    RunAll(u32),
-    Converse,
-    Job,
-    Bell,
+    Alone(Call),
+    Net(Flow),
+    Great(Size),
 }
 
-/// Those in which one growth after the other is refused.
-const EACH: &[(&str, Single)] = &[
-    ("saga_desk::Desk::open", Single::OpenDesk),
-    ("saga_desk::Desk::finish", Single::FinishDesk),
-    ("saga_work::work", Single::Work),
-    ("saga_work::run_all", Single::RunAll(1)),
-    ("saga_work::run_all,two-workers", Single::RunAll(2)),
-    ("saga_drive::answer", Single::Converse),
+/// The trials: how each is made, its name, and what is tried.
+const TRIALS: &[(&str, Tried)] = &[
+    ("each saga_core::Book::open", Book(books::OPEN)),
+    ("each saga_core::Book::take_run", Book(books::RUN)),
+    ("each saga_core::Book::take_undo", Book(books::UNDO)),
+    ("each saga_core::Book::take_plan", Book(books::PLAN)),
+    ("each saga_core::Book::present_case", Book(books::PRESENT)),
+    ("each saga_core::Book::abort", Book(books::ABORT)),
+    ("none saga_core::Book::report_run", Book(books::REPORT)),
+    ("none saga_core::Book::report_undo", Book(books::UNDONE)),
+    ("none saga_core::Book::drop_plan", Book(books::DROP)),
+    ("none saga_core::Book::adopt", Book(books::ADOPT)),
+    ("none saga_core::Book::next", Book(books::NEXT)),
+    ("none saga_core::Book::history", Book(books::HISTORY)),
+    ("each saga_desk::Desk::open", OpenDesk),
+    ("each saga_desk::Desk::finish", FinishDesk),
+    ("each saga_desk::Desk::open_saga", Desk(desks::OPEN)),
+    ("each saga_desk::Desk::claim", Desk(desks::CLAIM)),
+    ("each saga_desk::Desk::abort", Desk(desks::ABORT)),
+    ("each saga_desk::Shard::open_saga", Desk(desks::OPEN_SHARD)),
+    ("each saga_desk::Shard::claim", Desk(desks::CLAIM_SHARD)),
+    ("each saga_desk::Shard::abort", Desk(desks::ABORT_SHARD)),
+    ("none saga_desk::Desk::report", Desk(desks::REPORT)),
+    ("none saga_desk::Desk::adopt", Desk(desks::ADOPT)),
+    ("none saga_desk::Desk::give_back", Desk(desks::GIVE_BACK)),
+    ("none saga_desk::Shard,calls", Desk(desks::SHARD)),
+    ("each saga_work::work", Work),
+    ("each saga_order::Order::of", Alone(Call::Order)),
+    ("each saga_cert::write_case", Alone(Call::WriteCase)),
+    ("each saga_report::report", Alone(Call::Report)),
+    (
+        "each saga_history::first_not_allowed",
+        Alone(Call::NotAllowed),
+    ),
+    ("each saga_texts::audit_text_alone", Alone(Call::AuditText)),
+    ("each saga_drive::audit_trail", Alone(Call::Trail)),
+    ("ample saga_history,laws", Alone(Call::Laws)),
+    ("each saga_flow::unbounded_path", Net(Flow::Path)),
+    ("each saga_flow::largest", Net(Flow::Largest)),
+    ("each saga_flow::largest_counted", Net(Flow::Counted)),
+    ("each saga_flow::reach", Net(Flow::Reach)),
+    ("ample saga_order::Order::of,greatest", Great(Size::Order)),
+    ("ample saga_flow::largest,greatest", Great(Size::Largest)),
+    ("ample saga_plan::plan,greatest", Great(Size::Plan)),
 ];
 
-/// Those in which each growth is refused.
-const NONE: &[(&str, Single)] = &[
-    ("saga_desk,readers", Single::Job),
-    ("saga_script::Script,calls", Single::Job),
-    ("saga_work::Bell::new", Single::Bell),
-];
+/// Makes a trial.
+fn run<R: Wait>(rt: &R, trial: &mut Trial<'_>, how: &str, tried: Tried) -> Result<()> {
+    trial.refuses = how == "each";
+    match tried {
+        Book(script) => books::run(trial, script),
+        Desk(script) => desks::run(rt, trial, script),
+        OpenDesk => desks::open(trial),
+        FinishDesk => desks::finish(rt, trial),
+        Work => desks::work_alone(rt, trial),
+        Alone(call) => calls::run(trial, call),
+        Net(call) => nets::run(trial, call),
+        Great(which) => greatest::run(trial, which),
+    }
+}
 
-fn run_single<R: Threads + Wait + Sync>(
-    rt: &R,
-    trial: &mut Trial<'_>,
-    which: Single,
-) -> Result<()> {
-    match which {
-        Single::OpenDesk => desks::open(trial),
-        Single::FinishDesk => desks::finish(rt, trial),
-        Single::Work => runs::work_alone(rt, trial),
-        Single::RunAll(workers) => runs::run_trips(rt, trial, workers),
-        Single::Converse => runs::converse(trial),
-        Single::Job => free::job(rt, trial),
-        Single::Bell => {
-            trial.none();
-            let _bell = Bell::new();
-            trial.ample();
-            Ok(())
+/// Makes the trials of a name, or all, and tells how many there were.
+fn run_named<R: Wait>(rt: &R, trial: &mut Trial<'_>, wanted: Option<&str>) -> Result<usize> {
+    let mut count = 0usize;
+    for (row, tried) in TRIALS {
+        let (how, name) = row.split_once(' ').context("a row without a name")?;
+        if wanted.is_none() || wanted == Some(name) {
+            run(rt, trial, how, *tried).context(format_args!("{name}"))?;
+            count = count.saturating_add(1);
         }
     }
-}
-
-/// Makes the trial of a name in which one growth may be refused, if there is one.
-fn run_each<R: Threads + Wait + Sync>(rt: &R, trial: &mut Trial<'_>, name: &str) -> Result<bool> {
-    if let Some(which) = named(values::TRIALS, name) {
-        values::run(rt, trial, which)?;
-    } else if let Some(script) = named(books::EACH, name) {
-        books::run(trial, script)?;
-    } else if let Some(script) = named(desks::EACH, name) {
-        desks::run(rt, trial, script)?;
-    } else if let Some(which) = named(EACH, name) {
-        run_single(rt, trial, which)?;
-    } else {
-        return Ok(false);
-    }
-    Ok(true)
-}
-
-/// Makes the trial of a name in which each growth is refused, or none, if there is one.
-fn run_other<R: Threads + Wait + Sync>(rt: &R, trial: &mut Trial<'_>, name: &str) -> Result<bool> {
-    if let Some(which) = named(free::TRIALS, name) {
-        free::run(trial, which)?;
-    } else if let Some(script) = named(books::NONE, name) {
-        books::run(trial, script)?;
-    } else if let Some(script) = named(desks::NONE, name) {
-        desks::run(rt, trial, script)?;
-    } else if let Some(which) = named(NONE, name) {
-        run_single(rt, trial, which)?;
-    } else if let Some(which) = named(greatest::TRIALS, name) {
-        greatest::run(trial, which)?;
-    } else {
-        return Ok(false);
-    }
-    Ok(true)
-}
-
-/// Makes the trial of a name.
-fn run<R: Threads + Wait + Sync>(rt: &R, trial: &mut Trial<'_>, name: &str) -> Result<()> {
-    trial.refuses = true;
-    if run_each(rt, trial, name)? {
-        return Ok(());
-    }
-    trial.refuses = false;
-    ensure!(run_other(rt, trial, name)?, "no trial {name}");
-    Ok(())
-}
-
-/// How a trial is made, and its name.
-#[derive(Clone, Copy)]
-struct Listed {
-    how: &'static str,
-    name: &'static str,
-}
-
-fn list<T: Copy>(
-    all: &mut Vec<Listed>,
-    how: &'static str,
-    table: &[(&'static str, T)],
-) -> Result<()> {
-    for (name, _) in table {
-        all.push(Listed { how, name: *name })?;
-    }
-    Ok(())
-}
-
-/// All trials.
-fn all_trials(alloc: Global) -> Result<Vec<Listed>> {
-    let mut all = Vec::new(alloc);
-    list(&mut all, "each", values::TRIALS)?;
-    list(&mut all, "each", books::EACH)?;
-    list(&mut all, "each", desks::EACH)?;
-    list(&mut all, "each", EACH)?;
-    list(&mut all, "none", free::TRIALS)?;
-    list(&mut all, "none", books::NONE)?;
-    list(&mut all, "none", desks::NONE)?;
-    list(&mut all, "none", NONE)?;
-    list(&mut all, "ample", greatest::TRIALS)?;
-    Ok(all)
+    Ok(count)
 }
 
 fn main(rt: HostRuntime) -> Result<()> {
     let mut words = env::args(&rt)?.skip(1);
     let what = words.next();
-    let all = all_trials(rt.alloc())?;
     let mut trial = Trial::new(&rt);
     match what.as_deref() {
         None => {
-            for listed in &all {
-                run(&rt, &mut trial, listed.name).context(format_args!("{}", listed.name))?;
-            }
-            println!(rt; "trials {} whole", all.len())?;
+            let count = run_named(&rt, &mut trial, None)?;
+            println!(rt; "trials {count} whole")?;
         }
         Some("names") => {
-            for listed in &all {
-                println!(rt; "{} {}", listed.how, listed.name)?;
+            for (row, _) in TRIALS {
+                println!(rt; "{row}")?;
             }
         }
         Some("try") => {
             let name = words.next().context("a name is missing")?;
-            run(&rt, &mut trial, name.as_str())?;
+            let count = run_named(&rt, &mut trial, Some(name.as_str()))?;
+            ensure!(count == 1, "no trial {name}");
             println!(rt; "{}", if trial.refused { "refused" } else { "whole" })?;
         }
-        Some("hostile") => {
-            let kind = words.next().context("a kind is missing")?;
-            let files = Files {
-                text: words.next(),
-                definition: words.next(),
-                case: words.next(),
-            };
-            hostile::run(&rt, kind.as_str(), files)?;
-        }
-        _ => bail!("names, try or hostile?"),
+        _ => bail!("names or try?"),
     }
     Ok(())
 }

@@ -44,18 +44,6 @@ pub const TRIP_ANSWER: &str =
 pub const FREE_ANSWER: &str =
     "{\"cost\":0,\"kept\":[],\"kind\":\"plan\",\"leave\":[0,0,0],\"links\":[0,0],\"stand\":[0,0,0]}";
 
-/// What is drawn of it with its answer.
-pub const TRIP_DRAWING: &str = "\
-digraph \"trip\" {\n\
-\x20\x20graph [rankdir=RL fontname=\"Helvetica\" label=\"trip: plan of cost 3\\ndouble outline: kept\"];\n\
-\x20\x20node [fontname=\"Helvetica\" fontsize=12];\n\
-\x20\x20\"a\" [shape=box style=filled fillcolor=\"#b9dfbb\" label=\"a\\ncommitted\\nundo 1\\nkeep 5\"];\n\
-\x20\x20\"b\" [shape=box style=filled fillcolor=\"#b9dfbb\" label=\"b\\ncommitted\\nundo 2\\nkeep 5\"];\n\
-\x20\x20\"c\" [shape=octagon style=filled fillcolor=\"#f0aaa4\" label=\"c\\nfailed\"];\n\
-\x20\x20\"b\" -> \"a\";\n\
-\x20\x20\"c\" -> \"b\";\n\
-}\n";
-
 /// The last of them fails.
 pub const TRIP_SCRIPT: &str = "0 c run fail\n";
 
@@ -75,21 +63,6 @@ pub const TRIP_LOG: &str = "\
 {\"event\":\"start_undo\",\"saga\":0,\"step\":0}
 {\"event\":\"undone\",\"saga\":0,\"step\":0}
 ";
-
-/// What has happened where the last step has failed.
-pub const FAILED_LOG: &str = "\
-{\"def\":0,\"event\":\"open\",\"saga\":0}
-{\"event\":\"start_run\",\"saga\":0,\"step\":0}
-{\"event\":\"commit\",\"saga\":0,\"step\":0}
-{\"event\":\"start_run\",\"saga\":0,\"step\":1}
-{\"event\":\"commit\",\"saga\":0,\"step\":1}
-{\"event\":\"start_run\",\"saga\":0,\"step\":2}
-{\"event\":\"fail\",\"saga\":0,\"step\":2}
-";
-
-/// The line of the adoption in it, without its line feed.
-pub const ADOPTION: &str =
-    "{\"answer\":{\"cost\":3,\"kept\":[],\"kind\":\"plan\",\"leave\":[1,2,0],\"links\":[0,0],\"stand\":[1,2,0]},\"event\":\"adopt\",\"saga\":0}";
 
 /// The report of that.
 pub const TRIP_REPORT: &str = "\
@@ -111,9 +84,6 @@ pub const FORCED_CASE: &str = "{\"states\":[\"failed\"]}";
 /// So no set of steps is allowed.
 pub const FORCED_ANSWER: &str = "{\"chain\":[0],\"kind\":\"blocked\"}";
 
-/// It fails.
-pub const FORCED_SCRIPT: &str = "0 a run fail\n";
-
 /// Two steps, of which the second needs the first. The first, and its compensation, is tried nine times.
 pub const STUBBORN: &str = "\
 format = 2
@@ -128,35 +98,12 @@ pub const STUBBORN_CASE: &str = "{\"states\":[\"committed\",\"failed\"]}";
 pub const STUBBORN_ANSWER: &str =
     "{\"cost\":0,\"kept\":[],\"kind\":\"plan\",\"leave\":[0,0],\"links\":[0],\"stand\":[0,0]}";
 
-/// Three steps that need each other in a ring.
-pub const RING: &str = "\
-format = 1
-name = \"ring\"
-step = [
-  { name = \"a\", needs = [\"b\"] },
-  { name = \"b\", needs = [\"c\"] },
-  { name = \"c\", needs = [\"a\"] },
-]
-";
-
-/// A log of the second format, of a saga that is aborted while it is planned.
-pub const ABORTED_LOG: &str = "\
-{\"format\":2}
-{\"def\":0,\"event\":\"open\",\"saga\":0}
-{\"event\":\"start_run\",\"saga\":0,\"step\":0}
-{\"event\":\"missed\",\"saga\":0,\"step\":0}
-{\"event\":\"abort\",\"saga\":0}
-{\"event\":\"start_plan\",\"saga\":0}
-{\"event\":\"drop_plan\",\"saga\":0}
-";
-
 /// The texts of an example.
 #[derive(Clone, Copy)]
 pub struct Sample {
     pub definition: &'static str,
     pub case: &'static str,
     pub answer: &'static str,
-    pub log: &'static str,
 }
 
 /// The trip, whose last step fails.
@@ -164,7 +111,6 @@ pub const FAILED: Sample = Sample {
     definition: TRIP,
     case: TRIP_CASE,
     answer: TRIP_ANSWER,
-    log: TRIP_LOG,
 };
 
 /// The same for nothing.
@@ -179,7 +125,6 @@ pub const STUCK: Sample = Sample {
     definition: FORCED,
     case: FORCED_CASE,
     answer: FORCED_ANSWER,
-    log: "",
 };
 
 /// The steps that are tried often.
@@ -187,19 +132,7 @@ pub const RETRIED: Sample = Sample {
     definition: STUBBORN,
     case: STUBBORN_CASE,
     answer: STUBBORN_ANSWER,
-    log: "",
 };
-
-/// A log of the second format whose last line is cut.
-pub const CUT_LOG: &str = "\
-{\"format\":2}
-{\"def\":0,\"event\":\"open\",\"saga\":0}
-{\"event\":\"start_run\",\"saga\":0,\"step\":0}
-{\"event\":\"abort\",\"saga\":0}
-{\"event\":\"comm";
-
-/// How many bytes its whole lines have.
-pub const WHOLE: usize = 114;
 
 /// The definition of a text.
 pub fn definition(alloc: Global, text: &str) -> Result<Definition> {
@@ -238,11 +171,6 @@ pub fn answer(alloc: Global, text: &str) -> Result<Answer> {
         Ok(answer) => Ok(answer),
         Err(_) => bail!("no answer"),
     }
-}
-
-/// Whether an answer has a text.
-pub fn is_written(alloc: Global, answer: &Answer, text: &str) -> Result<bool> {
-    Ok(write_answer(alloc, answer)?.as_str() == text)
 }
 
 /// The verdict on an answer to a case.

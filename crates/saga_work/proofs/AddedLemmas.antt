@@ -1,13 +1,13 @@
 -- Seats that gain receipts.
-use Rattle.std.proofs.Common.{◌≡◌, ℕ, List, [], ◌∷◌, ◌++◌, refl, sym, ap, ◌∙◌, subst}
-use Rattle.std.specs.List.{All}
+use Rattle.std.proofs.Common.{◌≡◌, ℕ, [], ◌∷◌, ◌++◌, refl, sym, ap, ◌∙◌, subst, Option, None}
 use Rattle.std.proofs.lemmas.List.{append-nil, append_assoc}
 use Rattle.std.proofs.lemmas.List.Elements.{All-nil, All-push, All-append, All-weaker}
 use Rattle.saga_history.specs.declared.events.Mark.{Mark}
 use Rattle.saga_desk.specs.Effects.{Gains}
 use Rattle.saga_desk.specs.Seat.{Seat}
 use Rattle.saga_desk.specs.declared.receipts.Receipt.{Receipt}
-use Rattle.saga_work.specs.Added.{Adds}
+use Rattle.saga_work.specs.Added.{Adds, HasClaims}
+use Rattle.saga_work.specs.declared.faults.Stop.{Stop}
 
 pub adds_none : (P : Mark → Type 0) (a b : Seat) → b ≡ a → Adds P a b
 adds_none P a b e = record {
@@ -43,3 +43,10 @@ adds_weaker P Q a b weaker w = record {
   receipts = w.receipts;
   marks = All-weaker (λ (r : Receipt). P r.mark) (λ (r : Receipt). Q r.mark) (λ r p. weaker r.mark p) w.added w.marks;
 }
+
+-- claims that were outstanding before are so after
+pub claims_on : (why : Option Stop) (seat : Seat) (m n : ℕ) → m ≡ n → HasClaims why seat m → HasClaims why seat n
+claims_on why seat m n same has = λ other. has other ∙ same
+
+pub claims_same : (seat : Seat) (n : ℕ) → HasClaims None seat n → seat.claims ≡ n
+claims_same seat n has = has (λ e. cc)

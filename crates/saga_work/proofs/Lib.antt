@@ -4,3 +4,4 @@ mod AddedLemmas
 mod WorkLemmas
 mod AskedLemmas
 mod RunLemmas
+mod FaultLemmas

@@ -16,7 +16,7 @@ use Rattle.saga_desk.specs.Finish.{AreFirstSeats, AreOfShards}
 use Rattle.saga_desk.specs.Job.{Job}
 use Rattle.saga_desk.specs.Seat.{Seat}
 use Rattle.saga_desk.specs.declared.receipts.Receipt.{Receipt}
-use Rattle.saga_work.specs.Added.{Adds, EachAdds}
+use Rattle.saga_work.specs.Added.{EachAdds}
 use Rattle.saga_work.specs.Answered.{IsAnswered, IsWork, opening}
 use Rattle.saga_work.specs.Asked.{AreAnswered, AreNumbered, AreOpened, AreOpenedAsAsked, EachGained, IsOpening, OpensAll, opening_on}
 use Rattle.saga_work.proofs.AskedLemmas.{books_answered, none_opened, opened_as_asked}

@@ -1,36 +1,32 @@
 -- What a worker adds.
-use Rattle.std.proofs.Common.{◌≡◌, ℕ, Bool, true, false, inl, inr, refl, sym, subst}
+use Rattle.std.proofs.Common.{◌≡◌, ℕ, inl, inr, refl, sym, subst}
 use Rattle.saga_history.specs.Changes.{mark_of, step_event}
+use Rattle.saga_history.specs.Tasks.{IsEndOf}
 use Rattle.saga_history.specs.declared.events.Mark.{Mark}
-use Rattle.saga_history.specs.declared.events.Mark.TheVariants as mark
 use Rattle.saga_history.specs.declared.tasks.Outcome.{Outcome}
-use Rattle.saga_history.specs.declared.tasks.Outcome.TheVariants.{Done, Failed}
+use Rattle.saga_history.specs.declared.tasks.Outcome.TheVariants.{Done}
 use Rattle.saga_history.specs.declared.transitions.Transition.{Transition}
-use Rattle.saga_desk.specs.Effects.{GainsEnd, IsEndOf}
-use Rattle.saga_desk.specs.Job.{Job}
+use Rattle.saga_history.specs.declared.transitions.Transition.TheVariants as transition
+use Rattle.saga_desk.specs.Effects.{GainsEnd}
+use Rattle.saga_desk.specs.Job.{Job, kind_of}
 use Rattle.saga_desk.specs.Seat.{Seat}
 use Rattle.saga_work.specs.Added.{Adds}
 use Rattle.saga_work.specs.Answered.{EndsPlan, IsAbortOf, IsWork, MayEnd}
 use Rattle.saga_work.proofs.AddedLemmas.{adds_one, adds_weaker}
 
-pub end_is_work : (may : Job → Outcome → Type 0) (may_abort : Job → Type 0) (job : Job) (o : Outcome) (t : Transition)
-    → may job o → IsEndOf job.is_undo o t → IsWork may may_abort (mark_of (step_event job.saga job.step t))
-end_is_work may may_abort job o t answered e = at job.is_undo refl o answered t e
+end_is_work : (may : Job → Outcome → Type 0) (may_abort : Job → Type 0) (job : Job) (o : Outcome) (t : Transition)
+    → may job o → IsEndOf (kind_of job.is_undo) o t → IsWork may may_abort (mark_of (step_event job.saga job.step t))
+end_is_work may may_abort job o t answered e = works t (record { job = job; saga = refl; step = refl; outcome = o; ends = e; answered = answered })
   where
-    Works : Transition → Type 0
-    Works t = IsWork may may_abort (mark_of (step_event job.saga job.step t))
-
-    ends : (b : Bool) → job.is_undo ≡ b → (o : Outcome) → may job o → MayEnd may job.saga job.step b o
-    ends b u o answered = record { job = job; saga = refl; step = refl; is_undo = u; answered = answered }
-
-    at : (b : Bool) → job.is_undo ≡ b → (o : Outcome) → may job o → (t : Transition) → IsEndOf b o t
-        → IsWork may may_abort (mark_of (step_event job.saga job.step t))
-    at false u Done answered t e = subst (λ t. IsWork may may_abort (mark_of (step_event job.saga job.step t))) (sym e) (record { opens_nothing = refl; answered = ends false u Done answered })
-    at false u Failed answered t (inl e) = subst (λ t. IsWork may may_abort (mark_of (step_event job.saga job.step t))) (sym e) (record { opens_nothing = refl; answered = ends false u Failed answered })
-    at false u Failed answered t (inr e) = subst (λ t. IsWork may may_abort (mark_of (step_event job.saga job.step t))) (sym e) (record { opens_nothing = refl; answered = ends false u Failed answered })
-    at true u Done answered t e = subst (λ t. IsWork may may_abort (mark_of (step_event job.saga job.step t))) (sym e) (record { opens_nothing = refl; answered = ends true u Done answered })
-    at true u Failed answered t (inl e) = subst (λ t. IsWork may may_abort (mark_of (step_event job.saga job.step t))) (sym e) (record { opens_nothing = refl; answered = ends true u Failed answered })
-    at true u Failed answered t (inr e) = subst (λ t. IsWork may may_abort (mark_of (step_event job.saga job.step t))) (sym e) (record { opens_nothing = refl; answered = ends true u Failed answered })
+    works : (t : Transition) → MayEnd may job.saga job.step t → IsWork may may_abort (mark_of (step_event job.saga job.step t))
+    works transition.StartRun end = record { opens_nothing = refl; answered = tt }
+    works transition.Commit end = record { opens_nothing = refl; answered = end }
+    works transition.Missed end = record { opens_nothing = refl; answered = end }
+    works transition.Fail end = record { opens_nothing = refl; answered = end }
+    works transition.StartUndo end = record { opens_nothing = refl; answered = tt }
+    works transition.Undone end = record { opens_nothing = refl; answered = end }
+    works transition.UndoMissed end = record { opens_nothing = refl; answered = end }
+    works transition.UndoFail end = record { opens_nothing = refl; answered = end }
 
 -- a report of what the actor answered
 pub adds_end : (may : Job → Outcome → Type 0) (may_abort : Job → Type 0) (a b : Seat) (job : Job) (o : Outcome)
@@ -38,16 +34,16 @@ pub adds_end : (may : Job → Outcome → Type 0) (may_abort : Job → Type 0) (
 adds_end may may_abort a b job o answered (t, e, gains) =
     adds_one (IsWork may may_abort) a b _ _ gains (end_is_work may may_abort job o t answered e)
 
-abort_is_work : (may : Job → Outcome → Type 0) (may_abort : Job → Type 0) (job : Job) (i : ℕ) → job.saga ≡ i → may_abort job
+abort_is_work : (may : Job → Outcome → Type 0) (may_abort : Job → Type 0) (job : Job) (i : ℕ) → job.saga ≡ i → may job Done → may_abort job
     → (m : Mark) → IsAbortOf i m → IsWork may may_abort m
-abort_is_work may may_abort job i same asked m is =
-    subst (IsWork may may_abort) (sym is) (record { opens_nothing = refl; answered = record { job = job; saga = same; asked = asked } })
+abort_is_work may may_abort job i same done asked m is =
+    subst (IsWork may may_abort) (sym is) (record { opens_nothing = refl; answered = record { job = job; saga = same; done = done; asked = asked } })
 
 -- an abort that the actor asked for
 pub adds_abort : (may : Job → Outcome → Type 0) (may_abort : Job → Type 0) (a b : Seat) (job : Job) (i : ℕ)
-    → job.saga ≡ i → may_abort job → Adds (IsAbortOf i) a b → Adds (IsWork may may_abort) a b
-adds_abort may may_abort a b job i same asked =
-    adds_weaker (IsAbortOf i) (IsWork may may_abort) a b (abort_is_work may may_abort job i same asked)
+    → job.saga ≡ i → may job Done → may_abort job → Adds (IsAbortOf i) a b → Adds (IsWork may may_abort) a b
+adds_abort may may_abort a b job i same done asked =
+    adds_weaker (IsAbortOf i) (IsWork may may_abort) a b (abort_is_work may may_abort job i same done asked)
 
 plan_is_work : (may : Job → Outcome → Type 0) (may_abort : Job → Type 0) (i : ℕ) (m : Mark) → EndsPlan i m → IsWork may may_abort m
 plan_is_work may may_abort i m (inl is) = subst (IsWork may may_abort) (sym is) (record { opens_nothing = refl; answered = tt })

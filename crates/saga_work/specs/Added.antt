@@ -1,8 +1,12 @@
 -- What seats gained.
-use Rattle.std.specs.Prelude.{◌≡◌, ℕ, ◌<◌, List, ◌++◌, All, length, slice_index_or}
+use Rattle.std.specs.Prelude.{◌≡◌, ◌≢◌, ℕ, ◌<◌, List, ◌++◌, All, Option, None, Some, length, slice_index_or}
 use Rattle.saga_history.specs.declared.events.Mark.{Mark}
 use Rattle.saga_desk.specs.Seat.{Seat}
 use Rattle.saga_desk.specs.declared.receipts.Receipt.{Receipt}
+use Rattle.saga_work.specs.declared.faults.Stop.{Stop}
+use Rattle.saga_work.specs.declared.faults.Stop.TheVariants as stop
+use Rattle.saga_work.specs.declared.workers.Course.{Course}
+use Rattle.saga_work.specs.declared.workers.Course.TheVariants.{Goes, Ends}
 
 -- the seat has its receipts and then others, and this holds of their marks
 pub record Adds (P : Mark → Type 0) (before after : Seat) : Type 0 where
@@ -15,3 +19,12 @@ pub record Adds (P : Mark → Type 0) (before after : Seat) : Type 0 where
 abbrev pub EachAdds : {S : Type 0} → (Mark → Type 0) → List Seat → List (Seat × S) → Type 0
 EachAdds {S} P seats done =
     (i : ℕ) (s : Seat) (d : S) → i < length seats → Adds P (slice_index_or seats i s) (slice_index_or done i (s, d)).0
+
+-- unless the desk refused something, the seat has so many claims outstanding
+abbrev pub HasClaims : Option Stop → Seat → ℕ → Type 0
+HasClaims why seat claims = why ≢ Some stop.Refused → seat.claims ≡ claims
+
+-- the stop of a worker that ends
+abbrev pub stop_of : Course → Option Stop
+stop_of Goes = None
+stop_of (Ends why) = why

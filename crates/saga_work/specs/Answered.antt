@@ -1,40 +1,45 @@
 -- What an actor has to have answered for an event.
-use Rattle.std.specs.Prelude.{◌≡◌, ℕ, ◌⊎◌, Bool, true, false, List, [], ◌∷◌}
-use Rattle.saga_desk.specs.Job.{Job}
+use Rattle.std.specs.Prelude.{◌≡◌, ℕ, ◌⊎◌, List, [], ◌∷◌}
+use Rattle.saga_desk.specs.Job.{Job, kind_of}
 use Rattle.saga_history.specs.declared.events.Mark.{Mark}
 use Rattle.saga_history.specs.declared.events.Mark.TheVariants as mark
 use Rattle.saga_history.specs.declared.tasks.Outcome.{Outcome}
-use Rattle.saga_history.specs.declared.tasks.Outcome.TheVariants.{Done, Failed}
+use Rattle.saga_history.specs.declared.tasks.Outcome.TheVariants.{Done}
+use Rattle.saga_history.specs.declared.transitions.Transition.{Transition}
+use Rattle.saga_history.specs.declared.transitions.Transition.TheVariants as transition
+use Rattle.saga_history.specs.Tasks.{IsEndOf}
 
--- an outcome that may be answered to a job at step s of saga i, of its action or its compensation
-pub record MayEnd (may : Job → Outcome → Type 0) (i s : ℕ) (undo : Bool) (outcome : Outcome) : Type 0 where
+-- step s of saga i ends by this transition, with an outcome that may be answered to a job at it
+pub record MayEnd (may : Job → Outcome → Type 0) (i s : ℕ) (t : Transition) : Type 0 where
   pub job : Job
   pub saga : job.saga ≡ i
   pub step : job.step ≡ s
-  pub is_undo : job.is_undo ≡ undo
+  pub outcome : Outcome
+  pub ends : IsEndOf (kind_of job.is_undo) outcome t
   pub answered : may job outcome
 
--- a job of saga i after which an abort may be asked for
-pub record MayAbort (may_abort : Job → Type 0) (i : ℕ) : Type 0 where
+-- a job of saga i that may be answered with done, and after which an abort may be asked for
+pub record MayAbort (may : Job → Outcome → Type 0) (may_abort : Job → Type 0) (i : ℕ) : Type 0 where
   pub job : Job
   pub saga : job.saga ≡ i
+  pub done : may job Done
   pub asked : may_abort job
 
 -- each end of an action or a compensation is what may be answered, and each abort may be asked for
 abbrev pub IsAnswered : (Job → Outcome → Type 0) → (Job → Type 0) → Mark → Type 0
 IsAnswered may may_abort (mark.Open i k) = Unit {0}
 IsAnswered may may_abort (mark.StartRun i s) = Unit {0}
-IsAnswered may may_abort (mark.Commit i s) = MayEnd may i s false Done
-IsAnswered may may_abort (mark.Fail i s) = MayEnd may i s false Failed
+IsAnswered may may_abort (mark.Commit i s) = MayEnd may i s transition.Commit
+IsAnswered may may_abort (mark.Fail i s) = MayEnd may i s transition.Fail
 IsAnswered may may_abort (mark.StartUndo i s) = Unit {0}
-IsAnswered may may_abort (mark.Undone i s) = MayEnd may i s true Done
-IsAnswered may may_abort (mark.UndoFail i s) = MayEnd may i s true Failed
+IsAnswered may may_abort (mark.Undone i s) = MayEnd may i s transition.Undone
+IsAnswered may may_abort (mark.UndoFail i s) = MayEnd may i s transition.UndoFail
 IsAnswered may may_abort (mark.StartPlan i) = Unit {0}
 IsAnswered may may_abort (mark.DropPlan i) = Unit {0}
 IsAnswered may may_abort (mark.Adopt i) = Unit {0}
-IsAnswered may may_abort (mark.Missed i s) = MayEnd may i s false Failed
-IsAnswered may may_abort (mark.UndoMissed i s) = MayEnd may i s true Failed
-IsAnswered may may_abort (mark.Abort i) = MayAbort may_abort i
+IsAnswered may may_abort (mark.Missed i s) = MayEnd may i s transition.Missed
+IsAnswered may may_abort (mark.UndoMissed i s) = MayEnd may i s transition.UndoMissed
+IsAnswered may may_abort (mark.Abort i) = MayAbort may may_abort i
 
 -- the saga and the definition that is opened
 abbrev pub opening : Mark → List (ℕ × ℕ)

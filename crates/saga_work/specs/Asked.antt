@@ -1,5 +1,5 @@
 -- What a run was asked to open, and what it holds of that.
-use Rattle.std.specs.Prelude.{◌≡◌, ◌≢◌, ℕ, ◌<◌, ◌+◌, ◌%◌, ◌==◌, cond, List, [], ◌∷◌, ◌++◌, All, flat_map, length, map, slice_index_or}
+use Rattle.std.specs.Prelude.{◌≡◌, ◌≢◌, ℕ, ◌<◌, ◌+◌, ◌%◌, ◌==◌, cond, List, [], ◌∷◌, ◌++◌, All, Some, flat_map, length, map, slice_get, slice_index_or}
 use Rattle.saga_history.specs.declared.events.Mark.{Mark}
 use Rattle.saga_history.specs.declared.tasks.Outcome.{Outcome}
 use Rattle.saga_history.specs.Changes.{mark_of, past}
@@ -58,6 +58,11 @@ pub record AreOpened (shards : ℕ) (asks : List ℕ) (seats : List Seat) : Type
   pub all : OpensAll shards asks (slice_index_or (receipts_of seats) 0 [])
   pub only : All IsOpening (slice_index_or (receipts_of seats) 0 [])
   pub others : (i : ℕ) → i ≢ 0 → slice_index_or (receipts_of seats) i [] ≡ []
+
+-- so many seats, numbered from 0 on
+pub record AreSeated (count : ℕ) (seats : List Seat) : Type 0 where
+  pub all : length seats ≡ count
+  pub number : (i : ℕ) (s : Seat) → slice_get seats i ≡ Some s → s.number ≡ i
 
 -- each seat has its receipts and then others, and this holds of their marks
 abbrev pub EachGained : (Mark → Type 0) → List Seat → List Seat → Type 0

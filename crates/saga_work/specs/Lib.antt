@@ -2,4 +2,5 @@
 pub mod Answered
 pub mod Added
 pub mod Asked
+pub mod Faults
 pub mod Words

@@ -1,6 +1,5 @@
 -- The word of each fault and stop.
 use Rattle.std.specs.Prelude.{ℕ, List, codes}
-use Rattle.saga_core.specs.declared.refusals.OpenRefusal.{OpenRefusal}
 use Rattle.saga_core.specs.declared.refusals.OpenRefusal.TheVariants as opening
 use Rattle.saga_work.specs.declared.faults.FinishFault.{FinishFault}
 use Rattle.saga_work.specs.declared.faults.FinishFault.TheVariants.{Stranger, Missing, Torn}

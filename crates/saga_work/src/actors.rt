@@ -19,6 +19,9 @@ pub trait Actor {
     /// The jobs after which it may ask that the saga be aborted.
     ghost may_abort: { Self → Job → Type 0 };
 
+    /// The jobs after which it does ask that.
+    ghost must_abort: { Self → Job → Type 0 };
+
     /// Runs the action of a step.
     fn run(&self, job: &Job<'_>) -> Outcome
         requires { job.now.is_undo ≡ false }
@@ -30,11 +33,8 @@ pub trait Actor {
         ensures { may self.now job.now result };
 
     /// Whether the saga shall be aborted after this job, which is asked before the job is reported, and only where it is
-    /// done. By default no saga is.
+    /// done: where an action fails, what is done with its saga is for the plan to say.
     fn asks_abort(&self, job: &Job<'_>) -> bool
-        ensures { result ≡ true → may_abort self.now job.now }
-    {
-        let _ = job;
-        false
-    }
+        ensures may { result ≡ true → may_abort self.now job.now }
+        ensures must { must_abort self.now job.now → result ≡ true };
 }

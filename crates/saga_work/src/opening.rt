@@ -1,6 +1,7 @@
 //! Opening what a run was asked for.
-ghost use Rattle.std.specs.Prelude.{◌≡◌, ◌<◌, ◌≤◌, [], All, IfOk, OnOk, length};
-ghost use Rattle.saga_work.specs.Asked.{AreOpened, IsOpening, OpensAll};
+ghost use Rattle.std.specs.Prelude.{◌≡◌, ◌<◌, ◌≤◌, [], All, IfOk, IfErr, OnOk, length};
+ghost use Rattle.saga_work.specs.Asked.{AreOpened, AreSeated, IsOpening, OpensAll};
+ghost use Rattle.saga_work.specs.Faults.{AreOnShelf, IsRunFault, fault_of_opening};
 
 use crate::faults::RunFault;
 use saga_core::OpenRefusal;
@@ -9,7 +10,10 @@ use saga_desk::{Desk, Seat};
 use std::alloc::Global;
 use std::sync::Wait;
 
-fn open_fault(saga: usize, why: OpenRefusal) -> RunFault {
+/// The fault of a saga that was not opened.
+fn open_fault(saga: usize, why: OpenRefusal) -> RunFault
+    ensures { result ≡ fault_of_opening saga why }
+{
     match why {
         OpenRefusal::OutOfMemory => RunFault::OutOfMemory,
         why => RunFault::Open(saga, why),
@@ -29,6 +33,9 @@ fn open_all<R: Wait>(
     requires empty { seat.old.receipts ≡ [] }
     ensures all { OnOk result (OpensAll shards asks.now seat.new.receipts) }
     ensures only { OnOk result (All IsOpening seat.new.receipts) }
+    ensures number { seat.new.number ≡ seat.old.number }
+    ensures known { OnOk result (AreOnShelf desk.now.shelf asks.now (length asks.now)) }
+    ensures why { IfErr result (λ fault. IsRunFault desk.now.shelf asks.now fault) }
 {
     for j in 0..asks.len() {
         let shard = (j % shards as usize) as u32;
@@ -53,6 +60,9 @@ pub fn opened<'d, R: Wait>(
     ensures desk { IfOk result
         (λ r. r.0 ≡ record { shelf = shelf.entry.now; seats = workers; shards = shards }) }
     ensures seats { IfOk result (λ r. AreOpened shards asks.now r.1.items) }
+    ensures numbers { IfOk result (λ r. AreSeated workers r.1.items) }
+    ensures known { OnOk result (AreOnShelf shelf.entry.now asks.now (length asks.now)) }
+    ensures why { IfErr result (λ fault. IsRunFault shelf.entry.now asks.now fault) }
 {
     let Ok((desk, mut seats)) = Desk::open(alloc, shelf, workers, shards) else {
         return Err(RunFault::OutOfMemory);

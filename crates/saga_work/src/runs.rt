@@ -1,8 +1,9 @@
 //! Whole runs.
-ghost use Rattle.std.specs.Prelude.{◌≡◌, ◌<◌, ◌≤◌, ◌↔◌, All, IfOk, IsTrue, None};
+ghost use Rattle.std.specs.Prelude.{◌≡◌, ◌<◌, ◌≤◌, ◌↔◌, ◌∷◌, [], All, IfErr, IfOk, IsTrue, None, ℕ, map};
 ghost use Rattle.saga_desk.specs.Finish.{AreOfShards, HeadlineHolds, MergesAreLegal};
 ghost use Rattle.saga_work.specs.Answered.{IsWork};
-ghost use Rattle.saga_work.specs.Asked.{AreAnswered, AreNumbered, AreOpenedAsAsked, EachGained, IsOver};
+ghost use Rattle.saga_work.specs.Asked.{AreAnswered, AreNumbered, AreOpenedAsAsked, AreSeated, EachGained, IsOver};
+ghost use Rattle.saga_work.specs.Faults.{IsRunFault, fault_of_finish, first_stop, stop_told};
 
 use crate::actors::Actor;
 use crate::bells::Bell;
@@ -23,7 +24,10 @@ pub struct Run<'d> {
     pub stopped: Option<Stop>,
 }
 
-fn finish_fault(refused: FinishRefused<'_>) -> RunFault {
+/// The fault of a desk that was not finished.
+fn finish_fault(refused: FinishRefused<'_>) -> RunFault
+    ensures { result ≡ fault_of_finish refused.entry }
+{
     match refused {
         FinishRefused::Stranger(_desk, _seats) => RunFault::Finish(FinishFault::Stranger),
         FinishRefused::Missing(_desk, _seats) => RunFault::Finish(FinishFault::Missing),
@@ -53,6 +57,33 @@ fn are_numbered(books: &[Book<'_>])
     }
 }
 
+/// The first of two stops, if there is one.
+fn first_of(first: Option<Stop>, second: Option<Stop>) -> Option<Stop>
+    ensures { result ≡ first_stop (first ∷ (second ∷ [])) }
+{
+    match first {
+        None => second,
+        first => first,
+    }
+}
+
+/// The seats of workers that are done, and the stop of the first that stopped.
+fn parted(
+    alloc: Global,
+    done: Vec<(Seat, Option<Stop>)>,
+) -> Result<(Vec<Seat>, Option<Stop>), AllocError>
+    ensures seats { IfOk result (λ r. r.0.items ≡ map (λ p. p.0) done.items) }
+    ensures stop { IfOk result (λ r. r.1 ≡ first_stop (map (λ p. p.1) done.items)) }
+{
+    let mut back = Vec::with_capacity(alloc, done.len())?;
+    let mut stopped = None;
+    for (seat, stop) in done {
+        back.push_reserved(seat);
+        stopped = first_of(stopped, stop);
+    }
+    Ok((back, stopped))
+}
+
 /// Works each seat, and gives the seats back, and the stop of the first that stopped.
 fn worked<R: Threads + Wait + Sync, A: Actor + Sync>(
     rt: &R,
@@ -61,20 +92,25 @@ fn worked<R: Threads + Wait + Sync, A: Actor + Sync>(
     seats: Vec<Seat>,
     actor: &A,
 ) -> Result<(Vec<Seat>, Option<Stop>), AllocError>
-    ensures { IfOk result
+    ensures gained { IfOk result
         (λ r. EachGained (IsWork (A.may actor.now) (A.may_abort actor.now)) seats.items r.0.items) }
+    ensures numbers { IfOk result
+        (λ r. (n : ℕ) → AreSeated n seats.items → AreSeated n r.0.items) }
 {
-    let mut back = Vec::with_capacity(alloc, seats.len())?;
     let bell = Bell::new();
     let done = work_all(rt, alloc, desk, &bell, seats, actor)?;
-    let mut stopped = None;
-    for (seat, stop) in done {
-        back.push_reserved(seat);
-        if stopped.is_none() {
-            stopped = stop;
-        }
-    }
+    let (back, stopped) = parted(alloc, done)?;
     Ok((back, stopped))
+}
+
+/// The stop that a run tells, where its workers had this one or none.
+fn told(stop: Option<Stop>, is_over: bool) -> Option<Stop>
+    ensures { result ≡ stop_told stop is_over }
+{
+    match stop {
+        None if !is_over => Some(Stop::Refused),
+        stop => stop,
+    }
 }
 
 /// Opens the definitions that are asked for, by their places on the shelf, and lets workers run all of them to their end.
@@ -101,6 +137,7 @@ pub fn run_all<'d, R: Threads + Wait + Sync, A: Actor + Sync>(
         (λ run. AreAnswered (A.may actor.now) (A.may_abort actor.now) run.books.items) }
     ensures legal { IfOk result (λ run. MergesAreLegal shelf.entry.now run.books.items) }
     ensures headline { IfOk result (λ run. HeadlineHolds shelf.entry.now run.books.items) }
+    ensures why { IfErr result (λ fault. IsRunFault shelf.entry.now asks.now fault) }
 {
     let (desk, seats) = opened(rt, alloc, shelf, asks, workers, shards)?;
     let Ok((back, stop)) = worked(rt, alloc, &desk, seats, actor) else {
@@ -111,10 +148,7 @@ pub fn run_all<'d, R: Threads + Wait + Sync, A: Actor + Sync>(
         Err(refused) => return Err(finish_fault(refused)),
     };
     are_numbered(books.as_slice());
-    let stopped = if stop.is_none() && !are_over(books.as_slice()) {
-        Some(Stop::Refused)
-    } else {
-        stop
-    };
+    let is_over = are_over(books.as_slice());
+    let stopped = told(stop, is_over);
     Ok(Run { books, stopped })
 }

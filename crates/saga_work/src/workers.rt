@@ -1,6 +1,6 @@
 //! Workers.
-ghost use Rattle.std.specs.Prelude.{◌≡◌, IfOk, length, true};
-ghost use Rattle.saga_work.specs.Added.{Adds, EachAdds};
+ghost use Rattle.std.specs.Prelude.{◌≡◌, ◌-◌, IfOk, length, true};
+ghost use Rattle.saga_work.specs.Added.{Adds, EachAdds, HasClaims, stop_of};
 ghost use Rattle.saga_work.specs.Answered.{EndsPlan, IsAbortOf, IsWork};
 
 use crate::actors::Actor;
@@ -25,7 +25,8 @@ enum Course {
 
 /// Aborts a saga. That it is over, or was aborted before, is passed over.
 fn abort<R: Wait>(rt: &R, desk: &Desk<'_>, seat: &mut Seat, saga: u32) -> Option<Stop>
-    ensures { Adds (IsAbortOf saga) seat.old seat.new }
+    ensures adds { Adds (IsAbortOf saga) seat.old seat.new }
+    ensures claims { seat.new.claims ≡ seat.old.claims }
 {
     match desk.abort(rt, seat, saga) {
         Ok(()) => None,
@@ -46,9 +47,11 @@ fn outcome_of<A: Actor>(actor: &A, job: &Job<'_>) -> Outcome
     }
 }
 
-/// Whether the saga shall be aborted after a job that ended so.
+/// Whether the saga shall be aborted after a job that ended so: where it is done, and the actor asks for that.
 fn aborts_after<A: Actor>(actor: &A, job: &Job<'_>, outcome: Outcome) -> bool
-    ensures { result ≡ true → A.may_abort actor.now job.now }
+    ensures done { result ≡ true → outcome ≡ Outcome.Done }
+    ensures may { result ≡ true → A.may_abort actor.now job.now }
+    ensures must { outcome ≡ Outcome.Done → A.must_abort actor.now job.now → result ≡ true }
 {
     match outcome {
         Outcome::Done => actor.asks_abort(job),
@@ -64,7 +67,8 @@ fn perform<'d, R: Wait, A: Actor>(
     actor: &A,
     job: Job<'d>,
 ) -> Option<Stop>
-    ensures { Adds (IsWork (A.may actor.now) (A.may_abort actor.now)) seat.old seat.new }
+    ensures adds { Adds (IsWork (A.may actor.now) (A.may_abort actor.now)) seat.old seat.new }
+    ensures ended { HasClaims result seat.new (seat.old.claims - 1) }
 {
     let outcome = outcome_of(actor, &job);
     let aborts = aborts_after(actor, &job, outcome);
@@ -89,7 +93,8 @@ fn give_back<R: Wait>(
     job: PlanJob,
     stop: Option<Stop>,
 ) -> Option<Stop>
-    ensures { Adds (EndsPlan job.saga) seat.old seat.new }
+    ensures adds { Adds (EndsPlan job.saga) seat.old seat.new }
+    ensures ended { HasClaims result seat.new (seat.old.claims - 1) }
 {
     match desk.give_back(rt, seat, job) {
         Ok(()) => stop,
@@ -106,7 +111,8 @@ fn settle<'d, R: Wait>(
     job: PlanJob,
     case: Case<'d>,
 ) -> Option<Stop>
-    ensures { Adds (EndsPlan job.saga) seat.old seat.new }
+    ensures adds { Adds (EndsPlan job.saga) seat.old seat.new }
+    ensures ended { HasClaims result seat.new (seat.old.claims - 1) }
 {
     let Ok(answer) = plan(alloc, &case) else {
         return give_back(rt, desk, seat, job, Some(Stop::OutOfMemory));
@@ -127,7 +133,9 @@ fn settle<'d, R: Wait>(
 }
 
 /// Goes on, or ends with a stop.
-fn after(stop: Option<Stop>) -> Course {
+fn after(stop: Option<Stop>) -> Course
+    ensures { stop_of result ≡ stop }
+{
     match stop {
         None => Course::Goes,
         stop => Course::Ends(stop),
@@ -143,7 +151,8 @@ fn take_turn<R: Wait, A: Actor>(
     seat: &mut Seat,
     actor: &A,
 ) -> Course
-    ensures { Adds (IsWork (A.may actor.now) (A.may_abort actor.now)) seat.old seat.new }
+    ensures adds { Adds (IsWork (A.may actor.now) (A.may_abort actor.now)) seat.old seat.new }
+    ensures ended { HasClaims (stop_of result) seat.new seat.old.claims }
 {
     let seen = bell.count();
     match desk.claim(rt, seat) {
@@ -175,7 +184,9 @@ fn take_turn<R: Wait, A: Actor>(
 /// and why it stopped before that, if it did.
 ///
 /// The seat gains no opening. Each end of a step that it gains is one that the actor may answer to a job at that step, and
-/// each abort one for which it may ask. A worker that finds no memory for a plan gives the plan back and stops.
+/// each abort one for which it may ask, after a job that it may answer with done. What is claimed is ended: a plan that came too
+/// late is given back, and so is one for which there is no memory, and then the worker stops. Only where the desk refuses
+/// something may a claim be left.
 pub fn work<R: Wait, A: Actor>(
     rt: &R,
     alloc: Global,
@@ -184,7 +195,8 @@ pub fn work<R: Wait, A: Actor>(
     seat: Seat,
     actor: &A,
 ) -> (Seat, Option<Stop>)
-    ensures { Adds (IsWork (A.may actor.now) (A.may_abort actor.now)) seat result.0 }
+    ensures adds { Adds (IsWork (A.may actor.now) (A.may_abort actor.now)) seat result.0 }
+    ensures ended { HasClaims result.1 result.0 seat.claims }
 {
     let mut seat = seat;
     for _ in rt.forever() {

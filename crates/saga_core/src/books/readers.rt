@@ -1,16 +1,17 @@
 //! What a book tells of its sagas. No reader takes memory, and none goes over steps or sagas.
-ghost use Rattle.std.specs.Prelude.{◌≡◌, ◌<◌, ◌≤◌, ◌↔◌, IsTrue, MatchOption, Some};
+ghost use Rattle.std.specs.Prelude.{◌≡◌, ◌<◌, ◌≤◌, ◌+◌, ◌*◌, ◌↔◌, IfSome, IsTrue, MatchOption, Some};
 ghost use Rattle.saga_rows.specs.declared.rows.TheConstants.{MAX_ROWS};
 ghost use Rattle.saga_history.specs.Changes.{past};
+ghost use Rattle.saga_history.specs.Tasks.{TaskIsAllowed};
 ghost use Rattle.saga_core.specs.Book as book;
 ghost use Rattle.saga_core.specs.Refusals.{IsUnknown, OfSaga};
-ghost use Rattle.saga_core.specs.Tasks.{AllAreOver, HasGoal, HasMisses, HasNoStep, HasState, HasUndoMisses, IsDefinedBy, StandsAt, WasAborted};
+ghost use Rattle.saga_core.specs.Tasks.{AllAreOver, HasGoal, HasMisses, HasNoStep, HasState, HasUndoMisses, IsDefinedBy, IsFirstTaskFrom, NoTaskIsAllowedFrom, StandsAt, WasAborted, saga_of_task};
 
 use crate::books::Book;
-use crate::numbers::{number_of, place_of};
+use crate::numbers::{allows, number_of, place_of, saga_of, task_of};
 use saga_case::StepState;
 use saga_def::Definition;
-use saga_history::{Phase, Turn};
+use saga_history::{Phase, Task, Turn};
 
 impl<'d> Book<'d> {
     /// The state of a step, or none where there is no such saga or step.
@@ -86,6 +87,15 @@ impl<'d> Book<'d> {
         Some(row.phase())
     }
 
+    /// Where the saga stands that was opened after so many others.
+    pub fn phase_at(&self, place: usize) -> Phase
+        requires { place < book.sagas_in self.now.history }
+        ensures { StandsAt self.now.shelf (past self.now.history)
+            (book.number self.now.first self.now.stride place) result }
+    {
+        self.rows.row(place).phase()
+    }
+
     /// Whether a saga was aborted, or none where there is no such saga.
     pub fn is_aborted(&self, saga: u32) -> Option<bool>
         ensures { MatchOption result (IsUnknown (past self.now.history) saga)
@@ -131,6 +141,35 @@ impl<'d> Book<'d> {
         ensures { IsTrue result ↔ AllAreOver self.now.shelf (past self.now.history) }
     {
         self.rows.are_over()
+    }
+
+    /// The first task that is allowed of the sagas from a number on, by saga and then by step. Takes no memory, and looks at no
+    /// step.
+    pub fn next_from(&self, saga: u32) -> Option<Task>
+        ensures first { MatchOption result
+            (NoTaskIsAllowedFrom self.now.shelf (past self.now.history) saga)
+            (λ t. IsFirstTaskFrom self.now.shelf (past self.now.history) saga t) }
+        ensures small { IfSome result (λ t. saga_of_task t < 16 * (MAX_ROWS + 1)) }
+    {
+        for place in 0..self.rows.len() {
+            let number = number_of(self.first_number, self.apart, place);
+            if number >= saga {
+                if let Some(task) = self.rows.row(place).first() {
+                    return Some(task_of(number, task));
+                }
+            }
+        }
+        None
+    }
+
+    /// Whether a task may begin. Looks at no other one.
+    pub fn may_begin(&self, task: Task) -> bool
+        ensures { IsTrue result ↔ TaskIsAllowed self.now.shelf (past self.now.history) task }
+    {
+        match place_of(&self.rows, self.first_number, self.apart, saga_of(task)) {
+            None => false,
+            Some(place) => allows(self.rows.row(place), task),
+        }
     }
 
     /// The definitions that the book was made with.

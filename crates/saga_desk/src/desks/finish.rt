@@ -62,6 +62,7 @@ impl<'d> Desk<'d> {
         for slot in slots {
             books.push_reserved(slot.into_book());
         }
+        see_histories(books.as_slice());
         if !are_of_shards(definitions, count, books.as_slice()) {
             return Err(FinishRefused::Torn(books, seats));
         }
@@ -74,7 +75,6 @@ impl<'d> Desk<'d> {
         if !agree {
             return Err(FinishRefused::Torn(books, seats));
         }
-        see_histories(books.as_slice());
         are_sound(definitions);
         Ok(books)
     }

@@ -2,8 +2,8 @@ use Rattle.std.proofs.Common.{◌≡◌, ◌∙◌, ap, arith, take}
 use Rattle.std.proofs.lemmas.List.{take_all}
 use Rattle.serde_json.proofs.Views.{view-Array}
 use Rattle.serde_json.specs.Data.{array}
-use Rattle.saga_cert.specs.Trees.{items_from}
-use Rattle.saga_cert.proofs.TreeLemmas.{items_from-view}
+use Rattle.saga_json.specs.Trees.{items_from}
+use Rattle.saga_json.proofs.TreeLemmas.{items_from-view}
 use Rattle.saga_cert.proofs.written_answers.amounts_value.Goals as goal
 
 pub returns : goal.returns

@@ -1,7 +1,10 @@
-use Rattle.std.proofs.Common.{◌≡◌, rules, inl, map, subst, List, ℕ}
+use Rattle.std.proofs.Common.{◌≡◌, rules, inl, map, option_map, refl, subst, sym, List, ℕ}
 use Rattle.std.specs.Prelude.{Err}
 use Rattle.std.specs.Borrow.{Bor}
+use Rattle.saga_serve.specs.Drives.{IsDriveOutput}
+use Rattle.saga_tool.specs.declared.responses.Response.{Response}
 use Rattle.saga_tool.specs.Limits.{max_definition}
+use Rattle.saga_tool.specs.Responses.{IsAlone}
 use Rattle.saga_tool.specs.Program.{AreGiven, IsFirstUnreadable, StopsBy}
 use Rattle.saga_tool.proofs.ReplyLemmas.{drive_unread}
 use Rattle.saga_tool.proofs.commands.drive_sagas.Goals as goal
@@ -16,10 +19,14 @@ returns-in_err-texts g c =
 
 pub returns : goal.returns
 returns g c =
-    let gives = (g.W.Outside.world c.args.outside.now).file_gives in
+    let world = g.W.Outside.world c.args.outside.now in
+    let log = option_map (λ s. s.now) c.args.given.now.log in
     let texts = map (λ t. t.items) c.in_ok-texts.texts.items in
     inl (
       texts,
-      subst (λ (fs : List (Bor (List ℕ))). AreGiven gives max_definition (map (λ s. s.now) fs) texts) c.deref.ensures.value c.in_ok-texts.ensures.texts,
-      search rules,
+      subst (λ (fs : List (Bor (List ℕ))). AreGiven world.file_gives max_definition (map (λ s. s.now) fs) texts) c.deref.ensures.value c.in_ok-texts.ensures.texts,
+      subst (λ (r : Response). IsAlone (IsDriveOutput world.drive log texts) r) (sym c.alone.ensures) (record {
+        replies = c.drive.ensures.keeps log texts c.in_ok-output.output (search rules);
+        none = refl;
+      }),
     )

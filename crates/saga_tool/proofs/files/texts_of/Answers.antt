@@ -1,6 +1,6 @@
 use Rattle.std.proofs.Common.{◌≡◌, rules}
 use Rattle.std.specs.Prelude.{Ok, Err}
-use Rattle.saga_tool.proofs.ListLemmas.{text_here, zip_pushed}
+use Rattle.saga_texts.proofs.ListLemmas.{text_here, zip_pushed}
 use Rattle.saga_tool.proofs.ReplyLemmas.{first_unreadable}
 use Rattle.saga_tool.proofs.files.texts_of.Goals as goal
 

@@ -1,5 +1,5 @@
 use Rattle.std.proofs.Common.{◌≡◌, ◌++◌, inr, codes, option_map, rules, subst, Some, Option, List, ℕ, Bor}
-use Rattle.saga_tool.specs.Lines.{line_feed}
+use Rattle.saga_texts.specs.Lines.{line_feed}
 use Rattle.saga_tool.specs.Program.{WritesBut}
 use Rattle.saga_tool.proofs.showing.show.Goals as goal
 

@@ -1,3 +1,4 @@
+use Rattle.std.proofs.Common.{◌≡◌}
 use Rattle.saga_work.specs.Added.{Adds}
 use Rattle.saga_work.specs.Answered.{IsWork}
 use Rattle.saga_work.proofs.workers.work.Given as goal
@@ -6,4 +7,5 @@ abbrev pub invariant-loop : goal.invariant-loop
 invariant-loop g l =
     (goal.iterator-loop g).can_next l.iterator' ×
     (goal.iterator-loop g).is_finite l.iterator' ×
-    Adds (IsWork (g.A.Actor.may l.actor) (g.A.Actor.may_abort l.actor)) l.fn.seat l.seat
+    Adds (IsWork (g.A.Actor.may l.actor) (g.A.Actor.may_abort l.actor)) l.fn.seat l.seat ×
+    (l.seat.claims ≡ l.fn.seat.claims)

@@ -2,11 +2,8 @@ use Rattle.std.proofs.Common.{ℕ, ◌≡◌, ◌∙◌, length, ap, arith, repl
 use Rattle.std.specs.Prelude.{Bool, true, false}
 use Rattle.std.proofs.lemmas.List.{length-replicate}
 use Rattle.saga_case.specs.declared.states.StepState.TheVariants.{Waiting}
-use Rattle.saga_rows.proofs.RowLemmas.{fresh, few_of}
+use Rattle.saga_rows.proofs.RowLemmas.{fresh}
 use Rattle.saga_rows.proofs.row.Row.new.Goals as goal
-
-pub overflow_cast-needs_of : goal.overflow_cast-needs_of
-overflow_cast-needs_of c = rw c.needs_of.ensures.value (omega (arith, few_of c.args.definition.now c.loop-s.s c.steps-count.ensures.sound))
 
 pub invariant_of-result : goal.invariant_of-result
 invariant_of-result c =
@@ -20,8 +17,8 @@ invariant_of-result c =
     let ism : c.in_ok-misses.misses.items ≡ replicate c.steps-count.result 0 = search rules in
     let isu : c.in_ok-undo_misses.undo_misses.items ≡ replicate c.steps-count.result 0 = search rules in
     record {
-      tables = fresh c.args.definition.now c.in_ok-states.states.items c.in_ok-goal.goal.items c.loop-s.unmet.items c.in_ok-held.held.items c.count_unfinished-unfinished.result c.refresh_all.new.ready c.steps-count.ensures.sound (rw n at is) (rw n at isg)
-          (omega (arith, n, c.loop-s.invariant.sized)) (λ s lt. c.loop-s.invariant.each s (omega (arith, lt, n))) (rw n at ish) (rw (c.deref-5.ensures.value, c.deref-6.ensures.value) at c.count_unfinished-unfinished.ensures) (c.refresh_all.ensures.sized ∙ was) (λ s lt. marks s (omega (arith, lt, was)));
+      tables = fresh c.args.definition.now c.in_ok-states.states.items c.in_ok-goal.goal.items c.in_ok-unmet.unmet.items c.in_ok-held.held.items c.count_unfinished-unfinished.result c.refresh_all.new.ready c.steps-count.ensures.sound (rw n at is) (rw n at isg)
+          c.in_ok-unmet.ensures.sized c.in_ok-unmet.ensures.each (rw n at ish) (rw (c.deref-5.ensures.value, c.deref-6.ensures.value) at c.count_unfinished-unfinished.ensures) (c.refresh_all.ensures.sized ∙ was) (λ s lt. marks s (omega (arith, lt, was)));
       misses_sized = ap length ism ∙ length-replicate {A = ℕ} c.steps-count.result 0 ∙ n;
       undo_misses_sized = ap length isu ∙ length-replicate {A = ℕ} c.steps-count.result 0 ∙ n;
     }

@@ -1,5 +1,5 @@
 use Rattle.std.proofs.Common.{ap, arith}
-use Rattle.saga_lines.specs.Lines.{lines_of}
+use Rattle.saga_bytes.specs.Lines.{lines_of}
 use Rattle.saga_script.specs.Progress.{told_after}
 use Rattle.saga_script.proofs.TellLemmas.{told-empty}
 use Rattle.saga_script.proofs.scripts.Script.of_lines.Goals as goal

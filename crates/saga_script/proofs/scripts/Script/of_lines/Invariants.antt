@@ -1,5 +1,5 @@
 use Rattle.std.proofs.Common.{◌≡◌, ◌+◌, ◌≤◌, length}
-use Rattle.saga_lines.specs.Lines.{lines_of}
+use Rattle.saga_bytes.specs.Lines.{lines_of}
 use Rattle.saga_script.specs.Questions.{Question}
 use Rattle.saga_script.specs.Table.{ending_told}
 use Rattle.saga_script.specs.Progress.{told_after, told_from}

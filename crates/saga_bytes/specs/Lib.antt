@@ -1,0 +1,3 @@
+-- The lines of a text, and what was read.
+pub mod Lines
+pub mod More

@@ -1,0 +1,60 @@
+//! Reading up to one byte past a limit, and no further: enough to see that a text is too long.
+ghost use Rattle.std.specs.Prelude.{◌<◌, ◌≤◌, ◌^◌, ◌+◌, ◌≡◌, IfOk, IfSome, length, take};
+ghost use Rattle.std.specs.Io.{ReadsAtMost};
+ghost use Rattle.std.specs.Io.KnownBytes.{Consumes, ReadConsumes};
+ghost use Rattle.saga_bytes.specs.More.{ReadsMore};
+
+use std::alloc::Global;
+use std::io::{self, ErrorKind, Read};
+
+/// How many bytes are asked for at once.
+const AT_ONCE: usize = 8_192;
+
+/// One read, which is tried again where a signal interrupts it: what has arrived, as far as the buffer goes.
+pub fn read_once<R: Read>(reader: &mut R, buffer: &mut [u8]) -> io::Result<usize>
+    ensures bound { ReadsAtMost result buffer.new }
+    ensures bytes { ReadConsumes (R.remaining reader.old)
+        (R.remaining reader.new) result buffer.new }
+{
+    for _ in 0..u64::MAX {
+        match reader.read(buffer) {
+            Err(error) if error.kind() == ErrorKind::Interrupted => {}
+            read => return read,
+        }
+    }
+    Err(io::Error::from(ErrorKind::Interrupted))
+}
+
+/// Reads once, at most so many bytes, and adds them; false where the reader has no more.
+fn read_more<R: Read>(reader: &mut R, bytes: &mut Vec<u8>, most: usize) -> io::Result<bool>
+    requires { 0 < most }
+    ensures { IfOk result (ReadsMore (R.remaining reader.old) (R.remaining reader.new)
+        bytes.old.items bytes.new.items most) }
+{
+    let mut buffer = [0; AT_ONCE];
+    let size = most.min(AT_ONCE);
+    let count = read_once(reader, &mut buffer[..size])?;
+    bytes.extend_from_slice(&buffer[..count])?;
+    Ok(count > 0)
+}
+
+/// What a reader has, up to one byte past a limit; the reader stands just behind what was taken. A reader that never ends
+/// gives `limit + 1` bytes. A read that a signal interrupts is tried again; any other error ends the reading, and what
+/// was read until then is lost.
+pub fn read_up_to<R: Read>(alloc: Global, reader: &mut R, limit: usize) -> io::Result<Vec<u8>>
+    requires { limit < 2 ^ 63 }
+    ensures bytes { IfOk result (λ bytes. IfSome (R.remaining reader.old)
+        (λ held. bytes.items ≡ take (limit + 1) held)) }
+    ensures within { IfOk result (λ bytes. length bytes.items ≤ limit + 1) }
+    ensures rest { IfOk result (λ bytes. Consumes (R.remaining reader.old) (R.remaining reader.new)
+        bytes.items) }
+{
+    let mut bytes = Vec::new(alloc);
+    while bytes.len() <= limit {
+        let most = limit + 1 - bytes.len();
+        if !read_more(reader, &mut bytes, most)? {
+            return Ok(bytes);
+        }
+    }
+    Ok(bytes)
+}

@@ -1,0 +1,143 @@
+//! The functions that C calls.
+//!
+//! Each gives a status, and in `used` how many bytes the text of its output has; the text stands at the beginning of the room. 0, 1
+//! and 3 are the statuses of the program, and the text is what it prints there; a fault of a text is told as the program tells
+//! it on standard error. 4: memory was refused, and nothing was written. 5: the room is too small, and nothing was written.
+ghost use Rattle.std.specs.Prelude.{[], ◌∷◌, IfOk, map};
+ghost use Rattle.saga_texts.specs.Texts.{IsCheckOutput, IsDrawOutput, IsPlanOutput};
+ghost use Rattle.saga_texts.specs.Audits.{IsAuditOutput};
+ghost use Rattle.saga_c.specs.Given.{IsGiven};
+ghost use Rattle.saga_c.specs.Pieces.{piece};
+
+use crate::filling::give;
+use crate::pieces::{Span, pieces_of};
+use saga_texts::{Output, Scene, audit_text_alone, check_text, draw_text, plan_text};
+use std::alloc::{AllocError, Global};
+
+/// Judges an answer to a case of a definition: 0 with `least N` or `blocked`, 1 with `no FAULT`.
+#[tactic(auto, using(crate::proofs::Giving::given))]
+#[unsafe(no_mangle)]
+pub extern "C" fn sagas_check(
+    alloc: Global,
+    definition: &[u8],
+    case: &[u8],
+    answer: &[u8],
+    room: &mut [u8],
+    used: &mut usize,
+) -> u32
+    ensures { IsGiven (IsCheckOutput definition.now case.now answer.now)
+        room.old room.new used.new result }
+{
+    give(check_text(alloc, definition, case, answer), room, used)
+}
+
+/// Plans how a case of a definition shall end: 0 with a plan, 1 with a chain.
+#[tactic(auto, using(crate::proofs::Giving::given))]
+#[unsafe(no_mangle)]
+pub extern "C" fn sagas_plan(
+    alloc: Global,
+    definition: &[u8],
+    case: &[u8],
+    room: &mut [u8],
+    used: &mut usize,
+) -> u32
+    ensures { IsGiven (IsPlanOutput definition.now case.now) room.old room.new used.new result }
+{
+    give(plan_text(alloc, definition, case), room, used)
+}
+
+/// Audits the log of sagas of one definition: 0 with `yes` and numbers, 1 with `no P REASON`.
+#[tactic(auto, using(crate::proofs::Giving::given))]
+#[unsafe(no_mangle)]
+pub extern "C" fn sagas_audit(
+    alloc: Global,
+    log: &[u8],
+    definition: &[u8],
+    room: &mut [u8],
+    used: &mut usize,
+) -> u32
+    ensures { IsGiven (IsAuditOutput log.now (definition.now ∷ [])) room.old room.new used.new result }
+{
+    give(audit_text_alone(alloc, log, &[definition]), room, used)
+}
+
+/// The audit of a log over the pieces of a text.
+fn audited(
+    alloc: Global,
+    log: &[u8],
+    definitions: &[u8],
+    spans: &[Span],
+) -> Result<Output, AllocError>
+    ensures { IfOk result (IsAuditOutput log.now (map (piece definitions.now) spans.now)) }
+{
+    let shelf = pieces_of(alloc, definitions, spans)?;
+    audit_text_alone(alloc, log, &shelf)
+}
+
+/// Audits the log of sagas of several definitions, which stand in one text, each in its span: as [`sagas_audit`].
+#[tactic(auto, using(crate::proofs::Giving::given))]
+#[unsafe(no_mangle)]
+pub extern "C" fn sagas_audit_all(
+    alloc: Global,
+    log: &[u8],
+    definitions: &[u8],
+    spans: &[Span],
+    room: &mut [u8],
+    used: &mut usize,
+) -> u32
+    ensures { IsGiven (IsAuditOutput log.now (map (piece definitions.now) spans.now))
+        room.old room.new used.new result }
+{
+    give(audited(alloc, log, definitions, spans), room, used)
+}
+
+/// Draws a definition: 0 with the picture in Graphviz's language.
+#[tactic(auto, using(crate::proofs::Giving::given))]
+#[unsafe(no_mangle)]
+pub extern "C" fn sagas_draw(
+    alloc: Global,
+    definition: &[u8],
+    room: &mut [u8],
+    used: &mut usize,
+) -> u32
+    ensures { IsGiven (IsDrawOutput [] definition.now) room.old room.new used.new result }
+{
+    give(draw_text(alloc, definition, Scene::Definition), room, used)
+}
+
+/// Draws a case.
+#[tactic(auto, using(crate::proofs::Giving::given))]
+#[unsafe(no_mangle)]
+pub extern "C" fn sagas_draw_case(
+    alloc: Global,
+    definition: &[u8],
+    case: &[u8],
+    room: &mut [u8],
+    used: &mut usize,
+) -> u32
+    ensures { IsGiven (IsDrawOutput (case.now ∷ []) definition.now)
+        room.old room.new used.new result }
+{
+    give(draw_text(alloc, definition, Scene::Case(case)), room, used)
+}
+
+/// Draws a case with what an answer marks; 1 with `no FAULT` where the answer is not right.
+#[tactic(auto, using(crate::proofs::Giving::given))]
+#[unsafe(no_mangle)]
+pub extern "C" fn sagas_draw_answer(
+    alloc: Global,
+    definition: &[u8],
+    case: &[u8],
+    answer: &[u8],
+    room: &mut [u8],
+    used: &mut usize,
+) -> u32
+    ensures { IsGiven (IsDrawOutput (case.now ∷ answer.now ∷ []) definition.now)
+        room.old room.new used.new result }
+{
+    give(
+        draw_text(alloc, definition, Scene::Answer(case, answer)),
+        room,
+        used,
+    )
+}

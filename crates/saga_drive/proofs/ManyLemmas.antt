@@ -1,0 +1,128 @@
+-- Many tasks that begin one after the other: one more behind the others.
+use Rattle.std.proofs.Common.{◌≡◌, ◌∙◌, ◌↔◌, ℕ, ◌+◌, ◌≤◌, List, [], ◌∷◌, ◌++◌, Bool, true, false, IsTrue, refl, sym, ap, subst, arith, append_assoc, append-nil, codes, flat_map, inl, length, length-append, string_bytes}
+use Rattle.std.proofs.lemmas.List.{flat_map_more}
+use Rattle.saga_history.specs.declared.events.Event.{Event}
+use Rattle.saga_history.specs.declared.tasks.Task.{Task}
+use Rattle.saga_history.specs.Changes.{past}
+use Rattle.saga_core.specs.Book.{Book}
+use Rattle.saga_core.specs.Tasks.{AllAreOver, IsFirstTask, NoTaskIsAllowed}
+use Rattle.saga_log.specs.Logs.{event_line}
+use Rattle.saga_drive.specs.declared.replies.Reply.{Reply}
+use Rattle.saga_drive.specs.declared.requests.Request.TheVariants as request
+use Rattle.saga_drive.specs.declared.tellings.Telling.{Telling}
+use Rattle.saga_drive.specs.Answers.{IsMet}
+use Rattle.saga_drive.specs.Begins.{AreReadBack, Begins, Begun, NextIsBegun, after}
+use Rattle.saga_drive.specs.Many.{BeginInTurn}
+use Rattle.saga_drive.specs.Replies.{last_tasks_front, lines_of, text_of}
+use Rattle.saga_views.specs.Words.{listed}
+use Rattle.saga_drive.specs.Tellings.{comma_if}
+
+-- two runs of events, one after the other
+after_both : (book : Book) (first rest : List Event) → after (after book first) rest ≡ after book (first ++ rest)
+after_both book first rest = ap (λ h. record book { history = h }) (append_assoc book.history first rest)
+
+in_turn_more : (tasks : List Task) (t : Task) (book : Book) (gained more : List Event) (told : List (List ℕ)) (text : List ℕ)
+    → BeginInTurn tasks book gained told → IsFirstTask (after book gained).shelf (past (after book gained).history) t → Begins (after book gained) t more text
+    → BeginInTurn (tasks ++ t ∷ []) book (gained ++ more) (told ++ text ∷ [])
+in_turn_more [] t book gained more told text (none, untold) first begins =
+    let here : after book gained ≡ book = rw none (ap (λ h. record book { history = h }) (append-nil book.history)) in (
+      more,
+      text,
+      [],
+      [],
+      subst (λ (b : Book). IsFirstTask b.shelf (past b.history) t) here first,
+      subst (λ (b : Book). Begins b t more text) here begins,
+      (refl, refl),
+      ap (λ g. g ++ more) none ∙ sym (append-nil more),
+      ap (λ l. l ++ text ∷ []) untold,
+    )
+in_turn_more (u ∷ tasks) t book gained more told text (one, a, rest, texts, is_first, begins_one, others, all, all_told) first begins =
+    let there : after book gained ≡ after (after book one) rest = ap (after book) all ∙ sym (after_both book one rest) in (
+      one,
+      a,
+      rest ++ more,
+      texts ++ text ∷ [],
+      is_first,
+      begins_one,
+      in_turn_more tasks t (after book one) rest more texts text others
+          (subst (λ (b : Book). IsFirstTask b.shelf (past b.history) t) there first) (subst (λ (b : Book). Begins b t more text) there begins),
+      ap (λ g. g ++ more) all ∙ append_assoc one rest more,
+      ap (λ l. l ++ text ∷ []) all_told,
+    )
+
+back_both : (first rest : List Event) → AreReadBack first → AreReadBack rest → AreReadBack (first ++ rest)
+back_both [] rest one other = other
+back_both (e ∷ first) rest one other = (one.0, back_both first rest one.1 other)
+
+-- texts behind each other
+abbrev pub is_some : List (List ℕ) → Bool
+is_some [] = false
+is_some (text ∷ told) = true
+
+is_some-more : (told : List (List ℕ)) (text : List ℕ) → true ≡ is_some (told ++ text ∷ [])
+is_some-more [] text = refl
+is_some-more (x ∷ told) text = refl
+
+listed_more : (told : List (List ℕ)) (text : List ℕ) → listed (codes ",") told ++ (comma_if (is_some told) ++ text) ≡ listed (codes ",") (told ++ text ∷ [])
+listed_more [] text = sym (append-nil text)
+listed_more (x ∷ told) text = flat_map_more (λ y. codes "," ++ y) x told text
+
+-- what has begun so far, and what is told of it
+pub record HasBegun (old now : Book) (telling : Telling) (count : ℕ) : Type 0 where
+  pub tasks : List Task
+  pub told : List (List ℕ)
+  pub gained : List Event
+  pub counted : length tasks ≡ count
+  pub told_all : length told ≡ count
+  pub begin : BeginInTurn tasks old gained told
+  pub grows : now ≡ after old gained
+  pub back : AreReadBack gained
+  pub text : string_bytes telling.text ≡ listed (codes ",") told
+  pub lines : string_bytes telling.lines ≡ flat_map event_line gained
+  pub apart : telling.apart ≡ is_some told
+
+flat_both : (first rest : List Event) → flat_map event_line first ++ flat_map event_line rest ≡ flat_map event_line (first ++ rest)
+flat_both [] rest = refl
+flat_both (e ∷ first) rest = append_assoc (event_line e) (flat_map event_line first) (flat_map event_line rest) ∙ ap (λ l. event_line e ++ l) (flat_both first rest)
+
+pub has_begun_more : (old mid new : Book) (a b : Telling) (count : ℕ) → HasBegun old mid a count → NextIsBegun true mid new a b → HasBegun old new b (count + 1)
+has_begun_more old mid new a b count has (t, first, begun) = record {
+  tasks = has.tasks ++ t ∷ [];
+  told = has.told ++ begun.told ∷ [];
+  gained = has.gained ++ begun.gained;
+  counted = length-append has.tasks (t ∷ []) ∙ ap (λ n. n + 1) has.counted;
+  told_all = length-append has.told (begun.told ∷ []) ∙ ap (λ n. n + 1) has.told_all;
+  begin = in_turn_more has.tasks t old has.gained begun.gained has.told begun.told has.begin
+      (subst (λ (book : Book). IsFirstTask book.shelf (past book.history) t) has.grows first)
+      (subst (λ (book : Book). Begins book t begun.gained begun.told) has.grows begun.begins);
+  grows = begun.grows ∙ (ap (λ book. after book begun.gained) has.grows ∙ after_both old has.gained begun.gained);
+  back = back_both has.gained begun.gained has.back begun.back;
+  text = begun.more.text ∙ (ap (λ l. l ++ (comma_if a.apart ++ begun.told)) has.text
+      ∙ (ap (λ p. listed (codes ",") has.told ++ (comma_if p ++ begun.told)) has.apart ∙ listed_more has.told begun.told));
+  lines = begun.more.lines ∙ (ap (λ l. l ++ flat_map event_line begun.gained) has.lines ∙ flat_both has.gained begun.gained);
+  apart = begun.more.apart ∙ is_some-more has.told begun.told;
+}
+
+-- where no task is left, they are the last
+pub are_the_last : (old mid new : Book) (a b : Telling) (count most : ℕ) (settled : Bool) (front : List ℕ) (reply : Reply) → HasBegun old mid a count → count ≤ most
+    → NextIsBegun false mid new a b → (IsTrue settled ↔ AllAreOver new.shelf (past new.history)) → front ≡ last_tasks_front settled
+    → text_of reply ≡ front ++ string_bytes b.text ++ codes "]}\n" → lines_of reply ≡ string_bytes b.lines → IsMet old new (request.NextMany most) reply
+are_the_last old mid new a b count most settled front reply has le (none, same, untold) over is text lines =
+    let grows : new ≡ after old has.gained = same ∙ has.grows in
+    record {
+      gained = has.gained;
+      gains = record { grows = grows; logged = lines ∙ (untold.lines ∙ has.lines); back = has.back };
+      meets = record {
+        tasks = has.tasks;
+        told = has.told;
+        within = omega (arith, has.counted, le);
+        begin = has.begin;
+        end = inl (record {
+          none = subst (λ (book : Book). NoTaskIsAllowed book.shelf (past book.history)) has.grows none;
+          settled = settled;
+          settled_is = subst (λ (book : Book). IsTrue settled ↔ AllAreOver book.shelf (past book.history)) grows over;
+          text_is = text ∙ (ap (λ l. l ++ string_bytes b.text ++ codes "]}\n") is
+              ∙ ap (λ l. last_tasks_front settled ++ l ++ codes "]}\n") (untold.text ∙ has.text));
+        });
+      };
+    }

@@ -1,7 +1,0 @@
-use Rattle.std.proofs.Common.{◌≡◌, map, string_bytes}
-use Rattle.saga_history.specs.Changes.{changes, past}
-use Rattle.saga_drive.specs.Replies.{kept_below}
-use Rattle.saga_drive.proofs.shown.kept_numbers.Given as goal
-
-abbrev pub invariant-loop-step : goal.invariant-loop-step
-invariant-loop-step l = map string_bytes l.numbers.items ≡ kept_below (changes l.saga (past l.book.history)) l.step

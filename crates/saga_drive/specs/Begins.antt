@@ -1,0 +1,88 @@
+-- How a task begins: which events the history gains, and what is told of it.
+use Rattle.std.specs.Prelude.{◌≡◌, ℕ, ◌∷◌, ◌++◌, [], List, Bool, true, false, codes, flat_map}
+use Rattle.saga_def.specs.Contents.{Contents}
+use Rattle.saga_case.specs.Right.{IsRight}
+use Rattle.saga_case.specs.Situation.{Situation}
+use Rattle.saga_case.specs.Terms.{terms_of}
+use Rattle.saga_case.specs.declared.answers.Answer.{Answer}
+use Rattle.saga_history.specs.declared.events.Event.{Event}
+use Rattle.saga_history.specs.declared.events.Event.TheVariants as event
+use Rattle.saga_history.specs.declared.tasks.Phase.{Phase}
+use Rattle.saga_history.specs.declared.tasks.Task.{Task}
+use Rattle.saga_history.specs.declared.tasks.Task.TheVariants.{Run, Undo, Plan}
+use Rattle.saga_history.specs.declared.transitions.Transition.{Transition}
+use Rattle.saga_history.specs.declared.turns.Turn.TheVariants.{Planning}
+use Rattle.saga_history.specs.Changes.{Change, past}
+use Rattle.saga_history.specs.Tasks.{TaskIsAllowed}
+use Rattle.saga_history.specs.Turns.{present_case, turn}
+use Rattle.saga_core.specs.Book.{Book}
+use Rattle.saga_core.specs.Refusals.{OfSaga, TakeRefused}
+use Rattle.saga_core.specs.Tasks.{IsFirstTask, NoTaskIsAllowed, StandsAt}
+use Rattle.saga_core.specs.declared.refusals.TakeRefusal.TheVariants as take
+use Rattle.saga_log.specs.Back.{IsReadBack}
+use Rattle.saga_log.specs.Logs.{event_line}
+use Rattle.saga_drive.specs.declared.tellings.Telling.{Telling}
+use Rattle.saga_views.specs.Tasks.{TakenTask, run_task, task_text, undo_task}
+use Rattle.saga_drive.specs.Replies.{plan_text}
+use Rattle.saga_drive.specs.Tellings.{TellsMore, TellsSame}
+
+-- the book after some events
+abbrev pub after : Book → List Event → Book
+after book gained = record book { history = book.history ++ gained }
+
+-- an action or a compensation begins, and it is told which
+pub record Takes (book : Book) (e : Event) (i : ℕ) (taken : Contents → List Change → TakenTask) (gained : List Event) (told : List ℕ) : Type 0 where
+  pub only : gained ≡ e ∷ []
+  pub told_is : OfSaga book.shelf (past book.history) i (λ d l. told ≡ task_text (taken d l))
+
+-- a plan begins and ends, with an answer that is right for the present case; it is told where the saga stands then
+pub record Plans (book : Book) (i : ℕ) (gained : List Event) (told : List ℕ) : Type 0 where
+  pub answer : Answer
+  pub right : OfSaga book.shelf (past book.history) i (λ d l. IsRight (terms_of (present_case d l)) answer)
+  pub both : gained ≡ event.StartPlan i ∷ event.Adopt i answer ∷ []
+  pub phase : Phase
+  pub stands : StandsAt book.shelf (past (book.history ++ gained)) i phase
+  pub told_is : told ≡ plan_text answer phase i
+
+-- the saga is being planned, and that is its present case
+abbrev pub HoldsPlan : List Contents → List Event → ℕ → Situation → Type 0
+HoldsPlan shelf h i case = OfSaga shelf h i (λ d l. (turn l ≡ Planning) × (case ≡ present_case d l))
+
+abbrev pub Begins : Book → Task → List Event → List ℕ → Type 0
+Begins book (Run i s) gained told = Takes book (event.StartRun i s) i (λ d l. run_task d l i s) gained told
+Begins book (Undo i s) gained told = Takes book (event.StartUndo i s) i (λ d l. undo_task d l i s) gained told
+Begins book (Plan i) gained told = Plans book i gained told
+
+-- each event is read back from its line
+abbrev pub AreReadBack : List Event → Type 0
+AreReadBack [] = Unit {0}
+AreReadBack (e ∷ events) = IsReadBack e × AreReadBack events
+
+-- a task that was allowed begins, and it is told which, behind what was told before
+pub record Begun (old new : Book) (t : Task) (before behind : Telling) : Type 0 where
+  pub gained : List Event
+  pub told : List ℕ
+  pub grows : new ≡ after old gained
+  pub back : AreReadBack gained
+  pub more : TellsMore before behind told (flat_map event_line gained)
+  pub allowed : TaskIsAllowed old.shelf (past old.history) t
+  pub begins : Begins old t gained told
+
+-- nothing happened, since the step may not make the transition
+pub record IsLeft (old new : Book) (i s : ℕ) (t : Transition) (before behind : Telling) : Type 0 where
+  pub same : new ≡ old
+  pub untold : TellsSame before behind
+  pub why : TakeRefused old.shelf (past old.history) i s t take.NotNow
+
+abbrev pub IsBegunOr : Bool → Book → Book → Task → ℕ → ℕ → Transition → Telling → Telling → Type 0
+IsBegunOr true old new task i s t before behind = Begun old new task before behind
+IsBegunOr false old new task i s t before behind = IsLeft old new i s t before behind
+
+-- the first task began, or there is none
+abbrev pub NextIsBegun : Bool → Book → Book → Telling → Telling → Type 0
+NextIsBegun true old new before behind = (t : Task) × IsFirstTask old.shelf (past old.history) t × Begun old new t before behind
+NextIsBegun false old new before behind = NoTaskIsAllowed old.shelf (past old.history) × (new ≡ old) × TellsSame before behind
+
+-- nothing happened for want of memory
+abbrev pub IsUntouched : Book → Book → Telling → Telling → Type 0
+IsUntouched old new before behind = (new ≡ old) × TellsSame before behind

@@ -1,0 +1,60 @@
+//! Openings: which definition is meant, and which number comes next.
+ghost use Rattle.std.specs.Prelude.{◌≡◌, ◌↔◌, IsTrue, MatchOption};
+ghost use Rattle.saga_drive.specs.Openings as spec;
+ghost use Rattle.saga_drive.specs.declared.openings.Wanted.TheVariants as wanted;
+
+use saga_core::Book;
+use saga_def::{Definition, Text};
+
+/// The definition that a saga is to be opened with.
+#[derive(Debug, Drop)]
+pub enum Wanted {
+    /// The one at a place on the shelf.
+    Place(u32),
+    /// The first of a name.
+    Name(Text),
+}
+
+fn is_named(definition: &Definition, name: &str) -> bool
+    ensures { IsTrue result ↔ (definition.now.name ≡ name.now) }
+{
+    definition.name() == name
+}
+
+/// The place of the first definition of a name.
+fn place_of_name(shelf: &[Definition], name: &str) -> Option<u32>
+    ensures { MatchOption result (spec.NoneIsWanted shelf.now (wanted.Name name.now))
+        (λ k. spec.IsWanted shelf.now (wanted.Name name.now) k) }
+{
+    for (place, definition) in shelf.iter().enumerate() {
+        if place > u32::MAX as usize {
+            return None;
+        }
+        if is_named(definition, name) {
+            return Some(place as u32);
+        }
+    }
+    None
+}
+
+/// The place of the definition that is wanted.
+pub fn place_of_wanted(shelf: &[Definition], wanted: &Wanted) -> Option<u32>
+    ensures { MatchOption result (spec.NoneIsWanted shelf.now wanted.now)
+        (λ k. spec.IsWanted shelf.now wanted.now k) }
+{
+    match wanted {
+        Wanted::Place(place) if (*place as usize) < shelf.len() => Some(*place),
+        Wanted::Place(_) => None,
+        Wanted::Name(name) => place_of_name(shelf, name.as_str()),
+    }
+}
+
+/// Whether the saga that is opened next has the number that is asked for.
+pub fn is_next(book: &Book<'_>, saga: Option<u32>) -> bool
+    ensures { IsTrue result ↔ spec.IsNext saga book.now }
+{
+    match saga {
+        None => true,
+        Some(saga) => saga == book.next_number(),
+    }
+}

@@ -1,0 +1,53 @@
+//! Questions: how the book stands is told, and nothing happens.
+ghost use Rattle.std.specs.Prelude.{IfOk};
+ghost use Rattle.saga_drive.specs.Answers.{IsMet};
+ghost use Rattle.saga_drive.specs.declared.requests.Request.TheVariants as request;
+
+use crate::replies::{Reply, told};
+use saga_core::Book;
+use saga_history::Phase;
+use saga_views::{busy_text, list_text, ready_text, show_text, status_text};
+use std::alloc::{AllocError, Global};
+
+/// How a saga stands.
+pub fn show(alloc: Global, book: &Book<'_>, saga: u32) -> Result<Reply, AllocError>
+    ensures { IfOk result (IsMet book.now book.now (request.Show saga)) }
+{
+    match book.definition(saga) {
+        None => Ok(Reply::Refusal("{\"refused\":\"no-such-saga\"}\n")),
+        Some(definition) => Ok(told(alloc, show_text(alloc, book, definition, saga)?)),
+    }
+}
+
+/// What was taken and not reported.
+pub fn busy(alloc: Global, book: &Book<'_>) -> Result<Reply, AllocError>
+    ensures { IfOk result (IsMet book.now book.now request.Busy) }
+{
+    Ok(told(alloc, busy_text(alloc, book)?))
+}
+
+/// Which tasks may begin, of the sagas from a number on.
+pub fn ready(alloc: Global, book: &Book<'_>, from: u32) -> Result<Reply, AllocError>
+    ensures { IfOk result (IsMet book.now book.now (request.Ready from)) }
+{
+    Ok(told(alloc, ready_text(alloc, book, from)?))
+}
+
+/// Where the sagas from a number on stand, or those of a phase.
+pub fn sagas(
+    alloc: Global,
+    book: &Book<'_>,
+    from: u32,
+    phase: Option<Phase>,
+) -> Result<Reply, AllocError>
+    ensures { IfOk result (IsMet book.now book.now (request.Sagas from phase)) }
+{
+    Ok(told(alloc, list_text(alloc, book, from, phase)?))
+}
+
+/// How the book stands as a whole.
+pub fn status(alloc: Global, book: &Book<'_>) -> Result<Reply, AllocError>
+    ensures { IfOk result (IsMet book.now book.now request.Status) }
+{
+    Ok(told(alloc, status_text(alloc, book)?))
+}

@@ -1,0 +1,4 @@
+pub mod Fronts
+pub mod TreeLemmas
+pub mod KeyLemmas
+pub mod TextLemmas

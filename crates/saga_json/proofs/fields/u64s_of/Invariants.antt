@@ -1,0 +1,10 @@
+use Rattle.std.proofs.Common.{◌≡◌, map, drop}
+use Rattle.serde_json.specs.View.{view}
+use Rattle.saga_json.specs.Reads.{each}
+use Rattle.saga_json.specs.Fields.{u64_of}
+use Rattle.saga_json.proofs.Fronts.{with_front}
+use Rattle.saga_json.proofs.fields.u64s_of.Given as goal
+
+abbrev pub invariant-loop-item : goal.invariant-loop-item
+invariant-loop-item l =
+    with_front l.numbers.items (each u64_of (map view (drop l.item-index l.items))) ≡ each u64_of (map view l.items)

@@ -1,2 +1,0 @@
--- The lines of a text.
-pub mod Lines

@@ -1,0 +1,4 @@
+mod LineLemmas
+mod ShownLemmas
+mod DriveLemmas
+mod SurvivalLemmas

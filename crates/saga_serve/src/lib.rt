@@ -1,0 +1,25 @@
+//! Serves another program that does the actions of sagas: the loop of `sagas drive`.
+//!
+//! [`drive_texts`] reads the definitions of texts, goes on from a log where there is one, and answers requests, a line each, until
+//! they end. It does so over whatever [`Outside`] it is given. [`drive_log`], which it calls where there is a log, says that what was
+//! told survives. [`drive_lines`] writes no log: it shows the lines of each reply before it, for a program that keeps them.
+#![tactic(auto)]
+
+mod endings;
+mod limits;
+mod lines;
+mod outside;
+mod pending;
+mod shown;
+mod sides;
+mod starts;
+mod stops;
+mod talks;
+
+pub use endings::{Ending, Stream};
+pub use limits::MAX_KEPT;
+pub use lines::drive_lines;
+pub use outside::{FileFault, KeepFault, Outside};
+pub use sides::Ahead;
+pub use starts::{drive_log, drive_texts};
+pub use stops::Halt;

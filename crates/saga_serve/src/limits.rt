@@ -1,0 +1,10 @@
+//! The limits of a drive.
+
+/// The most bytes of a log that is gone on with: no more than an audit reads.
+pub const MAX_KEPT: usize = 67_108_864;
+
+/// How many bytes of standard input are taken at once.
+pub const AT_ONCE: usize = 65_536;
+
+/// How many bytes of replies may wait before they are written.
+pub const MAX_WAITING: usize = 1_048_576;

@@ -1,0 +1,4 @@
+pub mod ListLemmas
+pub mod RunLemmas
+pub mod ShelfLemmas
+mod AuditLemmas

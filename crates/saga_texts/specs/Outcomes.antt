@@ -1,0 +1,140 @@
+-- What a question about the case of two texts comes to.
+use Rattle.std.specs.Prelude.{ℕ, List, [], ◌∷◌, Option, Some, None, option_map, length, Ok, Err, ◌≡◌, ◌≢◌, ◌<◌, ◌≤◌}
+use Rattle.std.specs.String.{string_bytes}
+use Rattle.saga_def.specs.Contents.{Contents}
+use Rattle.saga_def.specs.Order.{member}
+use Rattle.saga_def.specs.declared.steps.Price.TheVariants as price
+use Rattle.saga_text.specs.declared.faults.TextFault.TheVariants as text
+use Rattle.saga_text.specs.Reads.{Reads}
+use Rattle.saga_case.specs.Situation.{Situation}
+use Rattle.saga_case.specs.declared.answers.Plan.{Plan}
+use Rattle.saga_case.specs.declared.answers.Answer.{Answer}
+use Rattle.saga_case.specs.declared.answers.Answer.TheVariants as answer
+use Rattle.saga_case.specs.Terms.{terms_of, cost_of, IsLeast, NoneIsAllowed}
+use Rattle.saga_case.specs.Right.{IsRight, IsRightPlan, IsRightChain, Settles}
+use Rattle.saga_json.specs.declared.faults.JsonFault.TheVariants as cert
+use Rattle.saga_cert.specs.Reads.{ReadsCase, ReadsAnswer}
+use Rattle.saga_check.specs.Faults.{IsFirstFault}
+use Rattle.saga_draw.specs.Drawings.{IsDrawing}
+use Rattle.saga_plan.specs.Planned.{IsSmallest}
+use Rattle.saga_texts.specs.Limits.{max_certificate}
+use Rattle.saga_texts.specs.declared.outcomes.Outcome.{Outcome}
+use Rattle.saga_texts.specs.declared.outcomes.Outcome.TheVariants.{Definition, CaseTooLong, Case, AnswerTooLong, Answer as AnswerFault, Refused, Least, Blocked, Planned, Drawn}
+use Rattle.saga_texts.specs.declared.outcomes.Question.{Question}
+use Rattle.saga_texts.specs.declared.outcomes.Question.TheVariants.{Check, Plan as APlan, Draw}
+use Rattle.saga_texts.specs.declared.drawings.Scene.{Scene}
+use Rattle.saga_texts.specs.declared.drawings.Scene.TheVariants as scene
+
+-- a right plan of that cost, which is least: no allowed set costs less
+pub record IsLeastPlan (c : Situation) (cost : ℕ) (plan : Plan) : Type 0 where
+  pub right : IsRightPlan (terms_of c) plan
+  pub least : IsLeast (terms_of c) (member plan.kept)
+  pub priced : cost_of (terms_of c) (member plan.kept) ≡ price.Of cost
+
+-- a right chain: no set of steps is allowed
+pub record IsBlocked (c : Situation) (chain : List ℕ) : Type 0 where
+  pub right : IsRightChain (terms_of c) chain
+  pub none : NoneIsAllowed (terms_of c)
+
+-- what the judge says
+abbrev pub JudgesTo : Situation → Answer → Outcome → Type 0
+JudgesTo c a (Refused fault) = IsFirstFault (terms_of c) a fault
+JudgesTo c (answer.Plan plan) (Least cost) = IsLeastPlan c cost plan
+JudgesTo c (answer.Blocked chain) Blocked = IsBlocked c chain
+JudgesTo c a outcome = ⊥
+
+-- the texts of a definition and of a case of it
+pub record AreRead (definition case : List ℕ) (d : Contents) (c : Situation) : Type 0 where
+  pub definition_is : Reads definition (Ok d)
+  pub short : length case ≤ max_certificate
+  pub case_is : ReadsCase d case (Ok c)
+
+-- the text is short enough, and holds that answer
+pub record HoldsAnswer (text : List ℕ) (a : Answer) : Type 0 where
+  pub short : length text ≤ max_certificate
+  pub answer_is : ReadsAnswer text (Ok a)
+
+-- the first fault of a text that holds none
+abbrev pub LacksAnswer : List ℕ → Outcome → Type 0
+LacksAnswer text AnswerTooLong = max_certificate < length text
+LacksAnswer text (AnswerFault fault) =
+    (length text ≤ max_certificate) × ReadsAnswer text (Err fault) × (fault ≢ cert.OutOfMemory)
+LacksAnswer text outcome = ⊥
+
+-- what a check of an answer's text comes to: its first fault, or what the judge says of what it holds
+abbrev pub ChecksTo : List ℕ → Situation → Outcome → Type 0
+ChecksTo text c AnswerTooLong = LacksAnswer text AnswerTooLong
+ChecksTo text c (AnswerFault fault) = LacksAnswer text (AnswerFault fault)
+ChecksTo text c outcome = (a : Answer) × HoldsAnswer text a × JudgesTo c a outcome
+
+-- an answer of the planner: right, its plan least and contained in every least set, its chain where no set is allowed
+pub record IsPlanned (c : Situation) (a : Answer) : Type 0 where
+  pub right : IsRight (terms_of c) a
+  pub settles : Settles (terms_of c) a
+  pub smallest : IsSmallest (terms_of c) a
+
+abbrev pub PlansTo : Situation → Outcome → Type 0
+PlansTo c (Planned a) = IsPlanned c a
+PlansTo c outcome = ⊥
+
+-- a drawing of the case, with what the answer marks, if one is given
+abbrev pub ShowsCase : Situation → Option Answer → Outcome → Type 0
+ShowsCase c a (Drawn text) = IsDrawing c.definition (Some c.states) a (string_bytes text)
+ShowsCase c a outcome = ⊥
+
+-- the answer is right, so its plan is least, or no set is allowed, and it is drawn
+pub record ShowsRight (c : Situation) (a : Answer) (outcome : Outcome) : Type 0 where
+  pub right : IsRight (terms_of c) a
+  pub settles : Settles (terms_of c) a
+  pub shows : ShowsCase c (Some a) outcome
+
+-- what a drawing of an answer comes to: the judge's first fault, or the drawing of a right one
+abbrev pub DrawsRight : Situation → Answer → Outcome → Type 0
+DrawsRight c a (Refused fault) = IsFirstFault (terms_of c) a fault
+DrawsRight c a outcome = ShowsRight c a outcome
+
+-- what a drawing of a case comes to: the first fault of the answer's text, where one is given, or what follows from what it holds
+abbrev pub DrawsTo : Option (List ℕ) → Situation → Outcome → Type 0
+DrawsTo None c outcome = ShowsCase c None outcome
+DrawsTo (Some text) c AnswerTooLong = LacksAnswer text AnswerTooLong
+DrawsTo (Some text) c (AnswerFault fault) = LacksAnswer text (AnswerFault fault)
+DrawsTo (Some text) c outcome = (a : Answer) × HoldsAnswer text a × DrawsRight c a outcome
+
+abbrev pub AnswersTo : Question → Situation → Outcome → Type 0
+AnswersTo (Check text) c outcome = ChecksTo text.now c outcome
+AnswersTo APlan c outcome = PlansTo c outcome
+AnswersTo (Draw answer) c outcome = DrawsTo (option_map (λ t. t.now) answer) c outcome
+
+-- the question is answered about the case that the texts hold
+pub record IsAnswered (answers : Situation → Outcome → Type 0) (definition case : List ℕ) (outcome : Outcome) : Type 0 where
+  pub contents : Contents
+  pub situation : Situation
+  pub read : AreRead definition case contents situation
+  pub answered : answers situation outcome
+
+-- the first fault in the order definition, case, answer; or what answers the question
+abbrev pub ComesTo : (Situation → Outcome → Type 0) → List ℕ → List ℕ → Outcome → Type 0
+ComesTo answers definition case (Definition fault) = Reads definition (Err fault) × (fault ≢ text.OutOfMemory)
+ComesTo answers definition case CaseTooLong = (d : Contents) × Reads definition (Ok d) × (max_certificate < length case)
+ComesTo answers definition case (Case fault) =
+    (d : Contents) × Reads definition (Ok d) × (length case ≤ max_certificate) × ReadsCase d case (Err fault)
+    × (fault ≢ cert.OutOfMemory)
+ComesTo answers definition case outcome = IsAnswered answers definition case outcome
+
+-- a drawing of the definition of a text: its first fault, or the drawing without states and answer
+abbrev pub DrawsAlone : List ℕ → Outcome → Type 0
+DrawsAlone definition (Definition fault) = Reads definition (Err fault) × (fault ≢ text.OutOfMemory)
+DrawsAlone definition (Drawn picture) = (d : Contents) × Reads definition (Ok d) × IsDrawing d None None (string_bytes picture)
+DrawsAlone definition outcome = ⊥
+
+-- the texts beside the definition
+abbrev pub beside : Scene → List (List ℕ)
+beside scene.Definition = []
+beside (scene.Case case) = case.now ∷ []
+beside (scene.Answer case answer) = case.now ∷ answer.now ∷ []
+
+-- a drawing of a definition with such texts beside it: the first fault in the order definition, case, answer; or the drawing
+abbrev pub DrawsWith : List (List ℕ) → List ℕ → Outcome → Type 0
+DrawsWith [] definition = DrawsAlone definition
+DrawsWith (case ∷ []) definition = ComesTo (DrawsTo None) definition case
+DrawsWith (case ∷ answer ∷ more) definition = ComesTo (DrawsTo (Some answer)) definition case

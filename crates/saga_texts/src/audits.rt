@@ -1,0 +1,208 @@
+//! What an audit of texts comes to, and the output that shows it.
+ghost use Rattle.std.specs.Prelude.{◌≡◌, ◌++◌, OnOk, IfOk, MatchResult, decimal, map};
+ghost use Rattle.std.specs.String.{string_bytes};
+ghost use Rattle.saga_texts.specs.Audits.{AuditsTo, HoldAudit, LackAudit, answer_line, out_of, err_of, status_of};
+ghost use Rattle.saga_texts.specs.Lines.{line_feed};
+ghost use Rattle.saga_texts.specs.Outputs.{IsOutputWith};
+
+use crate::limits::{AUDITORS, MAX_LOG, MAX_SHELF};
+use crate::outputs::Output;
+use crate::shelves::{ShelfFault, read_shelf};
+use saga_audit::{AuditAnswer, audit, audit_with};
+use saga_def::Definition;
+use saga_history::Event;
+use saga_json::JsonFault;
+use saga_log::{LogFault, read_log};
+use saga_text::TextFault;
+use std::alloc::{AllocError, Global};
+use std::thread::Threads;
+
+/// What an audit comes to: a fault of a text, or the auditor's answer.
+#[derive(Debug, Drop)]
+pub enum AuditOutcome {
+    TooManyDefinitions,
+    LogTooLong,
+    /// The first faulty line of the log, from 1.
+    Log { line: usize, why: JsonFault },
+    /// The first definition with a fault, from 0.
+    Definition { place: usize, why: TextFault },
+    Answered(AuditAnswer),
+}
+
+/// What the texts of an audit hold.
+#[derive(Debug, Drop)]
+pub struct AuditTexts {
+    pub events: Vec<Event>,
+    pub shelf: Vec<Definition>,
+}
+
+/// The history and the shelf of texts, or what an audit of them comes to where they hold none: the first fault in the order
+/// number of definitions, log, definitions.
+fn texts_of(
+    alloc: Global,
+    log: &[u8],
+    definitions: &[&[u8]],
+) -> Result<Result<AuditTexts, AuditOutcome>, AllocError>
+    ensures { IfOk result
+        (λ given. MatchResult given (HoldAudit log.now (map (λ t. t.now) definitions.now))
+        (LackAudit log.now (map (λ t. t.now) definitions.now))) }
+{
+    if definitions.len() > MAX_SHELF {
+        return Ok(Err(AuditOutcome::TooManyDefinitions));
+    }
+    if log.len() > MAX_LOG {
+        return Ok(Err(AuditOutcome::LogTooLong));
+    }
+    let events = match read_log(alloc, log) {
+        Ok(events) => events,
+        Err(LogFault::OutOfMemory) => return Err(AllocError),
+        Err(LogFault::BadLine { line, why }) => return Ok(Err(AuditOutcome::Log { line, why })),
+    };
+    let shelf = match read_shelf(alloc, definitions) {
+        Ok(shelf) => shelf,
+        Err(ShelfFault::OutOfMemory) => return Err(AllocError),
+        Err(ShelfFault::Definition { place, why }) => {
+            return Ok(Err(AuditOutcome::Definition { place, why }));
+        }
+    };
+    Ok(Ok(AuditTexts { events, shelf }))
+}
+
+/// What an audit of a log over the definitions of texts comes to.
+#[tactic(auto, using(crate::proofs::AuditLemmas::lacking, crate::proofs::AuditLemmas::answered))]
+pub fn audit_outcome<R: Threads + Sync>(
+    rt: &R,
+    alloc: Global,
+    log: &[u8],
+    definitions: &[&[u8]],
+) -> Result<AuditOutcome, AllocError>
+    ensures { IfOk result (AuditsTo log.now (map (λ t. t.now) definitions.now)) }
+{
+    match texts_of(alloc, log, definitions)? {
+        Ok(texts) => Ok(AuditOutcome::Answered(audit_with(
+            rt,
+            alloc,
+            AUDITORS,
+            &texts.shelf,
+            &texts.events,
+        )?)),
+        Err(outcome) => Ok(outcome),
+    }
+}
+
+/// As [`audit_outcome`], on the thread that calls.
+#[tactic(auto, using(crate::proofs::AuditLemmas::lacking, crate::proofs::AuditLemmas::answered))]
+pub fn audit_outcome_alone(
+    alloc: Global,
+    log: &[u8],
+    definitions: &[&[u8]],
+) -> Result<AuditOutcome, AllocError>
+    ensures { IfOk result (AuditsTo log.now (map (λ t. t.now) definitions.now)) }
+{
+    match texts_of(alloc, log, definitions)? {
+        Ok(texts) => Ok(AuditOutcome::Answered(audit(alloc, &texts.shelf, &texts.events)?)),
+        Err(outcome) => Ok(outcome),
+    }
+}
+
+/// Adds a number, in decimal digits.
+pub fn push_number(alloc: Global, line: &mut String, number: usize) -> Result<(), AllocError>
+    ensures { OnOk result (string_bytes line.new ≡ string_bytes line.old ++ decimal number) }
+{
+    line.push_str(format!(in alloc; "{number}")?.as_str())
+}
+
+/// A line of a number and a word.
+pub fn numbered_line(
+    alloc: Global,
+    start: &str,
+    number: usize,
+    between: &str,
+    word: &str,
+) -> Result<String, AllocError>
+    ensures { IfOk result (λ text. string_bytes text
+        ≡ start.now ++ decimal number ++ between.now ++ word.now ++ line_feed) }
+{
+    let mut line = String::from_str(alloc, start)?;
+    push_number(alloc, &mut line, number)?;
+    line.push_str(between)?;
+    line.push_str(word)?;
+    line.push_str("\n")?;
+    Ok(line)
+}
+
+fn answer_line(alloc: Global, answer: AuditAnswer) -> Result<String, AllocError>
+    ensures { IfOk result (λ text. string_bytes text ≡ answer_line answer) }
+{
+    match answer {
+        AuditAnswer::Yes {
+            sagas,
+            ended,
+            stuck,
+            events,
+        } => {
+            let mut line = String::from_str(alloc, "yes sagas ")?;
+            push_number(alloc, &mut line, sagas)?;
+            line.push_str(" ended ")?;
+            push_number(alloc, &mut line, ended)?;
+            line.push_str(" stuck ")?;
+            push_number(alloc, &mut line, stuck)?;
+            line.push_str(" events ")?;
+            push_number(alloc, &mut line, events)?;
+            line.push_str("\n")?;
+            Ok(line)
+        }
+        AuditAnswer::No { position, reason } => {
+            numbered_line(alloc, "no ", position, " ", reason.word())
+        }
+    }
+}
+
+fn out(alloc: Global, outcome: &AuditOutcome) -> Result<String, AllocError>
+    ensures { IfOk result (λ text. string_bytes text ≡ out_of outcome.now) }
+{
+    match outcome {
+        AuditOutcome::Answered(answer) => answer_line(alloc, *answer),
+        _ => Ok(String::new(alloc)),
+    }
+}
+
+fn err(alloc: Global, outcome: &AuditOutcome) -> Result<String, AllocError>
+    ensures { IfOk result (λ text. string_bytes text ≡ err_of outcome.now) }
+{
+    match outcome {
+        AuditOutcome::TooManyDefinitions => {
+            String::from_str(alloc, "sagas: too many definitions\n")
+        }
+        AuditOutcome::LogTooLong => String::from_str(alloc, "sagas: log: too-long\n"),
+        AuditOutcome::Log { line, why } => {
+            numbered_line(alloc, "sagas: log: line ", *line, ": ", why.word())
+        }
+        AuditOutcome::Definition { place, why } => {
+            numbered_line(alloc, "sagas: definition ", *place, ": ", why.word())
+        }
+        AuditOutcome::Answered(_) => Ok(String::new(alloc)),
+    }
+}
+
+fn status(outcome: &AuditOutcome) -> u8
+    ensures { result ≡ status_of outcome.now }
+{
+    match outcome {
+        AuditOutcome::Answered(AuditAnswer::Yes { .. }) => 0,
+        AuditOutcome::Answered(AuditAnswer::No { .. }) => 1,
+        _ => 3,
+    }
+}
+
+/// The output that shows what an audit comes to.
+pub fn output_of_audit(alloc: Global, outcome: &AuditOutcome) -> Result<Output, AllocError>
+    ensures { IfOk result
+        (IsOutputWith (out_of outcome.now) (err_of outcome.now) (status_of outcome.now)) }
+{
+    Ok(Output {
+        out: out(alloc, outcome)?,
+        err: err(alloc, outcome)?,
+        status: status(outcome),
+    })
+}

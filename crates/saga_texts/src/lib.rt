@@ -1,0 +1,22 @@
+//! What the program answers to texts: to a definition, a case, an answer, a script and a log, over bytes, with no files and no words.
+//!
+//! [`check_text`] judges an answer, [`plan_text`] makes one, [`draw_text`] draws a saga, [`run_text`] runs sagas by a script, and
+//! [`audit_text`] audits a log; [`audit_text_alone`] does so on one thread.
+#![tactic(auto)]
+
+mod audits;
+mod drawings;
+mod limits;
+mod outcomes;
+mod outputs;
+mod runs;
+mod shelves;
+mod texts;
+
+pub use audits::numbered_line;
+pub use drawings::Scene;
+pub use limits::{MAX_CERTIFICATE, MAX_LOG, MAX_SHELF};
+pub use outputs::Output;
+pub use runs::RunOutput;
+pub use shelves::{ShelfFault, read_shelf};
+pub use texts::{audit_text, audit_text_alone, check_text, draw_text, plan_text, run_text};

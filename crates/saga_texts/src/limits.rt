@@ -1,0 +1,13 @@
+//! The limits of texts; the limit of a definition is `saga_text`'s.
+
+/// The most bytes of a case or answer.
+pub const MAX_CERTIFICATE: usize = 67_108_864;
+
+/// The most bytes of a log.
+pub const MAX_LOG: usize = 67_108_864;
+
+/// The most definitions of an audit.
+pub const MAX_SHELF: usize = 64;
+
+/// How many threads audit.
+pub const AUDITORS: u32 = 4;

@@ -1,0 +1,93 @@
+//! What is answered to texts.
+ghost use Rattle.std.specs.Prelude.{◌<◌, ◌≤◌, IfOk, map};
+ghost use Rattle.saga_texts.specs.Texts.{IsCheckOutput, IsDrawOutput, IsPlanOutput};
+ghost use Rattle.saga_texts.specs.Audits.{IsAuditOutput};
+ghost use Rattle.saga_texts.specs.Outcomes.{beside};
+ghost use Rattle.saga_texts.specs.Runs.{IsRunOutput};
+
+use crate::audits::{audit_outcome, audit_outcome_alone, output_of_audit};
+use crate::drawings::{Scene, drawing_of};
+use crate::outcomes::{Question, outcome_of};
+use crate::outputs::{Output, output_of};
+use crate::runs::{RunOutput, output_of_run, run_outcome};
+use std::alloc::{AllocError, Global};
+use std::sync::Wait;
+use std::thread::Threads;
+
+/// Judges an answer to a case of a definition: `least N` where the plan is least and costs `N`, `blocked` where no set
+/// of steps is allowed, `no FAULT` where the answer is not right; a fault of a text goes to standard error.
+pub fn check_text(
+    alloc: Global,
+    definition: &[u8],
+    case: &[u8],
+    answer: &[u8],
+) -> Result<Output, AllocError>
+    ensures { IfOk result (IsCheckOutput definition.now case.now answer.now) }
+{
+    let outcome = outcome_of(alloc, definition, case, Question::Check(answer))?;
+    output_of(alloc, &outcome)
+}
+
+/// Plans how a case of a definition shall end: the text of a right answer, with status 0 for a plan and 1 for a chain; a
+/// fault of a text goes to standard error. `check_text` finds the answer right.
+pub fn plan_text(alloc: Global, definition: &[u8], case: &[u8]) -> Result<Output, AllocError>
+    ensures { IfOk result (IsPlanOutput definition.now case.now) }
+{
+    let outcome = outcome_of(alloc, definition, case, Question::Plan)?;
+    output_of(alloc, &outcome)
+}
+
+/// Draws a saga: the text of its picture in Graphviz's language, with its states and what an answer marks where they are
+/// given. An answer that is not right for its case is told as [`check_text`] tells it; a fault of a text goes to standard
+/// error.
+pub fn draw_text(alloc: Global, definition: &[u8], scene: Scene<'_>) -> Result<Output, AllocError>
+    ensures { IfOk result (IsDrawOutput (beside scene.entry) definition.now) }
+{
+    let outcome = drawing_of(alloc, definition, scene)?;
+    output_of(alloc, &outcome)
+}
+
+/// Audits a log over a shelf of definitions: `yes` with numbers where its history is legal, else `no` with the place, from
+/// 0, of the first event that was not allowed, and why; a fault of a text goes to standard error.
+pub fn audit_text<R: Threads + Sync>(
+    rt: &R,
+    alloc: Global,
+    log: &[u8],
+    definitions: &[&[u8]],
+) -> Result<Output, AllocError>
+    ensures { IfOk result (IsAuditOutput log.now (map (λ t. t.now) definitions.now)) }
+{
+    let outcome = audit_outcome(rt, alloc, log, definitions)?;
+    output_of_audit(alloc, &outcome)
+}
+
+/// Runs each definition once, in order, as sagas 0, 1 and so on, by a script that tells how actions and compensations end:
+/// the report, with status 1 where a saga is stuck, and the log of the histories, one after the other. A fault of a text goes
+/// to standard error, and then nothing is run; a run that stopped tells so there, with status 4, beside its report.
+pub fn run_text<R: Threads + Wait + Sync>(
+    rt: &R,
+    alloc: Global,
+    definitions: &[&[u8]],
+    script: &[u8],
+    workers: u32,
+    shards: u32,
+) -> Result<RunOutput, AllocError>
+    requires workers { (0 < workers) × (workers ≤ 16) }
+    requires shards { (0 < shards) × (shards ≤ 16) }
+    ensures { IfOk result (IsRunOutput (map (λ t. t.now) definitions.now) script.now shards) }
+{
+    let outcome = run_outcome(rt, alloc, definitions, script, workers, shards)?;
+    output_of_run(alloc, outcome)
+}
+
+/// As [`audit_text`], on the thread that calls.
+pub fn audit_text_alone(
+    alloc: Global,
+    log: &[u8],
+    definitions: &[&[u8]],
+) -> Result<Output, AllocError>
+    ensures { IfOk result (IsAuditOutput log.now (map (λ t. t.now) definitions.now)) }
+{
+    let outcome = audit_outcome_alone(alloc, log, definitions)?;
+    output_of_audit(alloc, &outcome)
+}

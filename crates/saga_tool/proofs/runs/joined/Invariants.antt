@@ -1,6 +1,0 @@
-use Rattle.std.proofs.Common.{◌≡◌}
-use Rattle.std.specs.List.{flat_map}
-use Rattle.saga_tool.proofs.runs.joined.Given as goal
-
-abbrev pub invariant-loop-book : goal.invariant-loop-book
-invariant-loop-book l = l.events.items ≡ flat_map (λ b. b.history) l.yielded

@@ -1,6 +1,0 @@
-use Rattle.std.proofs.Common.{map, take}
-use Rattle.saga_tool.specs.Shelves.{AreDefinitions}
-use Rattle.saga_tool.proofs.shelves.read_shelf.Given as goal
-
-abbrev pub invariant-loop-place : goal.invariant-loop-place
-invariant-loop-place l = AreDefinitions (take l.place (map (λ t. t.now) l.texts)) l.shelf.items

@@ -1,0 +1,129 @@
+//! Trials of the calls that no command of the program makes. Each has to give what is expected.
+use crate::samples::{self, TRIP, TRIP_ANSWER, TRIP_CASE, TRIP_LOG, TRIP_REPORT};
+use crate::trial::Trial;
+use anyhow::{Result, ensure};
+use saga_audit::AuditAnswer;
+use saga_case::{
+    Answer, Case, begins_nothing_once_aborted, keeps_to_the_states, keeps_what_cannot_be_undone,
+    leaves_all_out_for_free,
+};
+use saga_cert::write_case;
+use saga_core::Book;
+use saga_def::Definition;
+use saga_drive::audit_trail;
+use saga_history::{Event, first_not_allowed};
+use saga_order::Order;
+use saga_report::report;
+use saga_texts::audit_text_alone;
+use std::alloc::{AllocError, Global};
+
+/// A call.
+#[derive(Clone, Copy)]
+pub enum Call {
+    Order,
+    WriteCase,
+    Report,
+    NotAllowed,
+    AuditText,
+    Trail,
+    Laws,
+}
+
+/// What a call is made on: the trip, its case, and its history.
+#[derive(Clone, Copy)]
+struct On<'a, 'd> {
+    shelf: &'d [Definition],
+    definition: &'d Definition,
+    case: &'a Case<'d>,
+    answer: &'a Answer,
+    events: &'a [Event],
+    book: &'a Book<'d>,
+}
+
+/// Makes a trial of a call.
+pub fn run(trial: &mut Trial<'_>, call: Call) -> Result<()> {
+    let alloc = trial.alloc();
+    let shelf = samples::shelf(alloc, TRIP)?;
+    let definition = samples::first(&shelf)?;
+    let case = samples::case(alloc, definition, TRIP_CASE)?;
+    let answer = samples::answer(alloc, TRIP_ANSWER)?;
+    let events = samples::events(alloc, TRIP_LOG)?;
+    let book = samples::book(alloc, &shelf, TRIP_LOG)?;
+    let on = On {
+        shelf: &shelf,
+        definition,
+        case: &case,
+        answer: &answer,
+        events: &events,
+        book: &book,
+    };
+    trial.each();
+    let mut right = is_right(alloc, on, call);
+    trial.ample();
+    if right.is_err() {
+        trial.refused = true;
+        right = is_right(alloc, on, call);
+    }
+    ensure!(right?, "another result");
+    Ok(())
+}
+
+/// What an audit of the trip answers.
+const YES: AuditAnswer = AuditAnswer::Yes {
+    sagas: 1,
+    ended: 1,
+    stuck: 0,
+    events: 13,
+};
+
+/// Whether a call gives what is expected.
+fn is_right(alloc: Global, on: On<'_, '_>, call: Call) -> Result<bool, AllocError> {
+    Ok(match call {
+        Call::Order => is_line(&Order::of(alloc, on.definition)?),
+        Call::WriteCase => write_case(alloc, on.case)?.as_str() == TRIP_CASE,
+        Call::Report => report(alloc, on.shelf, &[on.events])?.as_str() == TRIP_REPORT,
+        Call::NotAllowed => first_not_allowed(alloc, on.shelf, on.events)?.is_none(),
+        Call::AuditText => {
+            let output = audit_text_alone(alloc, TRIP_LOG.as_bytes(), &[TRIP.as_bytes()])?;
+            output.status == 0 && output.out.as_str() == "yes sagas 1 ended 1 stuck 0 events 13\n"
+        }
+        Call::Trail => {
+            let trail = audit_trail(alloc, on.book)?;
+            trail.log.as_str() == TRIP_LOG && trail.answer == YES
+        }
+        Call::Laws => laws(on),
+    })
+}
+
+/// Whether the order is that of the trip.
+fn is_line(order: &Order<'_>) -> bool {
+    order.count() == 3
+        && order.precedes(0, 2)
+        && !order.precedes(2, 0)
+        && order.rank(0) == 0
+        && order.rank(2) == 2
+}
+
+/// The laws, which look at nothing.
+fn laws(on: On<'_, '_>) -> bool {
+    saga_def::fault_laws();
+    saga_order::order_laws(on.definition);
+    saga_case::least_laws();
+    leaves_all_out_for_free(on.case);
+    keeps_to_the_states(on.case);
+    begins_nothing_once_aborted(on.case);
+    if on.case.definition().steps() > 0 {
+        keeps_what_cannot_be_undone(on.case, 0);
+    }
+    saga_check::fault_laws(on.answer);
+    saga_flow::value_laws(&[]);
+    saga_plan::plan_laws(on.answer);
+    saga_history::are_sound(on.shelf);
+    saga_history::headline(on.shelf, on.events);
+    saga_history::headline_parts(on.shelf, on.events);
+    saga_history::saga_laws(on.shelf, on.events);
+    saga_history::history_laws(on.shelf, on.events);
+    saga_history::merge_laws(on.shelf, on.events, on.events);
+    saga_core::refusal_laws(on.shelf, on.events);
+    true
+}

@@ -1,0 +1,9 @@
+-- What a book tells without a change.
+pub mod Words
+pub mod Tasks
+pub mod Busy
+pub mod Ready
+pub mod Phases
+pub mod Lists
+pub mod Status
+pub mod Shown

@@ -1,0 +1,153 @@
+//! Which tasks may begin.
+ghost use Rattle.std.specs.Prelude.{ℕ, ◌≡◌, ◌<◌, ◌≤◌, ◌+◌, ◌*◌, ◌∷◌, [], All, IfOk, IfSome, IfNone, OnOk, Some, None, codes, length, map, option_map, string_bytes};
+ghost use Rattle.std.specs.List.{concat};
+ghost use Rattle.saga_history.specs.Changes.{past};
+ghost use Rattle.saga_history.specs.Tasks.{TaskIsAllowed};
+ghost use Rattle.saga_core.specs.Tasks.{saga_of_task};
+ghost use Rattle.saga_views.specs.Ready as spec;
+ghost use Rattle.saga_views.specs.Ready.{AddsOf, AreReady, IsAdded, IsReady, ListsAll, TellsReady};
+
+use crate::tasks::{run_text, undo_text};
+use crate::words::listed;
+use itoa::Buffer;
+use saga_core::Book;
+use saga_history::Task;
+use std::alloc::{AllocError, Global};
+
+/// How many tasks are enough, so that no further saga is begun.
+pub const ENOUGH_TASKS: usize = 100;
+
+/// Tasks, and the number of the saga from which to ask again, if there are more.
+#[derive(Drop)]
+struct ReadyTasks {
+    tasks: Vec<Task>,
+    more: Option<u32>,
+}
+
+/// Adds a task, where it may begin.
+fn push_task(tasks: &mut Vec<Task>, book: &Book<'_>, task: Task) -> Result<(), AllocError>
+    ensures { OnOk result
+        (IsAdded book.now.shelf (past book.now.history) task tasks.old.items tasks.new.items) }
+{
+    if book.may_begin(task) {
+        tasks.push(task)?;
+    }
+    Ok(())
+}
+
+/// Adds the tasks of a saga that may begin. Takes time linear in its steps.
+fn push_tasks(tasks: &mut Vec<Task>, book: &Book<'_>, saga: u32) -> Result<(), AllocError>
+    ensures all { OnOk result ((from : ℕ) → from ≤ saga
+        → ListsAll (IsReady book.now.shelf (past book.now.history) from (Some saga)) tasks.old.items
+        → ListsAll (IsReady book.now.shelf (past book.now.history) from (Some (saga + 1)))
+        tasks.new.items) }
+    ensures only { OnOk result (AddsOf saga tasks.old.items tasks.new.items) }
+{
+    let Some(definition) = book.definition(saga) else {
+        return Ok(());
+    };
+    let count = definition.steps();
+    push_task(tasks, book, Task::Plan(saga))?;
+    for step in 0..count as u16 {
+        push_task(tasks, book, Task::Run(saga, step))?;
+        push_task(tasks, book, Task::Undo(saga, step))?;
+    }
+    Ok(())
+}
+
+fn saga_of(task: Task) -> u32
+    ensures { result ≡ saga_of_task task }
+{
+    match task {
+        Task::Run(saga, _) | Task::Undo(saga, _) | Task::Plan(saga) => saga,
+    }
+}
+
+/// The tasks that may begin of the sagas from a number on. Goes over the sagas for each one that has tasks to give, without a look at
+/// their steps; over the steps it goes of those alone whose tasks are given.
+fn ready_tasks(alloc: Global, book: &Book<'_>, from: u32) -> Result<ReadyTasks, AllocError>
+    ensures { IfOk result (λ ready. AreReady book.now.shelf (past book.now.history) from
+        ready.tasks.items ready.more) }
+{
+    let mut tasks = Vec::new(alloc);
+    let mut saga = from;
+    while let Some(task) = book.next_from(saga) {
+        let found = saga_of(task);
+        if tasks.len() >= ENOUGH_TASKS {
+            return Ok(ReadyTasks {
+                tasks,
+                more: Some(found),
+            });
+        }
+        push_tasks(&mut tasks, book, found)?;
+        saga = found + 1;
+    }
+    Ok(ReadyTasks { tasks, more: None })
+}
+
+/// A saga that is to be planned.
+fn plan_text(alloc: Global, saga: u32) -> Result<String, AllocError>
+    ensures { IfOk result (λ text. string_bytes text ≡ spec.plan_text saga) }
+{
+    let mut buffer = Buffer::new();
+    [
+        "{\"saga\":",
+        buffer.format(saga as u64),
+        ",\"task\":\"plan\"}",
+    ]
+    .concat(alloc)
+}
+
+/// The text of a task that may begin.
+fn text_of(alloc: Global, book: &Book<'_>, task: Task) -> Result<String, AllocError>
+    requires { TaskIsAllowed book.now.shelf (past book.now.history) task }
+    ensures { IfOk result (λ text. string_bytes text
+        ≡ spec.text_of book.now.shelf (past book.now.history) task) }
+{
+    let Some(definition) = book.definition(saga_of(task)) else {
+        unreachable!()
+    };
+    match task {
+        Task::Run(saga, step) => run_text(alloc, book, definition, saga, step),
+        Task::Undo(saga, step) => undo_text(alloc, book, definition, saga, step),
+        Task::Plan(saga) => plan_text(alloc, saga),
+    }
+}
+
+/// The texts of tasks that may begin.
+fn texts_of(alloc: Global, book: &Book<'_>, tasks: &[Task]) -> Result<Vec<String>, AllocError>
+    requires { All (λ t. TaskIsAllowed book.now.shelf (past book.now.history) t) tasks.now }
+    ensures { IfOk result (λ texts. map string_bytes texts.items
+        ≡ map (spec.text_of book.now.shelf (past book.now.history)) tasks.now) }
+{
+    let mut texts = Vec::new(alloc);
+    for task in tasks {
+        texts.push(text_of(alloc, book, *task)?)?;
+    }
+    Ok(texts)
+}
+
+/// The beginning of a reply: from which saga to ask again.
+pub fn more_text(alloc: Global, more: Option<u32>) -> Result<String, AllocError>
+    ensures { IfOk result (λ text. string_bytes text ≡ spec.more_text more) }
+{
+    match more {
+        None => String::from_str(alloc, "{"),
+        Some(saga) => {
+            let mut buffer = Buffer::new();
+            ["{\"more\":", buffer.format(saga as u64), ","].concat(alloc)
+        }
+    }
+}
+
+/// Which tasks may begin of the sagas from a number on: all of each saga, and no further saga once there are 100; and from which saga to
+/// ask again, if there are more. Takes time linear in the steps of the sagas that it tells of, and a glance at all sagas for each of them.
+pub fn ready_text(alloc: Global, book: &Book<'_>, from: u32) -> Result<String, AllocError>
+    ensures { IfOk result (λ text. TellsReady book.now from (string_bytes text)) }
+{
+    let ready = ready_tasks(alloc, book, from)?;
+    let texts = texts_of(alloc, book, &ready.tasks)?;
+    let head = more_text(alloc, ready.more)?;
+    let listed = listed(alloc, &texts)?;
+    [head.as_str(), "\"ready\":[", listed.as_str(), "]}\n"].concat(alloc)
+}

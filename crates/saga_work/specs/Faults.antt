@@ -1,0 +1,56 @@
+-- Which fault a run ends in, and which stop it tells.
+use Rattle.std.specs.Prelude.{ℕ, ◌<◌, ◌≤◌, Bool, true, false, List, [], ◌∷◌, Option, Some, None, length, slice_index}
+use Rattle.saga_def.specs.Contents.{Contents}
+use Rattle.saga_core.specs.declared.refusals.OpenRefusal.{OpenRefusal}
+use Rattle.saga_core.specs.declared.refusals.OpenRefusal.TheVariants as opening
+use Rattle.saga_desk.specs.declared.desks.finish.FinishRefused.{FinishRefused}
+use Rattle.saga_desk.specs.declared.desks.finish.FinishRefused.TheVariants as finish
+use Rattle.saga_work.specs.declared.faults.FinishFault.TheVariants.{Stranger, Missing, Torn}
+use Rattle.saga_work.specs.declared.faults.RunFault.{RunFault}
+use Rattle.saga_work.specs.declared.faults.RunFault.TheVariants.{Open, Finish, OutOfMemory}
+use Rattle.saga_work.specs.declared.faults.Stop.{Stop}
+use Rattle.saga_work.specs.declared.faults.Stop.TheVariants as stop
+
+-- the fault of a run whose saga of that number was not opened, and of one whose desk was not finished
+abbrev pub fault_of_opening : ℕ → OpenRefusal → RunFault
+fault_of_opening saga opening.NoSuchDefinition = Open saga opening.NoSuchDefinition
+fault_of_opening saga opening.Full = Open saga opening.Full
+fault_of_opening saga opening.OutOfMemory = OutOfMemory
+
+abbrev pub fault_of_finish : FinishRefused → RunFault
+fault_of_finish (finish.Stranger desk seats) = Finish Stranger
+fault_of_finish (finish.Missing desk seats) = Finish Missing
+fault_of_finish (finish.OutOfMemory desk seats) = OutOfMemory
+fault_of_finish (finish.Torn books seats) = Finish Torn
+
+-- so many of the definitions that are asked for, from the first on, are on the shelf
+abbrev pub AreOnShelf : List Contents → List ℕ → ℕ → Type 0
+AreOnShelf shelf asks n = (k : ℕ) → k < n → slice_index asks k < length shelf
+
+-- why the saga of that number is not opened: its definition is not on the shelf, or its shard is full
+abbrev pub IsOpenFault : List Contents → List ℕ → ℕ → OpenRefusal → Type 0
+IsOpenFault shelf asks j opening.NoSuchDefinition = length shelf ≤ slice_index asks j
+IsOpenFault shelf asks j opening.Full = slice_index asks j < length shelf
+IsOpenFault shelf asks j opening.OutOfMemory = ⊥
+
+-- the faults that a run may end in: the first saga that could not be opened; what the seats tell is not what the books hold; or
+-- a growth of memory was refused. The seats that come back are those of the desk, so none is missing and none a stranger
+abbrev pub IsRunFault : List Contents → List ℕ → RunFault → Type 0
+IsRunFault shelf asks (Open j why) = (j < length asks) × AreOnShelf shelf asks j × IsOpenFault shelf asks j why
+IsRunFault shelf asks (Finish Stranger) = ⊥
+IsRunFault shelf asks (Finish Missing) = ⊥
+IsRunFault shelf asks (Finish Torn) = AreOnShelf shelf asks (length asks)
+IsRunFault shelf asks OutOfMemory = Unit {0}
+
+-- the first stop of several workers, in the order of their seats
+abbrev pub first_stop : List (Option Stop) → Option Stop
+first_stop [] = None
+first_stop (None ∷ stops) = first_stop stops
+first_stop (Some why ∷ stops) = Some why
+
+-- the stop that a run tells: that of its workers; where they have none and yet a saga is neither ended nor stuck, that the desk
+-- refused
+abbrev pub stop_told : Option Stop → Bool → Option Stop
+stop_told (Some why) over = Some why
+stop_told None true = None
+stop_told None false = Some stop.Refused
