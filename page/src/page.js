@@ -1,0 +1,426 @@
+// The page: what is given, what is answered, and how it is shown.
+
+const at = id => document.getElementById(id);
+const FIELDS = ['log', 'definition', 'case', 'answer'];
+const MOST_DRAWN = 150, MOST_ROWS = 100;
+const PAUSE = 250;
+
+// What was shown last: the drawing with its states, so that a step's state can be changed.
+let shown = null;
+let rounds = 0;
+
+const mode = () => document.querySelector('input[name=mode]:checked').value;
+const given = field => bytes_of(at(field).value);
+
+// element('li', {class: 'x'}, child..): an element of the page. Text is put in as text.
+function element(tag, words, ...children) {
+  const made = document.createElement(tag);
+  for (const [key, value] of Object.entries(words)) made.setAttribute(key, value);
+  made.append(...children);
+  return made;
+}
+
+// ---- What is told.
+
+function tell(kind, verdict, checked = '', remedy = '') {
+  at('told').className = `card told ${kind}`;
+  at('verdict').textContent = verdict;
+  at('checked').textContent = checked;
+  at('remedy').textContent = remedy;
+}
+
+// The entry of a line in the table of lines: cause and remedy. Its numbers stand there as letters.
+function entry_of(line) {
+  for (const letters of ['', 'N', 'P', 'K']) {
+    const entry = LINES[letters ? line.replace(/\d+/, letters) : line];
+    if (entry) return { cause: quoted_words(entry[0]), remedy: quoted_words(entry[1].replace('`sagas plan`', 'plan it here, or by `sagas plan`')) };
+  }
+  return { cause: '', remedy: '' };
+}
+
+const quoted_words = text => text.replace(/`([^`]*)`/g, '“$1”');
+const sentence = text => text && text[0].toUpperCase() + text.slice(1) + '.';
+
+// Tells a fault below the field that has it.
+function tell_at(field, line, quoted = '', other = '') {
+  const entry = entry_of(line), { cause } = entry, remedy = other || entry.remedy;
+  at(field).setAttribute('aria-invalid', 'true');
+  const parts = [element('b', {}, sentence(cause) || line), element('span', {}, sentence(remedy))];
+  if (quoted) parts.push(element('code', {}, quoted));
+  at(`${field}-fault`).append(...parts);
+  return { cause, remedy };
+}
+
+// What parts definitions from one another.
+const PARTED = /^---[ \t]*\r?\n/m;
+
+// The line of a text, from 1, shortened.
+function line_of(text, number) {
+  const line = text.split('\n')[number - 1] || '';
+  return `${number}: ${line.length > 300 ? line.slice(0, 300) + '…' : line}`;
+}
+
+// Marks a line of a field, from 1, so that it is seen when the field is entered.
+function mark_line(field, number) {
+  if (document.activeElement === at(field)) return; // (whoever types there keeps the place)
+  const lines = at(field).value.split('\n'), before = lines.slice(0, number - 1), style = getComputedStyle(at(field));
+  const start = before.reduce((sum, line) => sum + line.length + 1, 0);
+  at(field).setSelectionRange(start, start + (lines[number - 1] || '').length);
+  // (a line takes several rows where it is longer than the field is wide; a letter is about 0.6 as wide as it is high)
+  const wide = (at(field).clientWidth - 2 * parseFloat(style.paddingLeft)) / (0.6 * parseFloat(style.fontSize));
+  const rows = before.reduce((sum, line) => sum + Math.max(1, Math.ceil(line.length / wide)), 0);
+  at(field).scrollTop = Math.max(0, (rows - 3) * parseFloat(style.lineHeight));
+}
+
+const PLACES = { definition: 'definition', case: 'case', answer: 'certificate', log: 'log' };
+
+// The first line of a definition, from 1, that cannot be read as TOML: the longest part before the end that can be read stops before it.
+async function line_not_toml(text) {
+  const lines = text.split('\n'), is_toml = async count => {
+    const reply = await call('draw', [bytes_of(lines.slice(0, count).join('\n') + '\n')]);
+    return reply.status === YES || (reply.status === BAD && !text_of(reply.bytes).includes(': not-toml'));
+  };
+  let good = 0;
+  for (let bad = lines.length; bad - good > 1;) {
+    const middle = (good + bad) >> 1;
+    if (await is_toml(middle)) good = middle; else bad = middle;
+    // (a list over several lines is no TOML before its end)
+    for (let more = 1; bad - good === 1 && more < 40 && good + more < lines.length; more++) {
+      if (await is_toml(good + more)) { good += more; bad = lines.length; break; }
+    }
+  }
+  return good + 1;
+}
+
+// Tells what is wrong with a text: `sagas: FIELD: WORD`, with the number of a line or of a definition where there is one.
+async function tell_fault(reply) {
+  if (reply.status === NO_MEMORY) return tell('bad', 'The page has no memory left', reply.error || '', 'Try a smaller saga, or use the program.');
+  const line = text_of(reply.bytes).trimEnd();
+  const [, field, numbers] = /^sagas: (definition|case|answer|log)\b(.*)$/.exec(line) || [, 'definition', ''];
+  let quoted = '', word = line;
+  const of_line = /^: line (\d+)/.exec(numbers), of_shelf = /^ (\d+): /.exec(numbers), busy = /^: busy (\d+)/.exec(numbers);
+  if (of_line) { quoted = line_of(at('log').value, Number(of_line[1])); mark_line('log', Number(of_line[1])); }
+  if (of_shelf) { quoted = `definition ${of_shelf[1]}`; word = line.replace(/ \d+: /, ': '); }
+  if (busy) quoted = `step ${busy[1]}`;
+  let other = '';
+  if (word === 'sagas: definition: not-toml') {
+    const shelf = at('definition').value.split(PARTED), number = of_shelf ? Number(of_shelf[1]) : 0;
+    const before = shelf.slice(0, number).reduce((sum, part) => sum + part.split('\n').length, 0);
+    const place = before + await line_not_toml(shelf[number] || '');
+    other = `look at line ${place}: it is the first that cannot be read`;
+    quoted = line_of(at('definition').value, place);
+    mark_line('definition', place);
+  }
+  const { remedy } = tell_at(field, word, quoted, other);
+  tell('bad', `The ${PLACES[field]} cannot be read`, line, sentence(remedy));
+}
+
+function clear() {
+  for (const field of FIELDS) {
+    at(field).removeAttribute('aria-invalid');
+    at(`${field}-fault`).replaceChildren();
+  }
+  for (const id of ['figure', 'chain', 'numbers', 'steps', 'certificate']) at(id).hidden = true;
+  shown = null;
+}
+
+// ---- The picture, and the steps.
+
+const none = new Set();
+
+// Shows a drawing, with what an answer marks.
+function show_picture(drawing, marked, is_chain, title) {
+  const focused = document.activeElement?.closest?.('.node')?.dataset.step;
+  at('figure').hidden = false;
+  const fill = () => {
+    const picture = picture_of(drawing, marked, is_chain, title);
+    at('picture').replaceChildren(picture);
+    if (focused !== undefined) picture.querySelector(`[data-step="${focused}"]`)?.focus({ preventScroll: true });
+  };
+  if (drawing.steps.length > MOST_DRAWN) {
+    const button = element('button', { type: 'button', id: 'draw' }, `Draw all ${drawing.steps.length} steps`);
+    button.addEventListener('click', fill);
+    at('picture').replaceChildren(button);
+  } else fill();
+  const words = [];
+  if (marked.size) words.push(element('span', {}, element('i', { class: is_chain ? 'chain' : '' }), is_chain ? 'the chain that shows it' : 'stands at the end'));
+  words.push(element('span', {}, 'Arrows lead to what a step needs.'), element('span', {}, 'Click a step to change where it stands.'));
+  at('legend').replaceChildren(...words);
+}
+
+const priced = price => price === NEVER ? 'never' : price.toLocaleString('en');
+
+// A chooser of a step's state.
+function chooser(step, number) {
+  const made = element('select', { 'aria-label': `State of ${step.name}`, 'data-step': number });
+  for (const state of STATES) made.append(new Option(state, state, false, state === (step.state || 'waiting')));
+  made.addEventListener('change', () => set_state(number, made.value));
+  return made;
+}
+
+// The row of a step: its state, its two prices, what it shall do and why. Without a plan there is no end to tell.
+function row_of(drawing, beside, kept, i, is_aborted) {
+  const step = drawing.steps[i], is_kept = kept?.has(i);
+  const price = (label, value, is_taken) => element('td', { class: `price${is_taken ? ' taken' : ''}`, 'data-label': label }, priced(value));
+  return element('tr', {},
+    element('td', { class: 'name' }, step.name),
+    element('td', { class: 'is' }, chooser(step, i)),
+    price('if it stands', to_stand(step, is_aborted), kept && is_kept),
+    price('if not', to_leave(step), kept && !is_kept),
+    element('td', { class: `shall ${is_kept ? 'stands' : 'gone'}` }, kept ? shall(step, is_kept) : ''),
+    element('td', { class: 'why' }, kept ? why(drawing, beside, kept, i, is_aborted) : ''));
+}
+
+// The table of the steps; of very many only the first, until all are asked for.
+function show_steps(drawing, kept, cost) {
+  const focused = document.activeElement?.closest?.('td select')?.dataset.step;
+  const body = at('steps').querySelector('tbody'), beside = neighbours_of(drawing), is_aborted = at('aborted').checked;
+  const fill = count => {
+    body.replaceChildren(...drawing.steps.slice(0, count).map((_, i) => row_of(drawing, beside, kept, i, is_aborted)));
+    at('all').hidden = count >= drawing.steps.length;
+  };
+  fill(MOST_ROWS);
+  at('all').textContent = `Show all ${drawing.steps.length} steps`;
+  at('all').onclick = () => fill(drawing.steps.length);
+  at('steps').querySelector('tfoot').replaceChildren(...(kept ? [element('tr', {}, element('td', { colspan: 6 }, `All marked prices together: ${cost}`))] : []));
+  at('steps').classList.toggle('bare', !kept);
+  at('steps').hidden = false;
+  if (focused !== undefined) body.querySelector(`select[data-step="${focused}"]`)?.focus({ preventScroll: true });
+}
+
+// Where each step stands is changed: the case is written anew.
+function write_case(states) {
+  at('case').value = JSON.stringify(at('aborted').checked ? { aborted: true, states } : { states });
+  return run();
+}
+
+const states_shown = () => shown.steps.map(step => step.state || 'waiting');
+
+function set_state(number, state) {
+  if (!shown) return;
+  const states = states_shown();
+  states[number] = state;
+  write_case(states);
+}
+
+function next_state(number) {
+  if (!shown) return;
+  const step = shown.steps[number];
+  set_state(number, STATES[(STATES.indexOf(step.state || 'waiting') + 1) % STATES.length]);
+}
+
+// ---- Plans and certificates.
+
+function show_chain(drawing, chain) {
+  const steps = chain.map(i => drawing.steps[i]), last = steps.length - 1, is_aborted = at('aborted').checked;
+  const lines = steps.map((step, k) => element('li', {}, element('b', {}, step.name), ': ',
+    [k === 0 ? why_forced(step) : '', k === last ? why_barred(step, is_aborted) : `it needs ${steps[k + 1].name}`].filter(word => word).join(', and ')));
+  at('chain').replaceChildren(element('h2', {}, 'The chain that shows it'), element('ol', {}, ...lines));
+  at('chain').hidden = false;
+}
+
+const listed = (list, steps) => list.slice(0, 6).map(i => steps[i].name).join(', ') + (list.length > 6 ? ` and ${list.length - 6} more` : '');
+
+// Shows an answer that the checker found right. `says` is what it said: the cost is read there.
+function show_right(drawing, answer, says, is_planned) {
+  const checked = `${is_planned ? 'Planned, then judged' : 'Judged'} here by the proved checker: ${says}.`;
+  if (answer.kind === 'plan') {
+    const cost = says.split(' ')[1], kept = new Set(answer.kept);
+    const undone = drawing.steps.flatMap((step, i) => step.state === 'committed' && !kept.has(i) ? [i] : []);
+    const ends = [answer.kept.length ? `keep ${listed(answer.kept, drawing.steps)}` : 'keep nothing', ...(undone.length ? [`undo ${listed(undone, drawing.steps)}`] : [])];
+    tell('good', `${is_planned ? 'Least plan' : 'Right: a least plan'}, cost ${cost}: ${ends.join('; ')}`, checked, 'No allowed plan costs less; the flow in the certificate shows it.');
+    show_picture(drawing, kept, false, `${drawing.name}: plan of cost ${cost}`);
+    show_steps(drawing, kept, cost);
+  } else {
+    tell('no', `${is_planned ? '' : 'Right: '}No set of steps is allowed`, checked, 'Give a price in place of a never, or change where a step stands.');
+    show_picture(drawing, new Set(answer.chain), true, `${drawing.name}: blocked`);
+    show_chain(drawing, answer.chain);
+    show_steps(drawing, null, '');
+  }
+}
+
+function show_certificate(text) {
+  at('text').textContent = text;
+  at('copied').textContent = '';
+  at('certificate').hidden = false;
+}
+
+// Draws what is given, where it can be read: the definition with its states; or alone, each step where the case has it, else waiting.
+async function drawn() {
+  for (const [name, texts] of [['draw_case', ['definition', 'case']], ['draw', ['definition']]]) {
+    const reply = await call(name, texts.map(given));
+    if (reply.status !== YES) continue;
+    const drawing = read_drawing(text_of(reply.bytes)), states = states_typed();
+    drawing.steps.forEach((step, i) => { step.state ||= STATES.includes(states[i]) ? states[i] : 'waiting'; });
+    return drawing;
+  }
+  return null;
+}
+
+// The states of the case as it is typed, as far as they can be read.
+function states_typed() {
+  try {
+    const { states } = JSON.parse(at('case').value);
+    return Array.isArray(states) ? states : [];
+  } catch {
+    return [];
+  }
+}
+
+// Sets the box by the case, where that can be read.
+function read_aborted() {
+  try {
+    at('aborted').checked = JSON.parse(at('case').value).aborted === true;
+  } catch { /* told as a fault of the case */ }
+}
+
+async function plan_or_judge() {
+  read_aborted();
+  const is_planned = mode() === 'plan';
+  let answer = given('answer');
+  if (is_planned) {
+    const planned = await call('plan', [given('definition'), given('case')]);
+    if (planned.status > NO) return refused(planned);
+    answer = planned.bytes;
+  }
+  const judged = await call('check', [given('definition'), given('case'), answer]);
+  if (judged.status > NO) return refused(judged);
+  shown = await drawn();
+  const says = text_of(judged.bytes).trimEnd();
+  if (judged.status === NO) {
+    const { cause, remedy } = tell_at('answer', says);
+    tell('no', 'This certificate is not right', `Judged here by the proved checker: ${says}. ${sentence(cause)}`, sentence(remedy));
+    show_picture(shown, none, false, shown.name);
+    return show_steps(shown, null, '');
+  }
+  show_right(shown, JSON.parse(text_of(answer)), says, is_planned);
+  if (is_planned) show_certificate(text_of(answer).trimEnd());
+}
+
+// Tells a fault of a text; the steps stay in sight, so that a case can be mended by them.
+async function refused(reply) {
+  shown = await drawn();
+  await tell_fault(reply);
+  if (!shown) return;
+  if (at('case').hasAttribute('aria-invalid')) at('remedy').textContent += ' Or set a step below: the case is then written anew, with a state for each.';
+  show_picture(shown, none, false, shown.name);
+  show_steps(shown, null, '');
+}
+
+// ---- Logs.
+
+// The definitions of a text with lines --- between them: their bytes together, and where each lies.
+function shelf_of(text) {
+  const parts = text.split(PARTED).map(bytes_of), spans = [];
+  let start = 0;
+  for (const part of parts) { spans.push([start, start + part.length]); start += part.length; }
+  const all = new Uint8Array(start);
+  parts.forEach((part, i) => all.set(part, spans[i][0]));
+  return { all, spans };
+}
+
+// The line of the log that has an event, both counted: events from 0, lines from 1, the first of which may be a header.
+const line_of_event = (log, event) => event + (/^\s*\{\s*"format"/.test(log) ? 2 : 1);
+
+async function audit() {
+  const { all, spans } = shelf_of(at('definition').value);
+  const reply = await call('audit_all', [given('log'), all], spans);
+  if (reply.status > NO) return tell_fault(reply);
+  const says = text_of(reply.bytes).trimEnd(), checked = `Audited here by the proved auditor: ${says}.`;
+  if (reply.status === YES) {
+    const numbers = says.split(' ').slice(1);
+    tell('good', 'Yes: each event was allowed after those before it', checked, 'Each plan that was adopted is least, and each ended saga has its goal.');
+    const of = [];
+    for (let i = 0; i < numbers.length; i += 2) of.push(element('div', {}, element('dt', {}, numbers[i]), element('dd', {}, Number(numbers[i + 1]).toLocaleString('en'))));
+    at('numbers').replaceChildren(element('dl', {}, ...of));
+    at('numbers').hidden = false;
+    return undefined;
+  }
+  const event = Number(says.split(' ')[1]), number = line_of_event(at('log').value, event);
+  const { cause, remedy } = tell_at('log', says, line_of(at('log').value, number));
+  mark_line('log', number);
+  return tell('no', `No: event ${event}, in line ${number}, was not allowed`, `${checked} ${sentence(cause)}`, sentence(remedy));
+}
+
+// ---- What is chosen and typed.
+
+async function run() {
+  clear();
+  document.body.dataset.mode = mode();
+  await (mode() === 'audit' ? audit() : plan_or_judge());
+  document.body.dataset.rounds = String(++rounds);
+}
+
+const EXAMPLES_OF = { plan: EXAMPLES.sagas, judge: EXAMPLES.judged, audit: EXAMPLES.logs };
+
+function show_examples() {
+  at('example').replaceChildren(...EXAMPLES_OF[mode()].map(({ title }, i) => new Option(title, String(i))));
+}
+
+function take_example() {
+  const { texts } = EXAMPLES_OF[mode()][at('example').selectedIndex];
+  for (const [field, text] of Object.entries(texts)) { at(field).value = text; at(field).scrollTop = 0; }
+  return run();
+}
+
+async function copy() {
+  try {
+    await navigator.clipboard.writeText(at('text').textContent);
+    at('copied').textContent = 'The certificate is copied.';
+  } catch {
+    getSelection().selectAllChildren(at('text'));
+    at('copied').textContent = 'The certificate is marked: copy it by the keyboard.';
+  }
+  at('copy').textContent = getSelection().isCollapsed ? 'Copied' : 'Marked';
+  setTimeout(() => { at('copy').textContent = 'Copy'; }, 1600);
+}
+
+function judge_it() {
+  at('answer').value = at('text').textContent;
+  document.querySelector('input[value=judge]').checked = true;
+  show_examples();
+  return run();
+}
+
+function listen() {
+  let waiting;
+  for (const field of FIELDS) at(field).addEventListener('input', () => { clearTimeout(waiting); waiting = setTimeout(run, PAUSE); });
+  document.querySelectorAll('input[name=mode]').forEach(input => input.addEventListener('change', () => { show_examples(); take_example(); }));
+  at('example').addEventListener('change', take_example);
+  at('aborted').addEventListener('change', () => shown && write_case(states_shown()));
+  at('waiting').addEventListener('click', () => shown && write_case(shown.steps.map(() => 'waiting')));
+  at('copy').addEventListener('click', copy);
+  at('judge').addEventListener('click', judge_it);
+  at('picture').addEventListener('click', event => {
+    const node = event.target.closest('.node');
+    if (node) next_state(Number(node.dataset.step));
+  });
+  at('picture').addEventListener('keydown', event => {
+    const node = event.target.closest('.node');
+    if (node && (event.key === 'Enter' || event.key === ' ')) { event.preventDefault(); next_state(Number(node.dataset.step)); }
+  });
+}
+
+// A call from base64 to base64, for tests.
+async function call_by_letters(name, texts, spans) {
+  const reply = await call(name, texts.map(word => Uint8Array.from(atob(word), letter => letter.charCodeAt(0))), spans);
+  let letters = '';
+  for (let i = 0; i < reply.bytes.length; i += 8192) letters += String.fromCharCode(...reply.bytes.subarray(i, i + 8192));
+  return [reply.status, btoa(letters), reply.error || ''];
+}
+
+async function begin() {
+  document.body.dataset.mode = mode();
+  show_examples();
+  try {
+    await load();
+  } catch (error) {
+    document.body.dataset.rounds = '0';
+    return tell('bad', 'This browser cannot run the page', String(error),
+      'The page needs WebAssembly with a memory of 64 bits: Chrome or Edge 133, Firefox 134, or later. Or use the program: ./sagas plan.');
+  }
+  listen();
+  return take_example();
+}
+
+window.sagas = { ready: begin(), call: call_by_letters };
