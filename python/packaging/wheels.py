@@ -1,0 +1,120 @@
+"""Builds the wheel and the source archive of this package, with nothing but the standard library (PEP 517, PEP 660).
+
+The wheel carries the released program and library: `sagas` and `libsagas.so` of the checkout's `dist/`, or of `src/sagas/bin/` in an unpacked
+source archive."""
+
+from __future__ import annotations
+
+import base64
+import hashlib
+import io
+import pathlib
+import tarfile
+import tomllib
+import zipfile
+from collections.abc import Iterator
+from typing import Any
+
+HERE = pathlib.Path(__file__).resolve().parent.parent
+SOURCE = HERE / "src" / "sagas"
+CARRIED = ("sagas", "libsagas.so")
+TAG = "py3-none-manylinux_2_34_x86_64"
+TIME = (2020, 1, 1, 0, 0, 0)
+
+
+def project() -> dict[str, Any]:
+    told: dict[str, Any] = tomllib.loads((HERE / "pyproject.toml").read_text())["project"]
+    return told
+
+
+def carried() -> Iterator[tuple[str, bytes]]:
+    """The released program and library, each with its path in the package."""
+    for name in CARRIED:
+        places = (SOURCE / "bin" / name, HERE.parent / "dist" / name)
+        found = next((place for place in places if place.is_file()), None)
+        if found is None:
+            raise FileNotFoundError(f"{name} is not there: {places[1]}. Build from a whole checkout, or from the source archive")
+        yield f"sagas/bin/{name}", found.read_bytes()
+
+
+def sources() -> Iterator[tuple[str, bytes]]:
+    for path in sorted(SOURCE.rglob("*")):
+        if path.is_file() and path.suffix in (".py", ".typed", ".html", ".css", ".js", ".svg"):
+            yield path.relative_to(HERE / "src").as_posix(), path.read_bytes()
+
+
+def metadata() -> str:
+    told = project()
+    lines = ["Metadata-Version: 2.1", f"Name: {told['name']}", f"Version: {told['version']}", f"Summary: {told['description']}"]
+    lines += [f"Requires-Python: {told['requires-python']}", *(f"Classifier: {word}" for word in told["classifiers"])]
+    for extra, wanted in told["optional-dependencies"].items():
+        lines += [f"Provides-Extra: {extra}", *(f'Requires-Dist: {one}; extra == "{extra}"' for one in wanted)]
+    return "\n".join([*lines, "Description-Content-Type: text/markdown", "", (HERE / told["readme"]).read_text()])
+
+
+def info() -> dict[str, str]:
+    scripts = "\n".join(f"{name} = {place}" for name, place in project()["scripts"].items())
+    return {
+        "METADATA": metadata(),
+        "WHEEL": f"Wheel-Version: 1.0\nGenerator: wheels\nRoot-Is-Purelib: false\nTag: {TAG}\n",
+        "entry_points.txt": f"[console_scripts]\n{scripts}\n",
+        "top_level.txt": "sagas\n",
+    }
+
+
+def named() -> str:
+    return f"{project()['name']}-{project()['version']}"
+
+
+class Wheel:
+    """A zip whose last file has the digests of the others. The same sources give the same bytes."""
+
+    def __init__(self, folder: str) -> None:
+        self.name = f"{named()}-{TAG}.whl"
+        self._zip = zipfile.ZipFile(pathlib.Path(folder) / self.name, "w", zipfile.ZIP_DEFLATED)
+        self._record = ""
+
+    def add(self, name: str, data: bytes, mode: int = 0o644) -> None:
+        entry = zipfile.ZipInfo(name, TIME)
+        entry.external_attr, entry.compress_type = (0o100000 | mode) << 16, zipfile.ZIP_DEFLATED
+        self._zip.writestr(entry, data)
+        digest = base64.urlsafe_b64encode(hashlib.sha256(data).digest()).rstrip(b"=").decode()
+        self._record += f"{name},sha256={digest},{len(data)}\n"
+
+    def end(self) -> str:
+        for name, text in info().items():
+            self.add(f"{named()}.dist-info/{name}", text.encode())
+        record = f"{named()}.dist-info/RECORD"
+        self._zip.writestr(zipfile.ZipInfo(record, TIME), self._record + f"{record},,\n")
+        self._zip.close()
+        return self.name
+
+
+def build_wheel(wheel_directory: str, config_settings: Any = None, metadata_directory: str | None = None) -> str:
+    wheel = Wheel(wheel_directory)
+    for name, data in sources():
+        wheel.add(name, data)
+    for name, data in carried():
+        wheel.add(name, data, 0o755)
+    return wheel.end()
+
+
+def build_editable(wheel_directory: str, config_settings: Any = None, metadata_directory: str | None = None) -> str:
+    wheel = Wheel(wheel_directory)
+    wheel.add("__editable__.sagas.pth", f"{HERE / 'src'}\n".encode())
+    return wheel.end()
+
+
+def build_sdist(sdist_directory: str, config_settings: Any = None) -> str:
+    name = f"{named()}.tar.gz"
+    with tarfile.open(pathlib.Path(sdist_directory) / name, "w:gz", format=tarfile.PAX_FORMAT) as archive:
+        for path, data in [
+            *((f"src/{path}", data) for path, data in sources()),
+            *((path, (HERE / path).read_bytes()) for path in ("pyproject.toml", "README.md", "packaging/wheels.py")),
+            *((f"src/{path}", data) for path, data in carried()),
+            ("PKG-INFO", metadata().encode()),
+        ]:
+            entry = tarfile.TarInfo(f"{named()}/{path}")
+            entry.size, entry.mode = len(data), 0o755 if path.startswith("src/sagas/bin/") else 0o644
+            archive.addfile(entry, io.BytesIO(data))
+    return name

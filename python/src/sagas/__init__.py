@@ -1,0 +1,143 @@
+"""Sagas that the program `sagas drive` decides, that your functions do, and that one database remembers.
+
+    order = sagas.Saga("order")
+
+    @order.step
+    def charge(task): ...                  # what it returns is kept, as JSON; raising says that it had no effect
+
+    @charge.compensation
+    def refund(task): ...                  # undoes it: what it returned is `task.result`
+
+    @order.step(needs=[charge])
+    def send(task): ...
+
+    with sagas.open_sync("orders.db", [order]) as store:            # or: async with sagas.open(..)
+        end = store.start(order, "order-1", {"amount": 40}).wait()  # an End: it does not raise; look at end.ok
+
+Each step is done, or undone where that costs least; whatever becomes of the program in between.
+
+- To declare: `Saga`, with `step`, `wait` and `approval`; `Step.compensation`, `Backoff`, `NEVER`.
+- In a function: `Task` (its `effect_token` is the idempotency key), `Fail`, `Unknown`.
+- To run: `open`, `open_sync`; `Store`, with `start`, `wait`, `abort`, `finish`, `list`, `stuck`, `unknown`, `resolve`; `Run`, `End`, `Plan`.
+- To test: `sagas.testing.run`.
+- On other machines: `Client`, `Worker`, `sagas.celery`. Without a store: `plan`, `check`, `audit`.
+
+The package's README.md has the rest; the modules below that are not named here are its inside.
+"""
+
+import importlib
+from typing import TYPE_CHECKING, Any
+
+from . import databases
+from .definition import NEVER, Backoff, Price, Saga, Step
+from .elsewhere import Leased, Queue
+from .errors import (
+    ChildError,
+    Closed,
+    DefinitionError,
+    Fail,
+    KeyConflict,
+    LeaseLost,
+    MissingHandler,
+    NoSuchSaga,
+    NoSuchTask,
+    NotHere,
+    NotJson,
+    NotWaiting,
+    ReportedOtherwise,
+    SagasError,
+    StoreFault,
+    StoreLocked,
+    StoreNewer,
+    StoreUnwritable,
+    Unknown,
+    WrongStore,
+)
+from .events import Event
+from .library import BadText, Verdict, audit, check, plan
+from .opening import open, open_sync
+from .plans import Choice, Plan
+from .runs import End, Held, LogEvent, Run, Summary
+from .store import Store
+from .sync import SyncRun, SyncStore
+from .task import Task
+from .worker import ServiceRefused, Worker
+
+__version__ = "0.3.0"
+
+if TYPE_CHECKING:
+    from . import celery as celery, looks as looks, testing as testing
+    from .client import Client, ClientRun
+    from .client_sync import SyncClient, SyncClientRun
+
+MODULES = ("celery", "looks", "testing")
+LATER = {"Client": "client", "ClientRun": "client", "SyncClient": "client_sync", "SyncClientRun": "client_sync"}
+
+
+def __getattr__(name: str) -> Any:
+    """Modules of their own, and what needs psycopg, are loaded when they are asked for: a store in a file does without."""
+    if name in MODULES:
+        return importlib.import_module(f".{name}", __name__)
+    if name not in LATER:
+        raise AttributeError(f"module {__name__!r} has no attribute {name!r}")
+    try:
+        module = importlib.import_module(f".{LATER[name]}", __name__)
+    except ImportError as error:
+        raise databases.missing(error) from error
+    return getattr(module, name)
+
+
+__all__ = [
+    "NEVER",
+    "Backoff",
+    "BadText",
+    "ChildError",
+    "Choice",
+    "Client",
+    "ClientRun",
+    "Closed",
+    "DefinitionError",
+    "End",
+    "Event",
+    "Fail",
+    "Held",
+    "KeyConflict",
+    "LeaseLost",
+    "Leased",
+    "LogEvent",
+    "MissingHandler",
+    "NoSuchSaga",
+    "NoSuchTask",
+    "NotHere",
+    "NotJson",
+    "NotWaiting",
+    "Plan",
+    "Price",
+    "Queue",
+    "ReportedOtherwise",
+    "Run",
+    "Saga",
+    "SagasError",
+    "ServiceRefused",
+    "Step",
+    "Store",
+    "StoreFault",
+    "StoreLocked",
+    "StoreNewer",
+    "StoreUnwritable",
+    "Summary",
+    "SyncClient",
+    "SyncClientRun",
+    "SyncRun",
+    "SyncStore",
+    "Task",
+    "Unknown",
+    "Verdict",
+    "Worker",
+    "WrongStore",
+    "audit",
+    "check",
+    "open",
+    "open_sync",
+    "plan",
+]

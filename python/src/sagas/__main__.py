@@ -1,0 +1,7 @@
+"""`python -m sagas`."""
+
+import sys
+
+from .cli import main
+
+sys.exit(main())

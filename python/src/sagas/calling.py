@@ -1,0 +1,142 @@
+"""Calls a step's function, and says which of the outcomes that was."""
+
+from __future__ import annotations
+
+import asyncio
+import functools
+import inspect
+import json
+import logging
+import os
+import traceback
+from collections.abc import Callable
+from concurrent.futures import Executor
+from typing import Any, NamedTuple
+
+from . import values
+from .definition import Manner
+from .errors import Fail, NotJson, Unknown
+from .task import Task
+
+logger = logging.getLogger("sagas")
+MOST_TEXT = 4000
+
+
+class Outcome(NamedTuple):
+    """`kind` is `done`, `failed`, `final` (failed, and no further try is made) or `unknown`; `value` is JSON: the result, or what was raised.
+
+    `called`: whether the function was called, or the try was given up. `error`: what it raised here, for the log's traceback; not of a `Fail`."""
+
+    kind: str
+    value: str
+    called: bool = True
+    error: BaseException | None = None
+
+
+def failure(text: str, final: bool = False, called: bool = True) -> Outcome:
+    """A failure by its text. `called` is false where a try was given up without a call."""
+    told: dict[str, Any] = {"error": text[:MOST_TEXT]}
+    if final:
+        told["final"] = True
+    if not called:
+        told["called"] = False
+    return Outcome("final" if final else "failed", json.dumps(told), called)
+
+
+def done(value: Any, task: Task[Any] | None = None) -> Outcome:
+    """The function returned. A result that is not JSON is kept as `{"unstorable": ..}`: the effect is there, and is not to be lost."""
+    try:
+        return Outcome("done", values.write(value))
+    except NotJson as error:
+        whose = f" key={task.key} saga={task.saga} step={task.step}" if task else ""
+        logger.warning("result_unstorable%s detail=%s", whose, error)
+        return Outcome("done", json.dumps({"unstorable": str(error)[:MOST_TEXT]}))
+
+
+def raised(error: BaseException, manner: Manner) -> Outcome:
+    """The function raised: it had no effect, or nobody knows."""
+    text = "".join(traceback.format_exception_only(type(error), error)).strip()
+    if isinstance(error, Fail):
+        return failure(text, final=True)
+    if isinstance(error, (Unknown, *manner.unknown)) or not isinstance(error, Exception):  # sys.exit() in the middle, say
+        return Outcome("unknown", text[:MOST_TEXT])
+    return failure(text)._replace(error=error)
+
+
+is_async = functools.lru_cache(maxsize=4096)(inspect.iscoroutinefunction)
+
+
+async def call(manner: Manner, task: Task[Any], executor: Executor | None, late: Callable[[], object] | None = None) -> Outcome | None:
+    """Calls the function, async ones here, plain ones in the executor. None: it was cancelled from outside, and nobody knows what it did.
+
+    `late` is called where a thread takes longer than its time: it is waited for, since it cannot be stopped."""
+    function = manner.function
+    assert function
+    try:
+        if not is_async(function):
+            return await _in_thread(function, manner, task, executor, late)
+        if manner.timeout is None:
+            return done(await function(task), task)
+        return await _in_time(function, manner.timeout, task, manner)
+    except BaseException as error:
+        return interrupted(error, manner)
+
+
+def interrupted(error: BaseException, manner: Manner) -> Outcome | None:
+    """As `raised`; None where it was cancelled from outside, and nobody knows what it did."""
+    if isinstance(error, asyncio.CancelledError):
+        current = asyncio.current_task()
+        if current and current.cancelling():
+            return None
+    return raised(error, manner)
+
+
+async def call_alone(about: object, manner: Manner, task: Task[Any], executor: Executor | None, late: Callable[[], object] | None) -> Outcome | None:
+    """As `call`; it is known of nothing else."""
+    return await call(manner, task, executor, late)
+
+
+async def _in_time(function: Callable[[Task[Any]], Any], timeout: float, task: Task[Any], manner: Manner) -> Outcome:
+    scope = asyncio.timeout(timeout)
+    try:
+        async with scope:
+            value = await function(task)
+    except TimeoutError as error:
+        return Outcome("unknown", f"took longer than {timeout} s") if scope.expired() else raised(error, manner)
+    return done(value, task)
+
+
+def _guarded(function: Callable[[Task[Any]], Any], task: Task[Any]) -> tuple[Any, BaseException | None]:
+    pid = os.getpid()
+    try:
+        return function(task), None
+    except BaseException as error:  # a future would not take each of them
+        return None, error
+    finally:
+        if os.getpid() != pid:  # it forked, and its child came back here: that has no store and no loop
+            os._exit(70)
+
+
+async def _in_thread(
+    function: Callable[[Task[Any]], Any], manner: Manner, task: Task[Any], executor: Executor | None, late: Callable[[], object] | None
+) -> Outcome:
+    loop = asyncio.get_running_loop()
+    overdue = False
+
+    def over() -> None:
+        nonlocal overdue
+        overdue = True
+        if late:
+            late()
+
+    timer = loop.call_later(manner.timeout, over) if manner.timeout is not None else None
+    try:
+        value, error = await loop.run_in_executor(executor, _guarded, function, task)
+    finally:
+        if timer:
+            timer.cancel()
+    if error is None:
+        return done(await value if inspect.isawaitable(value) else value, task)
+    if overdue and not isinstance(error, Fail):
+        return Outcome("unknown", f"took longer than {manner.timeout} s, then raised {type(error).__name__}: {error}"[:MOST_TEXT])
+    return raised(error, manner)

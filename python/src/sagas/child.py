@@ -1,0 +1,164 @@
+"""`sagas drive` as a child that keeps nothing: lines to it, lines from it, without waiting."""
+
+from __future__ import annotations
+
+import asyncio
+import contextlib
+import fcntl
+import os
+import subprocess
+from collections.abc import Callable, Sequence
+from . import lines
+from .errors import ChildError
+from .forks import private
+from .program import memory_file
+
+PIPE = 1 << 20  # bytes
+Reply = str
+Answered = Callable[[list[Reply], str], None]
+"""What is called with the replies to a batch, and the lines of the log that they came to."""
+
+
+class Child:
+    """One process that drives one log, one batch of requests at a time.
+
+    `text` is the log so far, without its header. `on_died` is called once, with the process's last words, if it ends by itself."""
+
+    def __init__(self, program: str, definitions: Sequence[str], text: str, on_died: Callable[[Child, str], None]) -> None:
+        self._loop = asyncio.get_running_loop()
+        self._on_died = on_died
+        self._answered: Answered | None = None
+        self._expected = 0
+        self._came: list[bytes] = []
+        self._last = b"\n"  # the last byte that came
+        self._replies = 0  # that came
+        self._out = b""
+        self._writing = self.dead = False
+        self._start(program, definitions, text)
+
+    def _start(self, program: str, definitions: Sequence[str], text: str) -> None:
+        files: list[int] = []
+        self._words = os.memfd_create("words", os.MFD_CLOEXEC)
+        try:
+            files += [memory_file("definition", definition) for definition in definitions]
+            words = [f"/proc/self/fd/{fd}" for fd in files]
+            if text:
+                files.append(memory_file("log", lines.HEADER + text))
+                words = ["--from", f"/proc/self/fd/{files[-1]}", *words]
+            self.process = subprocess.Popen(
+                [program, "drive", "--lines", *words], stdin=subprocess.PIPE, stdout=subprocess.PIPE, stderr=self._words, bufsize=0,
+                pass_fds=files, start_new_session=True,
+            )  # fmt: skip
+        except OSError as error:
+            os.close(self._words)
+            raise ChildError(f"{program}: it cannot be started: {error.strerror}") from error
+        finally:
+            for fd in files:
+                os.close(fd)
+        assert self.process.stdin and self.process.stdout
+        self._to, self._back = self.process.stdin.fileno(), self.process.stdout.fileno()
+        for fd in (self._to, self._back):
+            private.add(fd)
+            os.set_blocking(fd, False)
+            with contextlib.suppress(OSError):  # a user has so many pages of pipes, and no more
+                fcntl.fcntl(fd, fcntl.F_SETPIPE_SZ, PIPE)
+        self._loop.add_reader(self._back, self._readable)
+
+    @property
+    def asked(self) -> bool:
+        """Whether a batch is on its way."""
+        return self._expected > 0
+
+    def ask(self, requests: Sequence[str], answered: Answered) -> None:
+        """Sends a batch; `answered` is called with a reply for each request, in order, and the lines of the log."""
+        assert not self._expected
+        self._expected, self._answered = len(requests), answered
+        self._out += ("\n".join(requests) + "\n").encode()
+        self._write()
+
+    def _write(self) -> None:
+        try:
+            while self._out:
+                self._out = self._out[os.write(self._to, self._out) :]
+        except BlockingIOError:
+            if not self._writing:
+                self._writing = True
+                self._loop.add_writer(self._to, self._write)
+            return
+        except OSError:
+            self._loop.call_soon(self._die)
+            return
+        if self._writing:
+            self._writing = False
+            self._loop.remove_writer(self._to)
+
+    def _readable(self) -> None:
+        try:
+            data = os.read(self._back, PIPE)
+        except BlockingIOError:
+            return
+        except OSError:
+            data = b""
+        if not data:
+            self._die()
+            return
+        self._came.append(data)
+        self._replies += data.count(b"\n") - (self._last + data).count(b"\n+")  # a line of the log stands behind a plus
+        self._last = data[-1:]
+        if self._expected and self._replies >= self._expected:
+            told, self._came, self._replies, self._expected = b"".join(self._came), [], 0, 0
+            answered, self._answered = self._answered, None
+            assert answered
+            answered(*parted(told.decode()))
+
+    def _die(self) -> None:
+        if not self.dead:
+            self.stop()
+            self.process.wait()  # its output ended, so it is about to
+            self._on_died(self, self._said() or f"ended with status {self.process.returncode}")
+
+    def _said(self) -> str:
+        """Its last words."""
+        end = os.pread(self._words, 4096, max(0, os.fstat(self._words).st_size - 4096))
+        said = [line for line in end.decode(errors="replace").splitlines() if line.strip()]
+        return said[-1] if said else ""
+
+    def stop(self) -> None:
+        """Throws the process away."""
+        if self.dead:
+            return
+        self.dead = True
+        self._loop.remove_reader(self._back)
+        if self._writing:
+            self._loop.remove_writer(self._to)
+        self.process.kill()
+        assert self.process.stdin and self.process.stdout
+        for pipe in (self.process.stdin, self.process.stdout):
+            private.discard(pipe.fileno())
+            pipe.close()
+        self._loop.call_soon(self._bury)
+
+    def _bury(self) -> None:
+        """Takes its status, once it is there: the loop does not stand still for it."""
+        if self.process.poll() is None:
+            end = os.pidfd_open(self.process.pid)
+            self._loop.add_reader(end, self._buried, end)
+        else:
+            os.close(self._words)
+
+    def _buried(self, end: int) -> None:
+        self._loop.remove_reader(end)
+        os.close(end)
+        self.process.wait()
+        os.close(self._words)
+
+
+def parted(told: str) -> tuple[list[Reply], str]:
+    """The replies, and the lines of the log that stand before them, without the header."""
+    replies, text = [], []
+    for line in told.split("\n")[:-1]:
+        if line.startswith("+"):
+            text.append(f"{line[1:]}\n")
+        else:
+            replies.append(line)
+    return replies, "".join(text).removeprefix(lines.HEADER)

@@ -1,0 +1,50 @@
+"""How many children there are at once: logs take them in turn."""
+
+from __future__ import annotations
+
+from typing import TYPE_CHECKING
+
+if TYPE_CHECKING:
+    from .pump import Pump
+
+
+class Children:
+    """At most `most` logs have a child. Who wants one gets it when another rests, or has had it for its turn."""
+
+    def __init__(self, most: int) -> None:
+        self.most = most
+        self._up: dict[Pump, None] = {}
+        self._waiting: dict[Pump, None] = {}
+
+    @property
+    def wanted(self) -> bool:
+        """Whether somebody waits for a child."""
+        return bool(self._waiting)
+
+    def want(self, pump: Pump) -> None:
+        """Calls `pump.granted` once it may have a child."""
+        if pump in self._up:
+            pump.granted()
+        else:
+            self._waiting[pump] = None
+            self.turn()
+
+    def gone(self, pump: Pump) -> None:
+        """Its child is gone, or it wants none any more."""
+        self._waiting.pop(pump, None)
+        if self._up.pop(pump, pump) is None:
+            self.turn()
+
+    def turn(self) -> None:
+        """Takes children from who rests, for who waits."""
+        for pump in list(self._up) if self._waiting and len(self._up) >= self.most else ():
+            if len(self._up) < self.most:
+                break
+            if pump.rests():
+                self._up.pop(pump)
+                pump.sleep()
+        while self._waiting and len(self._up) < self.most:
+            pump = next(iter(self._waiting))
+            del self._waiting[pump]
+            self._up[pump] = None
+            pump.granted()

@@ -1,0 +1,226 @@
+"""A client of a store in PostgreSQL: it starts sagas and asks about them, and drives none. It has no child, no log and no lease."""
+
+from __future__ import annotations
+
+import builtins
+import json
+from types import TracebackType
+from typing import TYPE_CHECKING, Any
+
+import psycopg
+
+from . import histories, links, moving, news, postgresql, postgresql_schema, requests, values
+from .calling import Outcome, failure
+from .definition import Saga, Step
+from .errors import Closed, NoSuchSaga, NotJson, NotWaiting, StoreFault
+from .kinds import Kind, version_of
+from .records import SagaRow
+from .runs import End, Summary
+from .schema import ROOM
+
+if TYPE_CHECKING:
+    from .links import Row
+
+MOST_KEY = 512
+Connection = psycopg.AsyncConnection[Any]
+
+START = """
+WITH given AS (SELECT %(key)s::text AS key, %(saga)s::text AS saga, %(version)s::integer AS version, %(input)s::text AS input),
+told AS (SELECT pg_notify('sagas', 'starts'))
+INSERT INTO sagas.inbox(key, saga, version, input, at) SELECT key, saga, version, input, extract(epoch FROM clock_timestamp()) FROM given, told
+ON CONFLICT (key) DO NOTHING RETURNING id
+"""
+THERE = """
+SELECT saga, input FROM sagas.sagas WHERE key = %(key)s
+UNION ALL SELECT saga, input FROM sagas.inbox WHERE key = %(key)s AND id <> ALL(%(own)s::bigint[])
+"""
+BACK = "DELETE FROM sagas.inbox WHERE id = ANY(%(own)s::bigint[])"
+
+
+def check_key(key: str) -> None:
+    """Raises `NotJson` where it is no key."""
+    if not isinstance(key, str) or not 0 < len(key) <= MOST_KEY or not key.isprintable():
+        raise NotJson(f"key={key!r}: a key is a text of 1 to {MOST_KEY} printable characters")
+
+
+def start_words(saga: Saga, key: str, input: Any) -> dict[str, Any]:
+    """What a start writes."""
+    check_key(key)
+    return {"key": key, "saga": saga.name, "version": saga.version, "input": values.write(input)}
+
+
+def check_same(words: dict[str, Any], rows: builtins.list[Row]) -> None:
+    """Raises `KeyConflict` where another saga or input has the key."""
+    for saga, text in rows:
+        error = moving.conflict(words["key"], words["saga"], words["input"], saga, text)
+        if error:
+            raise error
+
+
+class ClientRun:
+    """A saga that a client started, or found by its key."""
+
+    def __init__(self, client: Client, key: str, words: dict[str, Any] | None = None) -> None:
+        self._client, self.key, self._words = client, key, words
+
+    async def wait(self) -> End:
+        """Waits for its end. Raises `KeyConflict` where a node had begun the key with another input in the very moment of the start."""
+        return await self._client._wait(self.key, self._words)
+
+    async def abort(self) -> bool:
+        """As `Client.abort`."""
+        return await self._client.abort(self.key)
+
+    async def finish(self, step: Step[Any] | str, result: Any = None, *, failed: str | None = None, undo: bool = False) -> None:
+        """As `Client.finish`."""
+        await self._client.finish(self.key, step, result, failed=failed, undo=undo)
+
+    def __repr__(self) -> str:
+        return f"<run {self.key!r}>"
+
+
+class Client:
+    """`async with sagas.Client("postgresql://..") as client`. All calls are for the event loop in which it was opened."""
+
+    def __init__(self, url: str, *, connections: int = 4) -> None:
+        """`connections`: how many statements are under way at once; one more connection listens."""
+        self._url, self.path = url, links.named(url)
+        self._asker = links.Asker(url, self.path, connections)
+        self._news: news.News | None = None
+        self._kinds: dict[str, Kind] = {}
+        self._sagas: dict[tuple[str, int], Saga] = {}
+
+    async def __aenter__(self) -> Client:
+        """Connects. Raises `StoreUnwritable`, `StoreNewer`, and `StoreFault` where there are no tables: a node makes them, or `sagas store URL init`."""
+        await self._asker.open()
+        try:
+            version = (await self._asker.read("SELECT to_regclass('sagas.store') IS NOT NULL"))[0][0] and (await self._asker.read("SELECT version FROM sagas.store"))[0][0]
+            postgresql_schema.check(version, self.path)
+            if not version:
+                raise StoreFault(f"{self.path}: the store has no tables yet: a node makes them, or `sagas store URL init`")
+            if version < postgresql_schema.VERSION:
+                raise StoreFault(f"{self.path}: its tables are of version {version}: open it by a node, or run `sagas store URL migrate`")
+        except BaseException:
+            await self._asker.close()
+            raise
+        self._news = news.News(self._url, lambda what: None)
+        return self
+
+    async def __aexit__(self, kind: type[BaseException] | None, error: BaseException | None, trace: TracebackType | None) -> None:
+        await self.close()
+
+    async def close(self) -> None:
+        """Ends its connections."""
+        heard, self._news = self._news, None
+        if heard:
+            await heard.close()
+            await self._asker.close()
+
+    @property
+    def _heard(self) -> news.News:
+        if self._news is None:
+            raise Closed(f"{self.path}: the client is not open: use `async with sagas.Client(..) as client`")
+        return self._news
+
+    # -- sagas
+
+    async def start(self, saga: Saga, key: str, input: Any = None, *, connection: Connection | None = None) -> ClientRun:
+        """Starts a saga, or gives the one that this key has. When it returns, some node goes on with it, whatever becomes of this program.
+
+        With `connection`, a psycopg connection to the same database, it is written in the transaction that is open there: the saga is there
+        exactly if that commits. A second start of the key waits until it has. Raises `KeyConflict`, `NotJson`, `StoreUnwritable`, `Closed`."""
+        self._heard
+        words = start_words(saga, key, input)
+        self._sagas[saga.name, saga.version] = saga
+        with links.faults(self.path):
+            if connection is not None:
+                await _start(connection, words)
+            else:
+                async with self._asker.pool.connection() as link, link.transaction():
+                    await _start(link, words)
+        return ClientRun(self, key, words)
+
+    async def wait(self, key: str) -> End:
+        """Waits for a saga's end. Raises `NoSuchSaga`, `Closed`."""
+        return await self._wait(key, None)
+
+    async def _wait(self, key: str, words: dict[str, Any] | None) -> End:
+        turn, before = 0, None
+        while True:
+            row = await moving.surely(lambda: self._row(key))
+            if words:
+                check_same(words, [(row.saga, row.input)])
+            if row.phase is not None:
+                return await self._end(row)
+            turn, before = (turn + 1 if row.id == before else 0), row.id
+            await self._heard.of(row.id, turn)
+
+    async def abort(self, key: str) -> bool:
+        """No step of it begins any more. False where it is over or was aborted before. Waits until the saga's node has said so. Raises `NoSuchSaga`."""
+        if (await self._row(key)).phase is not None:
+            return False
+        return bool(requests.told(await postgresql.ask(self._asker, self._heard, key, "abort", "null", None)))
+
+    async def finish(self, key: str, step: Step[Any] | str, result: Any = None, *, failed: str | None = None, undo: bool = False) -> None:
+        """As `Store.finish`. Raises `NotWaiting`, `NoSuchSaga`, `NotJson`."""
+        outcome = Outcome("done", values.write(result)) if failed is None else failure(failed, final=True)
+        if (await self._row(key)).phase is not None:
+            raise NotWaiting(f"saga {key!r} is over")
+        told = requests.finish_of(step if isinstance(step, str) else step.name, "undo" if undo else "run", outcome)
+        requests.told(await postgresql.ask(self._asker, self._heard, key, "finish", values.write(told), None))
+
+    # -- questions
+
+    async def get(self, key: str) -> ClientRun | None:
+        """The saga with this key, if there is one."""
+        return ClientRun(self, key) if await self._find(key) else None
+
+    async def list(self, *, phase: str | None = None, saga: Saga | str | None = None, after: int | None = None, most: int = 100) -> builtins.list[Summary]:
+        """As `Store.list`; what no log has taken yet is not in it."""
+        query, given = histories.list_query(phase, saga.name if isinstance(saga, Saga) else saga, after, most)
+        words = {f"w{number}": word for number, word in enumerate(given)}
+        for name in words:
+            query = query.replace("?", f"%({name})s", 1)
+        return [histories.summary(SagaRow(*row)) for row in await self._ask(query, **words)]
+
+    async def _ask(self, query: str, **words: Any) -> builtins.list[Row]:
+        self._heard
+        return await self._asker.read(query, **words)
+
+    async def _find(self, key: str) -> SagaRow | None:
+        rows = [SagaRow(*row) for row in await self._ask(postgresql.FIND, keys=[key])]
+        return max(rows, key=lambda row: row.id) if rows else None
+
+    async def _row(self, key: str) -> SagaRow:
+        row = await self._find(key)
+        if row is None:
+            raise NoSuchSaga(f"no saga has the key {key!r}")
+        return row
+
+    async def _end(self, row: SagaRow) -> End:
+        asked = f"SELECT texts, def FROM sagas JOIN logs ON log = id / {ROOM} JOIN shelves USING (shelf) WHERE id = %(id)s"
+        ((texts, place),) = await self._ask(asked, id=row.id)
+        text = json.loads(texts)[place]
+        kind = self._kinds.get(text) or Kind(text, self._sagas.get((row.saga, version_of(text))))
+        self._kinds[text] = kind
+        results = await self._ask("SELECT step, kind, attempt, outcome, value, at FROM results WHERE id = %(id)s ORDER BY at", id=row.id)
+        return histories.end_of(kind, row, results)
+
+
+async def _start(link: Connection, words: dict[str, Any]) -> None:
+    """A row, and then a look whether another has the key: in this order, so that no start of the same key can pass unseen."""
+    own = await (await link.execute(START, words)).fetchall()
+    rows = await (await link.execute(THERE, {"key": words["key"], "own": [id for (id,) in own]})).fetchall()
+    if rows and own:
+        await link.execute(BACK, {"own": [id for (id,) in own]})
+    check_same(words, rows)
+
+
+def start_now(link: psycopg.Connection[Any], words: dict[str, Any]) -> None:
+    """As `_start`, where it stands."""
+    own = link.execute(START, words).fetchall()
+    rows = link.execute(THERE, {"key": words["key"], "own": [id for (id,) in own]}).fetchall()
+    if rows and own:
+        link.execute(BACK, {"own": [id for (id,) in own]})
+    check_same(words, rows)
+

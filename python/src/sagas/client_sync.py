@@ -1,0 +1,94 @@
+"""A client for programs without async: a thread has the loop."""
+
+from __future__ import annotations
+
+import builtins
+from types import TracebackType
+from typing import Any
+
+import psycopg
+
+from . import client, links
+from .definition import Saga, Step
+from .runs import End, Summary
+from .threads import Loop
+
+
+class SyncClientRun:
+    """A saga that a client started, or found by its key."""
+
+    def __init__(self, owner: SyncClient, run: client.ClientRun) -> None:
+        self._owner, self._run, self.key = owner, run, run.key
+
+    def wait(self, timeout: float | None = None) -> End:
+        """Waits for its end, at most `timeout` seconds. Raises `TimeoutError`, `KeyConflict`, `Closed`."""
+        return self._owner._loop.do(self._run.wait(), timeout)
+
+    def abort(self) -> bool:
+        """As `Client.abort`."""
+        return self._owner._loop.do(self._run.abort())
+
+    def finish(self, step: Step[Any] | str, result: Any = None, *, failed: str | None = None, undo: bool = False) -> None:
+        """As `Client.finish`."""
+        self._owner._loop.do(self._run.finish(step, result, failed=failed, undo=undo))
+
+    def __repr__(self) -> str:
+        return f"<run {self.key!r}>"
+
+
+class SyncClient:
+    """`with sagas.SyncClient("postgresql://..") as client`. Its calls are those of `Client`, from any thread."""
+
+    def __init__(self, url: str, *, connections: int = 4) -> None:
+        self._client = client.Client(url, connections=connections)
+        self._loop = Loop(f"{self._client.path}: the client is not open: use `with sagas.SyncClient(..) as client`")
+
+    def __enter__(self) -> SyncClient:
+        self._loop.start()
+        try:
+            self._loop.do(self._client.__aenter__())
+        except BaseException:
+            self._loop.end()
+            raise
+        return self
+
+    def __exit__(self, kind: type[BaseException] | None, error: BaseException | None, trace: TracebackType | None) -> None:
+        self.close()
+
+    def close(self) -> None:
+        """Ends its connections."""
+        if self._loop.runs:
+            try:
+                self._loop.do(self._client.close())
+            finally:
+                self._loop.end()
+
+    def start(self, saga: Saga, key: str, input: Any = None, *, connection: psycopg.Connection[Any] | None = None) -> SyncClientRun:
+        """As `Client.start`; `connection` is a plain one, and is used in this thread."""
+        if connection is None:
+            return SyncClientRun(self, self._loop.do(self._client.start(saga, key, input)))
+        words = client.start_words(saga, key, input)
+        with links.faults(self._client.path):
+            client.start_now(connection, words)
+        return SyncClientRun(self, client.ClientRun(self._client, key, words))
+
+    def wait(self, key: str, timeout: float | None = None) -> End:
+        """As `Client.wait`, at most `timeout` seconds; then `TimeoutError`."""
+        return self._loop.do(self._client.wait(key), timeout)
+
+    def abort(self, key: str) -> bool:
+        """As `Client.abort`."""
+        return self._loop.do(self._client.abort(key))
+
+    def finish(self, key: str, step: Step[Any] | str, result: Any = None, *, failed: str | None = None, undo: bool = False) -> None:
+        """As `Client.finish`."""
+        self._loop.do(self._client.finish(key, step, result, failed=failed, undo=undo))
+
+    def get(self, key: str) -> SyncClientRun | None:
+        """As `Client.get`."""
+        run = self._loop.do(self._client.get(key))
+        return SyncClientRun(self, run) if run else None
+
+    def list(self, *, phase: str | None = None, saga: Saga | str | None = None, after: int | None = None, most: int = 100) -> builtins.list[Summary]:
+        """As `Client.list`."""
+        return self._loop.do(self._client.list(phase=phase, saga=saga, after=after, most=most))

@@ -1,0 +1,90 @@
+"""The operators' command over a store: `sagas store STORE ..`, also beside the programs that have it open.
+
+What only looks changes nothing. `abort` and `finish` leave a request in the store, which the program that
+has it open (or the next one that opens it) takes up; `resolve` marks a stuck saga as seen to by a person.
+"""
+
+from __future__ import annotations
+
+import argparse
+import sys
+from collections.abc import Callable
+
+from .. import nodes_command
+from ..errors import SagasError
+from ..sources import Trouble
+from ..values import clean
+from .asks import abort, finish, resolve
+from .audits import audit
+from .looks import counts, draw, export, list_sagas, show, stuck, waiting
+from .pruning import prune, words_of_prune
+from .tables import CANNOT
+from .tending import init, migrate, nodes
+
+Command = Callable[[str, argparse.Namespace], int]
+
+
+def parser() -> argparse.ArgumentParser:
+    """The words of the command."""
+    top = argparse.ArgumentParser(prog="sagas store", description="Looks after the sagas of a store, also while a program has it open.")
+    top.add_argument("path", metavar="STORE", help="the store's file, or the URL of its database")
+    parts = top.add_subparsers(dest="command", required=True, metavar="COMMAND")
+
+    def add(name: str, command: Command, key: bool = False) -> argparse.ArgumentParser:
+        told = (command.__doc__ or "").strip()
+        part = parts.add_parser(name, help=told.rstrip("."), description=told)
+        part.set_defaults(do=command)
+        part.add_argument("--json", action="store_true", help="print JSON, for programs")
+        if key:
+            part.add_argument("key", metavar="KEY", help="the saga's key")
+        return part
+
+    part = add("list", list_sagas)
+    part.add_argument("--phase", choices=["open", "ended", "stuck", "resolved"])
+    part.add_argument("--saga", metavar="NAME", help="sagas of this name alone")
+    part.add_argument("--after", metavar="KEY", help="go on behind this key")
+    part.add_argument("--most", type=int, default=100, metavar="N", help="so many at most (100; 0 for all)")
+    add("show", show, key=True)
+    add("draw", draw, key=True)
+    add("counts", counts)
+    add("stuck", stuck)
+    add("waiting", waiting)
+    part = add("abort", abort, key=True)
+    add_patience(part)
+    part = add("finish", finish, key=True)
+    part.add_argument("step", metavar="STEP", help="the step's name")
+    outcome = part.add_mutually_exclusive_group()
+    outcome.add_argument("--result", default="null", metavar="JSON", help="it is done, with this result (null)")
+    outcome.add_argument("--failed", metavar="WHY", help="it had no effect")
+    part.add_argument("--undo", action="store_true", help="the step's compensation is meant")
+    add_patience(part)
+    part = add("resolve", resolve, key=True)
+    part.add_argument("--note", required=True, metavar="TEXT", help="what was done about it")
+    add("audit", audit)
+    add("nodes", nodes)
+    add("migrate", migrate)
+    nodes_command.words_of_role(add("init", init))
+    add("export", export, key=True)
+    words_of_prune(add("prune", prune))
+    return top
+
+
+def add_patience(part: argparse.ArgumentParser) -> None:
+    """The option how long to wait for the program's answer."""
+    part.add_argument("--patience", type=float, default=5.0, metavar="SECONDS", help="wait so long for the program's answer (5)")
+
+
+def main(words: list[str] | None = None) -> int:
+    """Runs `sagas store` with the words behind it, and gives the status: 0 good, 1 no, 2 usage, 4 a file."""
+    given = parser().parse_args(words)
+    command: Command = given.do
+    try:
+        return command(given.path, given)
+    except Trouble as trouble:
+        print(f"sagas store: {clean(str(trouble))}", file=sys.stderr)
+        return trouble.status
+    except SagasError as error:
+        print(f"sagas store: {clean(str(error))}", file=sys.stderr)
+        return CANNOT
+    except BrokenPipeError:
+        return CANNOT

@@ -1,0 +1,84 @@
+"""The commands that change something: `abort` and `finish` are asked of the program that has the store, `resolve` is written."""
+
+from __future__ import annotations
+
+import argparse
+import json
+import time
+from typing import Any
+
+from .. import databases, sources
+from ..sources import Trouble
+from .tables import GOOD, NO, show_json
+from .view import Json, View, parsed
+
+
+def ask(path: str, key: str, what: str, value: Any, patience: float) -> tuple[Any, bool]:
+    """Leaves a request in the store; gives the answer of the program that has the saga, or None where none has come yet, and whether a program has the store."""
+    with sources.writing(path) as link:
+        found = link.ask("SELECT phase FROM sagas WHERE key = ?", key)
+        if not found:
+            raise link.absent(key)
+        if found[0][0] is not None:
+            raise Trouble(f"{key} is over: it is {found[0][0]}, and nothing is left to {what}")
+        row = (key, what, json.dumps(value), time.time())
+        ((number,),) = link.ask("INSERT INTO requests(key, what, value, at) VALUES(?, ?, ?, ?) RETURNING id", *row)
+        link.tell("requests")
+        driven = link.is_driven()
+        until = time.monotonic() + (patience if driven else 0.0)
+        while True:
+            rows = link.ask("SELECT answer FROM requests WHERE id = ?", number)
+            if not rows:
+                raise Trouble(f"no saga has the key {key}: it was let go")
+            ((answer,),) = rows
+            if answer is not None or time.monotonic() >= until:
+                return parsed(answer), driven
+            time.sleep(0.02)  # SQLite tells another process of a commit only when it looks
+
+
+def request(path: str, words: argparse.Namespace, what: str, value: Any, done: str, refused: str) -> int:
+    """Asks the program for something, and says what came of it."""
+    answer, driven = ask(path, words.key, what, value, words.patience)
+    if words.json:
+        show_json({"key": words.key, "asked": what, "answer": answer})
+    elif answer is None:
+        none = "a node has its log: sagas store URL nodes" if databases.is_url(path) else "the program comes to it"
+        print(f"{words.key}: asked; it is done once {none if driven else 'a program has the store open'}")
+    elif answer is True:
+        print(f"{words.key}: {done}")
+    else:
+        reason = answer["error"] if isinstance(answer, dict) else refused
+        print(f"{words.key}: {reason}")
+    return GOOD if answer is None or answer is True else NO
+
+
+def abort(path: str, words: argparse.Namespace) -> int:
+    """Aborts a saga: nothing more begins, and what costs least is undone."""
+    return request(path, words, "abort", None, "aborted", "not aborted: it is over, or was aborted before")
+
+
+def finish(path: str, words: argparse.Namespace) -> int:
+    """Says of a step that waits for a person that it is done, or has failed."""
+    value: Json = {"step": words.step, "kind": "undo" if words.undo else "run"}
+    if words.failed is not None:
+        value["failed"] = words.failed
+    else:
+        try:
+            value["result"] = json.loads(words.result)
+        except ValueError as error:
+            raise Trouble(f"--result is no JSON: {error}", 2) from error
+    return request(path, words, "finish", value, f"{words.step} is finished", "not finished")
+
+
+def resolve(path: str, words: argparse.Namespace) -> int:
+    """Marks a stuck saga as seen to by a person, with a note."""
+    with sources.writing(path) as link:
+        changed = link.changed("UPDATE sagas SET note = ? WHERE key = ? AND phase = 'stuck'", words.note, words.key)
+    if not changed:
+        with View(path) as view:
+            raise Trouble(f"{words.key} is not stuck: it is {view.saga(words.key).phase}")
+    if words.json:
+        show_json({"key": words.key, "note": words.note})
+    else:
+        print(f"{words.key}: resolved")
+    return GOOD

@@ -1,0 +1,54 @@
+"""Text for people and JSON for programs: times, tables, and how far something long has come."""
+
+from __future__ import annotations
+
+import datetime
+import json
+import sys
+from collections.abc import Sequence
+from typing import Any
+
+GOOD, NO, CANNOT = 0, 1, 4
+"""The statuses of the command; 2 is for its words."""
+
+
+def moment(at: float | None) -> str:
+    """A time as a person reads it."""
+    return "" if at is None else datetime.datetime.fromtimestamp(at).strftime("%Y-%m-%d %H:%M:%S")
+
+
+def short(value: Any, most: int = 60) -> str:
+    """A value in one line."""
+    text = "" if value is None else value if isinstance(value, str) else json.dumps(value, ensure_ascii=False)
+    text = " ".join(text.split())
+    return text if len(text) <= most else text[: most - 2] + ".."
+
+
+def table(heads: Sequence[str], rows: Sequence[Sequence[object]]) -> str:
+    """Columns, as wide as they have to be; numbers stand at the right."""
+    cells = [[str(cell) for cell in row] for row in rows]
+    widths = [max(len(row[at]) for row in [list(heads), *cells]) for at in range(len(heads))]
+    numeric = [bool(rows) and all(isinstance(row[at], int) for row in rows) for at in range(len(heads))]
+
+    def line(row: Sequence[str]) -> str:
+        parts = [cell.rjust(width) if right else cell.ljust(width) for cell, width, right in zip(row, widths, numeric)]
+        return "  ".join(parts).rstrip()
+
+    return "\n".join([line(heads), *map(line, cells)])
+
+
+def show_json(value: object) -> None:
+    """Prints a value for programs."""
+    print(json.dumps(value, indent=1, ensure_ascii=False))
+
+
+class Progress:
+    """How far something long has come, on standard error where that is a terminal."""
+
+    def __init__(self, title: str, total: int) -> None:
+        self.title, self.total, self.shown = title, total, sys.stderr.isatty()
+
+    def at(self, done: int) -> None:
+        """Says how much is done."""
+        if self.shown:
+            print(f"\r{self.title}: {done} of {self.total}", end="\n" if done == self.total else "", file=sys.stderr, flush=True)

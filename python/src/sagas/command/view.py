@@ -1,0 +1,179 @@
+"""What the operators' command reads of a store: its sagas, their steps and what is held, all of one moment."""
+
+from __future__ import annotations
+
+import json
+import tomllib
+from typing import Any, NamedTuple
+
+from .. import sources
+from ..plans import Plan
+from ..schema import ROOM
+
+Row = tuple[Any, ...]
+Json = dict[str, Any]
+
+ALL = 1 << 60
+STATES = {
+    "start_run": "running",
+    "commit": "committed",
+    "missed": "waiting",
+    "fail": "failed",
+    "start_undo": "undoing",
+    "undone": "undone",
+    "undo_missed": "committed",
+    "undo_fail": "fixed",
+}
+MISSES = ("missed", "fail", "undo_missed", "undo_fail")
+PHASE = "CASE WHEN phase IS NULL THEN 'open' WHEN phase = 'stuck' AND note IS NOT NULL THEN 'resolved' ELSE phase END"
+
+
+class SagaRow(NamedTuple):
+    """A saga as a list shows it."""
+
+    id: int
+    key: str
+    saga: str
+    phase: str
+    at: float
+    ended: float | None
+    note: str | None
+
+
+class StepRow(NamedTuple):
+    """A step of a saga: its state, and what its last outcome said."""
+
+    step: str
+    state: str
+    attempts: int
+    said: Any
+
+
+COLUMNS = f"id, key, saga, {PHASE}, at, ended, note"
+
+
+class View:
+    """A store, looked at."""
+
+    def __init__(self, path: str) -> None:
+        self.link = sources.connect(path)
+
+    def __enter__(self) -> View:
+        self.link.begin()  # all that is looked at is of one moment
+        return self
+
+    def __exit__(self, *_: object) -> None:
+        self.link.close()
+
+    def ask(self, text: str, *words: Any) -> list[Row]:
+        """The rows of a question."""
+        return self.link.ask(text, *words)
+
+    def sagas(self, where: str = "TRUE", *words: Any, most: int = ALL) -> list[SagaRow]:
+        """The sagas for which a condition holds, in the order in which they were started."""
+        rows = self.ask(f"SELECT {COLUMNS} FROM sagas WHERE {where} ORDER BY id LIMIT ?", *words, most)
+        return [SagaRow(*row) for row in rows]
+
+    def saga(self, key: str) -> SagaRow:
+        """The saga of a key."""
+        rows = self.sagas("key = ?", key)
+        if not rows:
+            raise self.link.absent(key)
+        return rows[0]
+
+    def events(self, id: int) -> list[tuple[float, Json]]:
+        """What happened in a saga, with the time of its commit."""
+        chunks = self.ask("SELECT at, text FROM lines WHERE log = ? ORDER BY first", id // ROOM)
+        events = ((at, json.loads(line)) for at, text in chunks for line in text.splitlines())
+        return [(at, event) for at, event in events if event["saga"] == id % ROOM]
+
+    def definition(self, id: int) -> str:
+        """The text of a saga's definition."""
+        asked = f"SELECT texts, def FROM sagas JOIN logs ON log = id / {ROOM} JOIN shelves USING (shelf) WHERE id = ?"
+        texts, place = self.ask(asked, id)[0]
+        return str(json.loads(texts)[place])
+
+    def end(self, id: int) -> tuple[Any, Json | None]:
+        """A saga's input, and what is kept of its end."""
+        text, end = self.ask('SELECT input, "end" FROM sagas WHERE id = ?', id)[0]
+        return json.loads(text), json.loads(end) if end else None
+
+    def results(self, id: int) -> list[Json]:
+        """How each attempt of a saga ended, in the order of time."""
+        asked = "SELECT step, kind, attempt, outcome, value, at FROM results WHERE id = ? ORDER BY at, step, kind, attempt"
+        names = step_names(self.definition(id))
+        return [
+            {"step": names[step], "kind": kind, "attempt": attempt, "outcome": outcome, "value": parsed(value), "at": at}
+            for step, kind, attempt, outcome, value, at in self.ask(asked, id)
+        ]
+
+    def held(self, where: str = "TRUE", *words: Any) -> list[Json]:
+        """What is held: waits, approvals, and outcomes that nobody knows."""
+        columns = "key, held.id, step, kind, attempt, why, count, since, until, error"
+        rows = self.ask(f"SELECT {columns} FROM held JOIN sagas USING (id) WHERE {where} ORDER BY since", *words)
+        return [
+            {
+                "key": key,
+                "step": step_names(self.definition(id))[step],
+                "kind": kind,
+                "attempt": attempt,
+                "why": why,
+                "count": count,
+                "since": since,
+                "until": until,
+                "error": error,
+            }
+            for key, id, step, kind, attempt, why, count, since, until, error in rows
+        ]
+
+
+def parsed(text: str | None) -> Any:
+    """The value of a JSON text, or None."""
+    return None if text is None else json.loads(text)
+
+
+def step_names(definition: str) -> list[str]:
+    """The names of a definition's steps."""
+    return [step["name"] for step in tomllib.loads(definition)["step"]]
+
+
+def plan_of(view: View, row: SagaRow) -> Plan | None:
+    """The last plan that a saga adopted, with what it found."""
+    definition = view.definition(row.id)
+    states, aborted, plan = ["waiting"] * len(step_names(definition)), False, None
+    for _, event in view.events(row.id):
+        word = event["event"]
+        if word in STATES:
+            states[event["step"]] = STATES[word]
+        elif word == "abort":
+            aborted = True
+        elif word == "adopt":
+            case = {"states": list(states)} | ({"aborted": True} if aborted else {})
+            plan = Plan(row.saga, row.key, definition, case, event["answer"])
+    return plan
+
+
+def was_called(result: Json) -> bool:
+    """Whether an attempt was made; one that was given up says nothing of its own."""
+    return result["outcome"] not in MISSES or bool((result["value"] or {}).get("called", True))
+
+
+def steps_of(view: View, id: int) -> list[StepRow]:
+    """The steps of a saga by its events, with what their last outcomes said."""
+    names = step_names(view.definition(id))
+    states, attempts = ["waiting"] * len(names), [0] * len(names)
+    for _, event in view.events(id):
+        word = event["event"]
+        if word in STATES:
+            states[event["step"]] = STATES[word]
+            attempts[event["step"]] += word == "start_run"
+    said: Json = {}
+    results = view.results(id)
+    for result in results:
+        if result["step"] not in said or was_called(result):
+            said[result["step"]] = result["value"]
+    actions = {result["step"]: result["value"] for result in results if result["outcome"] == "commit"}
+    return [
+        StepRow(name, state, tried, (actions if state in ("committed", "fixed") else said).get(name))
+        for name, state, tried in zip(names, states, attempts)
+    ]

@@ -1,0 +1,385 @@
+"""What drives the sagas of a store: its logs, its functions, and one writer."""
+
+from __future__ import annotations
+
+import asyncio
+import json
+import logging
+import os
+import secrets
+from collections.abc import Callable, Coroutine, Sequence
+from concurrent.futures import ThreadPoolExecutor
+
+from . import auditing, moving
+from .anywhere import Anywhere
+from .children import Children
+from .doing import Doing
+from .database import Database
+from .elsewhere import Elsewhere
+from .errors import ChildError, Closed, Lost, SagasError
+from .events import Teller
+from .kinds import Kind, Shelf
+from .live import Live
+from .pump import Pump
+from .records import Batch, LogRow
+from .reports import Reports
+
+logger = logging.getLogger("sagas")
+QUIET = 1.0
+"""Seconds that closing may wait before it says for what."""
+AGAIN = 1.0
+"""Seconds after which starts of clients that failed are taken again."""
+
+
+class Coordinator:
+    """The inside of an open store; everything here happens in its loop."""
+
+    def __init__(self, store: Database, shelf: Shelf, *, program: str, concurrency: int, threads: int, children: int, idle: float, teller: Teller, clock: Callable[[], float]) -> None:
+        self.store, self.shelf, self.program, self.idle, self.teller, self.clock = store, shelf, program, idle, teller, clock
+        self.loop = asyncio.get_running_loop()
+        self.pid = os.getpid()
+        self.threads = ThreadPoolExecutor(threads, "sagas-step")
+        self.doing = Doing(self, concurrency, self.threads)
+        self.slots = self.doing.slots
+        self.elsewhere = Elsewhere(self)
+        self.anywhere = Anywhere(self)
+        self.children = Children(children)
+        self.reports = Reports(self)
+        self.lives: dict[str, Live] = {}
+        self.pumps: dict[int, Pump] = {}
+        self.starved: dict[Pump, None] = {}
+        self.current: Pump | None = None
+        self.closed: SagasError | None = None
+        self.jobs: set[asyncio.Task[None]] = set()
+        self._queue: list[Batch] = []
+        self._writing = self._scheduled = self._feeding = False
+        self._opening: asyncio.Future[None] | None = None
+        self._loading: set[Pump] = set()
+        self._rested: asyncio.Event = asyncio.Event()
+        self._change: asyncio.Future[None] | None = None
+        self.auditing = asyncio.Semaphore(1)
+        self.ending: set[int] = set()  # logs that are settled, and not yet marked closed
+        self.listeners: list[Callable[[], None]] = []
+        self.unopened = False  # starts of clients that are this node's may not be under way
+
+    # -- opening
+
+    async def open(self) -> None:
+        """Takes up each log that is not closed. Raises `MissingHandler`, `ChildError` or what the store raises."""
+        rows = await self.store.open(self.lacks)
+        await self.reports.open(self.shelf.sagas.values())
+        self.adopt(rows)
+        self._loading = {pump for pump in self.pumps.values() if pump.state == "stale"}
+        if self._loading:
+            self._opening = self.loop.create_future()
+            for pump in list(self._loading):
+                self.children.want(pump)
+            await self._opening
+        await self.anywhere.open()
+        for pump in list(self.pumps.values()):
+            self.close_if_over(pump)
+        self._timer = self.loop.call_later(1.0, self._tick)
+
+    def adopt(self, rows: list[LogRow]) -> list[Pump]:
+        """Makes the pumps of logs that are this program's."""
+        pumps = []
+        for row in rows:
+            pump = self.pumps[row.log] = Pump(self, row.log, row.name, row.shelf, row.texts, "stale" if row.open else "asleep", row.epoch)
+            pump.opened = pump.reserved = row.opened
+            if row.shelf == self.shelf.shelf and row.opened < self.shelf.room:
+                self.current = pump
+            pumps.append(pump)
+        return pumps
+
+    def lacks(self, texts: list[str], places: list[int]) -> str | None:
+        """What this program has no function for, of the definitions at these places of a log."""
+        for place in places:
+            kind = self.shelf.kind(texts[place])
+            lacks = kind.lacks()
+            if lacks:
+                return f"sagas {kind.name!r} of version {kind.version} are not over, and {lacks}"
+        return None
+
+    # -- what the store tells
+
+    def look(self) -> None:
+        """There may be requests or starts."""
+        if not self.closed:
+            for listener in self.listeners:
+                listener()
+
+    def lapsed(self) -> None:
+        """The lease ran out meanwhile."""
+        moving.lapsed(self)
+
+    def taken(self, rows: list[LogRow]) -> None:
+        """Logs that another node had are this one's."""
+        moving.taken(self, rows)
+        self.look()
+
+    def vacant(self) -> None:
+        """Some node gave places of a step back."""
+        self.doing.fleet.look()
+
+    def logs(self) -> list[int]:
+        """The logs that this program drives, or is about to close."""
+        return [*self.pumps, *self.ending]
+
+    def lose(self, pump: Pump) -> None:
+        """A log is another node's."""
+        self._loading.discard(pump)
+        moving.lose(self, pump)
+        self._opened()
+
+    def restored(self, pump: Pump) -> None:
+        """A log was taken up."""
+        self._loading.discard(pump)
+        self._opened()
+
+    def _opened(self) -> None:
+        if not self._loading and self._opening and not self._opening.done():
+            self._opening.set_result(None)
+
+    def trouble(self, pump: Pump, error: SagasError) -> None:
+        """A log could not be taken up: at the opening that is an error, later it is tried again."""
+        self.teller.tell("child_died", detail=f"log {pump.name}: {error}")
+        self.changed()
+        if self._opening and not self._opening.done():
+            self._opening.set_exception(error if isinstance(error, ChildError) else ChildError(str(error)))
+
+    # -- one writer
+
+    def enqueue(self, batch: Batch) -> None:
+        """Goes into the next transaction."""
+        self._queue.append(batch)
+        if not self._writing and not self._scheduled:
+            self._scheduled = True
+            self.loop.call_soon(self._write)
+
+    def empty_batch(self, log: int, then: Callable[[BaseException | None], None]) -> Batch:
+        """One of no pump's."""
+        return Batch(log, self.clock(), then=then)
+
+    def _write(self) -> None:
+        self._scheduled = False
+        if self._queue and not self._writing:
+            batches, self._queue = self._queue, []
+            self._writing = True
+            self.store.commit(batches, self._written)
+
+    def _written(self, batches: Sequence[Batch], fault: BaseException | None, lost: frozenset[int]) -> None:
+        self._writing = False
+        logs = {batch.log for batch in batches} if fault else lost
+        if fault is not None:
+            self.teller.tell("commit_failed", detail=str(fault))
+        if logs:  # what stands behind these in their logs cannot be written either
+            batches = [*batches, *(batch for batch in self._queue if batch.log in logs)]
+            self._queue = [batch for batch in self._queue if batch.log not in logs]
+        if fault is None:
+            self._write()
+        for batch in batches:
+            assert batch.then
+            try:
+                batch.then(fault or (Lost(f"log {batch.log}") if batch.log in lost else None))
+            except Exception:  # a fault of this package: the others have to hear of theirs
+                logger.exception("log %d: what follows a commit", batch.log)
+        self._write()
+
+    # -- sagas
+
+    def new_live(self, key: str, text: str, kind: Kind, place: int) -> Live:
+        live = self.lives[key] = Live(key, text, kind, place)
+        return live
+
+    def place(self, live: Live) -> None:
+        """Into the newest log of the present definitions, or a new one. Where there is none its callers, who may wait in a moment, hear why."""
+        if self.closed:
+            self.loop.call_soon(self.refuse, live, self.closed)
+            return
+        pump = self.current
+        if pump is None or pump.reserved >= self.shelf.room or pump.opened >= self.shelf.room or pump.state == "closed":
+            try:
+                pump = self._new_pump()
+            except SagasError as error:
+                self.loop.call_soon(self.refuse, live, error)
+                return
+        pump.reserved += 1
+        pump.opens.append(live)
+        pump.poke()
+
+    def _new_pump(self) -> Pump:
+        before = self.current
+        name = secrets.token_hex(8)
+        number = self.store.new_log()
+        pump = self.current = self.pumps[number] = Pump(self, number, name, self.shelf.shelf, self.shelf.texts, "asleep", epoch=1)
+        pump.born = (name, self.shelf.shelf, json.dumps(self.shelf.texts))
+        if before:
+            self.loop.call_soon(self.close_if_over, before)
+        return pump
+
+    def refuse(self, live: Live, error: SagasError) -> None:
+        """It was not begun, and its callers hear why."""
+        if self.lives.get(live.key) is live:
+            del self.lives[live.key]
+        live.tell(live.starting, error)
+        live.tell(live.ending, error)
+        if live.start is not None:
+            self.doubt()
+
+    def doubt(self) -> None:
+        """Starts of clients that are this node's may not be under way: nobody else takes them, so they are looked for in a while."""
+        self.unopened = True
+        if not self.closed:
+            self.loop.call_later(AGAIN, self.look)
+
+    def ended(self, live: Live) -> None:
+        """Its end is in the store."""
+        assert live.pump
+        live.pump.live.pop(live.number, None)
+        if self.lives.get(live.key) is live:
+            del self.lives[live.key]
+        live.tell(live.ending)
+        name = "saga_ended" if live.phase == "ended" else "saga_stuck"
+        if self.teller.wants(name):
+            chain = [live.kind.names[step] for step in (live.answer or {}).get("chain", ())] if name == "saga_stuck" else []
+            self.teller.tell(name, key=live.key, saga=live.kind.name, detail=f"because of {' and '.join(chain)}" if chain else None)
+        self.rest()
+
+    def rest(self) -> None:
+        """Perhaps no saga is open any more."""
+        if not self.lives:
+            self._rested.set()
+
+    async def settled(self) -> None:
+        """Waits until no saga is open."""
+        while self.lives:
+            self._raise_if_closed()
+            self._rested.clear()
+            await self._rested.wait()
+
+    def _raise_if_closed(self) -> None:
+        if self.closed:
+            raise self.closed
+
+    # -- turns
+
+    def feed(self) -> None:
+        """There are slots again: the logs that have no more tasks taken for want of them go on."""
+        if self.starved and not self._feeding:
+            self._feeding = True
+            self.loop.call_soon(self._feed)
+
+    def _feed(self) -> None:
+        self._feeding = False
+        if self.slots.free() > 0:
+            starved, self.starved = self.starved, {}
+            for pump in starved:
+                pump.poke()
+
+    def yield_child(self, pump: Pump) -> None:
+        """It had its child for its turn, or rests; another wants one."""
+        if pump.rests():
+            pump.sleep()
+            self.children.gone(pump)
+
+    def _tick(self) -> None:
+        now = self.loop.time()
+        for pump in list(self.pumps.values()):
+            if pump.state == "up" and now - pump.used > self.idle and pump.rests() and not pump.due():
+                pump.sleep()
+                self.children.gone(pump)
+        self.children.turn()
+        self._timer = self.loop.call_later(max(0.05, min(1.0, self.idle)), self._tick)
+
+    # -- logs that are over
+
+    def close_if_over(self, pump: Pump) -> None:
+        """A settled log that takes no more sagas is audited once, and closed."""
+        full = pump.opened >= self.shelf.room
+        if pump.state not in ("up", "asleep") or pump.unwritten or pump.live or pump.opens or pump.sent or pump.reserved != pump.opened:
+            return
+        if self.closed or pump.born or (pump is self.current and not full):
+            return
+        pump.stop()
+        self.pumps.pop(pump.log, None)
+        self.ending.add(pump.log)
+        if self.current is pump:
+            self.current = None
+        self.spawn(auditing.close(self, pump))
+
+    def spawn(self, work: Coroutine[None, None, None]) -> None:
+        """Does it in the background; what it raises is logged."""
+        job = self.loop.create_task(work)
+        self.jobs.add(job)
+        job.add_done_callback(self._done)
+
+    def _done(self, job: asyncio.Task[None]) -> None:
+        self.jobs.discard(job)
+        if not job.cancelled() and job.exception():
+            logger.error("in the background: %r", job.exception(), exc_info=job.exception())
+
+    # -- closing
+
+    async def close(self, grace: float | None) -> None:
+        """Takes nothing new; running functions end and are kept, or are cancelled after `grace` seconds."""
+        if self.closed:
+            return
+        self.closed = Closed(f"{self.store.path}: the store is closed; what is not over goes on when it is opened again")
+        self.doing.closing = True
+        self.elsewhere.close()
+        self.anywhere.stop()
+        self.slots.clear()
+        for pump in self.pumps.values():
+            for live in pump.opens:
+                self.refuse(live, self.closed)
+            pump.opens.clear()
+        running = {attempt.job for attempt in self.doing.running if attempt.job}
+        late: set[asyncio.Task[None]] = set()
+        if running:
+            _, late = await asyncio.wait(running, timeout=QUIET if grace is None else min(grace, QUIET))
+            if late and (grace is None or grace > QUIET):
+                names = sorted(f"{attempt.name} of {attempt.live.key!r}" for attempt in self.doing.running if attempt.job in late)
+                logger.warning("closing waits for %d functions%s: %s", len(names), f", {grace:g} s at most" if grace else "", ", ".join(names[:8]))
+                _, late = await asyncio.wait(late, timeout=None if grace is None else grace - QUIET)
+        for job in late:
+            job.cancel()
+        await self._drain()
+        if hasattr(self, "_timer"):
+            self._timer.cancel()
+        for pump in list(self.pumps.values()):
+            pump.stop()
+            self._tell_closed(pump)
+        for job in list(self.jobs):
+            job.cancel()
+        if self.jobs:
+            await asyncio.wait(list(self.jobs))
+        for live in list(self.lives.values()):
+            self.refuse(live, self.closed)
+        self._rested.set()
+        await self.reports.close()
+        await self.anywhere.close()
+        await self.store.close()
+        self.threads.shutdown(wait=not late, cancel_futures=True)
+
+    def _tell_closed(self, pump: Pump) -> None:
+        """Who waits for an abort or for a step's end to be kept hears that it was not."""
+        assert self.closed
+        waiting = [future for _, future, _ in (*pump.aborts, *pump.aborting)]
+        waiting += [attempt.told for attempt in (*pump.reports, *pump.reporting)]
+        for future in waiting:
+            if future and not future.done():
+                future.set_exception(self.closed)
+        for live in pump.live.values():
+            for attempt in live.busy.values():
+                attempt.changed()
+
+    async def _drain(self) -> None:
+        """Waits until all outcomes are in the store, as long as it can be written."""
+        while any(pump.owes() for pump in self.pumps.values()):
+            self._change = self.loop.create_future()
+            await self._change
+
+    def changed(self) -> None:
+        """A log was written, or could not be."""
+        if self._change and not self._change.done():
+            self._change.set_result(None)

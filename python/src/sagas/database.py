@@ -1,0 +1,148 @@
+"""What a store's database has to do: `Sqlite` and `PostgreSQL` meet it, and nothing else of the package knows which of them it is.
+
+It holds keys, inputs, results, ends and the lines of each log, and it is the only truth. What one commit holds is a list of `Batch`es
+(records.py); a batch is what one log gained at once, and after its commit, and only then, functions are called and callers told.
+
+A database that is `shared` has more than one node. There each log has an owner and an epoch, which grows at each `load`; a batch whose log
+or epoch is not its writer's any more is not written, and its `then` is called with `Lost`.
+"""
+
+from __future__ import annotations
+
+from collections.abc import Callable, Sequence
+from concurrent.futures import Executor
+from typing import TYPE_CHECKING, Any, Protocol
+
+from .records import Batch, Grant, Loaded, LogRow, Request, SagaRow, Start
+
+if TYPE_CHECKING:
+    from .calling import Outcome
+    from .definition import Bounds, Manner
+    from .live import Attempt
+    from .task import Task
+
+Then = Callable[[Sequence[Batch], "BaseException | None", frozenset[int]], None]
+"""What was given to be written; None, or what kept it from being written (as far as is known); and the logs that are not this node's any more."""
+
+Drives = Callable[[list[str], list[int]], "str | None"]
+"""Of a log's definitions and of the places of those that have open sagas: None where this program has all functions, else what it lacks."""
+
+
+class Reader(Protocol):
+    """A connection that only reads. One thread at a time may use it."""
+
+    def rows(self, query: str, *words: Any) -> list[tuple[Any, ...]]:
+        """Rows of a query that SQLite and PostgreSQL both understand, with `?` for each word. Raises `StoreUnwritable`."""
+
+    def close(self) -> None:
+        """Ends it."""
+
+
+class Watcher(Protocol):
+    """Who is called, in the loop, when there may be something new."""
+
+    def look(self) -> None:
+        """There may be requests or starts."""
+
+    def lapsed(self) -> None:
+        """The lease ran out meanwhile, or another server took over: whatever this node has may be another's now, or be otherwise."""
+
+    def taken(self, rows: list[LogRow]) -> None:
+        """Logs that are this node's from now on."""
+
+    def vacant(self) -> None:
+        """Some node gave places of a step back (`Database.admit`)."""
+
+    def logs(self) -> list[int]:
+        """The logs that this node drives, as far as it knows."""
+
+
+class Database(Protocol):
+    """All calls are for the event loop in which it was opened. What cannot be read or written raises `StoreUnwritable`."""
+
+    path: str
+    """Its name in messages: the file, or the URL without its password."""
+    commits: int
+    """How many transactions were written."""
+    shared: bool
+    """Whether other nodes may have logs of it."""
+
+    # -- opening and closing
+
+    async def open(self, drives: Drives) -> list[LogRow]:
+        """Makes or migrates the tables; gives the logs that are not closed and that this program drives from now on, in order.
+
+        Raises `StoreLocked`, `StoreUnwritable`, `StoreNewer`, `StoreFault`."""
+
+    def watch(self, watcher: Watcher) -> None:
+        """Begins to call the watcher."""
+
+    async def close(self) -> None:
+        """Ends behind what was given to be written. A node's logs are free for others at once."""
+
+    # -- writing
+
+    def commit(self, batches: Sequence[Batch], then: Then) -> None:
+        """One transaction for all; `then` is called in the loop. One at a time: not again before `then`."""
+
+    def new_log(self) -> int:
+        """The number of a log that is to be born (`Batch.born`)."""
+
+    def holds(self) -> bool:
+        """Whether the logs are still this program's: looked at before each function begins."""
+
+    async def call(self, attempt: Attempt, manner: Manner, task: Task[Any], executor: Executor | None, late: Callable[[], object] | None) -> Outcome | None:
+        """Calls a function in a transaction that holds its result. Raises `Lost` where nobody knows whether that was committed."""
+
+    async def admit(self, name: str, bounds: Bounds, want: int, have: Sequence[int]) -> Grant:
+        """Takes up to `want` places of a step for calls that begin now, over all nodes; of those of its limit this node `have`s just these, and gives
+        back the others. One call at a time for each name.
+
+        Raises `StoreUnwritable`; then nobody knows what was taken, and the next call makes that good, but for places of a rate."""
+
+    # -- reading, for the coordinator
+
+    async def find(self, key: str) -> SagaRow | None:
+        """The saga with this key."""
+
+    async def load(self, log: int, epoch: int, unborn: bool) -> Loaded | None:
+        """A log as a pump takes it up; None where it is another node's, or is not there and not `unborn`, which a log is until a commit holds it. What of it was on its way to the database is written now, or never will be."""
+
+    async def take_up(self, log: int, epoch: int) -> tuple[str, int] | None:
+        """A log's lines and how many events they are, for who goes on behind them; None where it is not this program's under that epoch.
+
+        No lines of it may be on their way."""
+
+    async def requests(self) -> list[Request]:
+        """What was asked of the sagas of this program's logs, and has no answer."""
+
+    async def starts(self, most: int, under_way: Sequence[int] | None = None) -> list[Start]:
+        """Sagas that clients started: they are this program's to open, `most` at once. With `under_way` also those that were, and are not among these."""
+
+    async def ask(self, key: str, what: str, value: str, token: str | None = None) -> Any:
+        """Leaves a request for the node that has the saga, and waits for its answer, parsed.
+
+        With a token it is a report of that attempt: the first report of a token stays, and each further one gets that one's answer."""
+
+    async def news(self, id: int, turn: int) -> None:
+        """Returns when the saga may have ended elsewhere, or after a while, which is longer each turn: who waits looks again."""
+
+    # -- reading, for questions: these wait where they stand
+
+    def rows(self, query: str, *words: Any) -> list[tuple[Any, ...]]:
+        """Rows of a query that SQLite and PostgreSQL both understand, with `?` for each word."""
+
+    def reader(self) -> Reader:
+        """Another connection, for a thread that only reads."""
+
+    def text(self, log: int) -> tuple[str, int]:
+        """A log's lines, and how many events they are."""
+
+    def definition(self, id: int) -> str:
+        """The text of a saga's definition."""
+
+    def results(self, id: int) -> list[tuple[int, str, int, str, str | None, float]]:
+        """What a saga's attempts came to: step, kind, attempt, outcome, value, at."""
+
+    def find_now(self, key: str) -> SagaRow | None:
+        """As `find`."""

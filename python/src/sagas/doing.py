@@ -1,0 +1,422 @@
+"""The life of an attempt: it is begun, held or called, and its outcome is reported."""
+
+from __future__ import annotations
+
+import asyncio
+import datetime
+import functools
+import inspect
+import json
+import logging
+import os
+from collections.abc import Callable
+from concurrent.futures import Executor
+from typing import TYPE_CHECKING, Any
+
+from . import calling, remote
+from .calling import Outcome
+from .definition import Manner, Step
+from .errors import Lost
+from .fleet import Fleet, Gate
+from .live import Attempt, Live
+from .slots import Slots
+
+if TYPE_CHECKING:
+    from .coordinator import Coordinator
+
+logger = logging.getLogger("sagas")
+LOOK = 30.0  # seconds: a clock may jump, so nobody sleeps longer without a look at it
+ASKED = ("approval", "elsewhere", "unknown", "wait")
+"""Why an attempt is held of which somebody may say how it ended."""
+COUNTED = ("backoff", "unknown")
+"""Why an attempt is held for some seconds, which are counted here: to put the clock back does not make them more."""
+DONE = ("commit", "undone")
+MISSED = {"missed": "step_missed", "undo_missed": "step_missed"}
+LEAST_PAUSE = 0.05  # seconds between two calls of which nobody knows
+
+
+def due_time(step: Step[Any], attempt: Attempt, now: float) -> float:
+    """When a wait is over."""
+    until = step.until(attempt.task()) if callable(step.until) else step.until
+    if isinstance(until, datetime.timedelta):
+        return now + until.total_seconds()
+    if isinstance(until, datetime.datetime) and until.tzinfo:
+        return until.timestamp()
+    raise TypeError(f"until gave {until!r}: it is a timedelta, or a datetime with a time zone")
+
+
+class Doing:
+    """Begins what the logs gave, within the slots, and hands back how it ended."""
+
+    def __init__(self, owner: Coordinator, concurrency: int, executor: Executor) -> None:
+        self.owner, self.executor = owner, executor
+        self.slots = Slots(concurrency, self._run, owner.feed)
+        self.fleet = Fleet(owner, self.slots.enter)
+        self.running: set[Attempt] = set()
+        self.closing = False
+
+    # -- begin
+
+    def begin(self, attempt: Attempt) -> None:
+        """It is in the store as begun."""
+        live = attempt.live
+        if attempt.attempt == 1 and not live.draining and live.kind.simple[attempt.kind][attempt.step]:
+            self._enter(attempt)
+        elif attempt.word in live.rare.final:
+            self._give_up(attempt, "not called: the step failed for good", final=True)
+        elif live.draining and self._may_leave(attempt):
+            self._give_up(attempt, "not called: the saga is being undone")
+        elif attempt.attempt > 1 and (wait := self._pause(attempt)) > 0:
+            self._hold(attempt, "backoff", self.owner.clock() + wait)
+        else:
+            self._first(attempt)
+
+    def begin_again(self, attempt: Attempt) -> None:
+        """It is busy in a log that was taken up: it is under way here, or an earlier program had begun it."""
+        if attempt.state == "done":
+            self._report(attempt)
+        elif attempt.pending and attempt.state != "running":
+            why, until = attempt.pending[:2]
+            self._put_row(attempt, *attempt.pending)
+            if why == "unknown":
+                attempt.drop_timer()
+                self._hold(attempt, why, until)
+        elif attempt.why == "elsewhere" and self._manner(attempt).elsewhere:
+            attempt.state = "held"
+            self.owner.elsewhere.restored(attempt)
+        elif attempt.state != "taken":
+            return
+        elif attempt.why == "unknown":
+            until = attempt.until
+            if until is None:
+                attempt.state = "held"
+            else:
+                self._hold(attempt, "unknown", until)
+        elif attempt.why == "wait" and attempt.until == 0:
+            self._enter(attempt)
+        elif attempt.why in ("wait", "approval"):
+            attempt.fresh = True
+            self._hold(attempt, attempt.why, attempt.until)
+        else:
+            self.begin(attempt)
+
+    def _first(self, attempt: Attempt) -> None:
+        step = self._step(attempt)
+        if step.manner(attempt.kind).elsewhere:
+            self._go(attempt)
+        elif attempt.kind == "run" and step.kind == "wait" and attempt.live.rare.due.get(attempt.word) != 0:
+            self._wait(attempt, step)
+        else:
+            self._enter(attempt)
+
+    def _step(self, attempt: Attempt) -> Step[Any]:
+        step = attempt.live.kind.steps[attempt.step]
+        assert step is not None  # open refused a store that needs it
+        return step
+
+    def _manner(self, attempt: Attempt) -> Manner:
+        return self._step(attempt).manner(attempt.kind)
+
+    def _pause(self, attempt: Attempt) -> float:
+        missed = attempt.live.rare.missed_at.get(attempt.word)
+        if missed is None:
+            return 0.0
+        pause = self._manner(attempt).backoff.after(attempt.attempt - 1)
+        return min(pause, missed + pause - self.owner.clock())  # where the clock jumped back, no longer than the pause
+
+    # -- hold
+
+    def _hold(self, attempt: Attempt, why: str, until: float | None) -> None:
+        """It takes no slot until its time, or until a person says something."""
+        attempt.state, attempt.why, attempt.until = "held", why, until
+        attempt.changed()
+        if until is not None:
+            self._set_timer(attempt)
+
+    def _set_timer(self, attempt: Attempt) -> None:
+        assert attempt.until is not None
+        most = max(LEAST_PAUSE, self._manner(attempt).backoff.most) if attempt.why in COUNTED else LOOK
+        attempt.timer = self.owner.loop.call_later(max(0.0, min(most, attempt.until - self.owner.clock())), self._look, attempt)
+
+    def _look(self, attempt: Attempt) -> None:
+        attempt.timer = None
+        if attempt.state != "held" or attempt.until is None or self.closing:
+            return
+        if attempt.until > self.owner.clock() and attempt.why not in COUNTED:
+            self._set_timer(attempt)
+        elif attempt.why == "approval":
+            self.outcome(attempt, calling.failure("nobody approved it in time", final=True))
+        elif attempt.why == "wait":
+            attempt.live.rare.due[attempt.word] = 0.0
+            self._put_row(attempt, "wait", 0.0, then=lambda: self._enter(attempt))
+        else:
+            self._go(attempt)
+
+    def _wait(self, attempt: Attempt, step: Step[Any]) -> None:
+        """It waits for its time, counted from its first try."""
+        due = attempt.live.rare.due.get(attempt.word)
+        if due is None:
+            try:
+                due = due_time(step, attempt, self.owner.clock())
+            except Exception as error:
+                self.outcome(attempt, calling.failure(f"{type(error).__name__}: {error}"))
+                return
+        until = attempt.live.rare.due[attempt.word] = max(due, 1.0)
+        attempt.since = self.owner.clock()
+        self._put_row(attempt, "wait", until, then=lambda: self._hold(attempt, "wait", until))
+
+    def _put_row(self, attempt: Attempt, why: str, until: float | None, then: Callable[[], object] | None = None, error: str | None = None) -> None:
+        """What keeps it from going on is in the store, so that another program knows it; then it goes on."""
+        attempt.why, attempt.has_row, attempt.until, attempt.state = why, True, until, "held"
+        attempt.pending = (why, until, then, error)
+        pump = attempt.live.pump
+        assert pump
+        batch = pump.batch()
+        batch.held.append((*attempt.row, why, attempt.count, attempt.since, until, error))
+        pump.commit(batch, [(self._has_row, attempt)])
+
+    def _has_row(self, attempt: Attempt) -> None:
+        pending, attempt.pending = attempt.pending, None
+        if pending and pending[2] and attempt.state == "held":
+            pending[2]()
+        attempt.changed()
+
+    # -- call
+
+    def _go(self, attempt: Attempt) -> None:
+        """It is called here, or done elsewhere."""
+        if self._manner(attempt).elsewhere:
+            attempt.fresh = attempt.fresh and self.owner.elsewhere.leased  # else whoever does it may have begun
+            self._hold(attempt, "elsewhere", None)
+            self.owner.elsewhere.offered(attempt)
+        else:
+            self._enter(attempt)
+
+    def _enter(self, attempt: Attempt) -> None:
+        if not self.closing:
+            attempt.state = "ready"
+            gate = self.fleet.gate(attempt)
+            if gate and gate.is_waited_for():
+                gate.hold(attempt)
+            else:
+                self.slots.enter(attempt)
+
+    def _run(self, attempt: Attempt) -> None:
+        gate = self.fleet.gate(attempt)
+        if gate is None:
+            attempt.state, attempt.fresh = "running", False
+        attempt.job = self.owner.loop.create_task(self._pass(attempt, gate) if gate else self._call(attempt))
+        self.running.add(attempt)
+
+    async def _pass(self, attempt: Attempt, gate: Gate) -> None:
+        """It has a slot, and is called if it gets a place of its step; else it waits without either."""
+        granted = await gate.ask(attempt)
+        if granted and attempt.state == "ready" and not self.closing:
+            attempt.state, attempt.fresh = "running", False
+            await self._call(attempt)
+            return
+        self.running.discard(attempt)
+        self._leave(attempt)
+        if attempt.state == "ready" and not self.closing:
+            gate.hold(attempt, first=True)
+
+    def _leave(self, attempt: Attempt) -> None:
+        """Slot and place are for the next."""
+        self.slots.leave(attempt)
+        gate = self.fleet.gate(attempt)
+        if gate:
+            gate.leave(attempt)
+
+    async def _call(self, attempt: Attempt) -> None:
+        live, teller = attempt.live, self.owner.teller
+        if not self.owner.store.holds():  # its log may be another's: it is looked at, and then this begins again
+            attempt.state, attempt.job = "taken", None
+            self.running.discard(attempt)
+            self._leave(attempt)
+            return
+        if teller.listens:
+            teller.tell("step_begun", key=live.key, saga=live.kind.name, step=attempt.name, undo=attempt.kind == "undo", attempt=attempt.attempt)
+        function, fault, began = live.kind.simple[attempt.kind][attempt.step], None, self.owner.loop.time()
+        try:
+            if function:
+                try:
+                    task = attempt.task()
+                    outcome: Outcome | None = calling.done(await function(task), task)
+                except BaseException as error:
+                    outcome = calling.interrupted(error, self._manner(attempt))
+            else:
+                outcome = await self._elsewise(attempt, self._manner(attempt))
+        except Lost as error:
+            outcome, fault = None, error
+        if os.getpid() != self.owner.pid:  # a function forked, and its child came back here
+            os._exit(70)
+        attempt.took = self.owner.loop.time() - began
+        self.running.discard(attempt)
+        self._leave(attempt)
+        if attempt.job is None or attempt.state != "running":
+            return
+        if fault is not None:
+            attempt.state, attempt.job = "taken", None
+            assert live.pump
+            live.pump.fail(fault)
+        elif outcome is not None:
+            if function and outcome.kind == "done":
+                self.outcome(attempt, outcome)
+            else:
+                self._sort(attempt, outcome)
+
+    async def _elsewise(self, attempt: Attempt, manner: Manner) -> Outcome | None:
+        """Calls what is not simple: in a thread, in its time, in a transaction, or elsewhere."""
+        if manner.run_on:
+            return await remote.call(self.owner.reports, manner, attempt)
+        call = self.owner.store.call if manner.transaction else calling.call_alone
+        late = functools.partial(self._tell, attempt, "step_late")
+        return await call(attempt, manner, attempt.task(), self.executor, late)
+
+    def _sort(self, attempt: Attempt, outcome: Outcome) -> None:
+        if outcome.kind == "unknown":
+            self.unknown(attempt, outcome)
+        elif outcome.kind == "done" and self._asks(attempt):
+            within = self._step(attempt).within
+            attempt.since, attempt.fresh = self.owner.clock(), True
+            self._ask(attempt, within.total_seconds() if within else None)
+        else:
+            self.outcome(attempt, outcome)
+
+    def _asks(self, attempt: Attempt) -> bool:
+        return attempt.kind == "run" and self._step(attempt).kind == "approval"
+
+    def _ask(self, attempt: Attempt, within: float | None) -> None:
+        until = None if within is None else attempt.since + within
+        self._put_row(attempt, "approval", until, then=lambda: self._hold(attempt, "approval", until))
+        if attempt.live.draining:
+            self.drain(attempt.live)
+
+    def unknown(self, attempt: Attempt, outcome: Outcome) -> None:
+        """Nobody knows: the same attempt again, after the back-off; or a person has to say."""
+        manner, now = self._manner(attempt), self.owner.clock()
+        attempt.count += 1
+        attempt.since = attempt.since or now
+        attempt.outcome = outcome
+        most = manner.unknown_most
+        over = now - attempt.since >= most.total_seconds() if isinstance(most, datetime.timedelta) else most is not None and attempt.count > most
+        until = None if over else now + max(LEAST_PAUSE, manner.backoff.after(attempt.count))
+        self._tell(attempt, "step_unknown", f"{outcome.value}; a person has to say" if over else outcome.value)
+        self._put_row(attempt, "unknown", until, error=outcome.value)
+        self._hold(attempt, "unknown", until)
+        if manner.run_on:
+            self.owner.reports.watch(attempt.token(), lambda outcome: self._late(attempt, outcome))
+
+    def _late(self, attempt: Attempt, outcome: Outcome) -> None:
+        """The report of an attempt of which nobody knew. One that comes before that is in the store is found at the next call."""
+        if attempt.state == "held" and attempt.why == "unknown" and not attempt.pending:
+            self.outcome(attempt, outcome)
+
+    def is_asked(self, attempt: Attempt) -> bool:
+        """Whether somebody may say how it ended: it is held for that."""
+        return attempt.state == "held" and not attempt.pending and attempt.why in ASKED
+
+    def will_be_asked(self, attempt: Attempt) -> bool:
+        """Whether it is about to be held for somebody's word: it was begun, or its function asks."""
+        step = self._step(attempt)
+        if step.manner(attempt.kind).elsewhere:
+            return attempt.state == "taken"
+        if attempt.state == "held" and attempt.pending and attempt.why in ASKED:  # its row is on its way to the store
+            return True
+        if attempt.kind == "undo" or attempt.state == "done":
+            return False
+        return step.kind == "approval" or (step.kind == "wait" and attempt.live.rare.due.get(attempt.word) != 0)
+
+    # -- end
+
+    def outcome(self, attempt: Attempt, outcome: Outcome) -> None:
+        """How it ended: reported, and in the store with its event."""
+        attempt.outcome, attempt.state = outcome, "done"
+        attempt.at = self.owner.clock()
+        if attempt.timer:
+            attempt.drop_timer()
+        if attempt.why == "elsewhere":
+            self.owner.elsewhere.gone(attempt)
+        if attempt.awaited:
+            attempt.changed()
+        if attempt.live.kind.has_remote and attempt.is_remote:
+            self.owner.reports.forget(attempt.token())
+        self._report(attempt)
+
+    def _report(self, attempt: Attempt) -> None:
+        if attempt.outcome and attempt.outcome.kind == "final":  # also where an earlier report of it was not kept
+            attempt.live.rare.final.add(attempt.word)
+        pump = attempt.live.pump
+        assert pump
+        pump.reports[attempt] = None
+        pump.poke()
+
+    def reported(self, reports: list[tuple[Attempt, str]]) -> None:
+        """The reports are in the store, with these events."""
+        tells = self.owner.teller.wants("step_done")
+        for attempt, event in reports:
+            assert attempt.live.pump
+            attempt.live.pump.reporting.pop(attempt, None)
+            if attempt.told and not attempt.told.done():
+                attempt.told.set_result(True)
+            if tells or event not in DONE:
+                self._tell_end(attempt, "step_done" if event in DONE else MISSED.get(event, "step_failed"))
+
+    def _tell_end(self, attempt: Attempt, name: str) -> None:
+        """A step's end; of a failure what was raised, with its traceback where that was the last try."""
+        outcome = attempt.outcome
+        if outcome is None or name == "step_done":
+            self._tell(attempt, name)
+            return
+        level = None if outcome.called else logging.INFO
+        self._tell(attempt, name, str(json.loads(outcome.value).get("error")), level, outcome.error if name == "step_failed" else None)
+
+    def _tell(self, attempt: Attempt, name: str, detail: str | None = None, level: int | None = None, error: BaseException | None = None) -> None:
+        live, undo = attempt.live, attempt.kind == "undo"
+        words = {"key": live.key, "saga": live.kind.name, "step": attempt.name, "undo": undo, "attempt": attempt.attempt, "detail": detail}
+        took = None if attempt.took is None else round(attempt.took, 6)
+        self.owner.teller.tell(name, level=level, error=error, seconds=took, **words)
+
+    def planned(self, live: Live) -> None:
+        answer = live.answer or {}
+        detail = f"cost {answer['cost']}" if "cost" in answer else "blocked"
+        self.owner.teller.tell("saga_planned", key=live.key, saga=live.kind.name, detail=detail)
+
+    def _give_up(self, attempt: Attempt, why: str, final: bool = False) -> None:
+        self.outcome(attempt, calling.failure(why, final, called=False))
+
+    # -- a saga that drains
+
+    def drain(self, live: Live) -> None:
+        """It is about to be planned: what is held and was not called is given back."""
+        live.draining = True
+        for attempt in list(live.busy.values()):
+            if attempt.state in ("held", "ready") and self._may_leave(attempt):
+                self.slots.cancel(attempt)
+                attempt.drop_timer()
+                self._give_up(attempt, "not called: the saga is being undone")
+            elif attempt.state == "held" and attempt.why == "backoff" and attempt.kind == "run":
+                attempt.drop_timer()
+                self._go(attempt)  # its last try: to give it up would be a failure that was none
+
+    def _may_leave(self, attempt: Attempt) -> bool:
+        if not attempt.fresh or attempt.kind == "undo":
+            return False
+        return attempt.live.aborted or attempt.attempt < attempt.live.kind.tries[attempt.step]
+
+    def forget(self, attempt: Attempt) -> None:
+        """The store does not have it: it had not begun, or its report is there."""
+        attempt.drop_timer()
+        if attempt.why == "elsewhere":
+            self.owner.elsewhere.gone(attempt)
+        if attempt.told and not attempt.told.done():
+            attempt.told.set_result(True)
+        attempt.changed()
+        self.slots.cancel(attempt)
+        job, attempt.job = attempt.job, None
+        attempt.state = "done"
+        if job and inspect.getcoroutinestate(job.get_coro()) == inspect.CORO_CREATED:  # type: ignore[arg-type]  # it will never run a line
+            self.running.discard(attempt)
+            self._leave(attempt)
+        if job:
+            job.cancel()

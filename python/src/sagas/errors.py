@@ -1,0 +1,99 @@
+"""Every error that a caller may meet, each by its own name, and what to do about it."""
+
+from __future__ import annotations
+
+
+class SagasError(Exception):
+    """The root of them all."""
+
+
+class DefinitionError(SagasError):
+    """A saga that is not well made. The text names file, line, saga and step: mend it there."""
+
+
+class StoreLocked(SagasError):
+    """Another program has this store open. Close that one first; a store serves one program at a time."""
+
+
+class StoreUnwritable(SagasError):
+    """The store could not be written (the disk is full, say), and nothing was begun. Make room, then call again with the same key."""
+
+
+class StoreFault(SagasError):
+    """The store is not one that this program can go on from: of a later version, or no store at all. The text says which."""
+
+
+class StoreNewer(StoreFault):
+    """The store's tables are of a later version than this program knows. Use the release that made them, or a later one."""
+
+
+class Lost(SagasError):
+    """A log is another node's now, and nothing was written. A caller never meets it."""
+
+
+class Moved(SagasError):
+    """A saga is another node's now: who waits for it looks there. A caller never meets it."""
+
+
+class WrongStore(SagasError):
+    """A worker would report to another store than the one that has the saga. Give its queue the same store; over SQLite they have to share the file."""
+
+
+class MissingHandler(SagasError):
+    """A saga that is not over needs a step, or a compensation, that this program has no function for.
+
+    The text names it. Give the function again, or run the older program once more with `open(.., new=False)` until it is settled."""
+
+
+class KeyConflict(SagasError):
+    """The key is there, with another saga or another input. A key is its saga's as long as that is kept: take another."""
+
+
+class NoSuchSaga(SagasError):
+    """No saga of this store has the key."""
+
+
+class NotWaiting(SagasError):
+    """`finish` names a step that nobody has to say anything about: it has not begun, is over, or its function runs now."""
+
+
+class NoSuchTask(SagasError):
+    """No task has this token, or it was never begun. Take another one."""
+
+
+class NotHere(SagasError):
+    """The saga is not driven by this program now, and no other node answers for it. Ask again in a while: what was asked may be done by then."""
+
+
+class LeaseLost(SagasError):
+    """The task's lease is not the newest: another worker has the task, or its outcome was told. Stop, and take another one."""
+
+
+class ReportedOtherwise(SagasError):
+    """The task was reported with another outcome, and the first one counts. Where your action had an effect, look at the saga."""
+
+
+class NotJson(SagasError, TypeError):
+    """A key, an input or a result that cannot be written as JSON. Use dicts, lists, texts, numbers, dataclasses or pydantic models."""
+
+
+class ChildError(SagasError):
+    """`sagas drive` cannot be started or refuses a log. The text is its last line, and docs/ERRORS.md has the remedy."""
+
+
+class Closed(SagasError):
+    """The store is closed, or is closing. Sagas that are not over go on when it is opened again."""
+
+
+class Unknown(SagasError):
+    """Raised by a step's function: nobody knows whether it had its effect.
+
+    The same attempt is made again, with the same token, after the back-off; nothing is reported until then."""
+
+    __module__ = "sagas"  # as its users write it, and as it is told
+
+
+class Fail(SagasError):
+    """Raised by a step's function: it had no effect, and no further try will help. The tries that are left are not made."""
+
+    __module__ = "sagas"

@@ -1,0 +1,130 @@
+"""A definition that a log was begun with: its steps in that order, with today's functions, by their names."""
+
+from __future__ import annotations
+
+import hashlib
+import json
+import re
+import tomllib
+from collections.abc import Iterable
+from typing import Any
+
+from . import values
+from .definition import Function, Saga, Step
+from .errors import DefinitionError
+from .schema import ROOM
+
+MOST_LOG = 48 << 20  # bytes: an audit reads 64 MiB
+VERSION = re.compile(r"# version (\d+)\n")
+
+
+def shelf_of(sagas: Iterable[Saga]) -> tuple[str, list[str]]:
+    """The definitions' texts, sorted by name, and the digest that names them."""
+    texts = [saga.toml() for saga in sorted(sagas, key=lambda saga: (saga.name, saga.version))]
+    return hashlib.sha256(json.dumps(texts).encode()).hexdigest()[:16], texts
+
+
+def version_of(text: str) -> int:
+    found = VERSION.match(text)
+    return int(found[1]) if found else 1
+
+
+def most_bytes(text: str) -> int:
+    """What one saga of this definition may come to in a log, in bytes, but for sagas that plan more than eight times."""
+    told = tomllib.loads(text)["step"]
+    events: int = sum(2 * step.get("tries", 1) + 2 * step.get("undo_tries", 1) for step in told)
+    needs: int = sum(len(step.get("needs", ())) for step in told)
+    return 60 * events + min(len(told) + 2, 8) * (120 + 12 * (3 * len(told) + needs))
+
+
+def _simple(step: Step[Any] | None, word: str) -> Function | None:
+    """The function of a step that begins at once and is awaited here; of others None."""
+    if step is None or (word == "run" and (step.kind != "step" or step.limit is not None)):
+        return None
+    return step.manner(word).function if step.manner(word).is_simple else None
+
+
+class Kind:
+    """A definition on a log's shelf. `steps` has None where the program has no such step any more."""
+
+    def __init__(self, text: str, saga: Saga | None) -> None:
+        told = tomllib.loads(text)
+        listed = told["step"]
+        self.text, self.name, self.version = text, str(told["name"]), version_of(text)
+        today = {step.name: step for step in saga.steps} if saga else {}
+        self.names: list[str] = [step["name"] for step in listed]
+        self.heads = [f'"{name}":' for name in self.names]
+        self.steps: list[Step[Any] | None] = [today.get(name) for name in self.names]
+        self.is_given = saga is not None
+        self.tries = [int(step.get("tries", 1)) for step in listed]
+        self.undoable = [step.get("undo", 0) != "never" for step in listed]
+        self.count = len(listed)
+        place = {name: number for number, name in enumerate(self.names)}
+        self.below = self._below([[place[need] for need in step.get("needs", ())] for step in listed])
+        self.room = max(1, min(ROOM, MOST_LOG // most_bytes(text)))
+        told_hints = [values.hints(step.run.function) if step and step.run.function else (None, None) for step in self.steps]
+        self.inputs = [hint for hint, _ in told_hints]
+        self.undo_inputs = [values.hints(step.undo.function)[0] if step and step.undo.function else None for step in self.steps]
+        self.all_done = json.dumps({"aborted": False, "answer": None, "kept": list(range(self.count)), "states": ["committed"] * self.count}, separators=(",", ":"))
+        self.simple: dict[str, list[Function | None]] = {word: [_simple(step, word) for step in self.steps] for word in ("run", "undo")}
+        self.has_remote = any(step and (step.run.run_on or step.undo.run_on) for step in self.steps)
+        self.decoders = {name: decoder for name, (_, decoder) in zip(self.names, told_hints) if decoder}
+
+    def _below(self, needs: list[list[int]]) -> list[list[int]]:
+        """The steps that each step needs, directly or not."""
+        found: dict[int, set[int]] = {}
+        left = list(range(len(needs)))
+        while left:
+            for step in [step for step in left if all(need in found for need in needs[step])]:
+                left.remove(step)
+                found[step] = set(needs[step]).union(*(found[need] for need in needs[step]))
+        return [sorted(found[step]) for step in range(len(needs))]
+
+    def lacks(self) -> str | None:
+        """The first step without a function, or the first compensation that may be called and has none."""
+        if not self.is_given:
+            return "this program does not open the store with that saga"
+        for name, step, undoable in zip(self.names, self.steps, self.undoable):
+            if step is None:
+                return f"step {name!r} has no function in this program"
+            if undoable and not step.has_compensation:
+                return f"step {name!r} has no compensation in this program"
+        return None
+
+
+class Shelf:
+    """The sagas that a store was opened with, and the definitions of older logs by them."""
+
+    def __init__(self, sagas: Iterable[Saga]) -> None:
+        self.sagas: dict[tuple[str, int], Saga] = {}
+        if isinstance(sagas, Saga) or not isinstance(sagas, Iterable):
+            raise DefinitionError(f"a store is opened with a list of sagas, not with {sagas!r}: open(.., [trip])")
+        for saga in sagas:
+            if not isinstance(saga, Saga):
+                raise DefinitionError(f"a store is opened with sagas, and {saga!r} is none")
+            name = (saga.name, saga.version)
+            if name in self.sagas:
+                raise DefinitionError(f"{saga.where}: saga {saga.name!r}: another saga has this name and version, at {self.sagas[name].where}")
+            self.sagas[name] = saga
+        if not 1 <= len(self.sagas) <= 64:
+            raise DefinitionError(f"a store is opened with 1 to 64 sagas, not with {len(self.sagas)}")
+        self.shelf, self.texts = shelf_of(self.sagas.values())
+        self._kinds: dict[str, Kind] = {}
+        self.kinds = [self.kind(text) for text in self.texts]
+        self.room = min(kind.room for kind in self.kinds)
+        self.places = {(kind.name, kind.version): place for place, kind in enumerate(self.kinds)}
+
+    def kind(self, text: str) -> Kind:
+        if text not in self._kinds:
+            name = re.search(r'^name = "(.*)"$', text, re.M)
+            assert name
+            self._kinds[text] = Kind(text, self.sagas.get((name[1], version_of(text))))
+        return self._kinds[text]
+
+    def place(self, saga: Saga) -> int:
+        """Where its definition stands; raises `DefinitionError` where the store was not opened with this very saga."""
+        if not isinstance(saga, Saga):
+            raise DefinitionError(f"{saga!r} is no saga: give what sagas.Saga(..) made")
+        if self.sagas.get((saga.name, saga.version)) is not saga:
+            raise DefinitionError(f"{saga.where}: saga {saga.name!r}: the store was not opened with it; name it in open(.., [..])")
+        return self.places[saga.name, saga.version]

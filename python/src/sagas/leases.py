@@ -1,0 +1,137 @@
+"""A node's lease on its logs, and the logs that it takes over: by the database's clock alone, as the node's own only counts.
+
+A node is one run of a program. It says each second that it lives; whose lease ran out loses his logs to who takes them, and a commit of
+his writes nothing any more, since the logs' epochs are others."""
+
+from __future__ import annotations
+
+import json
+import logging
+import os
+import secrets
+import socket
+import time
+from typing import TYPE_CHECKING
+
+from .links import LINE, Asker
+from .questions import OPENED
+from .records import LogRow
+
+if TYPE_CHECKING:
+    from .database import Drives
+
+logger = logging.getLogger("sagas")
+BEAT = 1.0
+"""Seconds between two words of a node that it lives, at most."""
+OWN = 64
+"""A node with so many logs looks at each beat for those that it did not hear of, one with twice as many at each second one."""
+LOT = 50
+"""Logs that are taken over at once: other nodes take theirs meanwhile."""
+
+LIVE = "EXISTS (SELECT 1 FROM nodes n WHERE n.node = {} AND n.lease > now())"
+ORPHAN = f"l.closed = 0 AND CASE WHEN l.owner = %(node)s THEN %(own)s AND l.log <> ALL(%(mine)s::bigint[]) ELSE NOT {LIVE.format('l.owner')} END"
+"""Nobody drives it: its node is gone, or is this one, which did not hear that it has it (looked at where `own`: it takes long where it has many)."""
+UNTAKEN = f"NOT {LIVE.format('i.node')}"
+
+SAY = """
+WITH said AS (UPDATE nodes SET lease = now() + make_interval(secs => %(lease)s) WHERE node = %(node)s RETURNING 1),
+entered AS (INSERT INTO nodes(node, name, version, since, lease) SELECT %(node)s, %(name)s, %(version)s, now(), now() + make_interval(secs => %(lease)s)
+  WHERE %(enters)s AND NOT EXISTS (SELECT 1 FROM said) RETURNING 1)
+"""
+LOOK = f"""
+SELECT {LINE}, EXISTS (SELECT 1 FROM said UNION ALL SELECT 1 FROM entered), EXISTS (SELECT 1 FROM logs l WHERE {ORPHAN} AND l.log <> ALL(%(left)s::bigint[])),
+  EXISTS (SELECT 1 FROM inbox i WHERE {UNTAKEN}) OR EXISTS (SELECT 1 FROM requests WHERE answer IS NULL)
+"""
+CANDIDATES = f"""
+SELECT l.log, s.texts, ARRAY(SELECT DISTINCT def FROM sagas WHERE id >= l.log * 1000 AND id < (l.log + 1) * 1000 AND phase IS NULL)
+FROM logs l JOIN shelves s USING (shelf) WHERE {ORPHAN} AND l.log <> ALL(%(left)s::bigint[]) ORDER BY l.log LIMIT {LOT}
+"""
+TAKE = f"""
+WITH taken AS (UPDATE logs SET owner = %(node)s, epoch = epoch + 1 WHERE log IN (
+  SELECT l.log FROM logs l WHERE l.log = ANY(%(logs)s::bigint[]) AND {ORPHAN} ORDER BY l.log FOR UPDATE SKIP LOCKED) RETURNING log, name, shelf, epoch)
+SELECT log, name, shelf, texts, ({OPENED}), ({OPENED} AND phase IS NULL), epoch FROM taken JOIN shelves USING (shelf) ORDER BY log
+"""
+GONE = """
+WITH old AS (DELETE FROM nodes WHERE name = %(name)s AND node <> %(node)s),
+old2 AS (DELETE FROM nodes n WHERE lease < now() - interval '1 day' AND NOT EXISTS (SELECT 1 FROM logs WHERE owner = n.node AND closed = 0))
+SELECT 1
+"""
+HAND_OVER = """
+WITH me AS (DELETE FROM nodes WHERE node = %(node)s),
+mine AS (UPDATE logs SET owner = NULL, epoch = epoch + 1 WHERE owner = %(node)s AND closed = 0),
+starts AS (UPDATE inbox SET node = NULL WHERE node = %(node)s)
+SELECT pg_notify('sagas', 'logs'), pg_notify('sagas', 'starts')
+"""
+
+
+def now() -> float:
+    """Seconds that go on while this machine sleeps, and that nobody puts forward or back."""
+    return time.clock_gettime(time.CLOCK_BOOTTIME)
+
+
+class Lease:
+    """This node's name, how long its lease holds as far as it knows, and what it takes over."""
+
+    def __init__(self, asker: Asker, name: str | None, seconds: float, version: str) -> None:
+        self.name = name or f"{socket.gethostname()}-{os.getpid()}"
+        self.node = f"{self.name}/{secrets.token_hex(4)}"
+        self.seconds, self.version, self._asker = seconds, version, asker
+        self.left: set[int] = set()  # logs that this program lacks functions for
+        self.fresh = True  # no function was kept from beginning since the last beat
+        self._enters = True  # its row is made where there is none
+        self._until = 0.0
+        self._turn = -1
+
+    @property
+    def pause(self) -> float:
+        """Seconds between two beats."""
+        return min(BEAT, self.seconds / 4)
+
+    def holds(self) -> bool:
+        """Whether the lease holds, a tenth of it before its end."""
+        held = now() < self._until - self.seconds / 10
+        self.fresh = self.fresh and held
+        return held
+
+    async def beat(self, mine: list[int]) -> tuple[bool, bool, bool, str]:
+        """Says that this node lives; `mine` are the logs that it drives. Where another run under its name has taken its place, that one has the time
+        to the next beat to take what this one had.
+
+        Whether the lease ran out before, whether there are logs to take, whether there is something asked, and the server's timeline."""
+        asked = now()
+        self._turn += 1
+        own = self._turn % max(1, len(mine) // OWN) == 0
+        words = {"own": own, "node": self.node, "name": self.name, "version": self.version, "lease": self.seconds, "left": list(self.left), "mine": mine}
+        ((line, is_there, orphans, asks),) = await self._asker.ask(SAY + LOOK, enters=self._enters, **words)
+        self._enters = not is_there
+        if not is_there:
+            self._until = asked
+            return False, False, False, line
+        lapsed = self._until > 0 and not (self.holds() and self.fresh)
+        self._until, self.fresh = asked + self.seconds, True
+        return lapsed, orphans, asks, line
+
+    async def begin(self) -> str:
+        """An earlier run under this name is over: its logs are free at once. Gives the server's timeline."""
+        await self._asker.ask(GONE, node=self.node, name=self.name)
+        return (await self.beat([]))[3]
+
+    async def take(self, drives: Drives, mine: list[int]) -> list[LogRow]:
+        """Some logs that nobody has, of those whose functions this program has; none where there are no more."""
+        while True:
+            found = await self._asker.read(CANDIDATES, left=list(self.left), node=self.node, mine=mine, own=True)
+            lacks = {log: drives(json.loads(texts), places) for log, texts, places in found}
+            fit = [log for log, why in lacks.items() if why is None]
+            left = {log: why for log, why in lacks.items() if why is not None}
+            if left:
+                logger.info("%d logs are left to other nodes: %s", len(left), next(iter(left.values())))
+            self.left |= left.keys()
+            rows = await self._asker.ask(TAKE, node=self.node, logs=fit, mine=mine, own=True) if fit else []
+            if rows or not found:
+                return [LogRow(log, name, shelf, json.loads(texts), opened, open, epoch) for log, name, shelf, texts, opened, open, epoch in rows]
+            if fit:  # others took them
+                return []
+
+    async def end(self) -> None:
+        """What this node has is free for others, now."""
+        await self._asker.ask(HAND_OVER, node=self.node)

@@ -1,0 +1,49 @@
+"""Requests to `sagas drive`, and what its replies tell of (docs/FORMATS.md).
+
+A reply that tells of an event is read without a parser: its keys are in order, and the event is flat."""
+
+from __future__ import annotations
+
+HEADER = '{"format":2}\n'
+NEXT = '{"do":"next"}'
+BUSY = '{"do":"busy"}'
+EVENT = '{"event":{'
+WORD = len('{"event":{"event":"')
+
+
+def open_line(place: int, number: int) -> str:
+    """Opens the saga of this number, with the definition at this place."""
+    return f'{{"def":{place},"do":"open","saga":{number}}}'
+
+
+def report_line(saga: int, step: int, task: str, attempt: int, ok: bool) -> str:
+    """How this attempt of `run` or `undo` ended."""
+    return f'{{"attempt":{attempt},"do":"report","outcome":"{"ok" if ok else "fail"}","saga":{saga},"step":{step},"task":"{task}"}}'
+
+
+def abort_line(saga: int) -> str:
+    return f'{{"do":"abort","saga":{saga}}}'
+
+
+def show_line(saga: int) -> str:
+    return f'{{"do":"show","saga":{saga}}}'
+
+
+def next_line(most: int) -> str:
+    """Takes so many tasks."""
+    return f'{{"do":"next","most":{most}}}'
+
+
+def event_word(reply: str) -> str:
+    """The word of the event that a report or an abort came to."""
+    return reply[WORD : reply.index('"', WORD)]
+
+
+def phase_word(reply: str) -> str:
+    """The phase of the saga after the event."""
+    return reply[reply.rindex('"', 0, -2) + 1 : -2]
+
+
+def number_in(reply: str) -> int:
+    """The number of the saga that was opened."""
+    return int(reply[reply.index('"saga":') + 7 : reply.index("}")])

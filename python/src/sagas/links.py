@@ -1,0 +1,163 @@
+"""Connections to PostgreSQL: how they are made, and what their errors mean."""
+
+from __future__ import annotations
+
+import asyncio
+import contextlib
+from collections.abc import Iterator
+from typing import Any
+
+import psycopg
+from psycopg import conninfo, errors
+from psycopg_pool import AsyncConnectionPool, PoolTimeout
+
+from .databases import FORM, is_url
+from .errors import StoreFault, StoreUnwritable
+
+PATIENCE = 20.0
+"""Seconds that a statement may take: what takes longer is given up, and what it did is looked up."""
+CONNECT = 5
+DEFAULTS: dict[str, Any] = {
+    "connect_timeout": CONNECT, "application_name": "sagas", "keepalives_idle": 5, "keepalives_interval": 2, "keepalives_count": 3,
+    "tcp_user_timeout": 15_000, "target_session_attrs": "read-write",
+}  # fmt: skip
+DURABLE = "SELECT set_config('synchronous_commit', 'on', false) WHERE current_setting('synchronous_commit') IN ('off', 'local')"
+"""What is committed is on the disk, and on a synchronous standby where there is one, whatever the database's own setting says."""
+SETTINGS = f"SET search_path = sagas; SET jit = off; SET enable_seqscan = off; SET enable_hashjoin = off; SET enable_mergejoin = off; {DURABLE}"
+"""Plans are made once, for tables that were empty then and are full later: let them be by indexes."""
+
+RIGHTS = "have the owner of the database run `sagas store URL init --role {role}`"
+"""What helps a role that may not."""
+
+LINE = "left(pg_walfile_name(pg_current_wal_lsn()), 8)"
+"""The server's timeline: another one once a standby has taken over, which may lack what was committed last."""
+
+Row = tuple[Any, ...]
+Link = psycopg.AsyncConnection[Row]
+
+
+def read(url: str) -> dict[str, Any]:
+    """What a URL says. Raises `StoreFault` where it is none; the text has no password."""
+    if not is_url(url):
+        raise StoreFault(f"this is no URL of a database in PostgreSQL: {FORM}")
+    try:
+        return conninfo.conninfo_to_dict(url)
+    except psycopg.ProgrammingError as error:
+        said = str(error).strip()
+        if not said.startswith("invalid URI query parameter"):  # else it may show a part of the password
+            said = "two slashes are missing" if said.startswith('missing "="') else said.partition('"')[0].strip(" :")
+        raise StoreFault(f"the URL of the store cannot be read ({said}): it is {FORM}, with % and two hex digits for what is special in a password") from None
+
+
+def address(url: str) -> str:
+    """The URL with what it leaves open: how soon a dead connection is noticed, and that the server has to take writes."""
+    told = read(url)
+    return conninfo.make_conninfo(url, **{word: value for word, value in DEFAULTS.items() if word not in told})
+
+
+def named(url: str) -> str:
+    """The URL for messages: without its password."""
+    told = read(url)
+    hosts = zip(str(told.get("host", "")).split(","), (str(told.get("port", "")) + "," * 8).split(","))
+    places = ",".join(f"{host}:{port}" if port else host for host, port in hosts)
+    return f"postgresql://{told.get('user', '')}{'@' if told.get('user') else ''}{places}/{told.get('dbname', '')}"
+
+
+@contextlib.contextmanager
+def faults(where: str) -> Iterator[None]:
+    """What PostgreSQL and its connections raise, as `StoreUnwritable`."""
+    try:
+        yield
+    except (psycopg.Error, PoolTimeout, OSError, TimeoutError) as error:
+        told = str(error).strip().splitlines()[0] if str(error).strip() else type(error).__name__
+        if isinstance(error, errors.InsufficientPrivilege):
+            told += f": {RIGHTS.format(role='NAME')}"
+        raise StoreUnwritable(f"{where}: {told}") from error
+
+
+async def connect(url: str) -> Link:
+    """A connection of the store's own, that commits each statement."""
+    link: Link = await psycopg.AsyncConnection.connect(address(url), autocommit=True, prepare_threshold=1)
+    await link.execute(SETTINGS, prepare=False)
+    return link
+
+
+async def line_of(link: Link) -> str:
+    """The timeline of the server that it is connected to."""
+    rows = await (await link.execute(f"SELECT {LINE}", prepare=False)).fetchall()
+    return str(rows[0][0])
+
+
+def connect_now(url: str) -> psycopg.Connection[Row]:
+    """As `connect`, for who waits where he stands."""
+    link: psycopg.Connection[Row] = psycopg.Connection.connect(address(url), autocommit=True)
+    link.execute(f"{SETTINGS}; SET statement_timeout = '{int(PATIENCE)}s'", prepare=False)
+    return link
+
+
+async def _configure(link: Link) -> None:
+    await link.execute(f"{SETTINGS}; SET statement_timeout = '{int(PATIENCE)}s'", prepare=False)
+
+
+def pool(url: str, most: int) -> AsyncConnectionPool:
+    """Connections for short statements, each a transaction of its own; not yet open.
+
+    Who waits for one gives up by the pool's own time: a waiter that is cancelled keeps its place, and the connection that it gets is lost
+    (psycopg_pool 3.1). And the pool gives up to connect soon, so that who asks next makes it try at once, however long the server was away."""
+    words = {"autocommit": True, "prepare_threshold": 2}
+    return AsyncConnectionPool(
+        address(url), min_size=1, max_size=most, open=False, kwargs=words, configure=_configure, timeout=PATIENCE / 4, reconnect_timeout=2.0, name="sagas"
+    )
+
+
+class Asker:
+    """Short statements over a pool."""
+
+    def __init__(self, url: str, where: str, most: int) -> None:
+        self.where, self._url = where, url
+        self.pool = pool(url, most)
+        self._under_way: set[asyncio.Task[list[Row]]] = set()
+
+    async def open(self) -> None:
+        """Connects. Raises `StoreUnwritable`."""
+        with faults(self.where):
+            try:
+                await self.pool.open(wait=True, timeout=2 * CONNECT)
+            except PoolTimeout:
+                await (await connect(self._url)).close()  # raises what the pool keeps to itself
+                raise
+
+    async def close(self) -> None:
+        if self._under_way:
+            await asyncio.wait(self._under_way, timeout=CONNECT)
+        await self.pool.close(timeout=CONNECT)
+
+    async def ask(self, text: str, **words: Any) -> list[Row]:
+        """A statement's rows. Raises `StoreUnwritable`; then nobody knows whether it was done.
+
+        Who is cancelled leaves the statement to its end: a connection in the middle of one is of no use."""
+        work = asyncio.get_running_loop().create_task(self._ask(text, words))
+        self._under_way.add(work)
+        work.add_done_callback(self._done)
+        return await asyncio.shield(work)
+
+    def _done(self, work: asyncio.Task[list[Row]]) -> None:
+        self._under_way.discard(work)
+        if not work.cancelled():
+            work.exception()  # whoever asked, and was not cancelled, has it
+
+    async def _ask(self, text: str, words: dict[str, Any]) -> list[Row]:
+        with faults(self.where):
+            async with asyncio.timeout(PATIENCE + 1), self.pool.connection() as link:
+                cursor = await link.execute(text, words)
+                return await cursor.fetchall() if cursor.description else []
+
+    async def read(self, text: str, **words: Any) -> list[Row]:
+        """As `ask`, for what may be asked twice: connections that broke unnoticed are tried past."""
+        for turn in range(5):
+            try:
+                return await self.ask(text, **words)
+            except StoreUnwritable as error:
+                if turn == 4 or not isinstance(error.__cause__, psycopg.OperationalError):
+                    raise
+        raise AssertionError

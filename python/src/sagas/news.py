@@ -1,0 +1,97 @@
+"""What PostgreSQL tells as it happens, and who waits for it. Whoever waits also looks by himself: a word may be lost with its connection."""
+
+from __future__ import annotations
+
+import asyncio
+from collections import OrderedDict
+from collections.abc import Callable, Iterable
+
+import psycopg
+
+from . import links
+
+CHANNEL = "sagas"
+SAY = f"SELECT pg_notify('{CHANNEL}', v) FROM unnest(%(words)s::text[]) AS v"
+MOST = 400  # ids a word: PostgreSQL takes 8,000 bytes
+FIRST_LOOK, MOST_LOOK = 0.5, 30.0  # seconds
+RECENT = 10_000
+
+
+def payloads(what: str, ids: Iterable[int]) -> list[str]:
+    """Words that tell of these ids."""
+    told = [str(id) for id in ids]
+    return [f"{what} {' '.join(told[first : first + MOST])}" for first in range(0, len(told), MOST)]
+
+
+class News:
+    """Listens on a connection of its own. `look` is called for each word that is of no id, and whenever words may have been missed."""
+
+    def __init__(self, url: str, look: Callable[[str], None]) -> None:
+        self._url, self._look = url, look
+        self._waiting: dict[tuple[str, int], list[asyncio.Future[None]]] = {}
+        self._recent: OrderedDict[tuple[str, int], None] = OrderedDict()
+        self._link: links.Link | None = None
+        self._job = asyncio.get_running_loop().create_task(self._listen())
+
+    async def close(self) -> None:
+        """Listens no more."""
+        while not self._job.done():  # a connection that is being made may swallow the first word
+            self._job.cancel()
+            await asyncio.wait([self._job], timeout=0.2)
+
+    async def _listen(self) -> None:
+        pause = 0.1
+        while True:
+            try:
+                link = self._link = await links.connect(self._url)
+                try:
+                    await link.execute(f"LISTEN {CHANNEL}")
+                    pause = 0.1
+                    self._missed()
+                    async for word in link.notifies():
+                        self._heard(word.payload)
+                finally:
+                    await link.close()
+            except (psycopg.Error, OSError):
+                await asyncio.sleep(pause)
+                pause = min(2.0, 2 * pause)
+
+    def _missed(self) -> None:
+        for futures in self._waiting.values():
+            _wake(futures)
+        self._look("")
+
+    def _heard(self, payload: str) -> None:
+        what, *ids = payload.split()
+        if not ids:
+            self._look(what)
+        for id in ids:
+            at = what, int(id)
+            self._recent[at] = None
+            _wake(self._waiting.get(at, []))
+        while len(self._recent) > RECENT:
+            self._recent.popitem(last=False)
+
+    async def of(self, id: int, turn: int) -> None:
+        """Waits for a saga's end; with an id below 0, for the log that takes it."""
+        await self.wait(*(("ended", id) if id >= 0 else ("begun", -id)), turn)
+
+    async def wait(self, what: str, id: int, turn: int) -> None:
+        """Returns when that was heard, or after a while, which is longer each turn."""
+        at = what, id
+        if at in self._recent:
+            return
+        future = asyncio.get_running_loop().create_future()
+        self._waiting.setdefault(at, []).append(future)
+        try:
+            await asyncio.wait([future], timeout=min(MOST_LOOK, FIRST_LOOK * 2.0**min(turn, 16)))
+        finally:
+            self._waiting[at].remove(future)
+            if not self._waiting[at]:
+                del self._waiting[at]
+
+
+def _wake(futures: list[asyncio.Future[None]]) -> None:
+    for future in futures:
+        if not future.done():
+            future.set_result(None)

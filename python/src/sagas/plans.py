@@ -1,0 +1,105 @@
+"""A plan that was adopted: what it found, what it decided, and what either would have cost."""
+
+from __future__ import annotations
+
+import dataclasses
+import json
+import tomllib
+from typing import Any
+
+from . import program
+from .errors import ChildError
+
+Cost = int | None
+"""A price; None is never."""
+
+
+@dataclasses.dataclass(frozen=True, slots=True)
+class Choice:
+    """A step as the plan found it (`state`), what it would cost that it stands and that it does not (None: never), and what was decided."""
+
+    step: str
+    state: str
+    stand: Cost
+    leave: Cost
+    kept: bool
+
+    @property
+    def decided(self) -> str:
+        """`stands`, `is run`, `is undone` or `is left out`."""
+        if self.kept:
+            return "is run" if self.state == "waiting" else "stands"
+        return "is undone" if self.state == "committed" else "is left out"
+
+
+@dataclasses.dataclass(frozen=True, slots=True)
+class Plan:
+    """The answer of `sagas plan` that a saga goes by, with its certificate. `str` shows why it is as it is."""
+
+    saga: str
+    key: str
+    definition: str
+    case: dict[str, Any]
+    answer: dict[str, Any]
+
+    @property
+    def cost(self) -> int | None:
+        """What it costs: no allowed plan costs less. None where no plan was allowed."""
+        cost: int | None = self.answer.get("cost")
+        return cost
+
+    @property
+    def chain(self) -> list[str]:
+        """Where no plan was allowed: the steps that show it."""
+        names = [step["name"] for step in tomllib.loads(self.definition)["step"]]
+        return [names[step] for step in self.answer.get("chain", ())]
+
+    @property
+    def choices(self) -> list[Choice]:
+        """Each step, in the order of the definition."""
+        kept = set(self.answer.get("kept", ()))
+        steps = tomllib.loads(self.definition)["step"]
+        return [self._choice(step, state, place in kept) for place, (step, state) in enumerate(zip(steps, self.case["states"]))]
+
+    def _choice(self, step: dict[str, Any], state: str, kept: bool) -> Choice:
+        run, undo, skip, keep = (_price(step.get(word, 0)) for word in ("run", "undo", "skip", "keep"))
+        if state == "waiting":
+            stand = None if self.case.get("aborted") else _sum(run, keep)
+        else:
+            stand = keep if state in ("committed", "fixed") else None
+        leave = None if state == "fixed" else _sum(undo, skip) if state == "committed" else skip
+        return Choice(step["name"], state, stand, leave, kept)
+
+    def check(self) -> str:
+        """What `sagas check`, which trusts no planner, says of it: `least N` or `blocked`."""
+        done = program.run("check", [self.definition, json.dumps(self.case), json.dumps(self.answer)])
+        if done.returncode != 0:
+            raise ChildError((done.stdout + done.stderr).strip())
+        return done.stdout.strip()
+
+    def draw(self) -> str:
+        """Its picture, as text for Graphviz."""
+        return program.draw(self.definition, json.dumps(self.case), json.dumps(self.answer))
+
+    def __str__(self) -> str:
+        choices = self.choices
+        wide = max(4, *(len(choice.step) for choice in choices))
+        head = f"plan of {self.saga} {self.key}: "
+        head += f"cost {self.cost}" if self.cost is not None else f"none is allowed, because of {' and '.join(self.chain)}"
+        lines = [head, f"  {'step':{wide}}  found      to stand  to go  decided"]
+        for choice in choices:
+            decided = choice.decided if self.cost is not None else "stuck"
+            lines.append(f"  {choice.step:{wide}}  {choice.state:9}  {_told(choice.stand):>8}  {_told(choice.leave):>5}  {decided}")
+        return "\n".join(lines)
+
+
+def _price(told: int | str) -> Cost:
+    return told if isinstance(told, int) else None
+
+
+def _sum(a: Cost, b: Cost) -> Cost:
+    return None if a is None or b is None else a + b
+
+
+def _told(cost: Cost) -> str:
+    return "never" if cost is None else str(cost)

@@ -1,0 +1,422 @@
+"""A store in PostgreSQL, for many nodes: each drives its own logs, by lease and epoch, and what one commit writes joins those that are its own."""
+
+from __future__ import annotations
+
+import asyncio
+import contextlib
+import json
+import logging
+from collections import deque
+from collections.abc import Sequence
+from typing import Any
+
+import psycopg
+from psycopg import errors
+
+from . import links, news, postgresql_schema, questions
+from .database import Drives, Then, Watcher
+from .definition import Bounds
+from .errors import NoSuchSaga, StoreUnwritable
+from .leases import UNTAKEN, Lease
+from .places_postgresql import Places
+from .postgresql_commit import Commit
+from .records import Batch, Grant, Loaded, LogRow, Request, SagaRow, Start
+from .transactions import Transactions
+from .values import clean, cleaned
+
+logger = logging.getLogger("sagas")
+NONE: frozenset[int] = frozenset()
+NUMBERS = 64  # of logs to be born, that are kept at hand
+MANY = 64  # starts of clients that are taken at once
+
+FIND = f"""
+SELECT {questions.SAGA} FROM sagas WHERE key = ANY(%(keys)s::text[])
+UNION ALL SELECT -id, key, saga, -1, input, at, NULL, NULL, NULL, NULL FROM inbox WHERE key = ANY(%(keys)s::text[])
+"""
+WAKE = """
+SELECT NOT EXISTS (SELECT 1 FROM logs WHERE log = %(log)s AND (owner IS DISTINCT FROM %(node)s OR epoch <> %(epoch)s OR closed <> 0)), l.first, l.text
+FROM (SELECT) one LEFT JOIN lines l ON l.log = %(log)s ORDER BY l.first
+"""
+"""Beside each chunk of a log, whether the log is this node's under this epoch, or is not born yet: as of one moment."""
+TAKE_UP = "UPDATE logs SET epoch = epoch + 1 WHERE log = %(log)s AND owner = %(node)s AND closed = 0 RETURNING epoch"
+"""Whatever its epoch is: this node may not have heard of the last one that it made."""
+REQUESTS = """
+SELECT r.id, r.key, r.what, r.value FROM requests r JOIN sagas s USING (key) JOIN logs l ON l.log = s.id / 1000
+WHERE r.answer IS NULL AND (l.owner = %(node)s OR l.closed <> 0) ORDER BY r.id
+"""
+STARTS = f"""
+WITH lot AS MATERIALIZED (
+  SELECT id FROM inbox i WHERE ({UNTAKEN} OR i.node = %(node)s AND i.id <> ALL(%(mine)s::bigint[])) AND saga || '/' || version = ANY(%(sagas)s::text[])
+  ORDER BY id LIMIT %(most)s FOR UPDATE SKIP LOCKED)
+UPDATE inbox SET node = %(node)s FROM lot WHERE inbox.id = lot.id RETURNING inbox.id, key, saga, version, input
+"""
+"""As a part of an OR what is not taken is looked up again for a row that another node took meanwhile; as a join it would not be."""
+ASK = "INSERT INTO requests(key, what, value, at, token) VALUES (%(key)s, %(what)s, %(value)s, extract(epoch FROM now()), %(token)s) ON CONFLICT (token) WHERE token IS NOT NULL DO NOTHING RETURNING id"
+
+
+class PostgreSQL(questions.Questions):
+    """One node's part of the store. A connection writes, a pool asks, one listens, and one answers questions where they stand."""
+
+    shared = True
+
+    def __init__(self, url: str, *, node: str | None = None, lease: float = 10.0, sagas: Sequence[str] = (), version: str = "", most: int = 16) -> None:
+        self.url, self.path, self.commits = url, links.named(url), 0
+        self.asker = links.Asker(url, self.path, 4)
+        self.lease = Lease(self.asker, node, lease, version)
+        self._sagas = list(sagas)
+        self._transactions = Transactions(url, self.path, self.lease.node, lambda: self._line, most)
+        self.call = self._transactions.call
+        self._places = Places(self.asker, self.lease.node)
+        self._line = ""
+        self._events: dict[int, int] = {}  # of each log, by what the server said
+        self._numbers: deque[int] = deque()
+        self._writer: links.Link | None = None
+        self._reader = self.reader()
+        self._wanted: dict[str, list[asyncio.Future[SagaRow | None]]] = {}
+        self._said: list[str] = []
+        self._jobs: set[asyncio.Task[Any]] = set()
+        self._news: news.News | None = None
+        self._watcher: Watcher | None = None
+        self._closing = self._finding = self._saying = False
+        self._turn = asyncio.Event()
+
+    # -- opening and closing
+
+    async def open(self, drives: Drives) -> list[LogRow]:
+        """Migrates the tables where they are older; gives the logs that nobody has, as far as this program drives them."""
+        self._drives = drives
+        await asyncio.to_thread(self._migrate)
+        await self.asker.open()
+        self._line = await self.lease.begin()
+        rows: list[LogRow] = []
+        while taken := await self.lease.take(drives, [row.log for row in rows]):
+            rows += taken
+        await self._count()
+        return rows
+
+    def _migrate(self) -> None:
+        with links.faults(self.path):
+            link = links.connect_now(self.url)
+            with contextlib.closing(link):
+                postgresql_schema.migrate(link, self.path)
+
+    def watch(self, watcher: Watcher) -> None:
+        """Keeps the lease, listens, and takes over."""
+        self._watcher = watcher
+        self._news = news.News(self.url, self._heard)
+        self._spawn(self._keep())
+
+    async def close(self) -> None:
+        """Hands over what this node has."""
+        self._closing = True
+        self._turn.set()
+        if self._jobs:  # what is under way ends by itself, or the server does not answer
+            _, late = await asyncio.wait(list(self._jobs), timeout=links.CONNECT)
+            for job in late:
+                job.cancel()
+            if late:
+                await asyncio.wait(late)
+        if self._news:
+            await self._news.close()
+        if self.lease.holds():
+            with contextlib.suppress(StoreUnwritable):
+                await self.lease.end()
+        await self._transactions.close()
+        await self.asker.close()
+        await self._cut()
+        self._reader.close()
+
+    def _heard(self, what: str) -> None:
+        assert self._watcher
+        if what != "places":
+            self._turn.set()
+        if what in ("places", ""):
+            self._watcher.vacant()
+
+    def _spawn(self, work: Any) -> None:
+        job = asyncio.get_running_loop().create_task(work)
+        self._jobs.add(job)
+        job.add_done_callback(self._done)
+
+    def _done(self, job: asyncio.Task[Any]) -> None:
+        self._jobs.discard(job)
+        if not job.cancelled() and job.exception():
+            logger.error("%s: %r", self.path, job.exception(), exc_info=job.exception())
+
+    async def _keep(self) -> None:
+        """Says that this node lives, and looks for what nobody has: each second, and when there is word of it."""
+        while not self._closing:
+            self._turn.clear()
+            with contextlib.suppress(StoreUnwritable):
+                await self._beat()
+            with contextlib.suppress(TimeoutError):
+                async with asyncio.timeout(0 if self._closing else self.lease.pause):
+                    await self._turn.wait()
+
+    async def _beat(self) -> None:
+        assert self._watcher
+        lapsed, orphans, asks, line = await self.lease.beat(self._watcher.logs())
+        if not self._is_known(line):
+            await self._cut()
+        elif lapsed:
+            self._watcher.lapsed()
+        while orphans and not self._closing and (rows := await self.lease.take(self._drives, self._watcher.logs())):
+            self._watcher.taken(rows)
+        if asks:
+            self._watcher.look()
+        if len(self._numbers) < NUMBERS // 2:
+            await self._count()
+
+    def _is_known(self, line: str) -> bool:
+        """Whether this is the server that was there before. Another one may lack commits: then each log is taken up again before anything is written."""
+        if line == self._line:
+            return True
+        logger.warning("%s: another server has taken over: its logs are taken up again", self.path)
+        self._line = line
+        self._events.clear()  # so that what was decided before is not written
+        if self._watcher:
+            self._watcher.lapsed()
+        return False
+
+    def _check_line(self, line: str) -> None:
+        if line != self._line:
+            raise StoreUnwritable(f"{self.path}: another server has taken over meanwhile")
+
+    async def _count(self) -> None:
+        rows = await self.asker.ask(f"SELECT nextval('numbers') FROM generate_series(1, {NUMBERS})")
+        self._numbers.extend(number for (number,) in rows)
+
+    # -- writing
+
+    def new_log(self) -> int:
+        """The number of a log that is to be born. Raises `StoreUnwritable` where none is at hand."""
+        if len(self._numbers) <= NUMBERS // 2:
+            self._turn.set()
+        if not self._numbers:
+            raise StoreUnwritable(f"{self.path}: no number of a new log is at hand: it does not answer, or many were begun at once; nothing was begun: start it again")
+        return self._numbers.popleft()
+
+    def holds(self) -> bool:
+        """Whether the lease holds as far as this node knows."""
+        return self.lease.holds()
+
+    async def admit(self, name: str, bounds: Bounds, want: int, have: Sequence[int]) -> Grant:
+        """Places of a step, over all nodes."""
+        return await self._places.take(name, bounds, want, have, self.lease.pause)
+
+    def commit(self, batches: Sequence[Batch], then: Then) -> None:
+        """One statement for all; `then` is called in the loop."""
+        job = asyncio.get_running_loop().create_task(self._commit(batches, then))
+        self._jobs.add(job)
+        job.add_done_callback(self._jobs.discard)
+
+    async def _commit(self, batches: Sequence[Batch], then: Then) -> None:
+        fault: BaseException | None = None
+        lost = NONE
+        try:
+            try:
+                lost = await self._write(batches)
+            except errors.UniqueViolation:
+                lost = await self._one_by_one(batches)
+        except Exception as error:  # told to the coordinator, which begins again from the database
+            fault = error
+        except asyncio.CancelledError:
+            fault = StoreUnwritable(f"{self.path}: closed")
+        then(batches, fault, lost)
+
+    async def _one_by_one(self, batches: Sequence[Batch]) -> frozenset[int]:
+        """Another node has a key of one of them, or wrote a log before: the others are written. Gives those that were not."""
+        lost: set[int] = set()
+        for log in dict.fromkeys(batch.log for batch in batches):
+            try:
+                lost |= await self._write([batch for batch in batches if batch.log == log])
+            except errors.UniqueViolation:
+                lost.add(log)
+        return frozenset(lost)
+
+    async def _write(self, batches: Sequence[Batch]) -> frozenset[int]:
+        commit = Commit(batches, lambda log: self._events.get(log, 0))
+        text, words = commit.words(self.lease.node)
+        try:
+            with links.faults(self.path):
+                async with asyncio.timeout(links.PATIENCE):
+                    if self._writer is None or self._writer.closed:
+                        self._writer = await links.connect(self.url)
+                        if not self._is_known(await links.line_of(self._writer)):
+                            raise StoreUnwritable(f"{self.path}: another server has taken over: what it has is looked at first")
+                    rows = await (await self._writer.execute(text, words)).fetchall()
+        except BaseException as error:
+            cause = error.__cause__
+            if isinstance(cause, errors.UniqueViolation):
+                raise cause
+            await self._cut()
+            raise
+        mine = {log for (log,) in rows}
+        self.commits += 1
+        self._events.update((log, events) for log, events in commit.events.items() if log in mine)
+        begun, answered = (id for batch in batches for id in batch.begun), (id for batch in batches for _, id in batch.answers)
+        self._say(news.payloads("ended", commit.ended) + news.payloads("begun", begun) + news.payloads("answered", answered))
+        return frozenset(commit.epochs.keys() - mine)
+
+    async def _cut(self) -> None:
+        """What the connection was doing is over, or is fenced by the epoch that follows."""
+        writer, self._writer = self._writer, None
+        if writer:
+            with contextlib.suppress(psycopg.Error, OSError):
+                await writer.close()
+
+    def _say(self, words: list[str]) -> None:
+        """Tells the other nodes and the clients, behind the commit: a commit that tells takes a lock over the whole server."""
+        self._said += words
+        if self._said and not self._saying and not self._closing:
+            self._saying = True
+            self._spawn(self._tell())
+
+    async def _tell(self) -> None:
+        try:
+            while self._said:
+                words, self._said = self._said, []
+                await self.asker.ask(news.SAY, words=words)
+        except StoreUnwritable:
+            pass  # whoever waits also looks by himself
+        finally:
+            self._saying = False
+
+    # -- reading, for the coordinator
+
+    async def find(self, key: str) -> SagaRow | None:
+        """The saga with this key; with an id below 0 one that a client started and no log has yet."""
+        future: asyncio.Future[SagaRow | None] = asyncio.get_running_loop().create_future()
+        self._wanted.setdefault(key, []).append(future)
+        if not self._finding:
+            self._finding = True
+            self._spawn(self._find())
+        return await future
+
+    async def _find(self) -> None:
+        """Looks for all keys that are wanted at once."""
+        while self._wanted:
+            wanted, self._wanted = self._wanted, {}
+            fault: StoreUnwritable | None = None
+            found: dict[str, SagaRow] = {}
+            try:
+                for row in map(SagaRow._make, await self.asker.read(FIND, keys=[clean(key) for key in wanted])):
+                    if row.key not in found or row.id >= 0:
+                        found[row.key] = row
+            except StoreUnwritable as error:
+                fault = error
+            finally:
+                self._finding = bool(self._wanted)
+                for key, futures in wanted.items():
+                    for future in futures:
+                        if not future.done():
+                            future.set_exception(fault) if fault else future.set_result(found.get(key))
+
+    async def load(self, log: int, epoch: int, unborn: bool) -> Loaded | None:
+        """A log as a pump takes it up, under a new epoch: what was on its way to the server is fenced. None where it is another node's, or is not there."""
+        low, high = questions.bounds(log)
+        line = self._line
+        words = {"low": low, "high": high, "log": log, "node": self.lease.node}
+
+        async def rows(query: str) -> list[Any]:
+            return await (await link.execute(_named(query), words)).fetchall()
+
+        with links.faults(self.path):
+            async with asyncio.timeout(links.PATIENCE), self.asker.pool.connection() as link, link.transaction():
+                taken = await (await link.execute(TAKE_UP, words)).fetchall()
+                if not taken and (not unborn or await (await link.execute("SELECT 1 FROM logs WHERE log = %s", (log,))).fetchall()):
+                    return None
+                text, events = questions.joined(await (await link.execute("SELECT first, text FROM lines WHERE log = %s ORDER BY first", (log,))).fetchall())
+                ((opened,),) = await rows(questions.COUNT)
+                open, results, held = [await rows(query) for query in (questions.OPEN_SAGAS, questions.OPEN_RESULTS, questions.OPEN_HELD)]
+                self._check_line(line)  # else nothing was taken up
+        self._events[log] = events
+        return questions.loaded(text, events, opened, open, results, held, taken[0][0] if taken else epoch)
+
+    async def take_up(self, log: int, epoch: int) -> tuple[str, int] | None:
+        """A log's lines and how many events they are; None where it is not this node's any more, since another wrote behind them."""
+        line = self._line
+        rows = await self.asker.read(WAKE, log=log, node=self.lease.node, epoch=epoch)
+        if not rows[0][0]:
+            return None
+        self._check_line(line)
+        text, self._events[log] = questions.joined([(first, text) for _, first, text in rows if first is not None])
+        return text, self._events[log]
+
+    async def requests(self) -> list[Request]:
+        """What was asked of the sagas of this node's logs."""
+        return await self.asker.read(REQUESTS, node=self.lease.node)  # type: ignore[return-value]
+
+    async def starts(self, most: int, under_way: Sequence[int] | None = None) -> list[Start]:
+        """Sagas that clients started, and that are this node's to open."""
+        mine = None if under_way is None else list(under_way)
+        return await self.asker.ask(STARTS, node=self.lease.node, sagas=self._sagas, most=most, mine=mine)  # type: ignore[return-value]
+
+    async def ask(self, key: str, what: str, value: str, token: str | None = None) -> Any:
+        """Leaves a request for the node that has the saga, and waits for its answer."""
+        assert self._news
+        return await ask(self.asker, self._news, key, what, value, token)
+
+    async def news(self, id: int, turn: int) -> None:
+        """Returns when the saga may have ended, or after a while, which is longer each turn."""
+        if self._news:
+            await self._news.of(id, turn)
+
+    # -- questions
+
+    def rows(self, query: str, *words: Any) -> list[tuple[Any, ...]]:
+        """Rows of a query, where it stands."""
+        return self._reader.rows(query, *words)
+
+    def reader(self) -> Reader:
+        """Another connection, for a thread that only reads."""
+        return Reader(self.url, self.path)
+
+
+class Reader:
+    """A connection that only reads. One thread at a time may use it."""
+
+    def __init__(self, url: str, path: str) -> None:
+        self._url, self._path = url, path
+        self._link: psycopg.Connection[links.Row] | None = None
+
+    def rows(self, query: str, *words: Any) -> list[tuple[Any, ...]]:
+        """Rows of a query. A connection that broke unnoticed is made again. Raises `StoreUnwritable` where the server does not answer."""
+        told = cleaned(words)
+        for turn in (0, 1):
+            try:
+                with links.faults(self._path):
+                    if self._link is None or self._link.closed:
+                        self._link = links.connect_now(self._url)
+                    return self._link.execute(query.replace("?", "%s"), told).fetchall()
+            except StoreUnwritable:
+                if turn or (self._link and not self._link.closed):
+                    raise
+        raise AssertionError
+
+    def close(self) -> None:
+        if self._link:
+            self._link.close()
+
+
+def _named(query: str) -> str:
+    """A query between two ids, by their names."""
+    return query.replace("?", "%(low)s", 1).replace("?", "%(high)s", 1)
+
+
+async def ask(asker: links.Asker, heard: news.News, key: str, what: str, value: str, token: str | None) -> Any:
+    """Leaves a request, tells the nodes, and waits for the answer."""
+    rows = await asker.ask(ASK, key=key, what=what, value=value, token=token)
+    rows = rows or await asker.read("SELECT id FROM requests WHERE token = %(token)s", token=token)
+    ((id,),) = rows
+    await asker.ask(news.SAY, words=["requests"])
+    turn = 0
+    while True:
+        rows = await asker.read("SELECT answer FROM requests WHERE id = %(id)s", id=id)
+        if not rows:
+            raise NoSuchSaga(f"no saga has the key {key!r}")
+        ((answer,),) = rows
+        if answer is not None:
+            return json.loads(answer)
+        await heard.wait("answered", id, turn)
+        turn += 1

@@ -1,0 +1,157 @@
+"""What a commit writes to PostgreSQL: one statement, whose parts join the logs that are still this node's.
+
+Each part's rows go as one JSON text; parts without rows are left out, and each form of the statement is prepared once."""
+
+from __future__ import annotations
+
+import functools
+import json
+from collections.abc import Callable, Iterable, Sequence
+from typing import Any
+
+from .records import Batch, HeldRow
+from .schema import ROOM
+from .values import clean
+
+FREE = f"(v.log < 0 OR v.log IN (SELECT log FROM mine))"
+"""What is of no log, or of one that is still this node's."""
+
+ROWS = {
+    "born": "log bigint, name text, shelf text",
+    "shelves": "shelf text, texts text",
+    "lines": "log bigint, first integer, at double precision, text text",
+    "opened": "id bigint, key text, saga text, def integer, input text, at double precision",
+    "results": "id bigint, step integer, kind text, attempt integer, outcome text, value text, at double precision",
+    "ended": 'phase text, "end" text, ended double precision, id bigint',
+    "held": "id bigint, step integer, kind text, attempt integer, why text, count bigint, since double precision, until double precision, error text",
+    "freed": "id bigint, step integer, kind text, attempt integer",
+    "settled": "token text, log bigint",
+    "emptied": "log bigint",
+    "answers": "log bigint, answer text, id bigint",
+    "asked": "log bigint, key text, what text, value text, at double precision, answer text",
+    "begun": "log bigint, id bigint",
+    "notes": "note text, id bigint",
+    "closed": "log bigint, closed smallint, audit text",
+}
+"""The columns of the rows of each part."""
+
+OF_LOG = f"JOIN mine ON mine.log = v.id / {ROOM}"
+PARTS = {
+    "shelves": "INSERT INTO shelves SELECT v.* FROM {rows} ON CONFLICT DO NOTHING",
+    "lines": "INSERT INTO lines SELECT v.* FROM {rows} JOIN mine USING (log)",
+    "opened": f"INSERT INTO sagas(id, key, saga, def, input, at) SELECT v.* FROM {{rows}} {OF_LOG}",
+    "results": f"INSERT INTO results SELECT v.* FROM {{rows}} {OF_LOG} ON CONFLICT (id, step, kind, attempt) "
+    "DO UPDATE SET outcome = excluded.outcome WHERE results.outcome = 'ok'",
+    "ended": f'UPDATE sagas SET phase = v.phase, "end" = v."end", ended = v.ended FROM {{rows}} {OF_LOG} WHERE sagas.id = v.id',
+    "held": f"INSERT INTO held SELECT v.* FROM {{rows}} {OF_LOG} ON CONFLICT (id, step, kind, attempt) DO UPDATE "
+    "SET why = excluded.why, count = excluded.count, since = excluded.since, until = excluded.until, error = excluded.error",
+    "freed": f"DELETE FROM held USING {{rows}} {OF_LOG} WHERE held.id = v.id AND held.step = v.step AND held.kind = v.kind AND held.attempt <= v.attempt",
+    "settled": "INSERT INTO reports(token, log, outcome) SELECT v.token, v.log, 'taken' FROM {rows} JOIN mine USING (log) "
+    "ON CONFLICT (token) DO UPDATE SET outcome = 'taken', value = NULL",
+    "emptied": "DELETE FROM reports USING {rows} JOIN mine USING (log) WHERE reports.log = v.log",
+    "answers": f"UPDATE requests SET answer = v.answer FROM {{rows}} WHERE requests.id = v.id AND requests.answer IS NULL AND {FREE}",
+    "asked": f"INSERT INTO requests(key, what, value, at, answer) SELECT v.key, v.what, v.value, v.at, v.answer FROM {{rows}} WHERE {FREE}",
+    "begun": f"DELETE FROM inbox USING {{rows}} WHERE inbox.id = v.id AND {FREE}",
+    "notes": "UPDATE sagas SET note = v.note FROM {rows} WHERE sagas.id = v.id",
+    "closed": "UPDATE logs SET closed = v.closed, audit = v.audit FROM {rows} JOIN mine USING (log) WHERE logs.log = v.log",
+}
+"""What becomes of them."""
+
+KEPT = (
+    "SELECT l.log FROM logs l JOIN json_to_recordset(%(logs)s::json) AS v(log bigint, epoch bigint) ON l.log = v.log AND l.epoch = v.epoch "
+    "WHERE l.owner = %(node)s FOR SHARE OF l"
+)
+BORN = "INSERT INTO logs(log, name, shelf, owner, epoch) SELECT v.log, v.name, v.shelf, %(node)s, 1 FROM {rows} ON CONFLICT DO NOTHING RETURNING log"
+
+
+@functools.lru_cache(maxsize=None)
+def statement(parts: tuple[str, ...]) -> str:
+    """The statement with these parts."""
+
+    def rows(part: str) -> str:
+        return f"json_to_recordset(%({part})s::json) AS v({ROWS[part]})"
+
+    texts = [f"kept AS MATERIALIZED ({KEPT})"]
+    if "born" in parts:
+        texts.append(f"born AS ({BORN.format(rows=rows('born'))})")
+    texts.append(f"mine AS MATERIALIZED (SELECT log FROM kept{' UNION ALL SELECT log FROM born' if 'born' in parts else ''})")
+    texts += [f"{part}_ AS ({PARTS[part].format(rows=rows(part))})" for part in parts if part != "born"]
+    return f"WITH {', '.join(texts)} SELECT log FROM mine"
+
+
+class Commit:
+    """All that a list of batches writes, with what becomes of a row that more than one of them touches."""
+
+    def __init__(self, batches: Sequence[Batch], events: Callable[[int], int]) -> None:
+        self.batches = batches
+        self.epochs = {batch.log: batch.epoch for batch in batches if batch.log >= 0}
+        self.events: dict[int, int] = {}
+        self._before = events
+        self._rows: dict[str, list[Any]] = {}
+        self._lines()
+        self._held()
+        for part, lists in self._lists():
+            rows = [row for rows in lists for row in rows]
+            if rows:
+                self._rows[part] = rows
+
+    @property
+    def ended(self) -> list[int]:
+        """The sagas that end in it."""
+        return [end[3] for batch in self.batches for end in batch.ended]
+
+    def _lines(self) -> None:
+        chunks: dict[int, tuple[int, float, list[str]]] = {}
+        for batch in self.batches:
+            if batch.text:
+                had = self.events.get(batch.log)
+                had = self._before(batch.log) if had is None else had
+                if batch.first != had:
+                    raise ValueError(f"log {batch.log}: event {batch.first} behind {had}")
+                self.events[batch.log] = had + batch.text.count("\n")
+                chunks.setdefault(batch.log, (had, batch.at, []))[2].append(batch.text)
+        if chunks:
+            self._rows["lines"] = [(log, first, at, "".join(texts)) for log, (first, at, texts) in chunks.items()]
+
+    def _held(self) -> None:
+        """The last word of each held attempt."""
+        held: dict[tuple[int, int, str], dict[int, HeldRow]] = {}
+        freed: dict[tuple[int, int, str], int] = {}
+        for batch in self.batches:
+            for row in batch.held:
+                held.setdefault(row[:3], {})[row[3]] = (*row[:8], clean(row[8])) if row[8] is not None else row
+            for id, step, kind, attempt in batch.freed:
+                at = id, step, kind
+                freed[at] = max(attempt, freed.get(at, 0))
+                held[at] = {number: row for number, row in held.get(at, {}).items() if number > attempt}
+        rows = [row for of in held.values() for row in of.values()]
+        if rows:
+            self._rows["held"] = rows
+        if freed:
+            self._rows["freed"] = [(*at, attempt) for at, attempt in freed.items()]
+
+    def _lists(self) -> Iterable[tuple[str, Iterable[Sequence[Any]]]]:
+        born = {batch.log: batch.born for batch in self.batches if batch.born}
+        yield "born", [[(log, name, shelf) for log, (name, shelf, _) in born.items()]]
+        yield "shelves", [{(shelf, texts): None for _, shelf, texts in born.values()}]  # type: ignore[list-item]
+        yield "opened", (batch.opened for batch in self.batches)
+        yield "results", (batch.results for batch in self.batches)
+        yield "ended", (batch.ended for batch in self.batches)
+        yield "settled", (batch.settled for batch in self.batches)
+        yield "emptied", ([(batch.log,)] for batch in self.batches if batch.closed)
+        yield "answers", ([(batch.log, *answer) for answer in batch.answers] for batch in self.batches)
+        yield "asked", ([(batch.log, *row, answer) for row, answer in batch.asked] for batch in self.batches)
+        yield "begun", ([(batch.log, id) for id in batch.begun] for batch in self.batches)
+        yield "notes", ([(clean(note), id) for note, id in batch.notes] for batch in self.batches)
+        yield "closed", ([(batch.log, *batch.closed)] for batch in self.batches if batch.closed)
+
+    def words(self, node: str) -> tuple[str, dict[str, Any]]:
+        """The statement and its words."""
+        words: dict[str, Any] = {"node": node, "logs": json.dumps([{"log": log, "epoch": epoch} for log, epoch in self.epochs.items()])}
+        for part, rows in self._rows.items():
+            names = NAMES[part]
+            words[part] = json.dumps([dict(zip(names, row)) for row in rows])
+        return statement(tuple(sorted(self._rows))), words
+
+
+NAMES = {part: [column.split()[0].strip('"') for column in columns.split(", ")] for part, columns in ROWS.items()}

@@ -1,0 +1,312 @@
+"""One log: what its child says is committed, and only then done."""
+
+from __future__ import annotations
+
+import json
+import logging
+from collections import deque
+from collections.abc import Callable
+from typing import TYPE_CHECKING, Any
+
+from . import lines, restoring
+from .answers import Abort, Act, Answers, Disagrees
+from .child import Child, Reply
+from .errors import Lost, SagasError
+from .kinds import Kind
+from .live import Attempt, Live
+from .records import Batch
+
+if TYPE_CHECKING:
+    from .coordinator import Coordinator
+
+logger = logging.getLogger("sagas")
+MOST_NEXT = 1000
+Asked = tuple[Callable[..., None], Any]
+"""What reads a reply, and what it was about."""
+TURN = 0.1  # seconds that a log keeps its child while others wait for one
+
+
+class Pump(Answers):
+    """`state` is stale (what it knows is not what the store has), loading (it is being taken up), asleep (no child), waking, up, or closed."""
+
+    def __init__(self, owner: Coordinator, log: int, name: str, shelf: str, texts: list[str], state: str, epoch: int = 0) -> None:
+        self.epoch = epoch
+        self.owner, self.log, self.name, self.shelf, self.texts, self.state = owner, log, name, shelf, texts, state
+        self.kinds: list[Kind] = [owner.shelf.kind(text) for text in texts]
+        self.child: Child | None = None
+        self.born: tuple[str, str, str] | None = None  # its row, until it is in the store
+        self.live: dict[int, Live] = {}
+        self.opens: deque[Live] = deque()
+        self.sent: dict[Live, None] = {}  # asked to be opened, and not known to be kept
+        self.reports: dict[Attempt, None] = {}  # ended, and to be reported
+        self.reporting: dict[Attempt, None] = {}  # reported to the child, and not known to be kept
+        self.aborts: list[Abort] = []
+        self.aborting: list[Abort] = []
+        self.events: int = 0  # how many stand in the store or on their way to it
+        self.opened: int = 0
+        self.reserved: int = 0  # those, and those that are to be opened here
+        self.unwritten: int = 0  # batches on their way to the store
+        self.more: int = 1
+        self.outstanding = self._took = 0  # tasks that were asked for, and that the last batch took
+        self._text = ""  # of the log, by the answer that is read
+        self._reported: list[tuple[Attempt, str]] = []  # with their events
+        self._over_odd: dict[int, None] = {}  # sagas that this answer ends otherwise than all well
+        self.hungry: bool = False  # there may be tasks
+        self._scheduled = False
+        self.used: float = 0.0
+        self.woke: float = 0.0
+        self.pause: float = 0.0
+        self.coming: bool = False  # it is about to be loaded
+        self.fault: BaseException | None = None
+
+    # -- to the child
+
+    def poke(self) -> None:
+        """Something is to be sent."""
+        if self.state == "up":
+            if self._scheduled:
+                return
+            assert self.child
+            if not self.child.asked:
+                self._scheduled = True
+                self.owner.loop.call_soon(self._send)
+        elif self.state == "asleep":
+            self.owner.children.want(self)
+
+    def owes(self) -> bool:
+        """Whether something is on its way to the store, and the store takes it."""
+        return bool(self.unwritten or ((self.reports or self.reporting or self.opens or self.sent) and not self.fault and not self.pause))
+
+    def rests(self) -> bool:
+        """Whether its child may go: nothing is on its way, and all that it knows is in the store."""
+        if self.state != "up" or self.unwritten or not self.child or self.child.asked:
+            return False
+        if not self.due():
+            return True
+        return self.owner.loop.time() - self.woke > TURN
+
+    def due(self) -> bool:
+        """Whether something can be sent now: tasks only where there is a slot for them."""
+        starved = self in self.owner.starved or self.owner.closed is not None
+        return bool(self.reports or self.opens or self.aborts or (self.hungry and not starved))
+
+    def granted(self) -> None:
+        """It may have a child."""
+        if self.state == "stale":
+            self.state = "loading"
+            self.owner.spawn(restoring.load(self))
+        elif self.state == "asleep":
+            self.state = "waking"
+            self.owner.spawn(self._wake())
+        else:
+            self.owner.children.gone(self)
+
+    async def _wake(self) -> None:
+        """Starts a child on the log, as far as nobody else has written it meanwhile."""
+        try:
+            taken = await self.owner.store.take_up(self.log, self.epoch)
+            if self.state != "waking":
+                return
+            if taken is None:  # it may be another node's: that is looked at as after a failed commit
+                self.fail(None)
+                return
+            text, self.events = taken
+            self.child = Child(self.owner.program, self.texts, text, self._died)
+        except SagasError as error:
+            self.fail(error)
+            return
+        self.state, self.used = "up", self.owner.loop.time()
+        self.woke = self.used
+        self.poke()
+
+    def sleep(self) -> None:
+        """Lets its child go."""
+        if self.child:
+            self.child.stop()
+        self.state = "asleep"
+        if self.due():
+            self.owner.loop.call_soon(self.poke)
+
+    def _send(self) -> None:
+        self._scheduled = False
+        child = self.child
+        if self.state != "up" or child is None or child.asked:
+            return
+        if self.owner.children.wanted and self.owner.loop.time() - self.woke > TURN:
+            self.owner.loop.call_soon(self.owner.yield_child, self)
+            if not self.unwritten:
+                return
+        requests: list[str] = []
+        asked: list[Asked] = []
+        self._ask_reports(requests, asked)
+        for abort in self.aborts:
+            requests.append(lines.abort_line(abort[0].number))
+            asked.append((self._told_abort, abort))
+        self.aborting += self.aborts
+        self.aborts = []
+        number = self.opened
+        while self.opens:
+            live = self.opens.popleft()
+            if self.owner.lives.get(live.key) is not live:  # another log has it
+                self.reserved -= 1
+                continue
+            self.sent[live], live.pump = None, self
+            requests.append(lines.open_line(live.place, number))
+            asked.append((self._told_open, live))
+            number += 1
+        if requests:
+            self.hungry = True
+        self._ask_next(len(requests), requests, asked)
+        if requests:
+            self.used = self.owner.loop.time()
+            child.ask(requests, lambda replies, text: self._answered(asked, replies, text))
+        else:
+            self.offer()
+
+    def _ask_reports(self, requests: list[str], asked: list[Asked]) -> None:
+        reports, self.reports = self.reports, {}
+        for attempt in reports:
+            live, outcome = attempt.live, attempt.outcome
+            assert outcome
+            ok = outcome.kind == "done"
+            requests.append(lines.report_line(live.number, attempt.step, attempt.kind, attempt.attempt, ok))
+            asked.append((self._told_report, attempt))
+            live.busy.pop(attempt.word, None)
+            self.reporting[attempt] = None
+            live.odd = live.odd or not ok or attempt.kind == "undo"
+
+    def _ask_next(self, wanted: int, requests: list[str], asked: list[Asked]) -> None:
+        if not self.hungry or self.owner.closed:
+            return
+        count = min(max(wanted + 1, self.more), self.owner.slots.free())
+        if count <= 0:
+            self.owner.starved[self] = None
+            return
+        self.outstanding = count
+        self.owner.slots.reserve(count)
+        requests.append(lines.next_line(count))
+        asked.append((self._told_next, None))
+
+    # -- from the child
+
+    def _answered(self, asked: list[Asked], replies: list[Reply], text: str) -> None:
+        batch = self.batch()
+        acts: list[Act] = []
+        self._text, self._reported, self._took, self._over_odd = text, [], 0, {}
+        acts.append((self.owner.doing.reported, self._reported))
+        try:
+            for (then, about), reply in zip(asked, replies):
+                then(batch, acts, about, reply)
+        except Exception as error:
+            self._misunderstood(error)
+            return
+        if self._over_odd:  # how they ended goes into the same batch
+            numbers = list(self._over_odd)
+            assert self.child
+            self.child.ask([lines.show_line(number) for number in numbers], lambda replies, _: self._shown(batch, acts, numbers, replies))
+        else:
+            self._read(batch, acts)
+
+    def _shown(self, batch: Batch, acts: list[Act], numbers: list[int], replies: list[Reply]) -> None:
+        try:
+            for number, reply in zip(numbers, replies):
+                self._told_show(batch, acts, number, json.loads(reply))
+        except Exception as error:
+            self._misunderstood(error)
+            return
+        self._read(batch, acts)
+
+    def _misunderstood(self, error: Exception) -> None:
+        """Begins again from the store."""
+        if isinstance(error, Disagrees):
+            logger.warning("log %s: %s: it is begun again from the store", self.name, error)
+            self.fail(None)
+        else:
+            logger.exception("log %s: a reply was not understood", self.name)
+            self.fail(error)
+
+    def _read(self, batch: Batch, acts: list[Act]) -> None:
+        """What was answered is committed, and what is to be asked is asked."""
+        unused, self.outstanding = self.outstanding - self._took, 0
+        self.owner.slots.release(unused)
+        self.more = min(MOST_NEXT, 2 * self._took) if self.hungry else 1
+        batch.text = self._text
+        self.events += batch.text.count("\n")
+        self.commit(batch, acts)
+        if self.due():
+            self._send()
+        else:
+            self.offer()
+
+    def commit(self, batch: Batch, acts: list[Act]) -> None:
+        """Acts once the batch is in the store."""
+        if not batch:
+            self._act(acts)
+            return
+        batch.born = self.born
+        self.unwritten += 1
+        batch.then = lambda fault: self.committed(acts, fault)
+        self.owner.enqueue(batch)
+
+    def committed(self, acts: list[Act], fault: BaseException | None) -> None:
+        """The batch is in the store, or as far as is known it is not: then what the child knows beyond the store is thrown away."""
+        self.unwritten -= 1
+        if fault is not None:
+            self.owner.slots.release(sum(len(begun) for act, begun in acts if act == self._begin))
+            self.fail(None if isinstance(fault, Lost) else fault)  # another has a key of it: the others are opened again
+        else:
+            self.born, self.pause = None, 0.0
+            self._act(acts)
+        if not self.unwritten:
+            self._settle()
+
+    def offer(self) -> None:
+        """Others may have its child, where they wait for one and it rests."""
+        if self.owner.children.wanted and self.rests():
+            self.owner.loop.call_soon(self.owner.yield_child, self)
+
+    def _settle(self) -> None:
+        if self.state == "stale":
+            restoring.again(self)
+        self.offer()
+        self.owner.close_if_over(self)
+        self.owner.changed()
+
+    def batch(self) -> Batch:
+        """An empty one, behind all that was committed or is about to be."""
+        return Batch(self.log, self.owner.clock(), self.events, self.epoch)
+
+    def _act(self, acts: list[Act]) -> None:
+        for act, about in acts:
+            act(about)
+
+    # -- what goes wrong
+
+    def _died(self, child: Child, last: str) -> None:
+        if child is self.child and self.state == "up":
+            self.owner.teller.tell("child_died", detail=f"log {self.name}: {last}")
+            self.fail(None)
+
+    def fail(self, fault: BaseException | None) -> None:
+        """What is in the store is all that is known; it is loaded again, after a pause that grows."""
+        if self.state in ("stale", "loading", "closed"):
+            self.fault = self.fault or fault
+            return
+        self.fault = fault
+        self.owner.loop.call_soon(self.owner.changed)
+        self._unreserve()
+        restoring.stale(self)
+
+    def _unreserve(self) -> None:
+        """Its last question is not answered any more."""
+        unused, self.outstanding = self.outstanding, 0
+        self.owner.slots.release(unused)
+
+    def stop(self) -> None:
+        """Ends the child; the pump is not used again."""
+        self.state = "closed"
+        if self.child:
+            self.child.stop()
+        self._unreserve()
+        self.owner.children.gone(self)
+        self.owner.starved.pop(self, None)

@@ -1,0 +1,79 @@
+"""What is asked of a store's tables, in words that SQLite and PostgreSQL both understand; `?` stands for a value."""
+
+from __future__ import annotations
+
+import json
+from typing import Any
+
+from .errors import NoSuchSaga
+from .records import HeldRow, Loaded, LogRow, Result, SagaRow
+from .schema import ROOM
+
+SAGA = 'id, key, saga, def, input, at, phase, "end", ended, note'
+RESULT = "r.id, r.step, r.kind, r.attempt, r.outcome, r.value, r.at"
+HELD = "h.id, h.step, h.kind, h.attempt, h.why, h.count, h.since, h.until, h.error"
+OPEN = "s.id >= ? AND s.id < ? AND s.phase IS NULL"
+
+OPENED = f"SELECT count(*) FROM sagas WHERE id >= log * {ROOM} AND id < (log + 1) * {ROOM}"
+LOGS = f"SELECT log, name, shelf, texts, ({OPENED}), ({OPENED} AND phase IS NULL) FROM logs JOIN shelves USING (shelf)"
+LINES = "SELECT first, text FROM lines WHERE log = ? ORDER BY first"
+OPEN_SAGAS = f"SELECT s.id, s.key, s.def, s.input FROM sagas s WHERE {OPEN} ORDER BY s.id"
+OPEN_RESULTS = f"SELECT {RESULT} FROM sagas s JOIN results r USING (id) WHERE {OPEN}"
+OPEN_HELD = f"SELECT {HELD} FROM sagas s JOIN held h USING (id) WHERE {OPEN}"
+PLACES = f"SELECT DISTINCT def FROM sagas s WHERE {OPEN}"
+COUNT = "SELECT count(*) FROM sagas s WHERE s.id >= ? AND s.id < ?"
+FIND = f"SELECT {SAGA} FROM sagas WHERE key = ?"
+REQUESTS = "SELECT id, key, what, value FROM requests WHERE answer IS NULL ORDER BY id"
+
+
+def bounds(log: int) -> tuple[int, int]:
+    """The ids of a log's sagas: from the first, before the second."""
+    return log * ROOM, (log + 1) * ROOM
+
+
+def joined(chunks: list[tuple[Any, ...]]) -> tuple[str, int]:
+    """A log's lines from its chunks, and how many events they are."""
+    events = chunks[-1][0] + chunks[-1][1].count("\n") if chunks else 0
+    return "".join(text for _, text in chunks), events
+
+
+def loaded(text: str, events: int, opened: int, open: list[Any], results: list[Result], held: list[HeldRow], epoch: int = 0) -> Loaded:
+    """A log as a pump takes it up."""
+    return Loaded(text, events, opened, open, results, held, epoch)
+
+
+class Questions:
+    """The questions over `rows`, which each database has its own way to answer."""
+
+    def rows(self, query: str, *words: Any) -> list[tuple[Any, ...]]:
+        """Rows of a query."""
+        raise NotImplementedError
+
+    def open_logs(self) -> list[LogRow]:
+        """The logs that are not closed, in order."""
+        return [LogRow(log, name, shelf, json.loads(texts), opened, open) for log, name, shelf, texts, opened, open in self.rows(f"{LOGS} WHERE closed = 0 ORDER BY log")]
+
+    def places(self, log: int) -> list[int]:
+        """The places of the definitions of a log's open sagas."""
+        return [place for (place,) in self.rows(PLACES, *bounds(log))]
+
+    def text(self, log: int) -> tuple[str, int]:
+        """A log's lines, and how many events they are."""
+        return joined(self.rows(LINES, log))
+
+    def find_now(self, key: str) -> SagaRow | None:
+        """The saga with this key."""
+        found = self.rows(FIND, key)
+        return SagaRow(*found[0]) if found else None
+
+    def definition(self, id: int) -> str:
+        """The text of a saga's definition. Raises `NoSuchSaga` where it was let go."""
+        rows = self.rows(f"SELECT texts, def FROM sagas JOIN logs ON log = id / {ROOM} JOIN shelves USING (shelf) WHERE id = ?", id)
+        if not rows:
+            raise NoSuchSaga(f"the saga {id} is not kept any more")
+        ((texts, place),) = rows
+        return str(json.loads(texts)[place])
+
+    def results(self, id: int) -> list[tuple[int, str, int, str, str | None, float]]:
+        """What a saga's attempts came to: step, kind, attempt, outcome, value, at."""
+        return self.rows("SELECT step, kind, attempt, outcome, value, at FROM results WHERE id = ? ORDER BY at", id)  # type: ignore[return-value]

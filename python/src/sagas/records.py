@@ -1,0 +1,120 @@
+"""What goes into a store in one transaction, and what comes back."""
+
+from __future__ import annotations
+
+import dataclasses
+from collections.abc import Callable
+from typing import NamedTuple, Optional, Union
+
+Key = tuple[int, str, int]
+"""A step's number, `run` or `undo`, and the attempt."""
+
+Opened = tuple[int, str, str, int, str, float]
+"""id, key, saga, def, input, at"""
+Result = tuple[int, int, str, int, str, Optional[str], float]
+"""id, step, kind, attempt, outcome, value, at"""
+Ended = tuple[str, str, float, int]
+"""phase, end, ended, id"""
+HeldRow = tuple[int, int, str, int, str, int, float, Optional[float], Optional[str]]
+"""id, step, kind, attempt, why, count, since, until, error"""
+Freed = tuple[int, int, str, int]
+"""id, step, kind, attempt"""
+Told = tuple[str, int]
+"""the answer to a request, as JSON, and the request's id"""
+Request = tuple[int, str, str, Optional[str]]
+"""id, key, what, value"""
+Start = tuple[int, str, str, int, str]
+"""id, key, saga, version, input"""
+Asked = tuple[str, str, str, float]
+"""key, what, value, at: a request that is kept with its answer, in the commit that it came to"""
+Wanted = Union[int, Asked, None]
+"""Who is to hear the answer: the id of a request that is there, or a request that is to be; or None"""
+
+
+@dataclasses.dataclass(slots=True)
+class Batch:
+    """What one log gains at once. `then` is called with None after the commit, else with what kept it from being."""
+
+    log: int
+    at: float
+    first: int = 0
+    epoch: int = 0
+    then: Callable[[BaseException | None], None] | None = None
+    text: str = ""
+    born: tuple[str, str, str] | None = None
+    opened: list[Opened] = dataclasses.field(default_factory=list)
+    results: list[Result] = dataclasses.field(default_factory=list)
+    ended: list[Ended] = dataclasses.field(default_factory=list)
+    held: list[HeldRow] = dataclasses.field(default_factory=list)
+    freed: list[Freed] = dataclasses.field(default_factory=list)
+    answers: list[Told] = dataclasses.field(default_factory=list)
+    asked: list[tuple[Asked, str]] = dataclasses.field(default_factory=list)
+    """requests that have no row yet, with their answers"""
+    notes: list[tuple[str, int]] = dataclasses.field(default_factory=list)
+    begun: list[int] = dataclasses.field(default_factory=list)
+    """starts of clients (`Start`) that are done with"""
+    settled: list[tuple[str, int]] = dataclasses.field(default_factory=list)
+    """attempts that were ordered elsewhere: their tokens, and their log; no report of them is taken any more"""
+    closed: tuple[int, str] | None = None
+
+    def __bool__(self) -> bool:
+        """Whether it holds anything."""
+        return bool(
+            self.text or self.opened or self.results or self.ended or self.held or self.freed or self.answers or self.asked or self.begun or self.closed
+        )
+
+    def answer(self, request: Wanted, answer: str) -> None:
+        """The answer to a request, as JSON."""
+        if isinstance(request, int):
+            self.answers.append((answer, request))
+        elif request is not None:
+            self.asked.append((request, answer))
+
+
+@dataclasses.dataclass(slots=True)
+class LogRow:
+    """A log that is not closed."""
+
+    log: int
+    name: str
+    shelf: str
+    texts: list[str]
+    opened: int
+    open: int
+    epoch: int = 0
+
+
+@dataclasses.dataclass(slots=True)
+class Loaded:
+    """A log as its pump takes it up: lines (without the header), how many events, and its open sagas with results and held attempts."""
+
+    text: str
+    events: int
+    opened: int
+    open: list[tuple[int, str, int, str]]
+    results: list[Result]
+    held: list[HeldRow]
+    epoch: int = 0
+
+
+class Grant(NamedTuple):
+    """How many calls of a step may begin, the places that they have where it has a limit, and in how many seconds it is worth to ask again."""
+
+    calls: int
+    places: list[int]
+    pause: float
+
+
+class SagaRow(NamedTuple):
+    """A saga as the store has it."""
+
+    id: int
+    key: str
+    saga: str
+    place: int
+    input: str
+    at: float
+    phase: str | None
+    end: str | None
+    ended: float | None
+    note: str | None

@@ -1,0 +1,138 @@
+"""A saga as its caller sees it: while it runs, and when it is over."""
+
+from __future__ import annotations
+
+import dataclasses
+from typing import TYPE_CHECKING, Any, TypeVar
+
+if TYPE_CHECKING:
+    from .plans import Plan
+    from .definition import Step
+    from .store import Store
+
+R = TypeVar("R")
+MOST_SAID = 120
+
+
+@dataclasses.dataclass(frozen=True, slots=True)
+class End:
+    """How a saga ended.
+
+    - `phase`: `ended`, or `stuck` where no allowed plan was left; then `chain` names the steps that show it, and a person has to look.
+    - `states`: a word by step: waiting, committed, failed, undone, fixed (its compensation failed for good, and it stands).
+    - `results`: what the steps returned that stand.
+    - `cost`: of the last plan; None where all went well. `kept`: the steps that the plan keeps.
+    - `aborted`: whether it was aborted. `note`: of a stuck one that somebody resolved.
+    - `errors`: what the steps raised last that are failed or fixed."""
+
+    key: str
+    saga: str
+    phase: str
+    states: dict[str, str]
+    results: dict[str, Any]
+    cost: int | None
+    chain: list[str]
+    kept: list[str]
+    aborted: bool
+    note: str | None = None
+    errors: dict[str, str] = dataclasses.field(default_factory=dict)
+
+    @property
+    def ok(self) -> bool:
+        """Whether each step is done and stands."""
+        return self.phase == "ended" and all(state == "committed" for state in self.states.values())
+
+    def of(self, step: Step[R]) -> R:
+        """What a step returned that stands. Raises `KeyError` where it does not."""
+        return self.results[step.name]  # type: ignore[no-any-return]
+
+    def __str__(self) -> str:
+        cost = "" if self.cost is None else f", plan of cost {self.cost}"
+        chain = f", because of {' and '.join(self.chain)}" if self.chain else ""
+        head = f"{self.saga} {self.key}: {self.phase}{' (aborted)' if self.aborted else ''}{cost}{chain}"
+        return "\n".join([head, *(f"  {state:9} {step}{self._said(step)}" for step, state in self.states.items())])
+
+    def _said(self, step: str) -> str:
+        """The first line of what a step raised."""
+        error = self.errors.get(step, "").strip()
+        return f": {error.splitlines()[0][:MOST_SAID]}" if error else ""
+
+
+@dataclasses.dataclass(frozen=True, slots=True)
+class Summary:
+    """A saga in a list. `phase`: `open`, `ended`, `stuck` or `resolved`; `id`: its place, to go on behind; times in seconds.
+
+    `planned`, where a list tells it: whether it has ended by a plan, since a step had failed or it was aborted."""
+
+    id: int
+    key: str
+    saga: str
+    phase: str
+    started: float
+    ended: float | None
+    note: str | None
+    planned: bool = False
+
+
+@dataclasses.dataclass(frozen=True, slots=True)
+class Held:
+    """An attempt of which nobody knows what it did. `asked`: a person has to say, by `Store.finish`; else it is made again at `until`.
+
+    `count`: how often it was made; `since`, `until`: wall time in seconds; `error`: what was raised last."""
+
+    key: str
+    saga: str
+    step: str
+    undo: bool
+    attempt: int
+    token: str
+    count: int
+    since: float
+    until: float | None
+    error: str | None
+
+    @property
+    def asked(self) -> bool:
+        return self.until is None
+
+
+@dataclasses.dataclass(frozen=True, slots=True)
+class LogEvent:
+    """A line of a saga's history: the event's word (docs/FORMATS.md), the step, when it was committed, and what came of it.
+
+    `value`: the result, or `{"error": ..}`; of `adopt` the answer."""
+
+    event: str
+    at: float
+    step: str | None
+    value: Any
+
+
+class Run:
+    """A saga that was started, or found by its key. `new`: whether it was begun by this very start."""
+
+    def __init__(self, store: Store, key: str, new: bool = False) -> None:
+        self._store, self.key, self.new = store, key, new
+
+    async def wait(self) -> End:
+        """Waits for its end. Raises `Closed` where the store is closed before."""
+        return await self._store.wait(self.key)
+
+    async def abort(self) -> bool:
+        """No step of it begins any more, and the plan says what is undone. False where it is over, or was aborted before."""
+        return await self._store.abort(self.key)
+
+    async def finish(self, step: Step[Any] | str, result: Any = None, *, failed: str | None = None, undo: bool = False) -> None:
+        """Says how a step ended that a person or another program does. See `Store.finish`."""
+        await self._store.finish(self.key, step, result, failed=failed, undo=undo)
+
+    def plan(self) -> Plan | None:
+        """Why each step stands or does not: the last plan that it goes by. None where all went well."""
+        return self._store.plan(self.key)
+
+    def log(self) -> list[LogEvent]:
+        """Its events so far, with times."""
+        return self._store.log(self.key)
+
+    def __repr__(self) -> str:
+        return f"<run {self.key!r}>"

@@ -1,0 +1,177 @@
+"""What each request passes: its path, its size and its time, where it comes from, and the headers that every answer has."""
+
+from __future__ import annotations
+
+import asyncio
+import json
+import logging
+import time
+from collections.abc import Awaitable, Callable, MutableMapping
+from typing import Any
+from urllib.parse import unquote_to_bytes, urlsplit
+
+from .settings import Settings, is_loopback
+
+Scope = MutableMapping[str, Any]
+Message = MutableMapping[str, Any]
+Receive = Callable[[], Awaitable[Message]]
+Send = Callable[[Message], Awaitable[None]]
+App = Callable[[Scope, Receive, Send], Awaitable[None]]
+
+SLASH = "\ue02f"
+"""Stands for a slash within a part of a path; it is not printable, so that no key has it."""
+ABORT = "sagas.abort"
+"""In a scope: what ends the connection at once."""
+CONTENT = "default-src 'none'; style-src 'self'; script-src 'self'; img-src 'self'; connect-src 'self'; form-action 'self'; frame-ancestors 'none'; base-uri 'none'"
+HEADERS = [
+    (b"content-security-policy", CONTENT.encode()),
+    (b"x-content-type-options", b"nosniff"),
+    (b"referrer-policy", b"same-origin"),  # with none, a browser would send its own forms without an origin
+    (b"x-frame-options", b"DENY"),
+    (b"cross-origin-opener-policy", b"same-origin"),
+    (b"cross-origin-resource-policy", b"same-origin"),
+]
+logger = logging.getLogger("sagas.http")
+
+
+class Refusal(Exception):
+    """The body is too long or too slow, and that is answered: whatever the application says of it is not."""
+
+
+class Gone(Exception):
+    """The client takes nothing, or gives nothing, for too long."""
+
+
+def header(scope: Scope, name: bytes) -> str | None:
+    """A header's value, if it is there once or more: the first."""
+    for key, value in scope["headers"]:
+        if key == name:
+            return str(value.decode("latin-1"))
+    return None
+
+
+def parted(raw: bytes) -> str | None:
+    """A path whose parts are decoded each by itself; None where one is no UTF-8."""
+    try:
+        parts = [unquote_to_bytes(part).decode("utf-8") for part in raw.split(b"/")]
+    except UnicodeDecodeError:
+        return None
+    return "/".join(part.replace("/", SLASH) for part in parts)
+
+
+class Guard:
+    """The outermost of the application."""
+
+    def __init__(self, app: App, settings: Settings, seen: Callable[[Scope, int, float], None]) -> None:
+        self.app, self.settings, self._seen = app, settings, seen
+
+    async def __call__(self, scope: Scope, receive: Receive, send: Send) -> None:
+        if scope["type"] != "http":
+            await self.app(scope, receive, send)
+            return
+        await Passage(self, scope, receive, send).run()
+
+    def refusal(self, scope: Scope) -> tuple[int, str, str] | None:
+        """Why a request is not even looked at."""
+        path = parted(scope.get("raw_path") or scope["path"].encode())
+        if path is None:
+            return 400, "BadPath", "a part of the path is no UTF-8"
+        scope["path"] = path
+        host = header(scope, b"host") or ""
+        if self.settings.tokens is None and not is_loopback(urlsplit(f"//{host}").hostname or ""):
+            return 403, "BadHost", "without a token file only the loopback's own names are answered to"
+        if scope["method"] not in ("GET", "HEAD", "OPTIONS"):
+            origin, site = header(scope, b"origin"), header(scope, b"sec-fetch-site")
+            if site in ("cross-site", "same-site") or (origin is not None and urlsplit(origin).netloc != host):
+                return 403, "OtherOrigin", "another page's request changes nothing here"
+        length = header(scope, b"content-length")
+        if length is not None and (not length.isdigit() or len(length) > 12 or int(length) > self.settings.most_body):
+            return 413, "TooLong", f"a body has at most {self.settings.most_body} bytes"
+        return None
+
+
+class Passage:
+    """One request on its way."""
+
+    def __init__(self, guard: Guard, scope: Scope, receive: Receive, send: Send) -> None:
+        self.guard, self.settings, self.scope = guard, guard.settings, scope
+        self._receive, self._send = receive, send
+        self._size, self._whole, self._refused = 0, False, False
+        self.status, self.began = 0, time.monotonic()
+
+    async def run(self) -> None:
+        refusal = self._refusal()
+        try:
+            if refusal:
+                await self._refuse(*refusal)
+            else:
+                await self._through()
+        except Gone:
+            self.status = self.status or 408
+            self.scope.get(ABORT, str)()
+        finally:
+            self.guard._seen(self.scope, self.status, time.monotonic() - self.began)
+
+    def _refusal(self) -> tuple[int, str, str] | None:
+        try:
+            return self.guard.refusal(self.scope)
+        except ValueError:
+            return 400, "BadRequest", "a header of the request cannot be read"
+
+    async def _through(self) -> None:
+        try:
+            await self.guard.app(self.scope, self.receive, self.send)
+        except (Gone, asyncio.CancelledError):
+            raise
+        except Exception:
+            if self._refused:
+                return
+            logger.exception("a request failed", extra={"sagas": {"path": self.scope["path"]}})
+            if not self.status:
+                await self._refuse(500, "Failed", "this is a fault of the service; its log says more")
+
+    async def receive(self) -> Message:
+        """The next part of the body, in time and within its size; then that the client is gone."""
+        if self._whole:
+            return await self._receive()
+        try:
+            async with asyncio.timeout(self.settings.body_time):
+                message = await self._receive()
+        except TimeoutError:
+            await self._refuse(408, "TooSlow", "the body did not come in time")
+            raise Refusal from None
+        if message["type"] == "http.request":
+            self._size += len(message.get("body", b""))
+            self._whole = not message.get("more_body", False)
+            if self._size > self.settings.most_body:
+                await self._refuse(413, "TooLong", f"a body has at most {self.settings.most_body} bytes")
+                raise Refusal
+        return message
+
+    async def send(self, message: Message) -> None:
+        """Sends what the application answers."""
+        if not self._refused:
+            await self._say(message)
+
+    async def _say(self, message: Message) -> None:
+        """Sends, to whoever reads."""
+        if message["type"] == "http.response.start":
+            self.status = message["status"]
+            there = {name.lower() for name, _ in message["headers"]}
+            message["headers"] = [*message["headers"], *(pair for pair in HEADERS if pair[0] not in there)]
+            if b"cache-control" not in there:
+                message["headers"].append((b"cache-control", b"no-store"))
+        try:
+            async with asyncio.timeout(self.settings.send_time):
+                await self._send(message)
+        except TimeoutError:
+            raise Gone from None
+
+    async def _refuse(self, status: int, name: str, text: str) -> None:
+        if self.status:
+            return
+        body = json.dumps({"error": name, "detail": text}).encode()
+        headers = [(b"content-type", b"application/json"), (b"content-length", str(len(body)).encode()), (b"connection", b"close")]
+        self._refused = True
+        await self._say({"type": "http.response.start", "status": status, "headers": headers})
+        await self._say({"type": "http.response.body", "body": body})

@@ -1,0 +1,118 @@
+"""What happens in the store, for whoever listens: the last events, and a bounded queue for each listener."""
+
+from __future__ import annotations
+
+import asyncio
+import dataclasses
+import json
+import secrets
+from collections import deque
+from collections.abc import AsyncIterator
+
+from ..events import Event
+
+KEPT = 2000
+MOST_WAITING = 1000
+QUIET = 15.0  # seconds after which a comment shows that the stream is open
+
+
+@dataclasses.dataclass(eq=False, slots=True)
+class Listener:
+    """One stream. It is `lost` where it did not read what it was sent."""
+
+    key: str | None
+    saga: str | None
+    queue: deque[tuple[int, str]]
+    awake: asyncio.Event
+    lost: bool = False
+
+    def wants(self, event: Event) -> bool:
+        return (self.key is None or event.key == self.key) and (self.saga is None or event.saga == self.saga)
+
+
+class Hub:
+    """Numbers events from the program's start on; a stream that was interrupted goes on behind the last one that it saw, if that is still kept."""
+
+    def __init__(self) -> None:
+        self.boot = secrets.token_hex(4)
+        self.count = 0
+        self.closed = False
+        self._kept: deque[tuple[int, Event]] = deque(maxlen=KEPT)
+        self._listeners: dict[Listener, None] = {}
+
+    @property
+    def listeners(self) -> int:
+        return len(self._listeners)
+
+    def publish(self, event: Event) -> None:
+        """Sends it to whoever wants it."""
+        self.count += 1
+        self._kept.append((self.count, event))
+        text: str | None = None
+        for listener in list(self._listeners):
+            if not listener.wants(event):
+                continue
+            text = text or written(event)
+            if len(listener.queue) >= MOST_WAITING:
+                listener.lost = True
+                self._listeners.pop(listener, None)
+            else:
+                listener.queue.append((self.count, text))
+            listener.awake.set()
+
+    def missed(self) -> None:
+        """Events of other services may be lost: each listener is told, and its stream ends."""
+        self._kept.clear()
+        for listener in list(self._listeners):
+            listener.lost = True
+            self._listeners.pop(listener, None)
+            listener.awake.set()
+
+    def close(self) -> None:
+        """Ends all streams."""
+        self.closed = True
+        for listener in self._listeners:
+            listener.awake.set()
+
+    def behind(self, last: str | None) -> tuple[list[tuple[int, Event]], bool]:
+        """The events behind an id, and whether some of them are not kept any more."""
+        if last is None:
+            return [], False
+        boot, _, number = last.partition("-")
+        if boot != self.boot or not number.isdigit() or len(number) > 15 or int(number) > self.count:
+            return [], True
+        first = self._kept[0][0] if self._kept else self.count + 1
+        return [(count, event) for count, event in self._kept if count > int(number)], int(number) + 1 < first
+
+    async def stream(self, key: str | None, saga: str | None, last: str | None) -> AsyncIterator[str]:
+        """Server-sent events. One named `missed` says that some were lost: look at the sagas themselves."""
+        listener = Listener(key, saga, deque(), asyncio.Event())
+        self._listeners[listener] = None
+        try:
+            events, missed = self.behind(last)
+            yield f"retry: 2000\nid: {self.boot}-{self.count if missed or last is None else last.partition('-')[2]}\n"
+            yield "event: missed\ndata: {}\n\n" if missed else ": open\n\n"
+            for count, event in events:
+                if listener.wants(event):
+                    yield f"id: {self.boot}-{count}\n{written(event)}"
+            while not self.closed:
+                while listener.queue:
+                    count, text = listener.queue.popleft()
+                    yield f"id: {self.boot}-{count}\n{text}"
+                if listener.lost:
+                    yield "event: missed\ndata: {}\n\n"
+                    return
+                listener.awake.clear()
+                try:
+                    async with asyncio.timeout(QUIET):
+                        await listener.awake.wait()
+                except TimeoutError:
+                    yield ": \n\n"
+        finally:
+            self._listeners.pop(listener, None)
+
+
+def written(event: Event) -> str:
+    """An event as a stream has it, without its id."""
+    told = {name: value for name, value in dataclasses.asdict(event).items() if value is not None}
+    return f"event: {event.name}\ndata: {json.dumps(told)}\n\n"

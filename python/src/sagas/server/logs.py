@@ -1,0 +1,33 @@
+"""The log as lines of JSON, or as text."""
+
+from __future__ import annotations
+
+import json
+import logging
+import time
+from typing import TextIO
+
+
+class Lines(logging.Formatter):
+    """A JSON object a line: time, level, logger, message, and the fields that this package tells."""
+
+    def format(self, record: logging.LogRecord) -> str:
+        at = time.strftime("%Y-%m-%dT%H:%M:%S", time.gmtime(record.created))
+        told = {"at": f"{at}.{int(record.msecs):03}Z", "level": record.levelname.lower(), "logger": record.name, "message": record.getMessage()}
+        fields = getattr(record, "sagas", None)
+        if isinstance(fields, dict):
+            told |= {name: value for name, value in fields.items() if name not in told and name != "at"}
+        if record.exc_info:
+            told["trace"] = self.formatException(record.exc_info)
+        return json.dumps(told, default=str)
+
+
+def begin(form: str, level: str, stream: TextIO) -> None:
+    """Sends all that is logged to a stream."""
+    handler = logging.StreamHandler(stream)
+    handler.setFormatter(Lines() if form == "json" else logging.Formatter("%(asctime)s %(levelname)s %(name)s: %(message)s"))
+    root = logging.getLogger()
+    root.handlers[:] = [handler]
+    root.setLevel(level.upper())
+    logging.getLogger("asyncio").setLevel(logging.WARNING)
+    logging.getLogger("uvicorn").setLevel(logging.ERROR)  # it warns of each request that is no HTTP

@@ -1,0 +1,125 @@
+"""Figures for Prometheus, in a registry of the service's own."""
+
+from __future__ import annotations
+
+import time
+from collections.abc import Callable, Iterator
+from typing import TYPE_CHECKING
+
+from prometheus_client import CollectorRegistry, Counter, Gauge, Histogram
+from prometheus_client.core import CounterMetricFamily, GaugeMetricFamily, Metric
+from prometheus_client.exposition import CONTENT_TYPE_LATEST, generate_latest
+
+from ..elsewhere import Queue
+from ..events import Event
+
+if TYPE_CHECKING:
+    from .service import Service
+
+SECONDS = (0.01, 0.03, 0.1, 0.3, 1, 3, 10, 30, 100, 300, 1000, 3600, 86400)
+TOLD = {"step_done": "done", "step_missed": "missed", "step_failed": "failed", "step_unknown": "unknown"}
+FAULTS = ("child_died", "commit_failed", "audit_failed", "lease_lapsed", "log_lost")
+TYPE = CONTENT_TYPE_LATEST
+
+
+class Metrics:
+    """Counts what a store tells; what it has is read when it is asked for."""
+
+    def __init__(self, service: Service) -> None:
+        self.registry = CollectorRegistry()
+        self._service = service
+        self.counts: dict[str, dict[str, int]] = {}
+        self.asked: dict[str, int] = {}
+        self._began: dict[tuple[str | None, str | None, bool, int | None], float] = {}
+        self.started = Counter("sagas_started", "Sagas that were started", ["saga"], registry=self.registry)
+        self.ended = Counter("sagas_ended", "Sagas that ended, by how", ["saga", "phase"], registry=self.registry)
+        self.aborted = Counter("sagas_aborted", "Sagas that were aborted", ["saga"], registry=self.registry)
+        self.plans = Counter("sagas_plans", "Plans that were adopted", ["saga"], registry=self.registry)
+        self.steps = Counter("sagas_steps", "Outcomes of steps; a missed one is tried again", ["saga", "step", "kind", "outcome"], registry=self.registry)
+        self.step_seconds = Histogram("sagas_step_seconds", "From a task's begin to its report", ["saga", "step", "kind"], buckets=SECONDS, registry=self.registry)
+        self.faults = Counter("sagas_faults", "What went wrong inside: child_died, commit_failed, audit_failed, lease_lapsed, log_lost", ["what"], registry=self.registry)
+        self.logs_taken = Counter("sagas_logs_taken", "Logs of other nodes that this one took over", registry=self.registry)
+        self.requests = Counter("sagas_http_requests", "Requests, by what they came to", ["method", "status"], registry=self.registry)
+        self.request_seconds = Histogram("sagas_http_request_seconds", "Time that requests took; long waits are counted apart", ["waits"], registry=self.registry)
+        self.up = Gauge("sagas_up_since_seconds", "When this service was started", registry=self.registry)
+        self.up.set(time.time())
+        self.registry.register(Now(self))  # type: ignore[arg-type]
+
+    def event(self, event: Event) -> None:
+        """Something happened."""
+        saga, outcome = event.saga or "", TOLD.get(event.name)
+        if event.name == "saga_started":
+            self.started.labels(saga).inc()
+        elif event.name in ("saga_ended", "saga_stuck"):
+            self.ended.labels(saga, event.name[5:]).inc()
+        elif event.name == "saga_aborted":
+            self.aborted.labels(saga).inc()
+        elif event.name == "saga_planned":
+            self.plans.labels(saga).inc()
+        elif event.name in FAULTS:
+            self.faults.labels(event.name).inc()
+        elif event.name == "log_taken":
+            self.logs_taken.inc()
+        elif event.name == "step_begun":
+            if len(self._began) < 100_000:
+                self._began[event.key, event.step, event.undo, event.attempt] = event.at
+        elif outcome:
+            kind = "undo" if event.undo else "run"
+            self.steps.labels(saga, event.step, kind, outcome).inc()
+            began = self._began.pop((event.key, event.step, event.undo, event.attempt), None)
+            if began is not None:
+                self.step_seconds.labels(saga, event.step, kind).observe(max(0.0, event.at - began))
+
+    def request(self, method: str, status: int, seconds: float, waits: bool) -> None:
+        """A request is over."""
+        known = method if method in ("GET", "POST", "HEAD") else "other"
+        self.requests.labels(known, str(status)).inc()
+        self.request_seconds.labels("yes" if waits else "no").observe(seconds)
+
+    async def text(self) -> bytes:
+        """All figures, as Prometheus reads them."""
+        self.counts, self.asked = await self._service.counts()
+        return generate_latest(self.registry)
+
+    def now(self) -> Iterator[Metric]:
+        """What the store has at this moment."""
+        sagas = GaugeMetricFamily("sagas", "Sagas, by definition and phase", labels=["saga", "phase"])
+        for saga, phases in self.counts.items():
+            for phase, count in phases.items():
+                sagas.add_metric([saga, phase], count)
+        yield sagas
+        asked = GaugeMetricFamily("sagas_waiting_for_a_person", "Stuck sagas, unknown outcomes, approvals", labels=["why"])
+        for why, count in self.asked.items():
+            asked.add_metric([why], count)
+        yield asked
+        yield from queues_of(self._service.store.queues(), time.time())
+        yield CounterMetricFamily("sagas_takeovers", "Tasks that another worker took since their lease ran out", self._service.store.takeovers)
+        yield CounterMetricFamily("sagas_commits", "Transactions of the store", self._service.store.commits)
+        yield GaugeMetricFamily("sagas_event_streams", "Open event streams", self._service.hub.listeners)
+
+
+class Now:
+    """Hands over to `Metrics.now` at each collection."""
+
+    def __init__(self, metrics: Metrics) -> None:
+        self._metrics = metrics
+
+    def collect(self) -> Iterator[Metric]:
+        return self._metrics.now()
+
+    def describe(self) -> list[Metric]:
+        return []
+
+
+def queues_of(queues: list[Queue], now: float) -> Iterator[Metric]:
+    """What waits for workers."""
+    words: list[tuple[str, str, Callable[[Queue], float]]] = [
+        ("sagas_tasks_ready", "Tasks that wait for a worker", lambda queue: queue.ready),
+        ("sagas_tasks_taken", "Tasks that workers have", lambda queue: queue.taken),
+        ("sagas_tasks_oldest_seconds", "For how long the oldest task has waited for a worker", lambda queue: now - queue.oldest if queue.oldest else 0.0),
+    ]
+    for name, told, value in words:
+        family = GaugeMetricFamily(name, told, labels=["saga", "step", "kind"])
+        for queue in queues:
+            family.add_metric([queue.saga, queue.step, "undo" if queue.undo else "run"], max(0.0, value(queue)))
+        yield family

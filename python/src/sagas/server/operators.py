@@ -1,0 +1,55 @@
+"""For operators: figures, whether it lives, whether it takes requests, and a stuck saga marked as resolved."""
+
+from __future__ import annotations
+
+from fastapi import APIRouter, Depends, Request
+from pydantic import Field
+from starlette.responses import Response
+
+from .access import Json, allow, service_of, unslashed
+from .callers import Strict
+from .metrics import TYPE
+from .who import Who
+
+router = APIRouter(default_response_class=Json)
+
+
+class Resolve(Strict):
+    """What was done about it; it is kept with who and when."""
+
+    note: str = Field(min_length=1, max_length=2000)
+
+
+@router.get("/health", summary="Whether it lives")
+async def health() -> Response:
+    """200 as long as its loop turns."""
+    return Json({"alive": True})
+
+
+@router.get("/ready", summary="Whether it takes requests")
+async def ready(request: Request) -> Response:
+    """200 where it does; 503 with the reason where the store cannot be written, or it is about to stop."""
+    reason = service_of(request).ready()
+    return Json({"ready": reason is None, "reason": reason}, 200 if reason is None else 503)
+
+
+@router.get("/metrics", summary="Figures for Prometheus")
+async def metrics(request: Request, who: Who = Depends(allow("metrics"))) -> Response:
+    """In its text format."""
+    return Response(await service_of(request).metrics.text(), media_type=TYPE)
+
+
+@router.post("/sagas/{key}/resolve", summary="Mark a stuck saga as resolved")
+async def resolve(request: Request, key: str, body: Resolve, who: Who = Depends(allow("operator"))) -> Response:
+    """409 where it is not stuck."""
+    service = service_of(request)
+    await service.store.resolve(unslashed(key), body.note, by=who.name)
+    service.recount()
+    return Json({"key": unslashed(key), "resolved": True})
+
+
+@router.get("/queues", summary="What waits for workers")
+async def queues(request: Request, who: Who = Depends(allow("worker"))) -> Response:
+    """By step, over all nodes: how many tasks are ready, since when the oldest, and how many are taken."""
+    found = await service_of(request).store.all_queues()
+    return Json({"queues": [{"saga": q.saga, "step": q.step, "undo": q.undo, "ready": q.ready, "oldest": q.oldest, "taken": q.taken} for q in found]})

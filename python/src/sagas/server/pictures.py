@@ -1,0 +1,202 @@
+"""A saga as a picture: its steps with their states, what a plan keeps and why, and what it costs; and when each attempt ran."""
+
+from __future__ import annotations
+
+import time
+from collections.abc import Collection
+from html import escape
+from typing import NamedTuple
+
+from ..looks import SagaView, Stretch, Waits
+from ..plans import Choice, Plan
+from . import words
+from .layout import GAP_X, HEIGHT, WIDTH, Placed, Point, place
+
+MARGIN = 6
+ICONS = {
+    "waiting": '<circle r="5"/>',
+    "running": '<circle r="5"/><circle class="full" r="2.4"/>',
+    "committed": '<path d="M-5 0.5 L-1.6 4 L5 -4"/>',
+    "failed": '<path d="M-4 -4 L4 4 M4 -4 L-4 4"/>',
+    "undoing": '<path d="M-4.5 -1 A4.8 4.8 0 1 1 -2.5 4 M-5 -5 L-4.6 -0.8 L-0.6 -1.6"/>',
+    "undone": '<path d="M4.5 4 L4.5 1 A2.6 2.6 0 0 0 2 -1.8 L-4.5 -1.8 M-1.4 -5 L-4.8 -1.8 L-1.4 1.4"/>',
+    "fixed": '<rect x="-4" y="-0.5" width="8" height="5.5" rx="1"/><path d="M-2.4 -0.5 V-2.4 A2.4 2.4 0 0 1 2.4 -2.4 V-0.5"/>',
+}
+STYLE = """
+svg{font:13px system-ui,-apple-system,"Segoe UI",Roboto,"Helvetica Neue",Arial,sans-serif;color-scheme:light dark;
+--card:#fff;--line:#9aa4b2;--text:#16202c;--soft:#55606e;--grey:#6b7685;--blue:#1f5fbf;--green:#157347;--red:#b42318;--amber:#8a5300;--violet:#6541b0}
+@media (prefers-color-scheme:dark){svg{--card:#1b222b;--line:#5d6876;--text:#e8edf3;--soft:#a9b4c1;--grey:#98a3b1;--blue:#7fb2ff;--green:#5fce94;--red:#ff8f84;--amber:#f0b95a;--violet:#b99cf5}}
+.box{fill:var(--card);stroke:var(--tone);stroke-width:1.5}.bar{fill:var(--tone)}.name{fill:var(--text);font-weight:600}.long{font-size:11.5px}.state{fill:var(--tone);font-weight:600;font-size:12px}
+.why{fill:var(--soft);font-size:11.5px}.need{fill:none;stroke:var(--line);stroke-width:1.5}.icon{fill:none;stroke:var(--tone);stroke-width:2;stroke-linecap:round;stroke-linejoin:round}
+.icon .full{fill:var(--tone);stroke:none}.left .box{stroke-dasharray:5 4}.arrow{fill:var(--line)}
+.waiting{--tone:var(--grey)}.running,.undoing{--tone:var(--blue)}.committed{--tone:var(--green)}.failed{--tone:var(--red)}.undone{--tone:var(--violet)}.fixed{--tone:var(--amber)}.person{--tone:var(--amber)}
+"""
+
+
+class Told(NamedTuple):
+    """What a step's box says: its state in words, and why; its colour and its icon. `left`: it is not run."""
+
+    state: str
+    why: str
+    left: bool
+    tone: str
+    icon: str
+
+
+def cut(text: str, most: int) -> str:
+    return text if len(text) <= most else text[: most - 1] + "…"
+
+
+def named(text: str, most: int) -> str:
+    """A name, without its middle where it is longer: names often differ in their ends."""
+    return text if len(text) <= most else f"{text[: most // 2]}…{text[len(text) - (most - most // 2 - 1) :]}"
+
+
+def told_of(view: SagaView, untaken: Collection[str] = ()) -> list[Told]:
+    """What the boxes say, by step. `untaken`: steps whose tasks no worker has."""
+    choices = {choice.step: choice for choice in view.plan.choices} if view.plan and view.plan.cost is not None else {}
+    chain = set(view.plan.chain) if view.plan and view.plan.cost is None else set()
+    held = {one.step: one for one in view.held}
+    found = []
+    for step in view.steps:
+        waits, choice = held.get(step.name), choices.get(step.name)
+        over = view.phase != "open"
+        why = waiting(waits) if waits else "why it is stuck" if step.name in chain else decided(choice, over) if choice else tried(step.attempts, step.state)
+        left = step.state == "waiting" and (over or bool(choice and not choice.kept))
+        state = "not run" if left else "to do" if step.state == "waiting" else words.STATES[step.state]
+        tone = icon = step.state
+        if waits and waits.asks:
+            state, tone = "to approve" if waits.why == "approval" else "unknown", "person"
+        elif step.name in untaken:
+            state, icon, why = "waits for a worker", "waiting", why if step.attempts > 1 else ""
+        found.append(Told(state, why, left, tone, icon))
+    return found
+
+
+def waiting(held: Waits) -> str:
+    """What a held attempt waits for, in a few words."""
+    if held.why == "elsewhere":
+        return f"at {held.said}" if held.said else "a worker has it"
+    if held.why == "unknown":
+        return "nobody knows: say it" if held.asks else "unknown; again soon"
+    return "waits for a person" if held.why == "approval" else f"until {words.clock(held.until)}"
+
+
+def decided(choice: Choice, over: bool) -> str:
+    """What the plan decided of a step, and what that costs."""
+    cost = choice.stand if choice.kept else choice.leave
+    price = "" if not cost else f" for {cost:,}"
+    return {"stands": f"kept{price}", "is run": f"to be run{price}", "is undone": f"given back{price}", "is left out": f"left out{price}"}[choice.decided]
+
+
+def tried(attempts: int, state: str) -> str:
+    return f"attempt {attempts}" if attempts > 1 or state == "running" else ""
+
+
+def line(points: list[Point]) -> str:
+    """The path of a need, from a step to the one that needs it: level where it enters and leaves a layer."""
+    found = []
+    for place, ((x, y), (to, below)) in enumerate(zip(points, points[1:])):
+        start = x + WIDTH
+        if place:
+            found.append(f"H{start:.0f}")
+        else:
+            found.append(f"M{start:.0f} {y:.1f}")
+        end = to - (8 if place == len(points) - 2 else 0)
+        middle = (start + end) / 2 if to - start <= GAP_X + 1 else start + GAP_X / 2
+        found.append(f"C{middle:.0f} {y:.1f} {middle:.0f} {below:.1f} {end:.0f} {below:.1f}")
+    return " ".join(found)
+
+
+def boxes(view: SagaView, tolds: list[Told], placed: Placed) -> list[str]:
+    """The steps."""
+    found = []
+    for step, told, (x, y) in zip(view.steps, tolds, placed.corners):
+        spoken = escape(f"{step.name}: {told.state}{', ' + told.why if told.why else ''}")
+        found.append(
+            f'<g class="step {told.tone}{" left" if told.left else ""}" transform="translate({x:.0f} {y:.1f})"><title>{spoken}</title>'
+            f'<rect class="box" width="{WIDTH}" height="{HEIGHT}" rx="9"/><rect class="bar" x="0" y="12" width="4" height="{HEIGHT - 24}" rx="2"/>'
+            f'<text class="name{" long" if len(step.name) > 20 else ""}" x="15" y="24">{escape(named(step.name, 22 if len(step.name) > 20 else 20))}</text>'
+            f'<g class="icon" transform="translate(21 41) scale(.95)">{ICONS[told.icon]}</g><text class="state" x="33" y="45">{escape(told.state)}</text>'
+            f'<text class="why" x="15" y="62">{escape(cut(told.why, 25))}</text></g>'
+        )
+    return found
+
+
+def spoken(view: SagaView, tolds: list[Told]) -> str:
+    """The picture in words."""
+    steps = "; ".join(f"{step.name} {told.state}{' (' + told.why + ')' if told.why else ''}" for step, told in zip(view.steps, tolds))
+    return f"{view.saga} {view.key}, {view.phase}: {steps}"
+
+
+def svg(view: SagaView, untaken: Collection[str] = (), style: str = "") -> str:
+    """The picture; without a style it is for the page, whose style sheet has the same classes."""
+    tolds = told_of(view, untaken)
+    number = {step.name: place for place, step in enumerate(view.steps)}
+    placed = place([[number[need] for need in step.needs] for step in view.steps])
+    needs = [f'<path class="need" marker-end="url(#to)" d="{line(points)}"/>' for points in placed.lines.values()]
+    wide, high = placed.width + 2 * MARGIN, placed.height + 2 * MARGIN
+    head = f'<svg xmlns="http://www.w3.org/2000/svg" class="picture" role="img" width="{wide:.0f}" height="{high:.0f}" viewBox="{-MARGIN} {-MARGIN} {wide:.0f} {high:.0f}"'
+    arrow = '<defs><marker id="to" viewBox="0 0 8 8" refX="1" refY="4" markerWidth="7" markerHeight="7" orient="auto"><path class="arrow" d="M0 0 L8 4 L0 8 z"/></marker></defs>'
+    inside = f"<style>{style}</style>" if style else ""
+    return f'{head} aria-label="{escape(cut(spoken(view, tolds), 2000))}">{inside}{arrow}{"".join(needs)}{"".join(boxes(view, tolds, placed))}</svg>'
+
+
+def document(view: SagaView, untaken: Collection[str]) -> str:
+    """The picture as a file of its own."""
+    return svg(view, untaken, STYLE)
+
+
+# -- when what ran
+
+NAMES, LONG, ROW, TOP = 170, 900, 26, 24
+
+
+def ticks(first: float, last: float) -> list[float]:
+    """Some round moments between two."""
+    span = max(last - first, 1e-6)
+    for step in (0.01, 0.02, 0.05, 0.1, 0.2, 0.5, 1, 2, 5, 10, 15, 30, 60, 120, 300, 600, 900, 1800, 3600, 7200, 14400, 43200, 86400, 172800, 604800, 2592000, 31536000):
+        if span / step <= 6:
+            break
+    return [count * step for count in range(int(span / step) + 1)]
+
+
+def timeline(view: SagaView, untaken: Collection[str] = ()) -> str:
+    """A bar for each attempt, over the time since the saga was started."""
+    rows = [step.name for step in view.steps if any(one.step == step.name for one in view.stretches)]
+    if not rows:
+        return ""
+    now = time.time()
+    first = min(view.started, min(one.began for one in view.stretches))
+    last = max([one.ended or now for one in view.stretches] + [view.ended or first, first + 0.001])
+    scale = LONG / (last - first)
+    high = TOP + ROW * len(rows) + 6
+    marks = "".join(
+        f'<line class="tick" x1="{NAMES + at * scale:.1f}" x2="{NAMES + at * scale:.1f}" y1="{TOP - 4}" y2="{high - 4}"/>'
+        f'<text class="at" x="{NAMES + at * scale:.1f}" y="14">{words.span(at)}</text>'
+        for at in ticks(first, last)
+    )
+    asked = {one.step for one in view.held if one.asks}
+    names = "".join(f'<text class="row" x="0" y="{TOP + ROW * row + 16}">{escape(named(name, 20))}</text>' for row, name in enumerate(rows))
+    bars = "".join(bar(one, "person" if one.step in asked else "waiting" if one.step in untaken else "running", NAMES + (one.began - first) * scale, ((one.ended or now) - one.began) * scale, TOP + ROW * rows.index(one.step)) for one in view.stretches)
+    label = f"when the attempts ran: {len(view.stretches)} bars over {words.span(last - first)}; the table of events has the same in words"
+    return f'<svg class="timeline" role="img" aria-label="{label}" width="{NAMES + LONG + 30}" height="{high}" viewBox="0 0 {NAMES + LONG + 30} {high}">{marks}{names}{bars}</svg>'
+
+
+def bar(one: Stretch, now: str, x: float, wide: float, y: float) -> str:
+    """An attempt; `now`: what it does where it is not over, running, waiting (for a worker) or person (it waits for one)."""
+    what = "compensation" if one.undo else "action"
+    said = words.EVENTS[one.outcome] if one.outcome else {"running": "runs", "waiting": "waits for a worker", "person": "waits for a person"}[now]
+    took = "" if one.ended is None else f" after {words.span(one.ended - one.began)}"
+    tone = {"commit": "committed", "undone": "undone", "fail": "failed", "undo_fail": "fixed", None: now}.get(one.outcome, "missed")
+    return (
+        f'<g class="run {tone}"><title>{escape(one.step)}, {what}, attempt {one.attempt}: {said}{took}</title>'
+        f'<rect x="{x:.1f}" y="{y + 4}" width="{max(wide, 4):.1f}" height="{ROW - 10}" rx="4"/></g>'
+    )
+
+
+def legend(plan: Plan | None) -> str:
+    """What the plan comes to, in a sentence."""
+    if plan is None:
+        return ""
+    return f"cost {plan.cost:,}" if plan.cost is not None else "none is allowed"

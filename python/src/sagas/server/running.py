@@ -1,0 +1,139 @@
+"""The server itself: uvicorn, with idle connections bounded and streams ended when it is asked to stop."""
+
+from __future__ import annotations
+
+import asyncio
+import importlib.util
+import resource
+import socket
+from collections import OrderedDict
+from collections.abc import Callable
+from typing import Any
+
+import uvicorn  # type: ignore[import]
+from uvicorn.protocols.http.h11_impl import H11Protocol  # type: ignore[import]
+
+from .app import application
+from .guards import ABORT
+from .service import Service
+from .settings import Settings
+
+SPARE = 200  # descriptors that connections leave to the store and its children
+
+
+class Connections:
+    """Those whose request has not come yet, the longest idle first. Where there are too many connections, these give way."""
+
+    def __init__(self, most: int, seconds: float) -> None:
+        self.most, self.seconds = most, seconds
+        self.all: dict[Any, None] = {}
+        self._idle: OrderedDict[Any, asyncio.TimerHandle] = OrderedDict()
+
+    def came(self, connection: Any) -> None:
+        """A connection was made; where there are too many, the one that has been idle longest ends, or this one."""
+        self.all[connection] = None
+        if len(self.all) > self.most:
+            other = next(iter(self._idle), connection)
+            self.went(other)
+            other.transport.abort()
+            if other is connection:
+                return
+        self.idles(connection)
+
+    def idles(self, connection: Any) -> None:
+        """No request of it is under way: its head has to come in time."""
+        if connection not in self._idle:
+            self._idle[connection] = asyncio.get_running_loop().call_later(self.seconds, self._late, connection)
+
+    def works(self, connection: Any) -> None:
+        """A request of it is under way."""
+        timer = self._idle.pop(connection, None)
+        if timer:
+            timer.cancel()
+
+    def went(self, connection: Any) -> None:
+        self.works(connection)
+        self.all.pop(connection, None)
+
+    def _late(self, connection: Any) -> None:
+        self._idle.pop(connection, None)
+        connection.transport.abort()
+
+
+def protocol(connections: Connections) -> type[Any]:
+    """A protocol of uvicorn's whose connections are counted. `httptools` is used where it is there."""
+    base: type[Any] = H11Protocol
+    if importlib.util.find_spec("httptools"):
+        from uvicorn.protocols.http.httptools_impl import HttpToolsProtocol  # type: ignore[import]
+
+        base = HttpToolsProtocol
+
+    class Bounded(base):  # type: ignore[misc]
+        def connection_made(self, transport: Any) -> None:
+            super().connection_made(transport)
+            connections.came(self)
+
+        def connection_lost(self, error: Exception | None) -> None:
+            connections.went(self)
+            super().connection_lost(error)
+
+        def data_received(self, data: bytes) -> None:
+            super().data_received(data)
+            if self.cycle is None or self.cycle.response_complete:
+                if not self.transport.is_closing():
+                    connections.idles(self)
+            else:
+                connections.works(self)
+                self.scope[ABORT] = self.transport.abort
+
+    return Bounded
+
+
+class Server(uvicorn.Server):  # type: ignore[misc]
+    """Says when it can be asked, and ends streams and long waits when it is asked to stop, so that it can."""
+
+    def __init__(self, config: uvicorn.Config, service: Service, opened: Callable[[], None]) -> None:
+        super().__init__(config)
+        self._service, self._opened = service, opened
+
+    async def startup(self, sockets: list[socket.socket] | None = None) -> None:
+        await super().startup(sockets=sockets)
+        self._opened()
+
+    async def shutdown(self, sockets: list[socket.socket] | None = None) -> None:
+        """Ends connections again and again: one that comes while it begins is missed by uvicorn, and whoever asks on and on over it would keep it from ending."""
+        ending = asyncio.ensure_future(super().shutdown(sockets=sockets))
+        while not ending.done():
+            for connection in list(self.server_state.connections):
+                connection.shutdown()
+            await asyncio.wait([ending], timeout=0.1)
+        ending.result()
+
+    def handle_exit(self, sig: Any, frame: Any) -> None:
+        self._service.stop()
+        super().handle_exit(sig, frame)
+
+
+def most_connections(wanted: int) -> int:
+    """As many as are wanted, or as descriptors allow; their limit is raised as far as it may be."""
+    soft, hard = resource.getrlimit(resource.RLIMIT_NOFILE)
+    need = wanted + SPARE
+    if soft != resource.RLIM_INFINITY and soft < need:
+        soft = need if hard == resource.RLIM_INFINITY else min(need, hard)
+        resource.setrlimit(resource.RLIMIT_NOFILE, (soft, hard))
+    return wanted if soft == resource.RLIM_INFINITY else max(16, min(wanted, soft - SPARE))
+
+
+async def run(settings: Settings, listening: socket.socket, opened: Callable[[], None]) -> None:
+    """Serves at a socket until it is asked to stop; `opened` is called once it answers. Raises what `Store` raises."""
+    most = most_connections(settings.most_connections)
+    app, service = application(settings)
+    await service.begin()
+    try:
+        config = uvicorn.Config(
+            app, http=protocol(Connections(most, settings.head_time)), loop="asyncio", ws="none", lifespan="off", access_log=False, log_config=None,
+            server_header=False, timeout_keep_alive=15, backlog=2048, forwarded_allow_ips="127.0.0.1,::1",
+        )  # fmt: skip
+        await Server(config, service, opened).serve(sockets=[listening])
+    finally:
+        await service.end()

@@ -1,0 +1,240 @@
+"""What the routes share: the store, looks at it, who may, and what happens."""
+
+from __future__ import annotations
+
+import asyncio
+import dataclasses
+import logging
+import time
+from collections import OrderedDict
+from collections.abc import Awaitable, Callable
+from concurrent.futures import ThreadPoolExecutor
+from typing import TYPE_CHECKING, Any, TypeVar
+
+from .. import opening
+from ..definition import Saga
+from ..elsewhere import Queue
+from ..errors import DefinitionError, NotHere
+from ..events import Event
+from ..looks import Looks, SagaView
+from ..store import Store
+from .hub import Hub
+from .metrics import Metrics
+from .settings import Settings
+from .who import Rates, Sessions, Tokens
+
+if TYPE_CHECKING:
+    from ..between import Between
+
+T = TypeVar("T")
+logger = logging.getLogger("sagas.server")
+LOOKERS = 2
+MOST_WORKERS = 1000
+SHARED = 200
+"""Workers that one service tells another of."""
+MOST_DETAIL = 500
+"""Characters of an event's detail that other services are told."""
+
+
+@dataclasses.dataclass(slots=True)
+class Seen:
+    """A worker: when it asked last, and for which steps."""
+
+    name: str
+    at: float
+    steps: list[str]
+
+
+class Service:
+    """One store, served. `began` and `ended` are its life; all else is for between."""
+
+    def __init__(self, settings: Settings) -> None:
+        self.settings = settings
+        self.hub = Hub()
+        self.metrics = Metrics(self)
+        self.tokens = Tokens(settings.tokens, logger.error) if settings.tokens else None
+        self.sessions = Sessions(settings.session_time)
+        self.rates = Rates(settings.rate)
+        self.refusals = Rates(5.0)
+        self.store: Store = opening.open(
+            settings.path, settings.sagas, concurrency=settings.concurrency, on_event=self._event, node=settings.node, lease=settings.lease
+        )
+        self.store.leased = True
+        self._between: Between | None = None
+        self.stopping = asyncio.Event()
+        self.workers: OrderedDict[str, Seen] = OrderedDict()
+        self.unwritten: float | None = None
+        self._counts: tuple[float, float, tuple[dict[str, dict[str, int]], dict[str, int]]] | None = None
+        self._counting: asyncio.Task[None] | None = None
+
+    # -- life
+
+    async def begin(self) -> None:
+        """Opens the store. Raises what `Store` raises."""
+        await self.store.__aenter__()
+        self._meet()
+        self._threads = ThreadPoolExecutor(LOOKERS, "sagas-look")
+        self._lookers: asyncio.Queue[Looks] = asyncio.Queue()
+        for _ in range(LOOKERS):
+            self._lookers.put_nowait(Looks(self.store.reader()))
+
+    def stop(self) -> None:
+        """Ends what waits long: streams and takers."""
+        self.stopping.set()
+        self.hub.close()
+
+    async def end(self) -> None:
+        """Closes the store."""
+        self.stop()
+        if self._counting:
+            await asyncio.wait([self._counting])
+        await self.store.close(self.settings.grace)
+        self._threads.shutdown(wait=True)
+        while not self._lookers.empty():
+            self._lookers.get_nowait().close()
+
+    def _meet(self) -> None:
+        """Over PostgreSQL: what other services of the database tell, and what they are told."""
+        self._between = self.store.anywhere.between
+        if self._between:
+            self._between.hear, self._between.missed = self._heard, self.hub.missed
+            self._between.answers["workers"] = self._workers, None
+
+    def _heard(self, told: Any) -> None:
+        self.hub.publish(Event(**told))
+
+    async def _workers(self, told: None) -> list[Any]:
+        return [[one.name, one.at, one.steps] for one in list(self.workers.values())[-SHARED:]]
+
+    def _event(self, event: Event) -> None:
+        if event.name == "commit_failed":
+            self.unwritten = event.at
+        elif event.name in ("saga_started", "step_done", "saga_ended"):
+            self.unwritten = None
+        self.metrics.event(event)
+        self.hub.publish(event)
+        if self._between and self._between.others and not self._between.tell(told := told_of(event)):
+            self._between.tell({**told, "detail": None})
+
+    def ready(self) -> str | None:
+        """None where it takes requests; else why not."""
+        if self.stopping.is_set():
+            return "it is about to stop"
+        if self.unwritten is not None:
+            return "the store could not be written"
+        if not self.store.holds():
+            return "the store cannot be reached"
+        return None
+
+    async def in_time(self, work: Awaitable[T]) -> T:
+        """What another node may have to answer. Raises `NotHere` where it takes too long; then it may still be done."""
+        try:
+            async with asyncio.timeout(self.settings.patience):
+                return await work
+        except TimeoutError:
+            raise NotHere("the node that has the saga has not answered yet: look at the saga, and ask again in a while") from None
+
+    # -- looks
+
+    async def look(self, question: Callable[[Looks], T]) -> T:
+        """Asks the store, in a thread."""
+        looks = await self._lookers.get()
+        try:
+            return await asyncio.get_running_loop().run_in_executor(self._threads, question, looks)
+        finally:
+            self._lookers.put_nowait(looks)
+
+    async def saga(self, key: str) -> SagaView | None:
+        """A saga with all that is kept of it."""
+        return await self.look(lambda looks: looks.saga(key))
+
+    async def counts(self) -> tuple[dict[str, dict[str, int]], dict[str, int]]:
+        """Sagas by name and phase, and what waits for a person. They are counted again at most each second, and less often where that takes long."""
+        now = time.monotonic()
+        if self._counts is None or now - self._counts[0] > max(1.0, 20 * self._counts[1]):
+            if self._counting is None:
+                self._counting = asyncio.get_running_loop().create_task(self._count())
+                self._counting.add_done_callback(self._counted)
+            await asyncio.shield(self._counting)
+        assert self._counts
+        return self._counts[2]
+
+    async def _count(self) -> None:
+        began = time.monotonic()
+        found = await self.look(lambda looks: (looks.counts(), looks.asked()))
+        self._counts = time.monotonic(), time.monotonic() - began, found
+
+    def _counted(self, task: asyncio.Task[None]) -> None:
+        self._counting = None
+
+    def recount(self) -> None:
+        """Somebody changed something by hand, and looks at once."""
+        self._counts = None
+
+    async def queues(self) -> list[Queue]:
+        """What waits for workers, at any node."""
+        return await self.store.all_queues()
+
+    async def untaken(self, view: SagaView) -> set[str]:
+        """Steps of a saga whose tasks wait for a worker."""
+        if view.phase != "open":
+            return set()
+        ready = {queue.step for queue in await self.queues() if queue.saga == view.saga and queue.ready}
+        return {step.name for step in view.steps if step.state in ("running", "undoing") and step.name in ready} - {one.step for one in view.held}
+
+    async def seen(self) -> list[Seen]:
+        """The workers that asked lately, at any node, the latest first."""
+        others = [Seen(*one) for some in await self.store.anywhere.ask_all("workers") for one in some]
+        found: dict[str, Seen] = {}
+        for one in sorted([*self.workers.values(), *others], key=lambda one: one.at):
+            found.pop(one.name, None)
+            found[one.name] = one
+        return list(reversed(found.values()))
+
+    # -- names
+
+    def saga_named(self, name: str, version: int | None) -> Saga:
+        """The definition of a name; without a version its newest. Raises `DefinitionError`."""
+        found = [saga for saga in self.settings.sagas if saga.name == name and version in (None, saga.version)]
+        if not found:
+            there = ", ".join(sorted({saga.name for saga in self.settings.sagas}))
+            raise DefinitionError(f"there is no definition {name!r}{'' if version is None else f' of version {version}'}, but {there[:400]}")
+        return max(found, key=lambda saga: saga.version)
+
+    def words(self) -> set[str]:
+        """The steps, and compensations, that workers may ask for, as they ask for them."""
+        found = set()
+        for saga in self.settings.sagas:
+            for step in saga.steps:
+                found.add(f"{saga.name}/{step.name}")
+                if step.has_compensation:
+                    found.add(f"{saga.name}/{step.name}/undo")
+        return found
+
+    def saw(self, worker: str, steps: list[str]) -> None:
+        """A worker asked for tasks."""
+        self.workers.pop(worker, None)
+        self.workers[worker] = Seen(worker, time.time(), steps)
+        if len(self.workers) > MOST_WORKERS:
+            self.workers.popitem(last=False)
+
+    def request(self, scope: Any, status: int, seconds: float) -> None:
+        """A request is over: it is counted and logged."""
+        path = scope["path"]
+        waits = path.endswith(("/wait", "/take", "/events"))
+        self.metrics.request(scope["method"], status, seconds, waits)
+        level = logging.ERROR if status >= 500 else logging.INFO
+        http = logging.getLogger("sagas.http")
+        if http.isEnabledFor(level):
+            told = {"method": scope["method"], "path": path, "status": status, "ms": round(seconds * 1000, 1), "from": (scope.get("client") or ["?"])[0]}
+            if "sagas.who" in scope:
+                told["who"] = scope["sagas.who"]
+            http.log(level, "%s %s %d", scope["method"], path, status, extra={"sagas": told})
+
+
+def told_of(event: Event) -> dict[str, Any]:
+    """An event for other services."""
+    told = {name: value for name, value in dataclasses.asdict(event).items() if value is not None}
+    if event.detail is not None:
+        told["detail"] = event.detail[:MOST_DETAIL]
+    return told

@@ -1,0 +1,44 @@
+"""How a service is set up."""
+
+from __future__ import annotations
+
+import dataclasses
+import ipaddress
+import pathlib
+
+from ..definition import Saga
+
+
+@dataclasses.dataclass(frozen=True, slots=True)
+class Settings:
+    """`tokens` is None where it listens on the loopback only, and everybody there may do everything.
+
+    Sizes are in bytes, times in seconds. `rate`: requests a second that each token (without tokens: each address) may make on the
+    average; it may save up two seconds' worth. `node` and `lease` are of a store in PostgreSQL, as in `sagas.open`."""
+
+    path: str
+    sagas: list[Saga]
+    host: str = "127.0.0.1"
+    port: int = 8080
+    tokens: pathlib.Path | None = None
+    concurrency: int = 16
+    most_body: int = 1 << 20
+    most_connections: int = 2000
+    most_streams: int = 200
+    rate: float = 5000.0
+    head_time: float = 10.0
+    body_time: float = 30.0
+    send_time: float = 30.0
+    session_time: float = 12 * 3600.0
+    grace: float = 20.0
+    patience: float = 20.0  # for an answer of another node
+    node: str | None = None
+    lease: float = 10.0
+
+
+def is_loopback(host: str) -> bool:
+    """Whether an address, or `localhost`, is this machine's own."""
+    try:
+        return ipaddress.ip_address(host.strip("[]")).is_loopback
+    except ValueError:
+        return host == "localhost"

@@ -1,0 +1,85 @@
+"""How many functions run at once: over all steps, and of each step with a limit."""
+
+from __future__ import annotations
+
+from collections import deque
+from collections.abc import Callable
+
+from .live import Attempt
+
+
+class Slots:
+    """A place for each running function. Who is over its step's limit waits apart, and holds back nobody else."""
+
+    def __init__(self, most: int, start: Callable[[Attempt], None], freed: Callable[[], None]) -> None:
+        self.most, self._start, self._freed = most, start, freed
+        self.running = self._reserved = 0
+        self._ready: dict[Attempt, None] = {}
+        self._limits: dict[tuple[str, str], tuple[set[Attempt], deque[Attempt]]] = {}
+
+    def free(self) -> int:
+        """How many tasks may be taken: places that nobody has, waits for or has reserved."""
+        return self.most - self.running - self._reserved - len(self._ready)
+
+    def reserve(self, count: int) -> None:
+        """For tasks that are asked for and have not begun."""
+        self._reserved += count
+
+    def release(self, count: int) -> None:
+        """Reserved places are free: their tasks begin now, or there were none. Whoever waits for a place is told."""
+        self._reserved -= count
+        if count:
+            self._freed()
+
+    def enter(self, attempt: Attempt) -> None:
+        """Begins it, now or when its turn comes."""
+        step = attempt.live.kind.steps[attempt.step]
+        if step is not None and step.limit is not None and attempt.kind == "run":
+            inside, queue = self._limits.setdefault((attempt.live.kind.name, attempt.name), (set(), deque()))
+            if len(inside) >= step.limit:
+                attempt.state, attempt.why = "held", "limit"
+                queue.append(attempt)
+                return
+            inside.add(attempt)
+        self._come(attempt)
+
+    def _come(self, attempt: Attempt) -> None:
+        if self.running >= self.most:
+            attempt.state = "ready"
+            self._ready[attempt] = None
+        else:
+            self.running += 1
+            self._start(attempt)
+
+    def leave(self, attempt: Attempt) -> None:
+        """Its function ended, or it will not be called; whose turn it is begins."""
+        self.running -= 1
+        if self._limits:
+            self.cancel(attempt)
+        while self._ready and self.running < self.most:
+            following = next(iter(self._ready))
+            del self._ready[following]
+            self.running += 1
+            self._start(following)
+        self._freed()
+
+    def cancel(self, attempt: Attempt) -> None:
+        """It waits no more; its place under its step's limit is for the next."""
+        self._ready.pop(attempt, None)
+        limit = self._limits.get((attempt.live.kind.name, attempt.name))
+        if limit is None or attempt not in limit[0]:
+            return
+        inside, queue = limit
+        inside.discard(attempt)
+        while queue:
+            following = queue.popleft()
+            if following.state == "held" and following.why == "limit":
+                inside.add(following)
+                self._come(following)
+                return
+
+    def clear(self) -> None:
+        """Nothing that waits begins any more."""
+        self._ready.clear()
+        for _, queue in self._limits.values():
+            queue.clear()

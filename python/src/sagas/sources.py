@@ -1,0 +1,216 @@
+"""What the operators' command reads and writes: a store's file, or its database, beside the programs that have it open."""
+
+from __future__ import annotations
+
+import contextlib
+import fcntl
+import functools
+import os
+import pathlib
+import sqlite3
+import time
+from collections.abc import Iterator
+from typing import Any, Protocol
+
+from . import databases
+from .errors import SagasError
+from .schema import VERSION
+from .values import cleaned
+
+Row = tuple[Any, ...]
+CANNOT = 4
+ALONE = 5_777_002
+"""The advisory lock of who lets ended sagas go."""
+
+
+class Trouble(Exception):
+    """What ends the command with a line on standard error."""
+
+    def __init__(self, text: str, status: int = 1) -> None:
+        super().__init__(text)
+        self.status = status
+
+
+class Source(Protocol):
+    """A connection. Queries are such as SQLite and PostgreSQL both understand, with `?` for each word."""
+
+    def begin(self) -> None:
+        """All that is asked from now on is of one moment."""
+
+    def transaction(self) -> contextlib.AbstractContextManager[object]:
+        """What is written within is written as a whole, or not at all."""
+
+    def now(self) -> float:
+        """The time by the store's own clock, in seconds."""
+
+    def alone(self) -> bool:
+        """Whether no other connection has said this and is not closed yet. A file's are not counted."""
+
+    def ask(self, text: str, *words: Any) -> list[Row]:
+        """The rows of a question, or of a write that gives some."""
+
+    def changed(self, text: str, *words: Any) -> int:
+        """Writes; gives how many rows that changed."""
+
+    def tell(self, what: str) -> None:
+        """Wakes the programs that have the store open, where that can be."""
+
+    def is_driven(self) -> bool:
+        """Whether a program has the store open."""
+
+    def absent(self, key: str) -> Trouble:
+        """What is said where no saga has the key."""
+
+    def close(self) -> None:
+        """Ends the connection."""
+
+
+class File:
+    """A SQLite file; `mode` is `ro` or `rw`."""
+
+    def __init__(self, name: str, mode: str) -> None:
+        self.path = pathlib.Path(name)
+        if not self.path.is_file():
+            what = "it is a folder" if self.path.is_dir() else "there is no such file; sagas.open makes a store"
+            raise Trouble(f"{name}: {what}", CANNOT)
+        self.link = sqlite3.connect(f"{self.path.resolve().as_uri()}?mode={mode}", uri=True, timeout=5.0, isolation_level=None)
+        try:
+            (version,) = self.link.execute("PRAGMA user_version").fetchone()
+            self.link.execute("SELECT 1 FROM sagas LIMIT 1").fetchone()
+            if mode == "rw":
+                self.link.execute("PRAGMA synchronous=FULL")
+        except sqlite3.Error as error:
+            self.link.close()
+            if "readonly" in str(error):  # also who only reads writes into `-shm`
+                raise Trouble(f"{name}: {error}: SQLite writes beside it, so this user has to be able to write in its folder", CANNOT) from error
+            raise Trouble(f"{name} is no store: {error}", CANNOT) from error
+        if version > VERSION:
+            self.link.close()
+            raise Trouble(f"{name} is of a later version ({version}) than this command ({VERSION})", CANNOT)
+
+    def begin(self) -> None:
+        self.link.execute("BEGIN")
+
+    @contextlib.contextmanager
+    def transaction(self) -> Iterator[None]:
+        self.link.execute("BEGIN IMMEDIATE")
+        try:
+            yield
+            self.link.execute("COMMIT")
+        except BaseException:
+            if self.link.in_transaction:
+                self.link.execute("ROLLBACK")
+            raise
+
+    def now(self) -> float:
+        return time.time()
+
+    def alone(self) -> bool:
+        return True
+
+    def ask(self, text: str, *words: Any) -> list[Row]:
+        return self.link.execute(text, cleaned(words)).fetchall()
+
+    def changed(self, text: str, *words: Any) -> int:
+        return self.link.execute(text, cleaned(words)).rowcount
+
+    def tell(self, what: str) -> None:
+        """The program looks by itself."""
+
+    def is_driven(self) -> bool:
+        try:
+            lock = os.open(f"{self.path}.lock", os.O_RDWR)
+        except FileNotFoundError:
+            return False
+        try:
+            fcntl.flock(lock, fcntl.LOCK_EX | fcntl.LOCK_NB)
+        except BlockingIOError:
+            return True
+        finally:
+            os.close(lock)
+        return False
+
+    def absent(self, key: str) -> Trouble:
+        return Trouble(f"no saga has the key {key}")
+
+    def close(self) -> None:
+        self.link.close()
+
+
+class Base:
+    """A PostgreSQL database."""
+
+    def __init__(self, url: str, mode: str) -> None:
+        try:
+            from . import links, postgresql_schema
+        except ImportError as error:
+            raise databases.missing(error) from error
+
+        self.name = links.named(url)
+        self._faults = functools.partial(links.faults, self.name)
+        with self._faults():
+            self.link = links.connect_now(url)
+            version = self.version = postgresql_schema.version_of(self.link)
+        if not 0 < version <= postgresql_schema.VERSION:
+            self.link.close()
+            known = postgresql_schema.VERSION
+            of = f"of a later version ({version}) than this command ({known})" if version else "no store: it has no tables yet: a node makes them, or `sagas store URL init`"
+            raise Trouble(f"{self.name} is {of}", CANNOT)
+
+    def begin(self) -> None:
+        with self._faults():
+            self.link.execute("BEGIN ISOLATION LEVEL REPEATABLE READ READ ONLY")
+
+    @contextlib.contextmanager
+    def transaction(self) -> Iterator[None]:
+        with self._faults(), self.link.transaction():
+            yield
+
+    def now(self) -> float:
+        return float(self.ask("SELECT extract(epoch FROM now())")[0][0])
+
+    def alone(self) -> bool:
+        return bool(self.ask("SELECT pg_try_advisory_lock(?)", ALONE)[0][0])
+
+    def ask(self, text: str, *words: Any) -> list[Row]:
+        with self._faults():
+            return self.link.execute(text.replace("?", "%s"), cleaned(words)).fetchall()
+
+    def changed(self, text: str, *words: Any) -> int:
+        with self._faults():
+            return self.link.execute(text.replace("?", "%s"), cleaned(words)).rowcount
+
+    def tell(self, what: str) -> None:
+        with self._faults():
+            self.link.execute("SELECT pg_notify('sagas', %s)", (what,))
+
+    def is_driven(self) -> bool:
+        return bool(self.ask("SELECT 1 FROM nodes WHERE lease > now() LIMIT 1"))
+
+    def absent(self, key: str) -> Trouble:
+        for saga, version in self.ask("SELECT saga, version FROM inbox WHERE key = ?", key) if self.version > 1 else []:
+            return Trouble(f"{key} has not begun: its start waits for a node that has {saga} (version {version}): sagas store URL nodes")
+        return Trouble(f"no saga has the key {key}")
+
+    def close(self) -> None:
+        self.link.close()
+
+
+def connect(name: str, mode: str = "ro") -> Source:
+    """A connection to a store. Raises `Trouble`, `StoreUnwritable`, `StoreFault`."""
+    databases.check_name(name)
+    if databases.is_url(name):
+        return Base(name, mode)
+    return File(name, mode)
+
+
+@contextlib.contextmanager
+def writing(name: str) -> Iterator[Source]:
+    """A connection for a short write beside the programs."""
+    link = connect(name, "rw")
+    try:
+        yield link
+    except (SagasError, sqlite3.Error) as error:
+        raise Trouble(f"cannot write {name}: {error}", CANNOT) from error
+    finally:
+        link.close()

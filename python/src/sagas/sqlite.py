@@ -1,0 +1,347 @@
+"""A store in one SQLite file, for one program at a time: one thread writes, what waits goes into one transaction."""
+
+from __future__ import annotations
+
+import asyncio
+import contextlib
+import fcntl
+import functools
+import os
+import pathlib
+import queue
+import sqlite3
+import threading
+import time
+from collections.abc import Iterable, Sequence
+from typing import Any
+
+from . import places_sqlite, questions
+from .database import Drives, Then, Watcher
+from .definition import Bounds
+from .errors import MissingHandler, StoreFault, StoreLocked, StoreNewer, StoreUnwritable
+from .forks import private
+from .records import Batch, Grant, Loaded, LogRow, Request, SagaRow, Start
+from .schema import MIGRATIONS, VERSION
+from .values import clean, cleaned
+
+BUSY = 5000  # ms: an operator's command may be writing
+LOOK = 0.2  # seconds: another program's commit makes no event here
+MOST_LOOK = 30.0
+NONE: frozenset[int] = frozenset()
+
+LOTS = (128, 32, 8, 1)  # few, so that their statements are kept
+ENDED = "UPDATE sagas SET phase = v.column1, end = v.column2, ended = v.column3 FROM (VALUES {}) v WHERE id = v.column4"
+
+SETTLED = "INSERT INTO reports(token, log, outcome) VALUES(?, ?, 'taken') ON CONFLICT(token) DO UPDATE SET outcome = 'taken', value = NULL"
+
+
+class Gap(Exception):
+    """A batch does not join on to its log: a fault of this package, and nothing is written."""
+
+
+def connect(path: str, synchronous: str = "FULL") -> sqlite3.Connection:
+    """A connection that commits where it is told to."""
+    db = sqlite3.connect(path, isolation_level=None, check_same_thread=False, cached_statements=64, timeout=BUSY / 1000)
+    db.execute(f"PRAGMA synchronous={synchronous}")
+    return db
+
+
+def migrate(db: sqlite3.Connection, path: str) -> None:
+    """Makes the tables, or brings them to this program's version, in one transaction. Raises `StoreNewer`."""
+    db.execute("BEGIN IMMEDIATE")
+    version = db.execute("PRAGMA user_version").fetchone()[0]
+    if version > VERSION:
+        db.execute("ROLLBACK")
+        raise StoreNewer(f"{path}: its tables are of version {version}, and this program knows {VERSION}: use a later release")
+    for step in MIGRATIONS[version:]:
+        for statement in step:
+            db.execute(statement)
+    db.execute(f"PRAGMA user_version = {VERSION}")
+    db.execute("COMMIT")
+
+
+def migrate_file(path: str) -> str:
+    """Migrates a file that no program has open; says from which version. Raises `StoreLocked`, `StoreNewer`, `StoreFault`, `StoreUnwritable`."""
+    if not os.path.isfile(path):
+        raise StoreFault(f"{path}: it is not there")
+    store = Sqlite(path)
+    store._take_lock()
+    with contextlib.closing(connect(path)) as db:
+        before = db.execute("PRAGMA user_version").fetchone()[0]
+    store._make()
+    store._reader.close()
+    store._db.close()
+    store._drop_lock()
+    return f"{path}: tables of version {VERSION}" + ("" if before == VERSION else f", {before} before")
+
+
+class Reader:
+    """A connection that only reads. One thread at a time may use it."""
+
+    def __init__(self, path: str) -> None:
+        self._path = path
+        self._db = sqlite3.connect(f"{pathlib.Path(path).resolve().as_uri()}?mode=ro", uri=True, isolation_level=None, check_same_thread=False, timeout=BUSY / 1000)
+
+    def rows(self, query: str, *words: Any) -> list[tuple[Any, ...]]:
+        """Rows of a query. Raises `StoreUnwritable` where the file cannot be read."""
+        try:
+            return self._db.execute(query, cleaned(words)).fetchall()
+        except sqlite3.Error as error:
+            raise StoreUnwritable(f"{self._path}: {error}") from error
+
+    def close(self) -> None:
+        self._db.close()
+
+
+class Sqlite(questions.Questions):
+    """The file and its lock. Reads happen in the loop, writes in a thread of their own."""
+
+    shared = False
+
+    def __init__(self, path: str | os.PathLike[str]) -> None:
+        self.path = os.fspath(path)
+        self.commits = 0
+        self._events: dict[int, int] = {}
+        self._jobs: queue.SimpleQueue[tuple[Sequence[Batch], asyncio.AbstractEventLoop] | None] = queue.SimpleQueue()
+        self._lock: int | None = None
+        self._timer: asyncio.Handle | None = None
+        self._next_log = 0
+
+    # -- opening and closing
+
+    async def open(self, drives: Drives) -> list[LogRow]:
+        """Takes the lock and makes the tables. Raises `StoreLocked`, `StoreUnwritable`, `StoreFault` or `MissingHandler`."""
+        self._take_lock()
+        self._make()
+        self._thread = threading.Thread(target=self._write, name="sagas-writer", daemon=True)
+        self._thread.start()
+        self._next_log = int(self.rows("SELECT coalesce(max(log) + 1, 0) FROM logs")[0][0])
+        rows = self.open_logs()
+        for row in rows:
+            lacks = drives(row.texts, self.places(row.log)) if row.open else None
+            if lacks:
+                raise MissingHandler(f"{self.path}: {lacks}. Give it again, or settle them first by the older program with open(.., new=False)")
+        return rows
+
+    def _make(self) -> None:
+        try:
+            self._db = connect(self.path)
+            self._db.execute("PRAGMA journal_mode=WAL")
+            migrate(self._db, self.path)
+            self._reader = connect(self.path)
+        except sqlite3.DatabaseError as error:
+            self._drop_lock()
+            if isinstance(error, sqlite3.OperationalError):
+                raise StoreUnwritable(f"{self.path}: {error}") from error
+            raise StoreFault(f"{self.path}: {error}") from error
+        except BaseException:
+            self._drop_lock()
+            raise
+
+    def _take_lock(self) -> None:
+        if os.path.isdir(self.path):
+            raise StoreFault(f"{self.path}: it is a folder: give a file in it")
+        try:
+            self._lock = os.open(self.path + ".lock", os.O_RDWR | os.O_CREAT | os.O_CLOEXEC, 0o644)
+        except FileNotFoundError as error:
+            raise StoreUnwritable(f"{os.path.dirname(self.path)}: there is no such folder: make it first") from error
+        except OSError as error:
+            remedy = ": this user has to be able to write in its folder" if isinstance(error, PermissionError) else ""
+            raise StoreUnwritable(f"{self.path}.lock: {error.strerror}{remedy}") from error
+        private.add(self._lock)
+        try:
+            fcntl.flock(self._lock, fcntl.LOCK_EX | fcntl.LOCK_NB)
+        except OSError:
+            holder = os.pread(self._lock, 20, 0).decode(errors="replace")
+            who = "this program" if holder == str(os.getpid()) else f"another program{f' (process {holder})' if holder.isdigit() else ''}"
+            self._drop_lock()
+            raise StoreLocked(f"{self.path}: {who} has this store open; close that one first") from None
+        with contextlib.suppress(OSError):  # it is only told
+            os.ftruncate(self._lock, 0)
+            os.pwrite(self._lock, str(os.getpid()).encode(), 0)
+
+    def _drop_lock(self) -> None:
+        if self._lock is not None:
+            private.discard(self._lock)
+            fcntl.flock(self._lock, fcntl.LOCK_UN)  # also where a process that was just forked still has it
+            os.close(self._lock)
+            self._lock = None
+
+    def watch(self, watcher: Watcher) -> None:
+        """Looks for requests that other programs left, where the file has changed."""
+        loop, version = asyncio.get_running_loop(), -1
+
+        def look() -> None:
+            nonlocal version
+            self._timer = loop.call_later(LOOK, look)
+            with contextlib.suppress(StoreUnwritable):
+                now = self.rows("PRAGMA data_version")[0][0]
+                if now != version:
+                    version = now
+                    watcher.look()
+
+        self._timer = loop.call_soon(look)
+
+    async def close(self) -> None:
+        """Ends the writer behind what it was given."""
+        if self._timer:
+            self._timer.cancel()
+        if self._lock is None:
+            return
+        self._jobs.put(None)
+        self._thread.join()
+        with contextlib.suppress(sqlite3.Error):
+            self._reader.close()
+            self._db.close()
+        self._drop_lock()
+
+    # -- writing
+
+    def new_log(self) -> int:
+        """The number of a log that is to be born."""
+        self._next_log += 1
+        return self._next_log - 1
+
+    def holds(self) -> bool:
+        """The lock is held until the end."""
+        return True
+
+    async def admit(self, name: str, bounds: Bounds, want: int, have: Sequence[int]) -> Grant:
+        """Places of a step: this program is the fleet."""
+        places = places_sqlite.free(bounds.limit, want, have) if bounds.limit else []
+        count, pause = len(places) if bounds.limit else want, MOST_LOOK
+        if bounds.rate and count:
+            connected = functools.partial(connect, self.path, "NORMAL")  # a program that is killed has counted
+            count, pause = await asyncio.to_thread(places_sqlite.take, connected, self.path, name, bounds.rate, count, time.time())
+        return Grant(count, places[:count], pause)
+
+    def commit(self, batches: Sequence[Batch], then: Then) -> None:
+        """One transaction for all; `then` is called in the loop with None, or with what kept it from being."""
+        self._then = then
+        self._jobs.put((batches, asyncio.get_running_loop()))
+
+    def _write(self) -> None:
+        while (job := self._jobs.get()) is not None:
+            batches, loop = job
+            fault: BaseException | None = None
+            try:
+                self._transaction(batches)
+            except Exception as error:  # told to the loop, which begins again from the database
+                fault = error
+            with contextlib.suppress(RuntimeError):  # the loop is closed
+                loop.call_soon_threadsafe(self._then, batches, fault, NONE)
+
+    def _transaction(self, batches: Sequence[Batch]) -> None:
+        db = self._db
+        try:
+            db.execute("BEGIN IMMEDIATE")
+            events = self._put(db, batches)
+            db.execute("COMMIT")
+        except BaseException:
+            if db.in_transaction:
+                with contextlib.suppress(sqlite3.Error):
+                    db.execute("ROLLBACK")
+            raise
+        self.commits += 1
+        self._events.update(events)
+
+    def _put(self, db: sqlite3.Connection, batches: Sequence[Batch]) -> dict[int, int]:
+        """Writes the rows of all; gives how many events the logs have now."""
+        chunks: dict[int, tuple[int, list[str]]] = {}
+        events: dict[int, int] = {}
+        for batch in batches:
+            if batch.born:
+                name, shelf, texts = batch.born
+                db.execute("INSERT OR IGNORE INTO shelves VALUES(?, ?)", (shelf, texts))
+                db.execute("INSERT OR IGNORE INTO logs(log, name, shelf) VALUES(?, ?, ?)", (batch.log, name, shelf))
+            if batch.text:
+                had = events.get(batch.log, self._events.get(batch.log, 0))
+                if batch.first != had:
+                    raise Gap(f"log {batch.log}: event {batch.first} behind {had}")
+                events[batch.log] = had + batch.text.count("\n")
+                chunks.setdefault(batch.log, (had, []))[1].append(batch.text)
+        if chunks:
+            at = _now(batches)
+            db.executemany("INSERT INTO lines VALUES(?, ?, ?, ?)", [(log, first, at, "".join(texts)) for log, (first, texts) in chunks.items()])
+        _lots(db, "INSERT INTO sagas(id, key, saga, def, input, at) VALUES {}", 6, (b.opened for b in batches))
+        _lots(db, "INSERT INTO results VALUES {}", 7, (b.results for b in batches))
+        _lots(db, ENDED, 4, (b.ended for b in batches))
+        _many(db, "INSERT OR REPLACE INTO held VALUES(?, ?, ?, ?, ?, ?, ?, ?, ?)", ([cleaned(row) for row in b.held] for b in batches))
+        _many(db, "DELETE FROM held WHERE id = ? AND step = ? AND kind = ? AND attempt <= ?", (b.freed for b in batches))
+        _many(db, SETTLED, (b.settled for b in batches))
+        _many(db, "DELETE FROM reports WHERE log = ?", ([(b.log,)] for b in batches if b.closed))
+        _many(db, "UPDATE requests SET answer = ? WHERE id = ?", (b.answers for b in batches))
+        _many(db, "INSERT INTO requests(key, what, value, at, answer) VALUES(?, ?, ?, ?, ?)", ([(*row, answer) for row, answer in b.asked] for b in batches))
+        _many(db, "UPDATE sagas SET note = ? WHERE id = ?", ([(clean(note), id) for note, id in b.notes] for b in batches))
+        _many(db, "UPDATE logs SET closed = ?, audit = ? WHERE log = ?", ([(*b.closed, b.log)] for b in batches if b.closed))
+        return events
+
+    async def call(self, *words: Any) -> Any:
+        """A file has no transactions of others: a store with such steps was refused."""
+        raise NotImplementedError
+
+    # -- reading
+
+    def rows(self, query: str, *words: Any) -> list[tuple[Any, ...]]:
+        """Rows of the reader. Raises `StoreUnwritable` where the file cannot be read."""
+        try:
+            return self._reader.execute(query, cleaned(words)).fetchall()
+        except sqlite3.Error as error:
+            raise StoreUnwritable(f"{self.path}: {error}") from error
+
+    def reader(self) -> Reader:
+        """Another connection, for a thread that only reads."""
+        return Reader(self.path)
+
+    async def take_up(self, log: int, epoch: int) -> tuple[str, int]:
+        """As `text`, for who will write behind it: nobody else writes this file. No lines of it may be on their way."""
+        text, self._events[log] = self.text(log)
+        return text, self._events[log]
+
+    async def load(self, log: int, epoch: int, unborn: bool) -> Loaded:
+        """A log as a pump takes it up. No batch of it may be on its way."""
+        within = questions.bounds(log)
+        text, events = await self.take_up(log, epoch)
+        opened = self.rows(questions.COUNT, *within)[0][0]
+        open, results, held = (self.rows(query, *within) for query in (questions.OPEN_SAGAS, questions.OPEN_RESULTS, questions.OPEN_HELD))
+        return questions.loaded(text, events, opened, open, results, held, epoch)  # type: ignore[arg-type]
+
+    async def find(self, key: str) -> SagaRow | None:
+        """The saga with this key."""
+        return self.find_now(key)
+
+    async def requests(self) -> list[Request]:
+        """What was asked and has no answer."""
+        return self.rows(questions.REQUESTS)  # type: ignore[return-value]
+
+    async def starts(self, most: int, under_way: Sequence[int] | None = None) -> list[Start]:
+        """None: who starts a saga has the store open."""
+        return []
+
+    async def ask(self, key: str, what: str, value: str, token: str | None = None) -> Any:
+        """Nobody else has the sagas of a file."""
+        raise NotImplementedError
+
+    async def news(self, id: int, turn: int) -> None:
+        """Nobody else ends a saga of a file."""
+        raise NotImplementedError
+
+
+def _many(db: sqlite3.Connection, statement: str, lists: Iterable[Sequence[Sequence[Any]]]) -> None:
+    rows = [row for rows in lists for row in rows]
+    if rows:
+        db.executemany(statement, rows)
+
+
+def _lots(db: sqlite3.Connection, statement: str, width: int, lists: Iterable[Sequence[Sequence[Any]]]) -> None:
+    """As `_many`, many rows a statement: each statement gives up the interpreter's lock once, and waits for it again."""
+    rows = [row for rows in lists for row in rows]
+    marks, place = f"({', '.join('?' * width)})", 0
+    for lot in LOTS:
+        while len(rows) - place >= lot:
+            db.execute(statement.format(", ".join([marks] * lot)), [word for row in rows[place : place + lot] for word in row])
+            place += lot
+
+
+def _now(batches: Sequence[Batch]) -> float:
+    return max(batch.at for batch in batches)

@@ -1,0 +1,409 @@
+"""An open store: start sagas, wait for them, and ask how they stand.
+
+Beneath it is a `Coordinator`, which drives the sagas, over a `Database` (database.py), which keeps them: a file of SQLite, or PostgreSQL.
+Nothing here knows which; what a database has to do is written there. The calls of `Store` are the same over both.
+"""
+
+from __future__ import annotations
+
+import asyncio
+import builtins
+import datetime
+import os
+import signal
+from collections.abc import Callable, Iterable
+from types import TracebackType
+from typing import Any
+
+from . import auditing, databases, faults, histories, moving, program, requests, retention, starting, values
+from .anywhere import Anywhere
+from .calling import MOST_TEXT, Outcome, failure
+from .coordinator import Coordinator
+from .database import Reader
+from .definition import Saga, Step
+from .elsewhere import Leased, Queue, Word
+from .errors import Closed, Moved, NoSuchSaga, NotJson, NotWaiting
+from .events import Hook, Teller, logger
+from .kinds import Shelf
+from .live import Attempt, Live
+from .plans import Plan
+from .records import Asked, Wanted, SagaRow
+from .runs import End, Held, LogEvent, Run, Summary
+
+MOST_KEY = 512
+Grace = float | datetime.timedelta | None
+
+
+class Store:
+    """Made by `sagas.open`; use it by `async with`. All calls are for the event loop in which it was opened."""
+
+    def __init__(
+        self, path: str | os.PathLike[str], sagas: Iterable[Saga], *, concurrency: int, new: bool, children: int, threads: int | None, grace: Grace,
+        idle: float, on_event: Hook | None, clock: Callable[[], float], program: str | None, node: str | None = None, lease: float = 10.0,
+        keep_ended: float | None = None, export_ended: str | os.PathLike[str] | None = None,
+    ) -> None:
+        for word, number in (("concurrency", concurrency), ("children", children), ("threads", threads or concurrency)):
+            if not faults.is_count(number) or number < 1:
+                raise ValueError(f"{word}={number!r}: it is a whole number from 1 on")
+        self.path = self._name = os.fspath(path)
+        if databases.is_url(self._name):
+            self.path = "PostgreSQL"
+        self.new, self._node, self._lease, self._most = new, node, lease, concurrency
+        self._keep_ended, self._export_ended = keep_ended, export_ended
+        self._shelf = Shelf(sagas)
+        self._words = {"concurrency": concurrency, "threads": threads or concurrency, "children": children, "idle": idle, "clock": clock}
+        self._grace = grace.total_seconds() if isinstance(grace, datetime.timedelta) else grace
+        self._teller, self._program = Teller(on_event, clock), program
+        self._coordinator: Coordinator | None = None
+        self._finding: dict[str, asyncio.Future[None]] = {}  # keys that are about to be started
+        self.leased = False
+        """Set it before opening: steps with `handler=None` are for `take`, and none of them begins before it is taken."""
+
+    @property
+    def sagas(self) -> builtins.list[Saga]:
+        """The sagas that it takes."""
+        return [*self._shelf.sagas.values()]
+
+    async def __aenter__(self) -> Store:
+        """Opens it: takes the lock, and goes on with each saga that is not over.
+
+        Raises `StoreLocked`, `StoreUnwritable`, `StoreFault`, `MissingHandler`, `ChildError`."""
+        for saga in self._shelf.sagas.values():
+            for warning in saga.warnings():
+                logger.warning("%s", warning)
+        where = self._program or program.path()
+        database = databases.make(self._name, self._shelf, self._node, self._lease, self._most)
+        self.path = database.path
+        coordinator = self._coordinator = Coordinator(database, self._shelf, program=where, teller=self._teller, **self._words)  # type: ignore[arg-type]
+        coordinator.elsewhere.leased = self.leased
+        try:
+            await coordinator.open()
+        except BaseException:
+            await coordinator.close(0.0)
+            raise
+        self._requests = requests.Requests(self, database)
+        coordinator.listeners.append(self._requests.look)
+        if self.new:
+            coordinator.listeners.append(starting.Starts(coordinator).look)
+        database.watch(coordinator)
+        if self._keep_ended is not None:
+            coordinator.spawn(retention.keep(coordinator, self._name, self._keep_ended, self._export_ended))
+        return self
+
+    async def __aexit__(self, kind: type[BaseException] | None, error: BaseException | None, trace: TracebackType | None) -> None:
+        await self.close()
+
+    async def close(self, grace: Grace = None) -> None:
+        """Takes nothing new; running functions end and are kept, or are cancelled after `grace` (seconds or timedelta; by default as `open` was told).
+
+        Who still waits gets `Closed`. What was cancelled runs again, with its token, when the store is opened again."""
+        seconds = grace.total_seconds() if isinstance(grace, datetime.timedelta) else grace
+        if hasattr(self, "_requests"):
+            self._requests.stop()
+        if self._coordinator:
+            await self._coordinator.close(self._grace if seconds is None else seconds)
+
+    @property
+    def _inside(self) -> Coordinator:
+        if self._coordinator is None:
+            raise Closed(f"{self.path}: the store is not open: use `async with sagas.open(..) as store`")
+        if self._coordinator.closed:
+            raise self._coordinator.closed
+        return self._coordinator
+
+    def _here(self) -> Coordinator:
+        """As `_inside`, for calls that wait for something in the store's loop. Raises `RuntimeError` in another loop."""
+        inside = self._inside
+        if asyncio.get_running_loop() is not inside.loop:
+            raise RuntimeError(f"{self.path}: the store was opened in another event loop: call it there, or use sagas.open_sync, for any thread")
+        return inside
+
+    # -- sagas
+
+    async def start(self, saga: Saga, key: str, input: Any = None) -> Run:
+        """Starts a saga, or gives the one that this key has, whatever became of it. When it returns, the saga goes on whatever becomes of the program.
+
+        Raises `KeyConflict` where the key has another saga or another input, `StoreUnwritable` where nothing could be begun, `NotJson`, `Closed`."""
+        inside = self._here()
+        if not isinstance(key, str) or not 0 < len(key) <= MOST_KEY or not key.isprintable():
+            raise NotJson(f"key={key!r}: a key is a text of 1 to {MOST_KEY} printable characters")
+        place, text = self._shelf.place(saga), values.write(input)
+        row = None if key in inside.lives else await self._find(key)
+        live = inside.lives.get(key)  # another start of it may have come meanwhile
+        there = (live.kind.name, live.text) if live else (row.saga, row.input) if row else None
+        if there:
+            error = moving.conflict(key, saga.name, text, *there)
+            if error:
+                raise error
+        elif not self.new:
+            raise Closed(f"{self.path}: it was opened with new=False, and takes no new sagas")
+        else:
+            live = inside.new_live(key, text, self._shelf.kinds[place], place)
+            inside.place(live)
+        if live:
+            await live.started()
+        return Run(self, key, new=there is None and live is not None and live.committed)  # else another node was first
+
+    async def _find(self, key: str) -> SagaRow | None:
+        """Looks whether a key that is to be started is there."""
+        inside = self._inside
+        if not inside.store.shared:
+            return inside.store.find_now(key)
+        finding = self._finding.setdefault(key, inside.loop.create_future())
+        try:
+            return await inside.store.find(key)
+        finally:
+            self._finding.pop(key, None)
+            if not finding.done():
+                finding.set_result(None)
+
+    async def wait(self, key: str) -> End:
+        """Waits for a saga's end. Raises `NoSuchSaga`, `Closed`."""
+        over = await self.over(key)
+        if isinstance(over, Live):
+            return histories.end_of_live(over)
+        row = over
+        return await moving.surely(lambda: self._end(row))
+
+    async def over(self, key: str) -> Live | SagaRow:
+        """As `wait`, for who reads the end by himself: a saga that was driven here, or its row."""
+        turn = 0
+        self._here()
+        while True:
+            live = self._inside.lives.get(key)
+            if live is None:
+                row = await moving.surely(lambda: self._row(key))
+                if row.phase is not None:
+                    return row
+                if key not in self._inside.lives:
+                    await self._inside.store.news(row.id, turn)
+                    turn += 1
+                continue
+            try:
+                await live.ended()
+                return live
+            except Moved:
+                continue
+
+    async def _end(self, row: SagaRow) -> End:
+        return histories.end(self._inside, row)
+
+    async def abort(self, key: str, *, by: str | None = None, note: str | None = None) -> bool:
+        """No step of it begins any more, and the plan says what is undone. False where it is over or was aborted before. Raises `NoSuchSaga`, `Closed`.
+
+        `by`: who asks for it; then that is kept, with the note and the time (`sagas.looks`)."""
+        self._here()
+        return await self._abort(key, self._asked(key, "abort", by, note))
+
+    def _asked(self, key: str, what: str, by: str | None, note: str | None, **more: Any) -> Asked | None:
+        """What is kept of somebody's request."""
+        return None if by is None else (key, what, values.write({"by": by, "note": note, **more}), self._inside.clock())
+
+    async def _abort(self, key: str, request: Wanted) -> bool:
+        while True:
+            inside = self._inside
+            live = inside.lives.get(key)
+            if live is None and key in self._finding:
+                await asyncio.shield(self._finding[key])
+                continue
+            if live is None:
+                if (await self._row(key)).phase is not None:
+                    return False
+                if key in inside.lives:
+                    continue
+                return bool(await self._elsewhere(key, "abort", None, request))
+            await live.started()
+            if live.over or live.pump is None:
+                if live.over or inside.lives.get(key) is live:
+                    return False
+                continue
+            future: asyncio.Future[bool] = inside.loop.create_future()
+            live.pump.aborts.append((live, future, request))
+            live.pump.poke()
+            try:
+                return await future
+            except Moved:
+                continue
+
+    async def _row(self, key: str) -> SagaRow:
+        row = await self._inside.store.find(key)
+        if row is None:
+            raise NoSuchSaga(f"no saga has the key {key!r}")
+        return row
+
+    async def _elsewhere(self, key: str, what: str, told: Any, request: Wanted) -> Any:
+        """Asks the node that has the saga. What was asked here by a row is that node's to answer."""
+        if isinstance(request, int):
+            raise Moved(f"saga {key!r}")
+        answer = await self._inside.store.ask(key, what, values.write(told) if request is None else request[2])
+        return requests.told(answer)
+
+    async def finish(self, key: str, step: Step[Any] | str, result: Any = None, *, failed: str | None = None, undo: bool = False, by: str | None = None, note: str | None = None) -> None:
+        """Says how a step ended: an approval, a step done elsewhere (`handler=None`), a wait, or one of which nobody knows.
+
+        `failed` says why it failed for good; else it is done, with the result. `undo`: its compensation is meant. When it returns, that is kept.
+        `by`: who says so; then that is kept, with the note and the time (`sagas.looks`).
+        Raises `NotWaiting` where nobody has to say anything about the step, `NoSuchSaga`, `NotJson`, `Closed`."""
+        self._here()
+        name = step if isinstance(step, str) else step.name
+        said: dict[str, Any] = {"result": result} if failed is None else {"failed": failed}
+        asked = self._asked(key, "finish", by, note, step=name, kind="undo" if undo else "run", **said)
+        await self._finish(key, name, Outcome("done", values.write(result)) if failed is None else failure(failed, final=True), undo, asked)
+
+    async def _finish(self, key: str, step: str, outcome: Outcome, undo: bool, request: Wanted) -> None:
+        kind = "undo" if undo else "run"
+        while True:
+            live = self._inside.lives.get(key)
+            if live is None:
+                if (await self._row(key)).phase is not None:
+                    raise NotWaiting(f"saga {key!r} is over")
+                if key not in self._inside.lives:
+                    await self._elsewhere(key, "finish", requests.finish_of(step, kind, outcome), request)
+                    return
+                continue
+            try:
+                await self._finish_here(self._begun(live, step, kind), outcome, request)
+                return
+            except Moved:
+                continue
+
+    async def _finish_here(self, attempt: Attempt, outcome: Outcome, request: Wanted) -> None:
+        inside, key, step = self._inside, attempt.live.key, attempt.name
+        while not inside.doing.is_asked(attempt):
+            if inside.lives.get(key) is not attempt.live:
+                raise Moved(f"saga {key!r}")
+            if not inside.doing.will_be_asked(attempt):
+                raise NotWaiting(f"saga {key!r}, step {step!r}: nobody has to say how it ended: it is {attempt.why or attempt.state}")
+            await attempt.change()
+            self._inside  # raises, where it was closed meanwhile
+        attempt.request, attempt.told = request, inside.loop.create_future()
+        inside.doing.outcome(attempt, outcome)
+        await attempt.told
+
+    def _begun(self, live: Live, step: str, kind: str) -> Attempt:
+        if step not in live.kind.names:
+            raise NotWaiting(f"saga {live.key!r} has no step {step!r}")
+        attempt = live.busy.get((live.kind.names.index(step), kind))
+        if attempt is None:
+            raise NotWaiting(f"saga {live.key!r}, step {step!r}: it is over, or has not begun: then say it again in a while")
+        return attempt
+
+    async def serve(self) -> None:
+        """Waits for SIGTERM or SIGINT: for a program that only drives sagas. Then close the store: its sagas go on elsewhere, or at the next start."""
+        loop = self._inside.loop
+        told = asyncio.Event()
+        for number in (signal.SIGTERM, signal.SIGINT):
+            loop.add_signal_handler(number, told.set)
+        try:
+            await told.wait()
+        finally:
+            for number in (signal.SIGTERM, signal.SIGINT):
+                loop.remove_signal_handler(number)
+
+    # -- workers elsewhere
+
+    async def take(self, steps: Iterable[Word], *, most: int = 1, wait: float = 0.0, lease: float = 30.0, worker: str = "") -> builtins.list[Leased]:
+        """Takes tasks of steps with `handler=None` for a worker elsewhere, those first that have waited longest; the store was opened `leased`.
+
+        `steps`: which it can do, each `(saga, step, "run" or "undo")`. `wait`: seconds to wait where there is none; then the list is empty.
+        `lease`: seconds after which a task is another's that was neither reported nor beaten for. The leases are in the store when it returns.
+        Raises `StoreUnwritable` (nothing was taken), `Closed`."""
+        return await self._inside.anywhere.take([*steps], most, wait, lease, worker)
+
+    async def beat(self, token: str, lease: int, seconds: float = 30.0) -> float:
+        """The worker is still at it: the lease holds `seconds` from now; gives until when. Raises `LeaseLost`, `NoSuchTask`, `NotHere`, `Closed`."""
+        return await self._inside.anywhere.beat(token, lease, seconds)
+
+    async def report(self, token: str, lease: int, result: Any = None, *, failed: str | None = None, final: bool = False, unknown: str | None = None) -> bool:
+        """How a task ended: done with its result, `failed` (without an effect; `final`: no more tries), or `unknown`. When it returns, that is kept.
+
+        *Done* counts under any lease of the token, the others only under the newest. False: the same was reported before, and counts once.
+        Raises `ReportedOtherwise`, `LeaseLost`, `NoSuchTask`, `NotHere`, `NotJson`, `Closed`."""
+        if unknown is not None:
+            outcome = Outcome("unknown", unknown[:MOST_TEXT])
+        else:
+            outcome = Outcome("done", values.write(result)) if failed is None else failure(failed, final)
+        return await self._inside.anywhere.report(token, lease, outcome)
+
+    def queues(self) -> builtins.list[Queue]:
+        """What waits here for workers elsewhere, by step."""
+        return self._inside.elsewhere.queues()
+
+    async def all_queues(self) -> builtins.list[Queue]:
+        """What waits for workers elsewhere at any node, by step."""
+        return await self._inside.anywhere.queues()
+
+    @property
+    def takeovers(self) -> int:
+        """How many tasks another worker took since their leases ran out, as long as this program runs."""
+        return self._inside.elsewhere.takeovers
+
+    @property
+    def anywhere(self) -> Anywhere:
+        """What this program and the other nodes do for workers."""
+        return self._inside.anywhere
+
+    def holds(self) -> bool:
+        """Whether what it drives is still its own, as far as it knows: over PostgreSQL, whether the server has heard of it lately."""
+        return self._inside.store.holds()
+
+    @property
+    def commits(self) -> int:
+        """How many transactions this program has written."""
+        return self._inside.store.commits
+
+    def now(self) -> float:
+        """Its wall time, in seconds."""
+        return self._inside.clock()
+
+    def reader(self) -> Reader:
+        """Another connection to its database, for a thread that only reads (`sagas.looks`)."""
+        return self._inside.store.reader()
+
+    async def settled(self) -> None:
+        """Waits until no saga is open: for a program that only settles what is there (`open(.., new=False)`), and for tests."""
+        await self._inside.settled()
+
+    # -- questions
+
+    def get(self, key: str) -> Run | None:
+        """The saga with this key, if there is one."""
+        inside = self._inside
+        live = inside.lives.get(key)
+        return Run(self, key) if (live and live.committed) or inside.store.find_now(key) else None
+
+    def list(self, *, phase: str | None = None, saga: Saga | str | None = None, after: int | None = None, most: int = 100) -> builtins.list[Summary]:
+        """Sagas in the order of their logs, `most` at once; `after` is the `id` of the last of the page before. `phase`: open, ended, stuck or resolved."""
+        return histories.listed(self._inside, phase, saga.name if isinstance(saga, Saga) else saga, after, most)
+
+    def stuck(self) -> builtins.list[End]:
+        """The sagas that are stuck and that nobody has resolved, each with its chain."""
+        return histories.stuck(self._inside)
+
+    async def resolve(self, key: str, note: str, *, by: str | None = None) -> None:
+        """Marks a stuck saga as looked after, with a note. Raises `NoSuchSaga`, and `NotWaiting` where it is not stuck.
+
+        `by`: who did; then that is kept, with the time (`sagas.looks`)."""
+        await histories.resolve(self._inside, key, note, self._asked(key, "resolve", by, note))
+
+    def unknown(self) -> builtins.list[Held]:
+        """The attempts of which nobody knows what they did, those first that a person has to say (`finish`)."""
+        return histories.unknown(self._inside)
+
+    def log(self, key: str) -> builtins.list[LogEvent]:
+        """A saga's events so far, with times. Raises `NoSuchSaga`."""
+        return histories.log(self._inside, key)
+
+    def plan(self, key: str) -> Plan | None:
+        """The last plan that a saga goes by: why each step stands or does not, with its certificate. None where all went well. Raises `NoSuchSaga`."""
+        return histories.plan(self._inside, key)
+
+    def draw(self, key: str) -> str:
+        """A saga as text for Graphviz: its last plan, with what it found and what it kept; before a plan its definition. Raises `NoSuchSaga`."""
+        return histories.draw(self._inside, key)
+
+    async def audit(self) -> dict[str, str]:
+        """Audits each log, also those that are still driven: the verdict by the log's name, which begins with `yes` where it is sound."""
+        return await auditing.all_logs(self._inside)
+
+

@@ -1,0 +1,51 @@
+"""An event loop in a thread of its own, for programs without async."""
+
+from __future__ import annotations
+
+import asyncio
+import threading
+from collections.abc import Coroutine
+from typing import Any, TypeVar
+
+from .errors import Closed
+
+T = TypeVar("T")
+
+
+class Loop:
+    """Runs what other threads ask for. `closed` is what they hear while it does not run."""
+
+    def __init__(self, closed: str) -> None:
+        self._closed = closed
+        self._loop: asyncio.AbstractEventLoop | None = None
+
+    @property
+    def runs(self) -> bool:
+        return self._loop is not None
+
+    def start(self) -> None:
+        """Starts the thread."""
+        self._loop = asyncio.new_event_loop()
+        self._thread = threading.Thread(target=self._loop.run_forever, name="sagas-loop", daemon=True)
+        self._thread.start()
+
+    def end(self) -> None:
+        """Ends it."""
+        loop, self._loop = self._loop, None
+        assert loop
+        asyncio.run_coroutine_threadsafe(loop.shutdown_asyncgens(), loop).result()
+        loop.call_soon_threadsafe(loop.stop)
+        self._thread.join()
+        loop.close()
+
+    def do(self, work: Coroutine[Any, Any, T], timeout: float | None = None) -> T:
+        """Does it, and gives what it gives, or raises what it raises; `TimeoutError` after so many seconds."""
+        if self._loop is None:
+            work.close()
+            raise Closed(self._closed)
+        future = asyncio.run_coroutine_threadsafe(work, self._loop)
+        try:
+            return future.result(timeout)
+        except BaseException:
+            future.cancel()
+            raise

@@ -1,0 +1,137 @@
+"""Steps inside the database: what a function writes there and the record of its result are one transaction.
+
+It happens exactly once: the record names the attempt, and is written only where the attempt's log is still this node's. Where the answer
+to the commit is lost, the log is taken up again, and the record tells."""
+
+from __future__ import annotations
+
+import dataclasses
+import threading
+from collections.abc import Callable
+from typing import TYPE_CHECKING, Any
+
+import psycopg
+from psycopg_pool import AsyncConnectionPool, ConnectionPool
+
+from . import calling, links
+from .calling import Outcome
+from .definition import Manner
+from .errors import Lost, Unknown
+from .task import Task
+
+if TYPE_CHECKING:
+    from concurrent.futures import Executor
+
+    from .live import Attempt
+
+RECORD = f"""
+INSERT INTO sagas.results SELECT %(id)s, %(step)s, %(kind)s, %(attempt)s, 'ok', %(value)s, extract(epoch FROM clock_timestamp())
+FROM sagas.logs WHERE log = %(log)s AND owner = %(node)s AND epoch = %(epoch)s AND {links.LINE} = %(line)s FOR SHARE RETURNING id
+"""
+ROLLED_BACK = ("23", "25P02", "40001", "40P01", "P0")
+"""A constraint, also one that is looked at in the commit; a statement that failed before, unnoticed; others in the way; a trigger's own word."""
+
+
+@dataclasses.dataclass(slots=True)
+class Record:
+    """Whether the result's record was written, or is about to be."""
+
+    attempt: Attempt
+    node: str
+    line: str
+    begun: bool = False
+    written: bool = False
+    done: bool = False
+
+    def refused(self, error: psycopg.Error) -> None:
+        """The server's own answer may say that all is rolled back: then the function had no effect. A double of the record is another run's."""
+        if (error.sqlstate or "").startswith(ROLLED_BACK) and (self.written or not isinstance(error, psycopg.errors.UniqueViolation)):
+            self.begun = False
+
+    def words(self, value: Any) -> dict[str, Any]:
+        """What is written of a result."""
+        self.begun = True
+        pump = self.attempt.live.pump
+        assert pump
+        id, step, kind, attempt = self.attempt.row
+        text = calling.done(value).value
+        return {"id": id, "step": step, "kind": kind, "attempt": attempt, "value": text, "log": pump.log, "node": self.node, "line": self.line, "epoch": pump.epoch}
+
+
+class Transactions:
+    """The connections of steps: apart from the store's own, with the user's settings."""
+
+    def __init__(self, url: str, where: str, node: str, line: Callable[[], str], most: int) -> None:
+        self._where, self._node, self._line = where, node, line
+        words: dict[str, Any] = {"min_size": 0, "max_size": most, "open": False, "timeout": links.PATIENCE}
+        self._pool = AsyncConnectionPool(links.address(url), **words)
+        self._threads = ConnectionPool(links.address(url), **words)
+        self._lock = threading.Lock()
+        self._open = self._open_threads = False
+
+    async def close(self) -> None:
+        """Ends their connections."""
+        if self._open:
+            await self._pool.close(timeout=links.CONNECT)
+        if self._open_threads:
+            self._threads.close(timeout=links.CONNECT)
+
+    async def call(self, attempt: Attempt, manner: Manner, task: Task[Any], executor: Executor | None, late: Callable[[], object] | None) -> Outcome | None:
+        """As `calling.call`. Raises `Lost` where nobody knows whether it was committed, or where the log is another node's: then it is looked up."""
+        record = Record(attempt, self._node, self._line())
+        function = manner.function
+        assert function
+        if calling.is_async(function):
+            if not self._open:
+                self._open = True
+                await self._pool.open()
+            within: Callable[[Task[Any]], Any] = self._in_loop(function, record)
+        else:
+            within = self._in_thread(function, record)
+        outcome = await calling.call(dataclasses.replace(manner, function=within), task, executor, late)
+        if record.begun and not record.done:
+            raise Lost(f"{self._where}: nobody knows whether {task.token} was committed")
+        return outcome
+
+    def _in_loop(self, function: Callable[[Task[Any]], Any], record: Record) -> Callable[[Task[Any]], Any]:
+        async def within(task: Task[Any]) -> Any:
+            try:
+                async with self._pool.connection() as link, link.transaction():  # so that the function cannot commit it
+                    task.enter(link)
+                    value = await function(task)
+                    rows = await (await link.execute(RECORD, record.words(value))).fetchall()
+                    if not rows:
+                        raise Lost(self._where)
+                    record.written = True
+                record.done = True
+                return value
+            except psycopg.Error as error:
+                record.refused(error)
+                if isinstance(error, psycopg.OperationalError):
+                    raise Unknown(str(error)) from error
+                raise
+
+        return within
+
+    def _in_thread(self, function: Callable[[Task[Any]], Any], record: Record) -> Callable[[Task[Any]], Any]:
+        def within(task: Task[Any]) -> Any:
+            with self._lock:
+                if not self._open_threads:
+                    self._threads.open()
+                    self._open_threads = True
+            try:
+                with self._threads.connection() as link, link.transaction():
+                    task.enter(link)
+                    value = function(task)
+                    if not link.execute(RECORD, record.words(value)).fetchall():
+                        raise Lost(self._where)
+                    record.written = True
+                record.done = True
+                return value
+            except psycopg.Error as error:
+                record.refused(error)
+                if isinstance(error, psycopg.OperationalError):
+                    raise Unknown(str(error)) from error
+                raise
+
+        return within

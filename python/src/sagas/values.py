@@ -1,0 +1,225 @@
+"""Inputs and results as JSON, both ways, by type hints."""
+
+from __future__ import annotations
+
+import dataclasses
+import datetime
+import decimal
+import enum
+import inspect
+import json
+import types
+import typing
+import uuid
+from collections.abc import Callable, Iterable
+from typing import Any
+
+from .errors import NotJson
+
+Decoder = Callable[[Any], Any]
+
+
+def _default(value: Any) -> Any:
+    if dataclasses.is_dataclass(value) and not isinstance(value, type):
+        return {field.name: getattr(value, field.name) for field in dataclasses.fields(value)}
+    if hasattr(value, "model_dump"):
+        return value.model_dump(mode="json")
+    if _is_old_model(type(value)):
+        return _decode(value.json())
+    if isinstance(value, enum.Enum):
+        return value.value
+    if isinstance(value, (datetime.datetime, datetime.date, datetime.time)):
+        return value.isoformat()
+    if isinstance(value, (uuid.UUID, decimal.Decimal)):
+        return str(value)
+    raise TypeError(f"{type(value).__name__} is not JSON: give dicts, lists, texts, numbers, dataclasses or pydantic models")
+
+
+def _is_old_model(kind: type) -> bool:
+    """Whether it is a model of pydantic 1, or of `pydantic.v1`."""
+    return hasattr(kind, "__fields__") and hasattr(kind, "parse_obj")
+
+
+_encoder = json.JSONEncoder(sort_keys=True, separators=(",", ":"), allow_nan=False, default=_default)
+_decode = json.JSONDecoder().decode
+
+
+def _encode() -> Callable[[Any], str]:
+    """What the encoder does, with the part in C made once and not for each value."""
+    make = getattr(json.encoder, "c_make_encoder", None)
+    if make is None:
+        return _encoder.encode
+    fast = make(None, _default, json.encoder.encode_basestring_ascii, None, ":", ",", True, False, False)  # type: ignore[attr-defined]
+    return lambda value: "".join(fast(value, 0))
+
+
+_canonical = _encode()
+_BY_TEXT: dict[type, Decoder] = {
+    datetime.datetime: datetime.datetime.fromisoformat,
+    datetime.date: datetime.date.fromisoformat,
+    datetime.time: datetime.time.fromisoformat,
+    uuid.UUID: uuid.UUID,
+    decimal.Decimal: decimal.Decimal,
+}
+
+
+def clean(text: str) -> str:
+    """A text that a database can keep: it has no zeros and no halves of pairs."""
+    return text.replace("\0", "\\0").encode("utf-8", "backslashreplace").decode()
+
+
+def cleaned(words: Iterable[Any]) -> tuple[Any, ...]:
+    """Words of a statement, the texts among them clean."""
+    return tuple(clean(word) if isinstance(word, str) else word for word in words)
+
+
+def write(value: Any) -> str:
+    """The value as canonical JSON: keys in order, no spaces. Raises `NotJson`."""
+    if value is None:
+        return "null"
+    try:
+        return _canonical(value)
+    except (TypeError, ValueError, RecursionError) as error:
+        text = str(error)
+        raise NotJson("the keys of a dict have to be texts, all of them" if text.startswith("'<' not supported") else text) from error
+    except Exception as error:  # of the value's own code
+        raise NotJson(f"{type(value).__name__}: {type(error).__name__}: {error}") from error
+
+
+def read(text: str, decoder: Decoder | None = None) -> Any:
+    """The value that `write` wrote; a new one each time."""
+    value = _decode(text)
+    return value if decoder is None else decoder(value)
+
+
+def fitting(text: str, decoder: Decoder | None) -> Any:
+    """As `read`. Where the value is not of the type, since a person said it or it could not be stored, it is as JSON has it."""
+    return fitted(_decode(text), decoder)
+
+
+def fitted(value: Any, decoder: Decoder | None) -> Any:
+    """As `fitting`, of a value that was read."""
+    if decoder is None:
+        return value
+    try:
+        return decoder(value)
+    except Exception:  # of the type's own code
+        return value
+
+
+def hints(function: Callable[..., Any]) -> tuple[Decoder | None, Decoder | None]:
+    """How to read a function's input (of its parameter's hint `Task[Order]`), and what it returns."""
+    try:
+        told = typing.get_type_hints(inspect.unwrap(function))
+    except Exception:  # a name that is only there for the checker: then values are read as they are
+        return None, None
+    given = [hint for name, hint in told.items() if name != "return"]
+    words = typing.get_args(given[0]) if given else ()
+    return decoder(words[0]) if words else None, decoder(told.get("return", Any))
+
+
+def unread(function: Callable[..., Any]) -> str | None:
+    """Why the hints of a function cannot be read, where they cannot."""
+    try:
+        typing.get_type_hints(inspect.unwrap(function))
+    except NameError as error:
+        return str(error)
+    except Exception:  # it is no function, say
+        return None
+    return None
+
+
+def decoder(hint: Any) -> Decoder | None:
+    """How to make a value of this type from JSON; None where the JSON is it already."""
+    if isinstance(hint, type) and not isinstance(hint, types.GenericAlias):
+        return _of_class(hint)
+    origin, words = typing.get_origin(hint), typing.get_args(hint)
+    if origin in (typing.Union, types.UnionType):
+        return _of_union(words)
+    if origin in (list, set, frozenset) or (origin is tuple and len(words) == 2 and words[1] is Ellipsis):
+        return _of_items(origin, decoder(words[0]))
+    if origin is tuple:
+        parts = [decoder(word) or _same for word in words]
+        return lambda value: tuple(part(item) for part, item in zip(parts, value))
+    if origin is dict:
+        return _of_dict(decoder(words[1]))
+    return None
+
+
+def _same(value: Any) -> Any:
+    return value
+
+
+def _of_class(hint: type) -> Decoder | None:
+    if hasattr(hint, "model_validate"):
+        return typing.cast(Decoder, hint.model_validate)
+    if _is_old_model(hint):
+        return typing.cast(Decoder, getattr(hint, "parse_obj"))
+    if dataclasses.is_dataclass(hint):
+        return _of_dataclass(hint)
+    if issubclass(hint, enum.Enum):
+        return hint
+    if hint in (tuple, set, frozenset):
+        return hint
+    if issubclass(hint, tuple) and hasattr(hint, "_fields"):
+        return _of_named_tuple(hint)
+    return _BY_TEXT.get(hint)
+
+
+def _of_dataclass(hint: type) -> Decoder:
+    parts: dict[str, Decoder | None] = {}
+
+    def make(value: Any) -> Any:
+        if not isinstance(value, dict):
+            raise TypeError(f"{hint.__name__} is read from an object of JSON, and this is none: {str(value)[:200]}")
+        if not parts:  # at the first value, since a class may name itself
+            told = typing.get_type_hints(hint)
+            parts.update({field.name: decoder(told[field.name]) for field in dataclasses.fields(hint) if field.init})
+        given = {}
+        for name, part in parts.items():
+            if name in value:
+                given[name] = value[name] if part is None else part(value[name])
+        return hint(**given)
+
+    return make
+
+
+def _of_named_tuple(hint: Any) -> Decoder:
+    def make(value: Any) -> Any:
+        told = typing.get_type_hints(hint)
+        parts = [decoder(told.get(name)) or _same for name in hint._fields]
+        return hint(*(part(item) for part, item in zip(parts, value, strict=True)))
+
+    return make
+
+
+def _of_items(make: Decoder, inner: Decoder | None) -> Decoder | None:
+    if inner is None:
+        return None if make is list else make
+    part = inner
+    return lambda value: make(part(item) for item in value)
+
+
+def _of_dict(inner: Decoder | None) -> Decoder | None:
+    if inner is None:
+        return None
+    part = inner
+    return lambda value: {key: part(item) for key, item in value.items()}
+
+
+def _of_union(words: tuple[Any, ...]) -> Decoder | None:
+    parts = [part for word in words if (part := decoder(word)) is not None]
+    if not parts:
+        return None
+
+    def make(value: Any) -> Any:
+        if value is None:
+            return None
+        for part in parts:
+            try:
+                return part(value)
+            except (TypeError, ValueError, KeyError, AttributeError):
+                continue
+        return value
+
+    return make

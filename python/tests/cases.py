@@ -1,0 +1,39 @@
+"""What the cases of a store share."""
+
+from __future__ import annotations
+
+import asyncio
+from collections.abc import Callable, Coroutine
+from typing import Any, TypeVar
+
+import sagas
+
+T = TypeVar("T")
+Task = sagas.Task[Any]
+QUICK = sagas.Backoff(first=0.01, most=0.02)
+HOUR = sagas.Backoff(first=3600, most=3600)
+
+
+def run(main: Coroutine[Any, Any, T]) -> T:
+    """Runs a case; a machine that is busy with other things gets four minutes."""
+    return asyncio.run(asyncio.wait_for(main, 240))
+
+
+def simple(function: Callable[[Task], Any], **words: Any) -> sagas.Saga:
+    """A saga of one step, `a`."""
+    saga = sagas.Saga("simple")
+    saga.step(name="a", backoff=words.pop("backoff", QUICK), **words)(function)
+    return saga
+
+
+async def ended(store: sagas.Store, saga: sagas.Saga, key: str = "k", given: Any = None) -> sagas.End:
+    """A saga from its start to its end."""
+    return await (await store.start(saga, key=key, input=given)).wait()
+
+
+async def until(found: Callable[[], Any], seconds: float = 120) -> Any:
+    """Waits for something that another part of the program does."""
+    async with asyncio.timeout(seconds):
+        while not (value := found()):
+            await asyncio.sleep(0.005)
+    return value

@@ -1,0 +1,280 @@
+"""Strikes at random moments at brokers, Celery's workers and the program that has the store, and a judgement when all is over.
+
+    python3 tests/celery_kills.py [--rounds N] [--broker redis|rabbitmq] [--kinds ..] [--store sqlite|postgresql] [--sagas N] [--seed S] [--jobs N]
+
+A round is one store and one queue; the broker is one for all rounds of a job. Some messages are doubled and some come late, in each round. And
+
+- `child` kills processes of the worker's pool, with -9; `worker` kills the worker itself, and starts another;
+- `broker` kills the broker, and starts it with its messages or without;
+- `owner` kills the program that has the store, or asks it to close, while messages are out;
+- `nodes` has two programs over one database (PostgreSQL alone), and kills one, asks it to close, or stops it past its lease: the other takes over what is out;
+- `store` keeps the store from being written for a while: its file is locked, or its server stopped as if its machine had failed;
+- `older` has a worker of an older definition take messages;
+- `all` does any of these.
+
+Every process that is signalled here was started here, and is named by its number.
+"""
+
+from __future__ import annotations
+
+import argparse
+import concurrent.futures
+import contextlib
+import os
+import pathlib
+import random
+import shutil
+import signal
+import sqlite3
+import sys
+import tempfile
+import time
+from collections import Counter
+from dataclasses import dataclass, field
+
+from brokers import BROKERS, Broker, Program, broker_at
+from driving import program
+from judge import judge
+from kills import Round, children
+from server import Server, serving
+from witness import witness_at
+
+HERE = pathlib.Path(__file__).resolve().parent
+KINDS = ("child", "worker", "broker", "owner", "store", "older", "all")
+NODES = "nodes"
+LEASE = 1.5
+"""Seconds, of each of two nodes."""
+READY = r" ready\."
+
+
+def worker_words(queue: str, name: str) -> list[str]:
+    """How a worker is started: as always, and with what is of no use here left out."""
+    words = [sys.executable, "-m", "celery", "-A", "celery_world", "worker", "-Q", queue, "-c", "2", "-n", f"{name}@%h", "-l", "INFO"]
+    return [*words, "--without-gossip", "--without-mingle", "--without-heartbeat"]
+
+
+@dataclass
+class Strikes:
+    """Keeps the programs of one store running, and strikes them, until all is over."""
+
+    folder: pathlib.Path
+    kind: str
+    draw: random.Random
+    broker: Broker
+    server: Server | None
+    sagas: int
+    most: float
+    quiet: int
+    wrong: str | None = None
+    kills: Counter[str] = field(default_factory=Counter)
+    began: float = field(default_factory=time.monotonic)
+    worker: Program | None = None
+    owners: dict[str, Program] = field(default_factory=dict)
+    older: Program | None = None
+    workers: int = 0
+
+    def __post_init__(self) -> None:
+        self.queue = f"q{self.draw.randrange(10**9)}"
+        path = f"{HERE.parent / 'src'}{os.pathsep}{HERE}"
+        self.names = ("one", "two") if self.kind == NODES else ("owner",)
+        self.store = self.server.create() if self.server else str(self.folder / "store.db")
+        told = {"STORE": self.store, "SOCKET": self.folder / "socket", "BROKER": self.broker.url, "QUEUE": self.queue}
+        self.environment = os.environ | {f"SAGAS_TEST_{word}": str(value) for word, value in told.items()}
+        self.environment |= {"PYTHONPATH": path, "SAGAS_PROGRAM": program(), "PYTHONUNBUFFERED": "1"} | ({} if self.wrong is None else {"SAGAS_TEST_PLAIN": "1"})
+
+    @property
+    def is_late(self) -> bool:
+        return time.monotonic() - self.began > self.most
+
+    def start_owner(self, name: str) -> Program:
+        told = {"SAGAS_TEST_NODE": name} | ({"SAGAS_TEST_LEASE": str(LEASE)} if self.kind == NODES else {})
+        words = [sys.executable, str(HERE / "celery_world.py"), str(self.sagas)]
+        self.owners[name] = Program(words, self.folder, self.environment | told, "owner.log")
+        return self.owners[name]
+
+    def start_worker(self) -> Program:
+        self.workers += 1
+        words = [*worker_words(self.queue, f"w{self.workers}"), *(["-P", "solo"] if self.wrong is not None else [])]
+        self.worker = Program(words, self.folder, self.environment | ({"SAGAS_TEST_WRONG": self.wrong} if self.wrong else {}), "worker.log")
+        return self.worker
+
+    def until_over(self) -> str | None:
+        """Runs until all is over; says what went wrong with a program itself, if anything."""
+        try:
+            self.start_worker()
+            for name in self.names:
+                self.start_owner(name)
+            return self._until_over()
+        finally:
+            for one in (*self.owners.values(), self.worker, self.older):
+                if one:
+                    one.kill()
+
+    def _until_over(self) -> str | None:
+        assert self.worker
+        self.worker.wait_for(READY)
+        left = dict.fromkeys(self.names)
+        for owner in self.owners.values():
+            owner.wait_for("^open")
+        while not self.is_late:
+            striking = sum(self.kills.values()) < self.quiet
+            name = self.draw.choice(list(left))
+            owner = self.owners[name]
+            with contextlib.suppress(TimeoutError):
+                owner.wait_for("^(done|closing)", seconds=self.draw.uniform(0.05, 0.8) if striking else 5)
+            if not owner.runs or owner.has_said("^(done|closing)"):
+                owner.process.wait(60)
+                if owner.has_said("^done"):
+                    del left[name]
+                    if not left:
+                        return None
+                elif owner.process.returncode:
+                    return f"the program ended with {owner.process.returncode}"
+                else:
+                    self.start_owner(name)
+            elif striking:
+                kind = self.draw.choice(KINDS[:-1]) if self.kind == "all" else self.kind
+                getattr(self, f"_{kind}")(*([name] if kind in ("owner", NODES) else []))
+        return f"not over after {self.most:.0f} s"
+
+    # -- strikes
+
+    def _child(self) -> None:
+        assert self.worker
+        found = children(self.worker.pid)
+        if found:
+            with contextlib.suppress(ProcessLookupError):
+                os.kill(self.draw.choice(found), signal.SIGKILL)
+                self.kills["a pool's child"] += 1
+
+    def _worker(self) -> None:
+        assert self.worker
+        if self.draw.random() < 0.5:  # its children see it by themselves, when they have ended what they do
+            os.kill(self.worker.pid, signal.SIGKILL)
+            self.worker.process.wait(60)
+        self.worker.kill()
+        self.kills["a worker"] += 1
+        self.start_worker().wait_for(READY)
+
+    def _broker(self) -> None:
+        self.broker.stop()
+        lost = self.draw.random() < 0.5
+        if lost:
+            self.broker.forget()
+        self.kills["the broker's messages" if lost else "the broker"] += 1
+        time.sleep(self.draw.uniform(0, 0.5))  # how long it is away
+        self.broker.start()
+
+    def _owner(self, name: str) -> None:
+        owner = self.owners[name]
+        if self.draw.random() < 0.3:
+            owner.process.terminate()
+            self.kills["the program asked to close"] += 1
+            with contextlib.suppress(TimeoutError):
+                owner.wait_for("^closing", seconds=self.draw.uniform(0, 1))
+            if owner.has_said("^(done|closing)"):
+                return
+        owner.kill()
+        self.kills["the program"] += 1
+        if len(self.names) > 1 and self.draw.random() < 0.5:
+            time.sleep(2 * LEASE)  # the other has all of it by then
+        with contextlib.suppress(TimeoutError):
+            self.start_owner(name).wait_for("^open", seconds=self.draw.choice((0.3, 60)))
+
+    def _nodes(self, name: str) -> None:
+        if self.draw.random() < 0.4:
+            process = self.owners[name].process
+            process.send_signal(signal.SIGSTOP)
+            time.sleep(self.draw.uniform(LEASE, 2 * LEASE))  # the other takes over, and this one goes on as if nothing had been
+            process.send_signal(signal.SIGCONT)
+            self.kills["a node stood still"] += 1
+        else:
+            self._owner(name)
+
+    def _store(self) -> None:
+        if self.server:
+            self.server.stop()
+            self.kills["the store's server"] += 1
+            time.sleep(self.draw.choice((0.1, 2)))  # how long it is away
+            self.server.start()
+            return
+        with contextlib.closing(sqlite3.connect(self.folder / "store.db", isolation_level=None, timeout=10)) as db:
+            db.execute("BEGIN EXCLUSIVE")
+            self.kills["the store locked"] += 1
+            time.sleep(self.draw.choice((0.3, 2.5)))  # how long it is away
+            db.execute("ROLLBACK")
+
+    def _older(self) -> None:
+        if self.older:
+            self.older.kill()
+        words = worker_words(self.queue, f"o{self.kills['an older worker']}")
+        self.older = Program(words, self.folder, self.environment | {"SAGAS_TEST_OLD": "1"}, "older.log")
+        self.older.wait_for(READY)
+        self.kills["an older worker"] += 1
+
+
+def play(kind: str, seed: int, broker: Broker, sagas: int, *, server: Server | None = None, most: float = 150, quiet: int = 6, wrong: str | None = None) -> Round:
+    """One round: a store, its strikes, its judgement. Its files stay where something was found. With `wrong` there is no chance in it; the worker is one of `wrong_workers`, or where that is empty a right one."""
+    folder = pathlib.Path(tempfile.mkdtemp(prefix="sagas-celery-"))
+    strikes = Strikes(folder, kind, random.Random(seed), broker, server, sagas, most, quiet, wrong)
+    with witness_at(folder / "socket", folder / "notes"):
+        trouble = strikes.until_over()
+    verdict = judge(strikes.store, folder / "notes", sagas)
+    if trouble:
+        verdict.fault("not-over", trouble)
+    if "Traceback" in (folder / "owner.log").read_text(errors="replace"):
+        verdict.faults.append("traceback: in owner.log")
+    if verdict.faults:
+        return Round(kind, seed, verdict, strikes.kills, folder)
+    shutil.rmtree(folder)
+    if server:
+        server.drop(strikes.store)
+    return Round(kind, seed, verdict, strikes.kills)
+
+
+def _job(broker: str, store: str, kinds: list[str], seeds: list[int], sagas: int) -> list[Round]:
+    """Rounds over one broker."""
+    folder = pathlib.Path(tempfile.mkdtemp(prefix="sagas-broker-"))
+    try:
+        with broker_at(broker, folder) as running, contextlib.ExitStack() as stack:
+            server = stack.enter_context(serving({"fsync": "on"})) if store == "postgresql" else None
+            rounds = []
+            for seed in seeds:
+                rounds.append(one := play(kinds[seed % len(kinds)], seed, running, sagas, server=server))
+                print(f"{broker} {store} {one.kind} {seed}: {dict(one.kills)} {one.found[:5]} {one.folder or ''}", flush=True)
+            return rounds
+    finally:
+        shutil.rmtree(folder, ignore_errors=True)
+
+
+def main() -> int:
+    """The command."""
+    parser = argparse.ArgumentParser(description=__doc__, formatter_class=argparse.RawDescriptionHelpFormatter)
+    parser.add_argument("--rounds", type=int, default=20)
+    parser.add_argument("--broker", default="redis", choices=sorted(BROKERS))
+    parser.add_argument("--store", default="sqlite", choices=("sqlite", "postgresql"))
+    parser.add_argument("--kinds", default=",".join(KINDS))
+    parser.add_argument("--sagas", type=int, default=40)
+    parser.add_argument("--seed", type=int, default=random.randrange(10**6))
+    parser.add_argument("--jobs", type=int, default=1)
+    words = parser.parse_args()
+    if NODES in words.kinds and words.store != "postgresql":
+        parser.error("two nodes are over PostgreSQL: --store postgresql")
+    seeds = range(words.seed, words.seed + words.rounds)
+    began = time.monotonic()
+    with concurrent.futures.ProcessPoolExecutor(words.jobs) as pool:
+        jobs = [pool.submit(_job, words.broker, words.store, words.kinds.split(","), list(seeds[job :: words.jobs]), words.sagas) for job in range(words.jobs)]
+        rounds = [one for job in jobs for one in job.result()]
+    kills, figures = Counter[str](), Counter[str]()
+    for one in rounds:
+        kills += one.kills
+        figures += one.verdict.figures
+    bad = sum(bool(one.found) for one in rounds)
+    print(f"{len(rounds)} rounds over {words.broker} and {words.store}, {bad} bad, seed {words.seed}, {time.monotonic() - began:.0f} s")
+    for title, counted in (("strikes", kills), ("figures", figures)):
+        print(f"{title}: " + ", ".join(f"{name} {number}" for name, number in sorted(counted.items())))
+    return 1 if bad else 0
+
+
+if __name__ == "__main__":
+    sys.exit(main())

@@ -1,0 +1,221 @@
+"""The sagas of test_celery.py: made by the test, and again by its workers (`python3 -m celery -A celery_shop worker`), by the same words."""
+
+from __future__ import annotations
+
+import dataclasses
+import importlib
+import json
+import os
+import pathlib
+import time
+from typing import Any
+
+import celery
+
+import sagas
+import sagas.celery
+from driving import program
+from brokers import Broker, Program
+from cases import QUICK
+
+WORDS = "SAGAS_TEST_SHOP"
+BIG = 300_000
+"""Characters of a large result."""
+
+
+@dataclasses.dataclass
+class Trip:
+    """An input."""
+
+    to: str
+    wish: str = ""
+
+
+@dataclasses.dataclass
+class Seat:
+    """A result."""
+
+    row: int
+    name: str
+
+
+class Shop:
+    """An app, a queue, and sagas whose functions note each call in a file."""
+
+    def __init__(self, broker: str, store: str, notes: str, queue: str = "shop", patience: float = 60.0, timeout: float = 300.0) -> None:
+        self.words = {"broker": broker, "store": store, "notes": notes, "queue": queue, "patience": patience, "timeout": timeout}
+        self.app = celery.Celery("shop", broker=broker)
+        self.app.conf.update(sagas_store=store, broker_connection_max_retries=None)
+        self.queue = sagas.celery.Queue(self.app, queue, patience=patience, timeout=timeout)
+        self.notes = pathlib.Path(notes)
+        self.trip, self.large, self.odd, self.slow, self.held = self._trip(), self._large(), self._odd(), self._slow(), self._held()
+        self.bank = self._bank() if store.startswith("postgresql:") else None
+
+    @property
+    def sagas(self) -> list[sagas.Saga]:
+        return [self.trip, self.large, self.odd, self.slow, self.held, *([self.bank] if self.bank else [])]
+
+    def open(self, **words: Any) -> sagas.Store:
+        """The store."""
+        return sagas.open(self.words["store"], self.sagas, program=program(), **words)
+
+    def worker(self, folder: pathlib.Path, *more: str, name: str = "w", **other: Any) -> Program:
+        """A worker that is ready; `other` are words that it has otherwise."""
+        here = pathlib.Path(__file__).resolve().parent
+        environment = os.environ | {WORDS: json.dumps(self.words | other), "PYTHONPATH": f"{here.parent / 'src'}{os.pathsep}{here}", "PYTHONUNBUFFERED": "1"}
+        words = ["/usr/bin/python3", "-m", "celery", "-A", "celery_shop", "worker", "-Q", str(self.words["queue"]), "-c", "2", "-n", f"{name}@%h", "-l", "INFO"]
+        started = Program([*words, *more], folder, environment, f"{name}.log")
+        try:
+            started.wait_for(r" ready\.")
+        except BaseException:
+            started.kill()
+            raise
+        return started
+
+    def note(self, task: Any, **more: Any) -> None:
+        """A call, as a line."""
+        told = {"key": task.key, "step": task.step, "undo": task.undo, "attempt": task.attempt, "token": task.token, "effect": task.effect_token, "pid": os.getpid()}
+        with open(self.notes, "a", encoding="utf-8") as notes:
+            notes.write(json.dumps(told | more) + "\n")
+
+    def calls(self, key: str | None = None) -> list[dict[str, Any]]:
+        """The calls so far."""
+        lines = self.notes.read_text().splitlines() if self.notes.exists() else []
+        return [told for line in lines if key in (None, (told := json.loads(line))["key"])]
+
+    def _trip(self) -> sagas.Saga:
+        trip = sagas.Saga("trip", version=2)
+
+        @sagas.celery.step(self.app, trip, "flight", queue=str(self.words["queue"]), keep=9, undo=1)
+        def flight(task: sagas.Task[Trip]) -> Seat:
+            self.note(task, to=task.input.to)
+            return Seat(12, task.input.to)
+
+        @flight.compensation
+        async def cancel_flight(task: sagas.Task[Trip]) -> None:
+            self.note(task, row=task.result.row, of=task.action_token)
+
+        @trip.step(needs=[flight], keep=9, undo=1)  # this one is called where the store is
+        def meal(task: sagas.Task[Trip]) -> str:
+            self.note(task)
+            return "soup"
+
+        @meal.compensation(run_on=self.queue)
+        def cancel_meal(task: sagas.Task[Trip]) -> None:
+            self.note(task, result=task.result)
+
+        @trip.step(needs=[flight, meal], tries=3, backoff=QUICK, run_on=self.queue)
+        async def tour(task: sagas.Task[Trip]) -> dict[str, Any]:
+            self.note(task, row=task.of(flight).row, meal=task.of(meal))
+            if task.input.wish == "full":
+                raise ValueError("full")
+            if task.input.wish == "never":
+                raise sagas.Fail("never")
+            if task.input.wish == "lost" and len(self.calls(task.key)) < 5:
+                raise sagas.Unknown("who knows") if len(self.calls(task.key)) < 4 else ConnectionError("lost")
+            return {"seat": task.of(flight).name}
+
+        return trip
+
+    def _large(self) -> sagas.Saga:
+        large = sagas.Saga("large")
+
+        @large.step(run_on=self.queue, keep=9, undo=1)
+        def first(task: Any) -> str:
+            return str(task.input["letter"]) * BIG
+
+        @first.compensation
+        def undo_first(task: Any) -> None:
+            self.note(task, size=len(task.result), input=len(task.input["more"]))
+
+        @large.step(needs=[first], run_on=self.queue)
+        def second(task: Any) -> Any:
+            self.note(task, size=len(task.of(first)), letter=task.of(first)[0], input=len(task.input["more"]))
+            if task.input["fail"]:
+                raise ValueError("no")
+            return object()  # cannot be written as JSON
+
+        return large
+
+    def _odd(self) -> sagas.Saga:
+        odd = sagas.Saga("odd")
+
+        @odd.step(run_on=sagas.celery.Queue(self.app, str(self.words["queue"]), soft_time_limit=1, time_limit=60, priority=3), backoff=QUICK, unknown_most=0)
+        def long(task: Any) -> None:
+            self.note(task)
+            time.sleep(60)  # longer than its limit
+
+        return odd
+
+    def _slow(self) -> sagas.Saga:
+        slow = sagas.Saga("slow")
+
+        @slow.step(run_on=self.queue, timeout=1, backoff=QUICK, unknown_most=0)
+        def once(task: Any) -> str:
+            self.note(task)
+            return "late"
+
+        return slow
+
+    def _held(self) -> sagas.Saga:
+        held = sagas.Saga("held")
+
+        @held.step(run_on=self.queue, timeout=120)
+        def once(task: Any) -> None:
+            self.note(task)
+            until = time.monotonic() + 60
+            while not self._released.exists() and time.monotonic() < until:
+                time.sleep(0.01)  # until the test has looked
+
+        return held
+
+    @property
+    def _released(self) -> pathlib.Path:
+        return self.notes.with_name("released")
+
+    def release(self) -> None:
+        """Lets the step of `held` go on."""
+        self._released.touch()
+
+    def _bank(self) -> sagas.Saga:
+        bank = sagas.Saga("bank")
+        row = "INSERT INTO book(key, step, token) VALUES(%s, %s, %s)"
+
+        @bank.step(run_on=self.queue, transaction=True, tries=2, backoff=QUICK, keep=9, undo=1, timeout=60)
+        def book(task: Any) -> str:
+            self.note(task)
+            task.connection.execute(row, (task.key, "book", task.effect_token))
+            if task.input == "once" and task.attempt == 1:
+                raise ValueError("behind its row")
+            until = time.monotonic() + 30
+            while task.key == "good" and len(self.calls("good")) < 2 and time.monotonic() < until:
+                time.sleep(0.01)  # until the message that came twice is begun twice
+            return "booked"
+
+        @book.compensation(timeout=60)
+        async def unbook(task: Any) -> None:
+            self.note(task)
+            await task.connection.execute(row, (task.key, "unbook", task.effect_token))
+
+        @bank.step(needs=[book])
+        def check(task: Any) -> None:
+            if task.input == "fails":
+                raise sagas.Fail("no")
+
+        return bank
+
+
+def shop_in(broker: Broker, folder: pathlib.Path, store: str | None = None, **more: Any) -> Shop:
+    """A shop in a folder; its store is a file there, unless it is said."""
+    return Shop(broker.url, store or str(folder / "store.db"), str(folder / "notes"), queue=folder.name, **more)
+
+
+if WORDS in os.environ:
+    words = json.loads(os.environ[WORDS])
+    if wrong := words.pop("wrong", None):
+        importlib.import_module(f"wrong_workers.{wrong}").apply()
+    lacks = words.pop("lacks", None)
+    shop = Shop(**words)
+    if lacks:
+        shop.app.tasks.pop(lacks)
+    app = shop.app

@@ -1,0 +1,248 @@
+"""The program that `celery_kills.py` strikes: sagas whose steps run on Celery's workers, each call told to a witness outside.
+
+    python3 tests/celery_world.py COUNT          the program that has the store
+    python3 -m celery -A celery_world worker     its workers
+
+Both take from the environment SAGAS_TEST_STORE, SAGAS_TEST_SOCKET (of the witness), SAGAS_TEST_BROKER and SAGAS_TEST_QUEUE. With SAGAS_TEST_OLD
+a worker has an older definition: it lacks a step. With SAGAS_TEST_WRONG=NAME it does something wrong, which `wrong_workers` has. SAGAS_TEST_NODE
+and SAGAS_TEST_LEASE name the program, where there are two over PostgreSQL. Messages are doubled, and some come late, at random, and so is what nobody
+knows; with SAGAS_TEST_PLAIN there is no chance in any of it.
+"""
+
+from __future__ import annotations
+
+import asyncio
+import datetime
+import importlib
+import logging
+import os
+import random
+import signal
+import sys
+import time
+from typing import Any
+
+import celery
+import psycopg
+
+import sagas
+import sagas.celery
+from sagas.remote import Order
+from witness import Witness
+from world import QUICK, Eye, World, chance, one
+
+PAUSE = 0.001
+TIMEOUT = 4.0
+LEASE = float(os.environ.get("SAGAS_TEST_LEASE", 5.0))
+
+
+class Doubling(sagas.celery.Queue):
+    """Some messages come twice, and some again after a while."""
+
+    async def send(self, order: Order) -> None:
+        """Sends it, perhaps more than once."""
+        await super().send(order)
+        draw = random.random()
+        if draw < 0.2:
+            await super().send(order)
+        elif draw < 0.35:
+            asyncio.get_running_loop().call_later(random.uniform(0.2, 4), self._late, order)
+
+    def _late(self, order: Order) -> None:
+        asyncio.get_running_loop().create_task(self._again(order))
+
+    async def _again(self, order: Order) -> None:
+        try:
+            await super().send(order)
+        except sagas.SagasError:
+            pass
+
+
+class ServerEye(Eye):
+    """A look into PostgreSQL from beside it; it looks until it sees."""
+
+    def _ask(self, text: str, *words: Any) -> list[tuple[Any, ...]]:
+        query = text.replace("%", "%%").replace("?", "%s")
+        while True:
+            try:
+                with psycopg.connect(self.store, options="-csearch_path=sagas", connect_timeout=5) as link:
+                    return link.execute(query, words).fetchall()
+            except psycopg.OperationalError:
+                time.sleep(0.1)
+
+
+class Remote(World):
+    """The sagas, over a witness that each process of a worker has its own line to."""
+
+    def __init__(self, queue: sagas.celery.Queue, store: str, socket: str, old: bool) -> None:
+        eye = ServerEye if store.startswith("postgresql:") else Eye
+        self.queue, self.eye, self._socket, self._old = queue, eye(store), socket, old
+        self._line: tuple[int, Witness] | None = None
+        self.sagas = [self.chain(), self.trip(), self.must(), self.mixed()]
+
+    @property
+    def witness(self) -> Witness:  # type: ignore[override]
+        """This process's line."""
+        if self._line is None or self._line[0] != os.getpid():
+            self._line = os.getpid(), Witness(self._socket)
+        return self._line[1]
+
+    def is_hazy(self, said: dict[str, Any], unknown: float) -> bool:
+        """With SAGAS_TEST_PLAIN the first call of each second attempt or so."""
+        if "SAGAS_TEST_PLAIN" not in os.environ:
+            return super().is_hazy(said, unknown)
+        name = f"hazy-{said['key']}-{said['step']}-{said['kind']}-{said['attempt']}"
+        if not unknown or chance(name) < 0.5 or os.path.exists(name):
+            return False
+        with open(name, "x", encoding="ascii"):
+            return True
+
+    def chain(self) -> sagas.Saga:
+        """Three steps in a row, with misses and compensations."""
+        chain, there = sagas.Saga("chain"), self.queue
+
+        @chain.step(keep=9, undo=1, run_on=there, timeout=TIMEOUT, backoff=QUICK)
+        async def reserve(task: Any) -> Any:
+            await asyncio.sleep(PAUSE)
+            return self.act(task, 0.05)
+
+        @reserve.compensation(tries=3, backoff=QUICK, timeout=TIMEOUT)
+        async def release(task: Any) -> None:
+            self.act(task, 0.3)
+
+        @chain.step(needs=[reserve], tries=3, backoff=QUICK, keep=9, undo=1, run_on=there, timeout=TIMEOUT)
+        def charge(task: Any) -> Any:
+            return self.act(task, 0.3, unknown=0.1)
+
+        @charge.compensation(backoff=QUICK, timeout=TIMEOUT)
+        def refund(task: Any) -> None:
+            self.act(task, 0.05, unknown=0.1)
+
+        if not self._old:
+
+            @chain.step(needs=[charge], tries=2, backoff=QUICK, run_on=there, timeout=TIMEOUT)
+            def ship(task: Any) -> Any:
+                return self.act(task, 0.4)
+
+        return chain
+
+    def trip(self) -> sagas.Saga:
+        """A diamond with prices."""
+        trip, there = sagas.Saga("trip"), self.queue
+
+        @trip.step(run_on=there, timeout=TIMEOUT, backoff=QUICK)
+        def flight(task: Any) -> Any:
+            return self.act(task, 0.1)
+
+        @trip.step(needs=[flight], keep=8, undo=2, backoff=QUICK, run_on=there, timeout=TIMEOUT)
+        def hotel(task: Any) -> Any:
+            return self.act(task, 0.2, unknown=0.1)
+
+        @hotel.compensation(timeout=TIMEOUT)
+        def cancel_hotel(task: Any) -> None:
+            self.act(task, 0.0)
+
+        @trip.step(needs=[flight], keep=8, undo=5, tries=2, backoff=QUICK, run_on=there, timeout=TIMEOUT)
+        def car(task: Any) -> Any:
+            return self.act(task, 0.2)
+
+        @car.compensation(timeout=TIMEOUT)
+        def cancel_car(task: Any) -> None:
+            self.act(task, 0.1)
+
+        @trip.step(needs=[hotel, car], skip=3, run_on=there, timeout=TIMEOUT, backoff=QUICK)
+        def tour(task: Any) -> Any:
+            return self.act(task, 0.3)
+
+        return trip
+
+    def must(self) -> sagas.Saga:
+        """A saga that may be stuck."""
+        must, there = sagas.Saga("must"), self.queue
+
+        @must.step(skip=sagas.NEVER, tries=2, backoff=QUICK, run_on=there, timeout=TIMEOUT)
+        def machine(task: Any) -> Any:
+            return self.act(task, 0.4)
+
+        @must.step(needs=[machine], skip=sagas.NEVER)
+        async def licence(task: Any) -> Any:
+            return self.act(task, 0.1)
+
+        return must
+
+    def mixed(self) -> sagas.Saga:
+        """Steps here and there."""
+        mixed, there = sagas.Saga("mixed"), self.queue
+
+        @mixed.step(keep=9, undo=1, backoff=QUICK)
+        async def order(task: Any) -> Any:
+            return self.act(task, 0.05, unknown=0.1)
+
+        @order.compensation(tries=2, backoff=QUICK, run_on=there, timeout=TIMEOUT)
+        def cancel_order(task: Any) -> None:
+            self.act(task, 0.2)
+
+        @mixed.wait(needs=[order], until=datetime.timedelta(seconds=0.05), backoff=QUICK)
+        async def pause(task: Any) -> Any:
+            return self.act(task, 0.1)
+
+        @mixed.step(needs=[pause], limit=2, run_on=there, timeout=TIMEOUT, backoff=QUICK)
+        async def go(task: Any) -> Any:
+            return self.act(task, 0.3)
+
+        return mixed
+
+
+def make() -> tuple[Any, Remote]:
+    """The app and the sagas, by the environment."""
+    words = {word: os.environ[f"SAGAS_TEST_{word.upper()}"] for word in ("store", "socket", "broker", "queue")}
+    app = celery.Celery("world", broker=words["broker"])
+    app.conf.update(sagas_store=words["store"], worker_prefetch_multiplier=4, broker_connection_retry_on_startup=True, broker_connection_max_retries=None)
+    if name := os.environ.get("SAGAS_TEST_WRONG"):
+        importlib.import_module(f"wrong_workers.{name}").apply()
+    kind = sagas.celery.Queue if "SAGAS_TEST_PLAIN" in os.environ else Doubling
+    queue = kind(app, words["queue"], patience=1.0)
+    return app, Remote(queue, words["store"], words["socket"], bool(os.environ.get("SAGAS_TEST_OLD")))
+
+
+async def surely(world: World, store: sagas.Store, number: int) -> None:
+    """A saga from its start to its end, asked again while the store is away."""
+    while True:
+        try:
+            return await one(world, store, number)
+        except sagas.StoreUnwritable:
+            await asyncio.sleep(0.1)
+
+
+async def main(world: World, store: str, count: int) -> None:
+    """Opens the store, again and again while it is away."""
+    while True:
+        opened = sagas.open(store, world.sagas, concurrency=32, children=4, grace=0.5, node=os.environ.get("SAGAS_TEST_NODE", "owner"), lease=LEASE)
+        try:
+            await opened.__aenter__()
+        except sagas.StoreUnwritable:
+            await asyncio.sleep(0.1)
+            continue
+        try:
+            return await work_on(world, opened, count)
+        finally:
+            await opened.close()
+
+
+async def work_on(world: World, opened: sagas.Store, count: int) -> None:
+    """Starts what is not there, and waits for all."""
+    print("open", flush=True)
+    work = asyncio.gather(*(surely(world, opened, number) for number in range(count)))
+    asyncio.get_running_loop().add_signal_handler(signal.SIGTERM, work.cancel)
+    try:
+        await work
+        print("done", flush=True)
+    except asyncio.CancelledError:
+        print("closing", flush=True)
+
+
+if "SAGAS_TEST_STORE" in os.environ:
+    app, world = make()
+    if __name__ == "__main__":
+        logging.basicConfig(level=logging.WARNING, format="%(asctime)s %(name)s %(message)s")
+        asyncio.run(main(world, os.environ["SAGAS_TEST_STORE"], int(sys.argv[1])))

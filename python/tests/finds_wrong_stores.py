@@ -1,0 +1,41 @@
+"""Wrong stores over PostgreSQL under strikes at random, which may miss what a store does wrong; test_wrong_stores.py finds each, each time. By hand:
+
+    python3 -m pytest tests/finds_wrong_stores.py
+"""
+
+from __future__ import annotations
+
+import importlib
+import pathlib
+import pkgutil
+import shutil
+
+import pytest
+
+import wrong_stores
+from kills_nodes import play
+from server import Server
+
+NAMES = sorted(module.name for module in pkgutil.iter_modules(wrong_stores.__path__))
+
+
+def test_there_are_enough() -> None:
+    """At least six."""
+    assert len(NAMES) >= 6
+
+
+@pytest.mark.parametrize("name", NAMES)
+def test_a_wrong_store_is_found(postgresql: Server, name: str) -> None:
+    """Under the kind of strike at which it shows, within a few databases."""
+    module = importlib.import_module(f"wrong_stores.{name}")
+    if not hasattr(module, "STRIKES"):
+        pytest.skip("no strike shows it: the judge cannot tell a node that lives from one that was struck")
+    found: set[str] = set()
+    for seed in range(6):
+        one = play(module.STRIKES, seed, 24, postgresql, most=20, wrong=name, quiet=4)
+        found |= one.verdict.names
+        if one.folder is not None:
+            shutil.rmtree(pathlib.Path(one.folder))
+        if found & module.FINDS:
+            return
+    pytest.fail(f"{name} was not found by {module.FINDS}, but by {sorted(found)}")

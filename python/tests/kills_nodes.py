@@ -1,0 +1,174 @@
+"""Two nodes over one database, struck at random moments, and a judgement of the store when all in it is over.
+
+    python3 tests/kills_nodes.py [--rounds N] [--kinds nodes,children,..] [--sagas N] [--seed S]
+
+Both nodes start the same sagas, and each is started again until it has seen the end of all. They reach their server through a relay. Meanwhile
+
+- `nodes` kills them with -9, also while they start; `children` kills their deciding children; `closing` asks them to close, and mostly kills them then;
+- `sleep` stops them past their lease, and lets them go on;
+- `names` does as `nodes`, and both have one name;
+- `server` stops the server at once, as if its machine had failed, and starts it;
+- `relay` delays, cuts, and cuts between a statement, a commit too, and its answer;
+- `sessions` has the server end the nodes' sessions; `lock` locks tables for a while.
+"""
+
+from __future__ import annotations
+
+import argparse
+import pathlib
+import random
+import shutil
+import signal
+import subprocess
+import sys
+import tempfile
+import threading
+import time
+from collections import Counter
+from dataclasses import dataclass
+
+import psycopg
+
+from judge import judge
+from kills import Round, Striker
+from relay import Relay, relaying
+from server import Server, serving
+from witness import witness_at
+
+KINDS = ("nodes", "children", "closing", "sleep", "names", "server", "relay", "sessions", "lock")
+LEASE = 1.5
+TABLES = ("nodes", "logs", "lines", "sagas", "results", "held")
+
+
+@dataclass
+class NodeStriker(Striker):
+    """One of the nodes, and what strikes it."""
+
+    server: Server | None = None
+    relay: Relay | None = None
+    url: str = ""
+    name: str = "one"
+
+    def __post_init__(self) -> None:
+        super().__post_init__()
+        assert self.server and self.relay
+        through = self.server.url(self.url.rpartition("/")[2], port=self.relay.port)
+        self.words[2] = through
+        self.words += ["--eye", self.url, "--node", "same" if self.kind == "names" else self.name, "--lease", str(LEASE)]
+
+    def _strike(self, process: subprocess.Popen[bytes]) -> None:
+        if self.strikes >= self.quiet:
+            return
+        if self.kind in ("nodes", "names", "children", "closing"):
+            word = {"nodes": "program", "names": "program", "children": "child"}.get(self.kind, self.kind)
+            old, self.kind = self.kind, word
+            try:
+                super()._strike(process)
+            finally:
+                self.kind = old
+            return
+        assert process.stdout
+        process.stdout.readline()  # it is open
+        while self.strikes < self.quiet and self._wait(process, self.draw.uniform(0, 0.3)):
+            getattr(self, "_" + self.kind)(process)
+
+    def _sleep(self, process: subprocess.Popen[bytes]) -> None:
+        process.send_signal(signal.SIGSTOP)
+        time.sleep(self.draw.uniform(LEASE * 0.5, LEASE * 2))
+        process.send_signal(signal.SIGCONT)
+        self.kills["sleeps"] += 1
+
+    def _server(self, process: subprocess.Popen[bytes]) -> None:
+        if self.name != "one":
+            self.quiet = 0
+            return
+        assert self.server
+        self.server.stop("immediate")
+        time.sleep(self.draw.uniform(0, 0.5))
+        self.server.start()
+        self.kills["the server"] += 4  # each takes a while: three a round
+
+    def _relay(self, process: subprocess.Popen[bytes]) -> None:
+        assert self.relay
+        self.relay.before, self.relay.after, self.relay.delay = self.draw.uniform(0, 0.05), self.draw.uniform(0, 0.1), 0.2
+        self._wait(process, self.draw.uniform(0.1, 0.6))
+        self.relay.before = self.relay.after = self.relay.delay = 0.0
+        if self.draw.random() < 0.5:
+            self.relay.cut()
+        self.kills["cuts"] += 1
+
+    def _sessions(self, process: subprocess.Popen[bytes]) -> None:
+        with psycopg.connect(self.url, autocommit=True) as link:
+            link.execute("SELECT pg_terminate_backend(pid) FROM pg_stat_activity WHERE datname = current_database() AND pid <> pg_backend_pid() AND application_name = 'sagas'")
+        self.kills["sessions"] += 1
+
+    def _lock(self, process: subprocess.Popen[bytes]) -> None:
+        with psycopg.connect(self.url) as link:
+            link.execute(f"LOCK TABLE sagas.{self.draw.choice(TABLES)} IN ACCESS EXCLUSIVE MODE")
+            self._wait(process, self.draw.uniform(0.1, 2 * LEASE))
+        self.kills["locks"] += 2
+
+
+def play(kind: str, seed: int, sagas: int, server: Server, *, most: float = 180, wrong: str | None = None, quiet: int = 6) -> Round:
+    """One round: a database, its strikes, its judgement. Its files stay where something was found."""
+    draw = random.Random(seed)
+    folder = pathlib.Path(tempfile.mkdtemp(prefix="sagas-kills-"))
+    concurrency, small = draw.choice((4, 16, 64)), wrong is None and draw.random() < 0.5
+    url = server.create()
+    with witness_at(folder / "socket", folder / "notes"), relaying(server.port, seed) as relay:
+        strikers = []
+        for name in ("one", "two"):
+            (folder / name).mkdir()
+            (folder / name / "socket").symlink_to(folder / "socket")
+            strikers.append(NodeStriker(folder / name, kind, random.Random(f"{seed}{name}"), sagas, concurrency, most, wrong, quiet, small, server=server, relay=relay, url=url, name=name))
+        troubles: list[str | None] = []
+        threads = [threading.Thread(target=lambda one=one: troubles.append(one.until_over())) for one in strikers]  # type: ignore[misc]
+        for thread in threads:
+            thread.start()
+        for thread in threads:
+            thread.join()
+    verdict = judge(url, folder / "notes", sagas)
+    for trouble in troubles:
+        if trouble:
+            verdict.fault("not-over", trouble)
+    for one in strikers:
+        errors = (one.folder / "errors").read_text(errors="replace")
+        if "Traceback" in errors and not wrong:
+            verdict.faults.append("traceback: " + errors[errors.index("Traceback") :][:3000])
+    kills = strikers[0].kills + strikers[1].kills
+    if verdict.faults:
+        return Round(kind, seed, verdict, kills, folder)
+    server.drop(url)
+    shutil.rmtree(folder)
+    return Round(kind, seed, verdict, kills)
+
+
+def main() -> int:
+    """The command."""
+    parser = argparse.ArgumentParser(description=__doc__, formatter_class=argparse.RawDescriptionHelpFormatter)
+    parser.add_argument("--rounds", type=int, default=20)
+    parser.add_argument("--kinds", default=",".join(KINDS))
+    parser.add_argument("--sagas", type=int, default=40)
+    parser.add_argument("--seed", type=int, default=random.randrange(10**6))
+    words = parser.parse_args()
+    kinds = words.kinds.split(",")
+    kills: Counter[str] = Counter()
+    figures: Counter[str] = Counter()
+    bad, began = 0, time.monotonic()
+    with serving({"fsync": "on"}) as server:
+        for number in range(words.rounds):
+            one = play(kinds[number % len(kinds)], words.seed + number, words.sagas, server)
+            kills += one.kills
+            figures += one.verdict.figures
+            bad += bool(one.found)
+            for fault in one.found[:5]:
+                print(f"\n{one.kind} {one.seed} {one.folder}: {fault}")
+            print(f"{number + 1} of {words.rounds} rounds, {sum(kills.values())} strikes, {bad} bad", flush=True)
+    print(f"seed {words.seed}, {time.monotonic() - began:.0f} s")
+    for title, counted in (("strikes", kills), ("figures", figures)):
+        print(f"{title}: " + ", ".join(f"{name} {number}" for name, number in sorted(counted.items())))
+    return 1 if bad else 0
+
+
+if __name__ == "__main__":
+    sys.exit(main())

@@ -1,0 +1,250 @@
+"""Moments at which a store over PostgreSQL has to do right, each brought about by itself: no strike at random, nothing that a busy machine decides.
+
+A moment is two programs' worth of nodes in one process, with the witness and the judge of the kill tests. Each call of a step waits for its gate.
+"""
+
+from __future__ import annotations
+
+import asyncio
+import contextlib
+import importlib
+import pathlib
+import tempfile
+from collections import defaultdict
+from collections.abc import AsyncIterator, Awaitable, Callable, Iterator
+from typing import Any
+
+import psycopg
+
+import sagas
+from cases import until
+from judge import judge
+from relay import Relay, relaying
+from sagas import leases, postgresql, postgresql_commit
+from server import Server
+from witness import Witness, witness_at
+from world import Eye, World, started
+
+COMMIT = rb'\"event\":\"commit\"'
+"""What stands in the statement that keeps a step's end."""
+
+
+class Node(World):
+    """The sagas of one node: two steps in a row, each call of which is told to the witness and then waits for its gate."""
+
+    def __init__(self, witness: Witness, url: str, gates: bool) -> None:
+        self.called: list[tuple[str, str]] = []
+        self.gates: dict[tuple[str, str], asyncio.Event] = defaultdict(asyncio.Event)
+        self.gated, self.wrong = gates, False
+        super().__init__(witness, Eye(url))
+        self.sagas = [self.pair()]
+
+    def pair(self) -> sagas.Saga:
+        """Two steps."""
+        pair = sagas.Saga("pair")
+
+        async def call(task: Any) -> Any:
+            self.called.append((task.key, task.step))
+            value = self.act(task, 0.0)
+            if self.gated:
+                await self.gates[task.key, task.step].wait()
+            return value
+
+        pair.step(name="b", needs=[pair.step(name="a")(call)])(call)
+        return pair
+
+    def open_all(self) -> None:
+        """No call waits any more."""
+        self.gated = False
+        for gate in self.gates.values():
+            gate.set()
+
+    async def one(self, store: sagas.Store, number: int) -> None:
+        """A saga from its start to its end, both told to the witness once they were told here."""
+        key, note, eye = f"k{number}", self.witness.note, self.eye
+        run = await started(store, self.sagas[0], key, {"i": number})
+        note(what="started", key=key, there=eye.phase(key)[0])
+        end = await run.wait()
+        told = {"phase": end.phase, "states": end.states, "results": end.results, "cost": end.cost, "aborted": end.aborted}
+        note(what="over", key=key, there=eye.phase(key)[1], **told)
+
+
+class Stage:
+    """Where a moment is played: a database, its server, a witness; and whether the store is a wrong one, which may never get to an end."""
+
+    def __init__(self, server: Server, url: str, socket: pathlib.Path, wrong: bool) -> None:
+        self.server, self.url, self.wrong = server, url, wrong
+        self._socket = str(socket)
+        self.found: set[str] = set()
+
+    @contextlib.asynccontextmanager
+    async def node(self, name: str, *, gates: bool = True, url: str | None = None) -> AsyncIterator[tuple[Node, sagas.Store]]:
+        """A node, until the block ends."""
+        node = Node(Witness(self._socket), self.url, gates)
+        store = sagas.open(url or self.url, node.sagas, node=name, lease=600, idle=600)
+        await store.__aenter__()
+        try:
+            yield node, store
+        finally:
+            node.open_all()
+            with contextlib.suppress(TimeoutError):
+                async with asyncio.timeout(3 if self.wrong else 60):
+                    await store.close()
+
+    async def over(self, *work: Awaitable[object]) -> None:
+        """Waits until it is done; a wrong store may not do it."""
+        _, late = await asyncio.wait([asyncio.ensure_future(one) for one in work], timeout=3 if self.wrong else 60)
+        for one in late:
+            one.cancel()
+
+    async def happens(self, what: Callable[[], Any]) -> None:
+        """Waits until something is so; with a wrong store it may never be."""
+        with contextlib.suppress(TimeoutError if self.wrong else ()):
+            await until(what, 3 if self.wrong else 60)
+
+    def ask(self, text: str) -> list[tuple[Any, ...]]:
+        """What the database says."""
+        with psycopg.connect(self.url, options="-csearch_path=sagas") as link:
+            return link.execute(text).fetchall()  # type: ignore[arg-type]
+
+    def waiting(self) -> int:
+        """How many statements wait for a lock."""
+        return len(self.ask("SELECT 1 FROM pg_stat_activity WHERE datname = current_database() AND wait_event_type = 'Lock'"))
+
+    @contextlib.contextmanager
+    def locked(self, table: str) -> Iterator[None]:
+        """Nobody can write a table; to read it stays allowed."""
+        with psycopg.connect(self.url) as link:
+            link.execute(f"LOCK TABLE sagas.{table} IN EXCLUSIVE MODE")  # type: ignore[arg-type]
+            yield
+
+
+async def nothing_happens(stage: Stage) -> int:
+    """Four sagas, one behind the other, and nothing else."""
+    async with stage.node("one", gates=False) as (node, store):
+        for number in range(4):
+            await stage.over(node.one(store, number))
+    return 4
+
+
+async def another_node_has_the_log(stage: Stage) -> int:
+    """A node reports into a log that another has: the one goes on with a saga, and the other, which calls its steps too, with both."""
+    async with stage.node("same") as (first, store):
+        work = [asyncio.create_task(first.one(store, number)) for number in range(2)]
+        await until(lambda: len(first.called) == 2)
+        async with stage.node("same") as (second, other):
+            await until(lambda: len(second.called) == 2)
+            first.gates["k0", "a"].set()
+            assert store._coordinator
+            await stage.happens(lambda: ("k0", "b") in first.called or not store._coordinator.pumps)  # type: ignore[union-attr]
+            for key in ("k0", "k1"):
+                second.gates[key, "a"].set()
+            await stage.happens(lambda: len(second.called) == 4)
+            second.open_all()
+            await stage.happens(lambda: all(phase for (phase,) in stage.ask("SELECT phase FROM sagas")))
+            first.open_all()
+            await stage.over(*work)
+    return 2
+
+
+async def the_answer_to_a_commit_is_lost(stage: Stage) -> int:
+    """The statement that keeps a step's end is done, and its connection cut before the answer."""
+    with relaying(stage.server.port) as relay:
+        async with stage.node("one", url=through(stage, relay)) as (node, store):
+            work = asyncio.create_task(node.one(store, 0))
+            await until(lambda: node.called)
+            relay.mark = COMMIT
+            node.gates["k0", "a"].set()
+            await until(lambda: relay.cuts["marked"])
+            node.open_all()
+            await stage.over(work)
+            if not stage.wrong:
+                assert node.called == [("k0", "a"), ("k0", "b")]
+    return 1
+
+
+def through(stage: Stage, relay: Relay) -> str:
+    """The database's address by a relay."""
+    return stage.server.url(stage.url.rpartition("/")[2], port=relay.port)
+
+
+async def the_commit_takes_long(stage: Stage) -> int:
+    """Nobody can write lines while a saga is started, and while its step ends."""
+    async with stage.node("one") as (node, store):
+        first = asyncio.create_task(node.one(store, 0))
+        await until(lambda: node.called)
+        with stage.locked("lines"):
+            second = asyncio.create_task(node.one(store, 1))
+            node.gates["k0", "a"].set()
+            await until(stage.waiting)
+            await asyncio.sleep(0.05)  # what would be told before the commit is told by now
+        node.open_all()
+        await stage.over(first, second)
+    return 2
+
+
+async def two_nodes_start_a_key_at_once(stage: Stage) -> int:
+    """Both have looked for it, and neither has written it."""
+    async with stage.node("one", gates=False) as (first, store), stage.node("two", gates=False) as (second, other):
+        with stage.locked("sagas"):
+            work = [asyncio.create_task(first.one(store, 0)), asyncio.create_task(second.one(other, 0))]
+            await until(lambda: stage.waiting() == 2)
+        await stage.over(*work)
+    return 1
+
+
+async def a_node_lives(stage: Stage) -> int:
+    """Another node looks for what nobody has, three times: what this one calls is its own."""
+    async with stage.node("one") as (first, store):
+        work = asyncio.create_task(first.one(store, 0))
+        await until(lambda: first.called)
+        async with stage.node("two") as (second, other):
+            beats: set[object] = set()
+            await until(lambda: beats.update(stage.ask("SELECT lease FROM nodes WHERE name = 'two'")) or len(beats) > 3 or second.called)
+            if second.called:
+                stage.found.add("called-again")
+            first.open_all()
+            second.open_all()
+            await stage.over(work)
+    return 1
+
+
+MOMENTS = {
+    moment.__name__: moment
+    for moment in (
+        nothing_happens, another_node_has_the_log, the_answer_to_a_commit_is_lost, the_commit_takes_long, two_nodes_start_a_key_at_once, a_node_lives,
+    )
+}
+
+
+@contextlib.contextmanager
+def applied(name: str | None) -> Iterator[None]:
+    """A wrong store in place of the right one, until the block ends."""
+    owners: list[Any] = [postgresql, postgresql.PostgreSQL, postgresql_commit, postgresql_commit.Commit, leases]
+    before = [dict(vars(owner)) for owner in owners]
+    parts = dict(postgresql_commit.PARTS)
+    postgresql_commit.statement.cache_clear()
+    if name:
+        importlib.import_module(f"wrong_stores.{name}").apply()
+    try:
+        yield
+    finally:
+        for owner, was in zip(owners, before):
+            for word in [word for word, value in vars(owner).items() if was.get(word) is not value]:
+                setattr(owner, word, was[word])
+        postgresql_commit.PARTS.clear()
+        postgresql_commit.PARTS.update(parts)
+        postgresql_commit.statement.cache_clear()
+
+
+def play(server: Server, name: str, wrong: str | None = None) -> tuple[set[str], list[str]]:
+    """A moment over a database of its own; gives the names of what is found, and the faults."""
+    url = server.create()
+    with tempfile.TemporaryDirectory() as folder, applied(wrong):
+        socket, notes = pathlib.Path(folder) / "socket", pathlib.Path(folder) / "notes"
+        with witness_at(socket, notes):
+            stage = Stage(server, url, socket, wrong is not None)
+            count = asyncio.run(asyncio.wait_for(MOMENTS[name](stage), 120))
+        verdict = judge(url, notes, count)
+    server.drop(url)
+    return verdict.names | stage.found, verdict.faults

@@ -1,0 +1,119 @@
+"""What a store holds, read without the package."""
+
+from __future__ import annotations
+
+import contextlib
+import json
+import pathlib
+import sqlite3
+import tomllib
+from collections.abc import Callable, Iterator
+from dataclasses import dataclass, field
+from typing import Any
+
+import psycopg
+
+Json = dict[str, Any]
+ROOM = 1000
+
+
+@dataclass(frozen=True)
+class SagaRow:
+    """A saga as the database has it."""
+
+    id: int
+    key: str
+    place: int
+    input: Any
+    phase: str | None
+    end: Json | None
+
+    @property
+    def log(self) -> int:
+        return self.id // ROOM
+
+    @property
+    def number(self) -> int:
+        return self.id % ROOM
+
+
+@dataclass
+class LogRows:
+    """A log: its name, the texts of its definitions, and its lines in the chunks of its commits."""
+
+    log: int
+    name: str
+    closed: bool
+    texts: list[str]
+    chunks: list[tuple[int, str]] = field(default_factory=list)
+
+    @property
+    def lines(self) -> list[str]:
+        return [line for _, text in self.chunks for line in text.splitlines()]
+
+    @property
+    def events(self) -> list[Json]:
+        return [json.loads(line) for line in self.lines]
+
+    def steps(self, place: int) -> list[str]:
+        """The names of the steps of a definition."""
+        return [step["name"] for step in tomllib.loads(self.texts[place])["step"]]
+
+
+@dataclass(frozen=True)
+class Outcome:
+    """A result row."""
+
+    outcome: str
+    value: Any
+
+
+@dataclass
+class Records:
+    """All of a store."""
+
+    logs: dict[int, LogRows]
+    sagas: dict[str, SagaRow]
+    results: dict[tuple[int, int, str, int], Outcome]
+
+
+def _lite(store: pathlib.Path | str) -> Iterator[Callable[[str], list[Any]]]:
+    with contextlib.closing(sqlite3.connect(f"file:{store}?mode=ro", uri=True, timeout=10)) as db:
+        db.execute("BEGIN")
+        yield lambda query: db.execute(query).fetchall()
+
+
+def _server(store: pathlib.Path | str) -> Iterator[Callable[[str], list[Any]]]:
+    with psycopg.connect(str(store), options="-csearch_path=sagas") as link:
+        link.isolation_level = psycopg.IsolationLevel.REPEATABLE_READ
+        yield lambda query: link.execute(query).fetchall()
+
+
+def read(store: pathlib.Path | str) -> Records:
+    """Reads a store, beside a running program too."""
+    rows = contextlib.contextmanager(_server if str(store).startswith("postgresql:") else _lite)
+    with rows(store) as ask:
+        logs = {
+            log: LogRows(log, name, bool(closed), json.loads(texts))
+            for log, name, closed, texts in ask("SELECT log, name, closed, texts FROM logs JOIN shelves USING (shelf) ORDER BY log")
+        }
+        for log, first, text in ask("SELECT log, first, text FROM lines ORDER BY log, first"):
+            logs[log].chunks.append((first, text))
+        sagas = {
+            key: SagaRow(id, key, place, json.loads(text), phase, json.loads(end) if end else None)
+            for id, key, place, text, phase, end in ask('SELECT id, key, def, input, phase, "end" FROM sagas')
+        }
+        results = {
+            (id, step, kind, attempt): Outcome(outcome, json.loads(value) if value else None)
+            for id, step, kind, attempt, outcome, value in ask("SELECT id, step, kind, attempt, outcome, value FROM results")
+        }
+        return Records(logs, sagas, results)
+
+
+def integrity(store: pathlib.Path) -> str:
+    """What SQLite says of the file."""
+    db = sqlite3.connect(store)
+    try:
+        return str(db.execute("PRAGMA integrity_check").fetchone()[0])
+    finally:
+        db.close()

@@ -1,0 +1,102 @@
+"""A relay between a node and its server, which delays what passes, cuts connections, and cuts them between a statement and its answer."""
+
+from __future__ import annotations
+
+import asyncio
+import contextlib
+import random
+import threading
+from collections import Counter
+from collections.abc import Iterator
+
+
+class Relay:
+    """Listens on a port of its own, in a thread of its own. The chances may be changed at any time."""
+
+    def __init__(self, target: int, seed: int = 0) -> None:
+        self.target, self.port = target, 0
+        self.before = self.after = self.delay = 0.0
+        """Chances: that a statement is cut on its way there; that its answer is, once it was done; that either is late."""
+        self.mark: bytes | None = None
+        """The next statement that holds this is done, and its connection cut before the answer; then it is None."""
+        self.cuts: Counter[str] = Counter()
+        self._draw = random.Random(seed)
+        self._ready = threading.Event()
+        self._loop = asyncio.new_event_loop()
+        self._thread = threading.Thread(target=self._run, daemon=True)
+        self._links: set[asyncio.StreamWriter] = set()
+
+    def start(self) -> None:
+        """Listens."""
+        self._thread.start()
+        self._ready.wait(60)
+
+    def stop(self) -> None:
+        """Cuts all, and ends."""
+        self._loop.call_soon_threadsafe(self._end)
+        self._thread.join(60)
+
+    def cut(self) -> None:
+        """Cuts all connections."""
+        self._loop.call_soon_threadsafe(self._cut_all)
+
+    def _cut_all(self) -> None:
+        self.cuts["all"] += 1
+        for link in list(self._links):
+            link.close()
+
+    def _end(self) -> None:
+        self._cut_all()
+        self._loop.stop()
+
+    def _run(self) -> None:
+        asyncio.set_event_loop(self._loop)
+        server = self._loop.run_until_complete(asyncio.start_server(self._serve, "127.0.0.1", 0))
+        self.port = server.sockets[0].getsockname()[1]
+        self._ready.set()
+        self._loop.run_forever()
+        for task in asyncio.all_tasks(self._loop):
+            task.cancel()
+        self._loop.run_until_complete(asyncio.sleep(0))
+        self._loop.close()
+
+    async def _serve(self, reader: asyncio.StreamReader, writer: asyncio.StreamWriter) -> None:
+        with contextlib.suppress(OSError):
+            back, forth = await asyncio.open_connection("127.0.0.1", self.target)
+            self._links |= {writer, forth}
+            marked = asyncio.Event()
+            both = [asyncio.create_task(self._pass(reader, forth, "before", marked)), asyncio.create_task(self._pass(back, writer, "after", marked))]
+            await asyncio.wait(both, return_when=asyncio.FIRST_COMPLETED)
+            self._links -= {writer, forth}
+            for one in both:
+                one.cancel()
+            writer.close()
+            forth.close()
+
+    async def _pass(self, reader: asyncio.StreamReader, writer: asyncio.StreamWriter, way: str, marked: asyncio.Event) -> None:
+        with contextlib.suppress(OSError):
+            while data := await reader.read(1 << 16):
+                if way == "before" and self.mark and self.mark in data:
+                    self.mark = None
+                    marked.set()
+                elif way == "after" and marked.is_set():
+                    self.cuts["marked"] += 1
+                    return
+                if self._draw.random() < self.delay:
+                    await asyncio.sleep(self._draw.uniform(0.0, 0.05))
+                if self._draw.random() < getattr(self, way):
+                    self.cuts[way] += 1
+                    return
+                writer.write(data)
+                await writer.drain()
+
+
+@contextlib.contextmanager
+def relaying(target: int, seed: int = 0) -> Iterator[Relay]:
+    """A relay, until the block ends."""
+    relay = Relay(target, seed)
+    relay.start()
+    try:
+        yield relay
+    finally:
+        relay.stop()

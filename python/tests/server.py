@@ -1,0 +1,207 @@
+"""A PostgreSQL server of the tests' own: a folder, a socket and a port, freed at the end."""
+
+from __future__ import annotations
+
+import contextlib
+import glob
+import os
+import pathlib
+import shutil
+import socket
+import subprocess
+import tempfile
+import time
+import uuid
+from collections.abc import Iterator
+
+import psycopg
+
+from sagas import command
+
+OTHER = 65534
+"""The user as whom the server runs where this one is root, as whom it refuses."""
+
+
+def folder_of_programs() -> pathlib.Path:
+    """Where `initdb` and `postgres` are: of Debian's package, or wherever the path has them."""
+    for folder in sorted(glob.glob("/usr/lib/postgresql/*/bin"), reverse=True):
+        if os.access(f"{folder}/initdb", os.X_OK):
+            return pathlib.Path(folder)
+    found = shutil.which("initdb")
+    if not found:
+        raise FileNotFoundError("initdb is missing: apt-get install postgresql")
+    return pathlib.Path(found).parent
+
+
+def free_port() -> int:
+    """A port that nobody has."""
+    with socket.socket() as one:
+        one.bind(("127.0.0.1", 0))
+        return int(one.getsockname()[1])
+
+
+class Server:
+    """A server that can be stopped and started; each test has a database of its own on it."""
+
+    def __init__(self, folder: pathlib.Path, settings: dict[str, str] | None = None) -> None:
+        self.folder, self.port, self._started = folder, free_port(), False
+        self._settings = {"fsync": "off", "max_connections": "200", "log_min_messages": "fatal"} | (settings or {})
+
+    def make(self) -> None:
+        """Makes its files."""
+        self.folder.mkdir(parents=True, exist_ok=True)
+        if os.geteuid() == 0:
+            os.chown(self.folder, OTHER, OTHER)
+        words = ["-D", str(self.folder / "data"), "-U", "owner", "-A", "trust", "-E", "UTF8", "--no-locale", "--no-sync"]
+        self._run("initdb", *words)
+
+    def copy(self, primary: Server) -> None:
+        """Makes its files those of another server, as whose standby it will start."""
+        self.folder.mkdir(parents=True, exist_ok=True)
+        if os.geteuid() == 0:
+            os.chown(self.folder, OTHER, OTHER)
+        words = ["-D", str(self.folder / "data"), "-h", "127.0.0.1", "-p", str(primary.port), "-U", "owner", "-R", "-X", "stream", "-c", "fast", "--no-sync"]
+        self._run("pg_basebackup", *words)
+
+    def promote(self) -> None:
+        """A standby takes writes from now on."""
+        self._run("pg_ctl", "-D", str(self.folder / "data"), "-w", "-t", "60", "promote")
+
+    def _as_other(self, name: str, *words: str) -> list[str]:
+        first = ["setpriv", f"--reuid={OTHER}", f"--regid={OTHER}", "--clear-groups"] if os.geteuid() == 0 else []
+        return [*first, str(folder_of_programs() / name), *words]
+
+    def _run(self, name: str, *words: str) -> None:
+        with open(self.folder.parent / f"{self.folder.name}.said", "w+", encoding="utf-8") as said:  # a file: the server keeps what it is given
+            done = subprocess.run(self._as_other(name, *words), stdout=said, stderr=said, cwd="/", check=False)
+            if done.returncode:
+                said.seek(0)
+                raise RuntimeError(f"{name}: {said.read()}")
+
+    def start(self) -> None:
+        """Starts it, and waits until it answers. It is no child of this process. At its first start it takes another port where somebody has its own meanwhile."""
+        for turn in range(3):
+            try:
+                self._start()
+                break
+            except RuntimeError:
+                if self._started or turn == 2:
+                    raise
+                self.port = free_port()
+        self._started = True
+
+    def _start(self) -> None:
+        words = {"listen_addresses": "127.0.0.1", "port": str(self.port), "unix_socket_directories": str(self.folder)} | self._settings
+        told = " ".join(f"-c {name}={value}" for name, value in words.items())
+        self._run("pg_ctl", "-D", str(self.folder / "data"), "-l", str(self.folder / "output"), "-o", told, "-w", "-t", "60", "start")
+
+    def stop(self, mode: str = "immediate") -> None:
+        """Stops it: `fast`, or `immediate` as if its machine had failed."""
+        if (self.folder / "data" / "postmaster.pid").exists():
+            self._run("pg_ctl", "-D", str(self.folder / "data"), "-m", mode, "-w", "-t", "60", "stop")
+
+    def url(self, database: str, user: str = "owner", port: int | None = None) -> str:
+        """The address of a database."""
+        return f"postgresql://{user}@127.0.0.1:{port or self.port}/{database}"
+
+    def create(self) -> str:
+        """A new database; gives its address."""
+        name = f"t{uuid.uuid4().hex}"
+        with psycopg.connect(self.url("postgres"), autocommit=True) as link:
+            link.execute(f"CREATE DATABASE {name}")
+        return self.url(name)
+
+    def as_user(self, url: str) -> str:
+        """A store in a database; gives its address for a user of its own, who has what a program over it needs, and no more."""
+        with psycopg.connect(url, autocommit=True) as link:
+            if link.execute("SELECT 1 FROM pg_roles WHERE rolname = 'app'").fetchone() is None:
+                link.execute("CREATE ROLE app LOGIN")
+        assert command.main([url, "init", "--role", "app"]) == 0
+        return self.url(url.rpartition("/")[2], user="app")
+
+    def drop(self, url: str) -> None:
+        """Drops a database, whoever is in it."""
+        name = url.rpartition("/")[2]
+        with psycopg.connect(self.url("postgres"), autocommit=True) as link:
+            link.execute(f"DROP DATABASE IF EXISTS {name} WITH (FORCE)")
+
+
+@contextlib.contextmanager
+def serving(settings: dict[str, str] | None = None, inside: pathlib.Path | None = None) -> Iterator[Server]:
+    """A server in a folder of its own, `inside` another where it says so, until the block ends."""
+    with _folder(inside) as folder:
+        server = Server(folder / "server", settings)
+        try:
+            server.make()
+            server.start()
+            yield server
+        finally:
+            server.stop()
+
+
+@contextlib.contextmanager
+def _folder(inside: pathlib.Path | None = None) -> Iterator[pathlib.Path]:
+    folder = pathlib.Path(tempfile.mkdtemp(prefix="sagas-pg-", dir=inside or "/tmp"))
+    folder.chmod(0o755)
+    try:
+        yield folder
+    finally:
+        shutil.rmtree(folder, ignore_errors=True)
+
+
+class Pair:
+    """A primary and its standby, and one address for whichever takes writes."""
+
+    def __init__(self, primary: Server, standby: Server) -> None:
+        self.primary, self.standby = primary, standby
+
+    def ask(self, text: str) -> list[tuple[object, ...]]:
+        """A statement on the primary."""
+        with psycopg.connect(self.primary.url("postgres"), autocommit=True) as link:
+            cursor = link.execute(text)  # type: ignore[arg-type]
+            return cursor.fetchall() if cursor.description else []
+
+    def url(self, database: str) -> str:
+        """The address of a database, with both hosts."""
+        return f"postgresql://owner@127.0.0.1:{self.primary.port},127.0.0.1:{self.standby.port}/{database}?target_session_attrs=read-write"
+
+    def hold_back(self) -> None:
+        """What the primary has now the standby has too, and nothing that comes later."""
+        ((now,),) = self.ask("SELECT pg_current_wal_flush_lsn()")
+        with psycopg.connect(self.standby.url("postgres"), autocommit=True) as link:
+            until = time.monotonic() + 60
+            while link.execute("SELECT pg_last_wal_replay_lsn() >= %s::pg_lsn", (now,)).fetchone() != (True,):
+                if time.monotonic() > until:
+                    raise TimeoutError("the standby does not follow")
+                time.sleep(0.02)
+            link.execute("ALTER SYSTEM SET primary_conninfo = ''")
+            link.execute("SELECT pg_reload_conf()")
+        while self.ask("SELECT 1 FROM pg_stat_replication"):
+            time.sleep(0.02)
+
+    def fail_over(self) -> None:
+        """The primary fails, and its standby takes over."""
+        self.primary.stop("immediate")
+        self.standby.promote()
+
+
+@contextlib.contextmanager
+def paired(synchronous: bool) -> Iterator[Pair]:
+    """A server and its standby; with a synchronous one no commit is told before the standby has it."""
+    with serving() as primary, _folder() as folder:
+        standby = Server(folder / "standby")
+        pair = Pair(primary, standby)
+        try:
+            standby.copy(primary)
+            standby.start()
+            if synchronous:
+                pair.ask("ALTER SYSTEM SET synchronous_standby_names = '*'")
+                pair.ask("SELECT pg_reload_conf()")
+            wanted, until = "sync" if synchronous else "async", time.monotonic() + 60
+            while pair.ask("SELECT sync_state FROM pg_stat_replication") != [(wanted,)]:
+                if time.monotonic() > until:
+                    raise TimeoutError(f"the standby is not {wanted}")
+                time.sleep(0.05)
+            yield pair
+        finally:
+            standby.stop()

@@ -1,0 +1,254 @@
+"""Kills of the service and of its workers at random moments, and the package's judge over the store when all in it is over.
+
+    python3 tests/service_kills.py [--rounds N] [--store sqlite|postgresql] [--sagas N] [--workers N] [--callers N] [--strikes N] [--seed S]
+
+A round is one store. Callers start sagas, wait for their ends and approve; workers do the steps. Meanwhile the service is killed with -9 or asked to
+end, workers are killed, or stand still past their leases and go on; reports are sent twice. Over PostgreSQL there are two services, and callers and workers
+are half at one and half at the other; one of them may stand still past its lease, too. Every process that is signalled here was started here.
+"""
+
+from __future__ import annotations
+
+import argparse
+import contextlib
+import os
+import pathlib
+import random
+import shutil
+import signal
+import subprocess
+import sys
+import tempfile
+import threading
+import time
+from collections import Counter
+from collections.abc import Callable, Iterator
+from typing import Any
+
+import httpx
+
+if __name__ == "__main__":
+    sys.path.insert(0, str(pathlib.Path(__file__).resolve().parent.parent / "src"))
+
+from judge import Verdict, judge
+from server import Server, serving
+from service_worker import texts
+from serving import HERE, Served, environment
+from witness import Witness, witness_at
+from world import Eye, expected
+
+NAMES = ("chain", "trip", "must", "late")
+LEASE = 1.0
+NODE_LEASE = 2.0
+"""Seconds, of a task and of a service over PostgreSQL."""
+
+
+class Callers:
+    """Threads that start sagas, and see them to their ends, whatever becomes of the services; each asks now one and now another."""
+
+    def __init__(self, services: list[Served], socket: pathlib.Path, sagas: int, count: int, most: float) -> None:
+        self.services, self.eye, self.witness = services, Eye(services[0].store), Witness(str(socket))
+        self.left, self.lock = list(range(sagas)), threading.Lock()
+        self.until, self.over = time.monotonic() + most, threading.Event()
+        self.faults: list[str] = []
+        self.threads = [threading.Thread(target=self._call, daemon=True) for _ in range(count)]
+        self.approver = threading.Thread(target=self._approve, daemon=True)
+
+    def start(self) -> None:
+        for thread in (*self.threads, self.approver):
+            thread.start()
+
+    @property
+    def busy(self) -> bool:
+        return any(thread.is_alive() for thread in self.threads)
+
+    def end(self) -> None:
+        """Waits for all; then nobody is asked any more."""
+        for thread in self.threads:
+            thread.join()
+        self.over.set()
+        self.approver.join()
+
+    def _ask(self, clients: list[httpx.Client], ask: Callable[[httpx.Client], httpx.Response]) -> httpx.Response:
+        """Asks until it is answered, one service after the other."""
+        while time.monotonic() < self.until:
+            clients.append(clients.pop(0))
+            with contextlib.suppress(httpx.HTTPError):
+                answer = ask(clients[0])
+                if answer.status_code < 500:
+                    return answer
+            time.sleep(0.05)
+        raise TimeoutError("not over in time")
+
+    @contextlib.contextmanager
+    def _clients(self) -> Iterator[list[httpx.Client]]:
+        with contextlib.ExitStack() as stack:
+            yield [stack.enter_context(service.client()) for service in self.services]
+
+    def _call(self) -> None:
+        try:
+            with self._clients() as clients:
+                while True:
+                    with self.lock:
+                        if not self.left:
+                            return
+                        number = self.left.pop(0)
+                    self._one(clients, number)
+        except Exception as error:  # told at the end
+            self.faults.append(f"a caller: {error!r}")
+
+    def _one(self, clients: list[httpx.Client], number: int) -> None:
+        key, note = f"k{number}", self.witness.note
+        body = {"definition": NAMES[number % 4], "key": key, "input": {"i": number}}
+        answer = self._ask(clients, lambda client: client.post("/sagas", json=body))
+        if answer.status_code not in (200, 201):
+            self.faults.append(f"{key}: {answer.status_code} {answer.text}")
+            return
+        note(what="started", key=key, there=self.eye.phase(key)[0])
+        if number % 17 == 0 and self._ask(clients, lambda client: client.post(f"/sagas/{key}/abort", json={"note": "for a try"})).json()["aborted"]:
+            note(what="aborted", key=key, there=self.eye.aborts(key))
+        end: dict[str, Any] = {"over": False}
+        while not end["over"]:
+            end = self._ask(clients, lambda client: client.get(f"/sagas/{key}/wait?seconds=5")).json()
+        told = {"phase": end["phase"], "states": end["states"], "results": end["results"], "cost": (end["plan"] or {}).get("cost"), "aborted": end["aborted"]}
+        note(what="over", key=key, there=self.eye.phase(key)[1], **told)
+
+    def _approve(self) -> None:
+        with self._clients() as clients:
+            while not self.over.is_set():
+                with contextlib.suppress(httpx.HTTPError):
+                    clients.append(clients.pop(0))
+                    for key in self.eye.asked():
+                        value = expected(key, "approve")
+                        if clients[0].post(f"/sagas/{key}/steps/approve", json={"result": value}).status_code == 200:
+                            self.witness.note(what="finished", key=key, there=self.eye.finished(key, value))
+                self.over.wait(0.1)
+
+
+class Round:
+    """One store, its services, workers and callers, and what strikes them."""
+
+    def __init__(self, folder: pathlib.Path, draw: random.Random, sagas: int, workers: int, callers: int, strikes: int, most: float, url: str | None) -> None:
+        self.folder, self.draw, self.strikes, self.url = folder, draw, strikes, url
+        self.services = [self._service(name, url) for name in ("one", "two")] if url else [Served(folder, texts())]
+        self.kills: Counter[str] = Counter()
+        self.sagas, self.most, self.count = sagas, most, workers
+        self.callers = callers
+        self.workers: list[subprocess.Popen[bytes]] = []
+
+    def _service(self, name: str, url: str) -> Served:
+        (self.folder / name).mkdir()
+        return Served(self.folder / name, texts(), "--node", name, "--lease", str(NODE_LEASE), store=url)
+
+    def _worker(self, place: int) -> subprocess.Popen[bytes]:
+        service = self.services[place % len(self.services)]
+        words = [sys.executable, str(HERE / "service_worker.py"), service.url, service.store, str(self.folder / "socket")]
+        words += [str(service.folder / "definitions"), "--lease", str(LEASE)]
+        path = f"{HERE.parent / 'src'}{os.pathsep}{HERE}"
+        with open(self.folder / "worker-errors", "ab") as errors:
+            return subprocess.Popen(words, env=environment() | {"PYTHONPATH": path}, stdout=subprocess.DEVNULL, stderr=errors)
+
+    def play(self) -> Verdict:
+        """Until all is over; then it is judged."""
+        with witness_at(self.folder / "socket", self.folder / "notes"):
+            for service in self.services:
+                service.start()
+            callers = Callers(self.services, self.folder / "socket", self.sagas, self.callers, self.most)
+            try:
+                self.workers = [self._worker(place) for place in range(self.count)]
+                callers.start()
+                while callers.busy and sum(self.kills.values()) < self.strikes:
+                    time.sleep(self.draw.uniform(0.05, 0.8))
+                    self._strike()
+                callers.end()
+            finally:
+                self._end()
+        verdict = judge(self.services[0].store, self.folder / "notes", self.sagas)
+        verdict.faults += callers.faults
+        for path in (*(service.errors for service in self.services), self.folder / "worker-errors"):
+            text = path.read_text(errors="replace")
+            if "Traceback" in text or '"trace"' in text:
+                verdict.faults.append(f"traceback in {path}: {text[-2000:]}")
+        return verdict
+
+    def _strike(self) -> None:
+        kinds = ["the service", "the service", "the service, asked to end", "a worker", "a worker stands still", *(["the service stands still"] if self.url else [])]
+        what = self.draw.choice(kinds)
+        place = self.draw.randrange(self.count)
+        service = self.draw.choice(self.services)
+        if what == "the service":
+            service.kill()
+            service.start()
+        elif what == "the service, asked to end":
+            service.stop()
+            service.start()
+        elif what == "the service stands still":
+            assert service.process
+            self._stand_still(service.process, NODE_LEASE)
+        elif what == "a worker":
+            self.workers[place].kill()
+            self.workers[place].wait()
+            self.workers[place] = self._worker(place)
+        else:
+            self._stand_still(self.workers[place], LEASE)
+        self.kills[what] += 1
+
+    def _stand_still(self, process: subprocess.Popen[bytes], lease: float) -> None:
+        process.send_signal(signal.SIGSTOP)
+        time.sleep(lease * self.draw.uniform(0.9, 1.6))
+        process.send_signal(signal.SIGCONT)
+
+    def _end(self) -> None:
+        for worker in self.workers:
+            worker.kill()
+            worker.wait()
+        for service in self.services:
+            service.kill()
+
+
+def play(seed: int, sagas: int, workers: int, callers: int, strikes: int, most: float = 240, server: Server | None = None) -> tuple[Verdict, Counter[str], pathlib.Path | None]:
+    """One round; its files stay where something was found."""
+    folder = pathlib.Path(tempfile.mkdtemp(prefix="sagas-service-"))
+    url = server.create() if server else None
+    one = Round(folder, random.Random(seed), sagas, workers, callers, strikes, most, url)
+    verdict = one.play()
+    if verdict.faults:
+        return verdict, one.kills, folder
+    shutil.rmtree(folder)
+    if server and url:
+        server.drop(url)
+    return verdict, one.kills, None
+
+
+def main() -> int:
+    """The command."""
+    parser = argparse.ArgumentParser(description=__doc__, formatter_class=argparse.RawDescriptionHelpFormatter)
+    parser.add_argument("--rounds", type=int, default=10)
+    parser.add_argument("--store", choices=("sqlite", "postgresql"), default="sqlite")
+    parser.add_argument("--sagas", type=int, default=200)
+    parser.add_argument("--workers", type=int, default=10)
+    parser.add_argument("--callers", type=int, default=20)
+    parser.add_argument("--strikes", type=int, default=40)
+    parser.add_argument("--seed", type=int, default=random.randrange(10**6))
+    words = parser.parse_args()
+    kills: Counter[str] = Counter()
+    figures: Counter[str] = Counter()
+    bad, began = 0, time.monotonic()
+    with contextlib.ExitStack() as stack:
+        server = stack.enter_context(serving({"fsync": "on"})) if words.store == "postgresql" else None
+        for number in range(words.rounds):
+            verdict, struck, folder = play(words.seed + number, words.sagas, words.workers, words.callers, words.strikes, most=900, server=server)
+            kills += struck
+            figures += verdict.figures
+            bad += bool(verdict.faults)
+            for fault in verdict.faults[:5]:
+                print(f"{words.seed + number} {folder}: {fault}")
+            print(f"{number + 1} of {words.rounds} rounds, {sum(kills.values())} strikes, {bad} bad", flush=True)
+    print(f"seed {words.seed}, {time.monotonic() - began:.0f} s")
+    for title, counted in (("strikes", kills), ("figures", figures)):
+        print(f"{title}: " + ", ".join(f"{name} {number}" for name, number in sorted(counted.items())))
+    return 1 if bad else 0
+
+
+if __name__ == "__main__":
+    sys.exit(main())

@@ -1,0 +1,108 @@
+"""A worker of the kill tests: each call is told to a witness outside, as those of `world.py` are.
+
+    python3 tests/service_worker.py URL STORE SOCKET DEFINITIONS [--lease SECONDS] [--concurrency N]
+"""
+
+from __future__ import annotations
+
+import argparse
+import functools
+import pathlib
+import random
+from typing import Any
+
+import sagas
+from sagas.server import definitions
+from sagas.worker import ServiceRefused
+from witness import Witness
+from world import Eye, World
+
+LATE = """format = 2
+name = "late"
+[[step]]
+name = "order"
+keep = 9
+undo = 1
+undo_tries = 2
+[[step]]
+name = "approve"
+needs = ["order"]
+tries = 9
+[[step]]
+name = "go"
+needs = ["approve"]
+undo = "never"
+"""
+RATES: dict[tuple[str, str, str], tuple[float, float]] = {
+    ("chain", "reserve", "run"): (0.05, 0.0),
+    ("chain", "reserve", "undo"): (0.3, 0.0),
+    ("chain", "charge", "run"): (0.3, 0.1),
+    ("chain", "charge", "undo"): (0.05, 0.1),
+    ("chain", "ship", "run"): (0.4, 0.0),
+    ("trip", "flight", "run"): (0.1, 0.0),
+    ("trip", "hotel", "run"): (0.2, 0.1),
+    ("trip", "hotel", "undo"): (0.0, 0.0),
+    ("trip", "car", "run"): (0.2, 0.0),
+    ("trip", "car", "undo"): (0.1, 0.0),
+    ("trip", "tour", "run"): (0.3, 0.0),
+    ("must", "machine", "run"): (0.4, 0.0),
+    ("must", "licence", "run"): (0.1, 0.0),
+    ("late", "order", "run"): (0.05, 0.1),
+    ("late", "order", "undo"): (0.2, 0.0),
+    ("late", "go", "run"): (0.3, 0.0),
+}
+"""How often a call fails, and how often its caller does not hear of it."""
+
+
+class Bare(World):
+    """The world without functions: its definitions are files."""
+
+    def __init__(self, witness: Any, eye: Eye, folder: pathlib.Path) -> None:
+        self.witness, self.eye = witness, eye
+        self.sagas = definitions.read(folder)
+
+
+class Twice(sagas.Worker):
+    """It sends some reports twice; the second one is found to be the same."""
+
+    def _until_told(self, path: str, body: dict[str, Any], giving_up: bool = False) -> dict[str, Any] | None:
+        told = super()._until_told(path, body, giving_up)
+        if told and "kept" in told and random.random() < 0.2:
+            try:
+                again = super()._until_told(path, {name: value for name, value in body.items() if name != "next"})
+                assert again and again["repeated"], (path, body, again)
+            except ServiceRefused as refusal:  # of an unknown outcome a service knows no more when it has started again, and its lease is none
+                assert refusal.status == 409 and path.endswith("/unknown"), (path, body, refusal)
+        return told
+
+
+def texts() -> dict[str, str]:
+    """The definitions of `world.py`, and what goes with them."""
+    world = World.__new__(World)
+    found = {f"{saga.name}.toml": saga.toml() for saga in (World.chain(world), World.trip(world), World.must(world))}
+    found["late.toml"] = LATE
+    for name in ("chain", "trip", "must", "late"):
+        steps = [step for saga, step, kind in RATES if saga == name and kind == "run"]
+        found[f"{name}.service.toml"] = "".join(f"[step.{step}]\nbackoff = {{ first = 0.01, most = 0.05 }}\n" for step in steps)
+    found["late.service.toml"] += '[step.approve]\nkind = "approval"\n'
+    return found
+
+
+def main() -> None:
+    """Works until it is killed."""
+    parser = argparse.ArgumentParser(description=__doc__)
+    for name in ("url", "store", "socket", "definitions"):
+        parser.add_argument(name)
+    parser.add_argument("--lease", type=float, default=1.0)
+    parser.add_argument("--concurrency", type=int, default=3)
+    words = parser.parse_args()
+    world = Bare(Witness(words.socket), Eye(words.store), pathlib.Path(words.definitions))
+    worker = Twice(words.url, lease=words.lease, concurrency=words.concurrency, wait=5)
+    for (saga, step, kind), (failing, unknown) in RATES.items():
+        declare = worker.step if kind == "run" else worker.compensation
+        declare(saga, step)(functools.partial(world.act, failing=failing, unknown=unknown))
+    worker.run()
+
+
+if __name__ == "__main__":
+    main()

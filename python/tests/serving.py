@@ -1,0 +1,204 @@
+"""A real service for tests: `sagas serve` as a process of its own, on an address of its own, which it keeps when it is started again."""
+
+from __future__ import annotations
+
+import itertools
+import os
+import pathlib
+import signal
+import subprocess
+import sys
+from collections.abc import Iterator, Sequence
+from contextlib import contextmanager
+from typing import Any
+
+import httpx
+
+from driving import program
+
+HERE = pathlib.Path(__file__).resolve().parent
+LONG = 60.0  # seconds
+COUNT = itertools.count()
+
+TRIP = """format = 2
+name = "trip"
+[[step]]
+name = "flight"
+undo = "never"
+[[step]]
+name = "car"
+needs = ["flight"]
+undo = 5
+keep = 30
+[[step]]
+name = "tour"
+needs = ["car"]
+undo = "never"
+skip = 10
+tries = 2
+"""
+ORDER = """format = 2
+name = "order"
+[[step]]
+name = "review"
+tries = 9
+[[step]]
+name = "send"
+needs = ["review"]
+"""
+LICENCE = """format = 2
+name = "licence"
+[[step]]
+name = "server"
+undo = "never"
+skip = "never"
+[[step]]
+name = "licence"
+needs = ["server"]
+undo = "never"
+skip = "never"
+"""
+FEW = """format = 2
+name = "few"
+[[step]]
+name = "a"
+keep = 9
+undo = 1
+[[step]]
+name = "b"
+needs = ["a"]
+undo = "never"
+"""
+DEFINITIONS = {
+    "trip.toml": TRIP,
+    "trip.service.toml": "[step.tour]\nbackoff = { first = 0.05 }\nunknown_most = 0\n",
+    "order.toml": ORDER,
+    "order.service.toml": '[step.review]\nkind = "approval"\n',
+    "licence.toml": LICENCE,
+    "few.toml": FEW,
+    "few.service.toml": "[step.a]\nlimit = 2\nbackoff = { first = 0.05 }\n",
+}
+
+
+def host() -> str:
+    """An address of the loopback that no other test has: so nobody takes its port while the service is away."""
+    pid, count = os.getpid(), next(COUNT)
+    return f"127.{1 + pid // 250 % 250}.{1 + pid % 250}.{1 + count % 250}"
+
+
+def environment() -> dict[str, str]:
+    return os.environ | {"PYTHONPATH": str(HERE.parent / "src"), "SAGAS_PROGRAM": program(), "PYTHONUNBUFFERED": "1"}
+
+
+class Served:
+    """A service over `folder/store.db`, or another store, with definitions in `folder/definitions`."""
+
+    def __init__(self, folder: pathlib.Path, files: dict[str, str] = DEFINITIONS, *words: str, store: str | None = None) -> None:
+        self.folder, self.words, self.address = folder, words, f"{host()}:0"
+        self.store, self.errors = store or str(folder / "store.db"), folder / "errors"
+        self.process: subprocess.Popen[bytes] | None = None
+        (folder / "definitions").mkdir(exist_ok=True)
+        for name, text in files.items():
+            (folder / "definitions" / name).write_text(text)
+
+    @property
+    def url(self) -> str:
+        return f"http://{self.address}"
+
+    def command(self) -> list[str]:
+        return [sys.executable, "-m", "sagas", "serve", self.store, "--definitions", str(self.folder / "definitions"), "--listen", self.address, *self.words]
+
+    def start(self) -> None:
+        """Starts it, and waits until it answers."""
+        with open(self.errors, "ab") as errors:
+            self.process = subprocess.Popen(self.command(), env=environment(), stdout=subprocess.PIPE, stderr=errors, cwd=self.folder)
+        assert self.process.stdout
+        line = self.process.stdout.readline().decode()
+        if "http://" not in line:
+            self.stop()
+            raise AssertionError(f"it did not start: {self.errors.read_text()[-3000:]}")
+        self.address = line.split("http://")[1].strip().rstrip("/")
+
+    def kill(self) -> None:
+        """Ends it at once."""
+        if self.process:
+            self.process.kill()
+            self._ended()
+
+    def stop(self) -> int:
+        """Asks it to end, and waits; gives its status."""
+        process = self.process
+        if process is None:
+            return 0
+        process.send_signal(signal.SIGTERM)
+        try:
+            process.wait(LONG)
+        finally:
+            process.kill()
+            self._ended()
+        return process.returncode
+
+    def _ended(self) -> None:
+        assert self.process and self.process.stdout
+        self.process.wait(LONG)
+        self.process.stdout.close()
+        self.process = None
+
+    def client(self, token: str | None = None, **words: Any) -> httpx.Client:
+        """A client of it; it does not follow anybody's proxy."""
+        headers = {"Authorization": f"Bearer {token}"} if token else {}
+        return httpx.Client(base_url=self.url, timeout=LONG, trust_env=False, headers=headers, **words)
+
+    def told(self) -> str:
+        """What it has logged."""
+        return self.errors.read_text(errors="replace")
+
+
+@contextmanager
+def served(folder: pathlib.Path, files: dict[str, str] = DEFINITIONS, *words: str, store: str | None = None) -> Iterator[Served]:
+    """A service until the block ends."""
+    one = Served(folder, files, *words, store=store)
+    one.start()
+    try:
+        yield one
+    finally:
+        one.kill()
+
+
+def token(folder: pathlib.Path, name: str, *roles: str) -> str:
+    """A token of the file `folder/tokens.toml`."""
+    words = [sys.executable, "-m", "sagas", "token", str(folder / "tokens.toml"), name, *roles]
+    return subprocess.run(words, env=environment(), capture_output=True, text=True, check=True).stdout.strip()
+
+
+def take(client: httpx.Client, *steps: str, wait: float = 30, lease: float = 600, most: int = 1) -> list[dict[str, Any]]:
+    """Takes tasks."""
+    answer = client.post("/tasks/take", json={"steps": steps, "wait": wait, "lease": lease, "most": most, "worker": "w"})
+    assert answer.status_code == 200, answer.text
+    found: list[dict[str, Any]] = answer.json()["tasks"]
+    return found
+
+
+def report(client: httpx.Client, task: dict[str, Any], word: str = "done", **more: Any) -> httpx.Response:
+    """Reports a task."""
+    return client.post(f"/tasks/{task['token']}/{word}", json={"lease": task["lease"], **more})
+
+
+def start(client: httpx.Client, definition: str, key: str, given: Any = None) -> httpx.Response:
+    """Starts a saga."""
+    return client.post("/sagas", json={"definition": definition, "key": key, "input": given})
+
+
+def all_done(client: httpx.Client, *steps: str, failing: Sequence[str] = ()) -> None:
+    """Does these tasks, one after the other, each once it is there."""
+    for step in steps:
+        (task,) = take(client, step)
+        answer = report(client, task, "failed", error="no", final=True) if step in failing else report(client, task, result={"of": task["step"]})
+        assert answer.status_code == 200, answer.text
+
+
+def stuck(client: httpx.Client, key: str) -> None:
+    """A saga that is stuck."""
+    assert start(client, "licence", key).status_code == 201
+    all_done(client, "licence/server", "licence/licence", failing=["licence/licence"])
+    assert client.get(f"/sagas/{key}/wait").json()["phase"] == "stuck"

@@ -1,0 +1,473 @@
+"""Steps on Celery's workers: what a step is there, what comes back, and what does not. Over Redis; RabbitMQ is in test_celery_kills.py."""
+
+from __future__ import annotations
+
+import asyncio
+import contextlib
+import pathlib
+import sqlite3
+from collections.abc import Coroutine, Iterator
+from typing import Any, TypeVar
+
+import celery
+import psycopg
+import pytest
+
+import sagas
+import sagas.celery
+import sagas.testing
+from brokers import Broker, broker_at
+from cases import ended, until
+from celery_shop import BIG, Seat, Shop, Trip, shop_in
+from sagas.calling import Outcome, failure
+from sagas.desks import desk_of
+from sagas.remote import MOST_CARRIED, Order
+
+T = TypeVar("T")
+
+
+def run(main: Coroutine[Any, Any, T]) -> T:
+    """Runs a case, for three minutes at most: workers are slow to start where others are busy."""
+    return asyncio.run(asyncio.wait_for(main, 180))
+
+
+@pytest.fixture(scope="module")
+def broker(tmp_path_factory: pytest.TempPathFactory) -> Iterator[Broker]:
+    """A Redis of this process's own."""
+    with broker_at("redis", tmp_path_factory.mktemp("redis")) as running:
+        yield running
+
+
+@pytest.fixture
+def shop(broker: Broker, tmp_path: pathlib.Path) -> Shop:
+    """A shop over a file."""
+    return shop_in(broker, tmp_path)
+
+
+@pytest.fixture
+def either(broker: Broker, tmp_path: pathlib.Path, place: str) -> Shop:
+    """A shop over a file, and one over PostgreSQL."""
+    return shop_in(broker, tmp_path, place)
+
+
+def order(log: str, number: int = 0, attempt: int = 1, sending: str = "one") -> Order:
+    return Order("slow", 1, "k", log, number, "once", "run", attempt, sending, "null", {}, None)
+
+
+def done(value: str) -> Outcome:
+    return Outcome("done", f'"{value}"')
+
+
+# -- how a step is declared
+
+
+def test_tasks_have_names_and_late_acknowledgement(shop: Shop) -> None:
+    """The names carry saga, version and step; options are Celery's and go through."""
+    names = {name for name in shop.app.tasks if name.startswith("sagas.")}
+    assert {"sagas.trip@2.flight.run", "sagas.trip@2.flight.undo", "sagas.trip@2.meal.undo", "sagas.large.first.run", "sagas.odd.long.run"} <= names
+    assert "sagas.trip@2.meal.run" not in names
+    for name in names:
+        task = shop.app.tasks[name]
+        assert task.acks_late and task.reject_on_worker_lost and task.ignore_result and task.queue == shop.words["queue"]
+    long = shop.app.tasks["sagas.odd.long.run"]
+    assert (long.soft_time_limit, long.time_limit, long.priority) == (1, 60, 3)
+
+
+def test_the_functions_are_still_functions(shop: Shop) -> None:
+    """In tests a step is called as it is, and whole sagas run in memory, without a broker."""
+    told = sagas.testing.run(shop.trip, Trip("Rome"))
+    assert told.phase == "ended" and told.results["tour"] == {"seat": "Rome"}
+
+
+def test_what_cannot_be_declared(shop: Shop, tmp_path: pathlib.Path) -> None:
+    """No store, another store, two steps of one task, a step that is done elsewhere anyway."""
+    path = str(tmp_path / "store.db")
+
+    async def refused(app: Any, saga: sagas.Saga, error: type[Exception], text: str) -> None:
+        with pytest.raises(error, match=text):
+            async with sagas.open(path, [saga]):
+                pass
+
+    def saga(app: Any, **words: Any) -> sagas.Saga:
+        one = sagas.Saga("one")
+        one.step(name="a", run_on=sagas.celery.Queue(app, "q", **words))(lambda task: None)
+        return one
+
+    broker = shop.words["broker"]
+    app = celery.Celery("no", broker=broker)
+    run(refused(app, saga(app), sagas.DefinitionError, "sagas_store"))
+    run(refused(app, saga(celery.Celery("a", broker=broker), store=str(tmp_path / "other.db")), sagas.WrongStore, "other.db"))
+    run(refused(app, saga(celery.Celery("b", broker=broker), store="postgresql://nowhere/x"), sagas.WrongStore, "PostgreSQL|postgresql"))
+    app = celery.Celery("c", broker=broker)
+    saga(app, store=path)
+    run(refused(app, saga(app, store=path), sagas.DefinitionError, "another step has its task"))
+    with pytest.raises(sagas.DefinitionError, match="handler=None"):
+        sagas.Saga("two").step(handler=None, name="a", run_on=shop.queue)  # type: ignore[call-overload]
+
+
+def test_a_message_shows_its_attempt() -> None:
+    """Its id is the token, and its words say key and attempt, which flower and the broker's pages show; priority and routes are Celery's."""
+    app = celery.Celery("routed", broker="memory://")
+    app.conf.update(sagas_store="unused.db", task_routes={"sagas.slow.once.run": {"queue": "there"}})
+    queue = sagas.celery.Queue(app, priority=7, expires=900)
+    sagas.Saga("slow").step(name="once", run_on=queue)(lambda task: None)
+    sent = order("0" * 16)
+    run(queue.send(sent))
+    with app.connection_for_read() as link, contextlib.closing(link.SimpleQueue("there")) as there:
+        message = there.get(timeout=10)
+    assert message.headers["id"] == sent.token and message.headers["task"] == "sagas.slow.once.run"
+    assert message.headers["argsrepr"] == "('k', attempt 1)" and message.headers["expires"]
+    assert message.properties["priority"] == 7
+
+
+# -- what a worker does
+
+
+def test_a_saga_on_workers(either: Shop, tmp_path: pathlib.Path) -> None:
+    """Inputs and results by type hints, both ways; async functions and plain ones; misses, failures, compensations; nobody knows."""
+    worker = either.worker(tmp_path)
+    try:
+        run(_a_saga(either))
+    finally:
+        worker.kill()
+
+
+async def _a_saga(shop: Shop) -> None:
+    async with shop.open() as store:
+        good = await ended(store, shop.trip, "good", Trip("Rome"))
+        assert good.results == {"flight": Seat(12, "Rome"), "meal": "soup", "tour": {"seat": "Rome"}}
+        assert good.phase == "ended" and good.cost is None
+        full = await ended(store, shop.trip, "full", Trip("Rome", "full"))
+        assert full.states == {"flight": "undone", "meal": "undone", "tour": "failed"}
+        never = await ended(store, shop.trip, "never", Trip("Rome", "never"))
+        assert never.states["tour"] == "failed"
+        lost = await ended(store, shop.trip, "lost", Trip("Rome", "lost"))
+        assert lost.phase == "ended" and lost.states["tour"] == "committed"
+        assert all(said.startswith("yes") for said in (await store.audit()).values())
+    own = {call["pid"] for call in shop.calls("good") if call["step"] == "meal"}
+    assert own.isdisjoint(call["pid"] for call in shop.calls() if call["step"] != "meal")
+    tours = [call for call in shop.calls("full") if call["step"] == "tour"]
+    assert [call["attempt"] for call in tours] == [1, 2, 3] and len({call["effect"] for call in tours}) == 1
+    undone = {call["step"]: call for call in shop.calls("full") if call["undo"]}
+    assert undone["flight"]["row"] == 12 and undone["flight"]["of"].endswith("-flight-run") and undone["meal"]["result"] == "soup"
+    assert undone["meal"]["pid"] not in own
+    assert [call["attempt"] for call in shop.calls("never") if call["step"] == "tour"] == [1]
+    tours = [call for call in shop.calls("lost") if call["step"] == "tour"]
+    assert len(tours) == 3 and len({call["token"] for call in tours}) == 1
+
+
+def test_large_texts_are_fetched(either: Shop, tmp_path: pathlib.Path) -> None:
+    """A message carries no more than 64 KiB; the worker fetches the rest from the store. What is no JSON is kept as unstorable."""
+    sent: list[Order] = []
+    send = either.queue.send
+
+    async def seen(order: Order) -> None:
+        sent.append(order)
+        await send(order)
+
+    either.queue.send = seen  # type: ignore[method-assign]
+    worker = either.worker(tmp_path)
+    try:
+        for fail in (False, True):
+            end = run(_large(either, fail))
+            assert end.states["second"] == ("failed" if fail else "committed")
+    finally:
+        worker.kill()
+    assert end.states["first"] == "undone"
+    for call in either.calls():
+        assert (call["size"], call["input"]) == (BIG, BIG)
+    assert [call["letter"] for call in either.calls() if not call["undo"]] == ["x", "x"]
+    assert len(sent) == 5 and max(len(repr(order.written())) for order in sent) < MOST_CARRIED
+
+
+async def _large(shop: Shop, fail: bool) -> sagas.End:
+    async with shop.open() as store:
+        end = await ended(store, shop.large, f"large-{fail}", {"letter": "x", "more": "m" * BIG, "fail": fail})
+        if not fail:
+            assert end.results["first"] == "x" * BIG and "unstorable" in end.results["second"]
+        return end
+
+
+def test_a_soft_time_limit_is_unknown(shop: Shop, tmp_path: pathlib.Path) -> None:
+    """Whoever takes too long may have had his effect: a person says."""
+    worker = shop.worker(tmp_path)
+    try:
+        run(_soft(shop))
+    finally:
+        worker.kill()
+
+
+async def _soft(shop: Shop) -> None:
+    async with shop.open() as store:
+        going = await store.start(shop.odd, "k")
+        (held,) = await until(store.unknown, 60)
+        assert held.error is not None and "SoftTimeLimitExceeded" in held.error
+        await store.finish("k", "long", "by hand")
+        assert (await going.wait()).results == {"long": "by hand"}
+
+
+def test_a_message_that_nobody_took_in_time(either: Shop, tmp_path: pathlib.Path) -> None:
+    """It is unknown, a person is asked, and the report that comes late after all is the answer."""
+    run(_late(either, tmp_path))
+
+
+async def _late(shop: Shop, tmp_path: pathlib.Path) -> None:
+    async with shop.open() as store:
+        going = await store.start(shop.slow, "k")
+        (held,) = await until(store.unknown, 60)
+        assert held.error == f"no report within 1 s from {shop.queue!r}" and held.until is None
+        worker = await asyncio.to_thread(shop.worker, tmp_path)
+        try:
+            assert (await asyncio.wait_for(going.wait(), 60)).results == {"once": "late"}
+        finally:
+            await asyncio.to_thread(worker.kill)
+    assert len(shop.calls("k")) == 1
+
+
+def test_a_message_is_sent_again(either: Shop, tmp_path: pathlib.Path) -> None:
+    """The broker lost it: after the step's time it goes out again, with the same token. A message that comes behind is not called any more."""
+    orders: list[Order] = []
+    send = either.queue.send
+
+    async def lost(order: Order) -> None:
+        orders.append(order)
+        if len(orders) > 2:
+            await send(order)
+
+    either.queue.send = lost  # type: ignore[method-assign]
+    either.slow.steps[0].run.unknown_most = None
+    worker = either.worker(tmp_path)
+    try:
+        run(_again(either, orders))
+        worker.wait_for("late or came twice", 2)
+    finally:
+        worker.kill()
+    assert len({order.token for order in orders}) == 1 and len({order.sending for order in orders}) == len(orders) >= 3
+    assert len(either.calls("k")) == 1
+
+
+async def _again(shop: Shop, orders: list[Order]) -> None:
+    async with shop.open() as store:
+        assert (await ended(store, shop.slow)).results == {"once": "late"}
+        for late in orders[:2]:
+            await sagas.celery.Queue.send(shop.queue, late)
+
+
+def test_a_worker_of_an_older_definition(shop: Shop, tmp_path: pathlib.Path) -> None:
+    """It drops the message of a step that it does not know; one that knows it gets it after the step's time, with the same token."""
+    shop.slow.steps[0].run.unknown_most = None
+    older = shop.worker(tmp_path, name="older", lacks="sagas.slow.once.run")
+
+    async def main() -> None:
+        async with shop.open() as store:
+            going = await store.start(shop.slow, "k")
+            await asyncio.to_thread(older.wait_for, "unregistered task")
+            await asyncio.to_thread(older.kill)
+            newer = await asyncio.to_thread(shop.worker, tmp_path)
+            try:
+                assert (await asyncio.wait_for(going.wait(), 60)).results == {"once": "late"}
+            finally:
+                await asyncio.to_thread(newer.kill)
+
+    try:
+        run(main())
+    finally:
+        older.kill()
+    assert {call["attempt"] for call in shop.calls("k")} == {1}
+
+
+def test_a_program_that_comes_back_finds_the_report(either: Shop, tmp_path: pathlib.Path) -> None:
+    """The worker reports while no program has the store; nothing is called again."""
+    worker = either.worker(tmp_path)
+
+    async def sent() -> None:
+        async with either.open(grace=0) as store:
+            await store.start(either.slow, "k")
+            await until(lambda: store.log("k"), 60)
+            either.queue.send = held  # type: ignore[method-assign]
+            await until(lambda: orders, 60)
+
+    async def held(order: Order) -> None:
+        orders.append(order)
+
+    async def back() -> None:
+        async with either.open() as store:
+            assert (await asyncio.wait_for(store.wait("k"), 60)).results == {"once": "late"}
+
+    orders: list[Order] = []
+    either.slow.steps[0].run.timeout = 60.0
+    either.queue.send = held  # type: ignore[method-assign]
+    try:
+        run(sent())
+        run(sagas.celery.Queue.send(either.queue, orders[0]))
+        worker.wait_for("succeeded")
+        run(back())
+    finally:
+        worker.kill()
+    assert len(either.calls("k")) == len(orders) == 1
+
+
+def test_a_worker_that_cannot_report_lets_the_message_go_back(broker: Broker, tmp_path: pathlib.Path) -> None:
+    """The store is locked for longer than the queue has patience; then the message comes again, and is done."""
+    shop = shop_in(broker, tmp_path, patience=0.2)
+    shop.slow.steps[0].run.timeout = 120.0
+    worker = shop.worker(tmp_path)
+
+    async def locked() -> None:
+        async with shop.open() as store:
+            with sqlite3.connect(tmp_path / "store.db", isolation_level=None) as db:
+                going = await store.start(shop.slow, "k")
+                await until(lambda: store.log("k"), 60)
+                db.execute("BEGIN EXCLUSIVE")
+                try:
+                    await asyncio.to_thread(worker.wait_for, "message goes back")
+                finally:
+                    db.execute("ROLLBACK")
+            assert (await asyncio.wait_for(going.wait(), 60)).results == {"once": "late"}
+
+    try:
+        run(locked())
+    finally:
+        worker.kill()
+    assert len({call["token"] for call in shop.calls()}) == 1
+
+
+def test_workers_with_another_file(shop: Shop, tmp_path: pathlib.Path) -> None:
+    """Over SQLite a worker that has another file under the name is found at `open`."""
+    worker = shop.worker(tmp_path, store=str(tmp_path / "elsewhere.db"), name="wrong")
+
+    async def opened() -> None:
+        while True:  # a worker on a busy machine may not answer in time: then it is opened, and asked again
+            async with shop.open():
+                pass
+
+    try:
+        with pytest.raises(sagas.WrongStore, match="wrong@.*elsewhere.db"):
+            run(opened())
+    finally:
+        worker.kill()
+
+
+def test_a_function_that_is_a_transaction(broker: Broker, tmp_path: pathlib.Path, url: str) -> None:
+    """Each message comes three times; the function's row and its report are written once, together, and a failure leaves neither."""
+    with psycopg.connect(url, autocommit=True) as link:
+        link.execute("CREATE TABLE book(key text, step text, token text)")
+    shop = shop_in(broker, tmp_path, url)
+    send = shop.queue.send
+
+    async def thrice(order: Order) -> None:
+        for _ in range(3):
+            await send(order)
+
+    shop.queue.send = thrice  # type: ignore[method-assign]
+    worker = shop.worker(tmp_path, "-c", "4")
+    try:
+        run(_booked(shop))
+        worker.wait_for("succeeded", 3 * 5)
+    finally:
+        worker.kill()
+    with psycopg.connect(url) as link:
+        rows = link.execute("SELECT key, step FROM book ORDER BY key, step").fetchall()
+    assert rows == [("fails", "book"), ("fails", "unbook"), ("good", "book"), ("once", "book")]
+    assert len(shop.calls("good")) > 1, "no message was begun twice: nothing was tried"
+
+
+async def _booked(shop: Shop) -> None:
+    assert shop.bank
+    async with shop.open() as store:
+        good, once, fails = await asyncio.gather(*(ended(store, shop.bank, key, key) for key in ("good", "once", "fails")))
+        assert good.results["book"] == once.results["book"] == "booked"
+        assert fails.states == {"book": "undone", "check": "failed"}
+
+
+# -- reports
+
+
+def row(store: str, token: str) -> tuple[str, str]:
+    """A report, as the store has it."""
+    query = "SELECT outcome, value FROM reports WHERE token = "
+    if store.startswith("postgresql:"):
+        with psycopg.connect(store, options="-csearch_path=sagas") as link:
+            return link.execute(query + "%s", (token,)).fetchone()  # type: ignore[return-value]
+    with sqlite3.connect(store) as db:
+        return db.execute(query + "?", (token,)).fetchone()  # type: ignore[no-any-return]
+
+
+def test_equal_reports(either: Shop, place: str) -> None:
+    """The first stays; done takes the place of a failure; unknown gives way; once the attempt is settled nothing is taken."""
+    run(_equal(either, place))
+
+
+async def _equal(shop: Shop, place: str) -> None:
+    orders: list[Order] = []
+
+    async def held(order: Order) -> None:
+        orders.append(order)
+
+    shop.queue.send = held  # type: ignore[method-assign]
+    shop.slow.steps[0].run.timeout = 60.0
+    desk = desk_of(place)
+    async with shop.open(concurrency=1, grace=0) as store:
+        going = await store.start(shop.slow, "k")
+        await until(lambda: orders, 60)
+        log = orders[0].log
+
+        def reported(outcome: Outcome, attempt: int, sending: str = "one") -> tuple[str, str]:
+            told = order(log, 5, attempt, sending)
+            desk.report(told, outcome)
+            return row(place, told.token)
+
+        for late in (done("a"), done("b"), failure("no"), Outcome("unknown", "x")):
+            assert reported(late, 7) == ("done", '"a"')
+        assert reported(failure("no"), 8)[0] == reported(failure("other", final=True), 8)[0] == reported(Outcome("unknown", "x"), 8)[0] == "failed"
+        assert reported(done("c"), 8) == reported(failure("no"), 8) == ("done", '"c"')
+        assert reported(Outcome("unknown", "x"), 9) == ("unknown", "x") and reported(Outcome("unknown", "y"), 9) == ("unknown", "y")
+        assert reported(failure("no"), 9)[0] == "failed"
+        desk.report(orders[0], done("first"))
+        assert (await going.wait()).results == {"once": "first"}
+        desk.report(orders[0], done("second"))
+        assert desk.begin(orders[0]) is None and row(place, orders[0].token) == ("taken", None)
+        with pytest.raises(sagas.WrongStore, match="another store"):
+            desk.begin(order("0" * 16))
+    desk.close()
+
+
+def test_a_file_that_is_not_there(tmp_path: pathlib.Path) -> None:
+    """A worker makes no store."""
+    with pytest.raises(sagas.WrongStore, match="no such file"):
+        desk_of(str(tmp_path / "none.db")).begin(order("0" * 16))
+    assert not (tmp_path / "none.db").exists()
+
+
+def test_reports_go_with_their_log(shop: Shop, tmp_path: pathlib.Path) -> None:
+    """A log that is closed has no reports, and takes none."""
+    path = str(tmp_path / "store.db")
+    orders: list[Order] = []
+
+    async def answered(order: Order) -> None:
+        orders.append(order)
+        desk.report(order, done("x"))
+
+    async def first() -> None:
+        async with shop.open() as store:
+            await ended(store, shop.slow)
+
+    async def other() -> None:
+        more = sagas.Saga("more")
+        more.step(name="a")(lambda task: None)
+        async with sagas.open(path, [*shop.sagas, more]) as store:
+            with sqlite3.connect(path) as db:
+                await until(lambda: db.execute("SELECT closed FROM logs").fetchall() == [(1,)], 60)
+                await ended(store, more, "m")
+
+    shop.queue.send = answered  # type: ignore[method-assign]
+    desk = desk_of(path)
+    run(first())
+    run(other())
+    with sqlite3.connect(path) as db:
+        assert db.execute("SELECT count(*) FROM reports").fetchone() == (0,)
+    assert desk.begin(orders[0]) is None
+    desk.report(orders[0], done("y"))
+    with sqlite3.connect(path) as db:
+        assert db.execute("SELECT count(*) FROM reports").fetchone() == (0,)
+    desk.close()

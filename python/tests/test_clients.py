@@ -1,0 +1,315 @@
+"""Clients: they start sagas that nodes take, in a transaction of their own or in the caller's."""
+
+from __future__ import annotations
+
+import asyncio
+import os
+from typing import Any
+
+import psycopg
+import pytest
+
+import records
+import sagas
+from cases import Task, run, until
+from kills import children
+from sagas import command
+
+
+def shop() -> sagas.Saga:
+    """A step, an approval where the input asks for one, and a step that may fail."""
+    shop = sagas.Saga("shop")
+
+    @shop.step
+    async def reserve(task: Task) -> dict[str, Any]:
+        return {"for": task.key}
+
+    @reserve.compensation
+    async def release(task: Task) -> None: ...
+
+    @shop.step(needs=[reserve])
+    async def charge(task: Task) -> str:
+        if task.input == "fails":
+            raise sagas.Fail("no")
+        return "charged"
+
+    return shop
+
+
+def inbox(url: str) -> int:
+    """How many starts no log has yet."""
+    with psycopg.connect(url) as link:
+        row = link.execute("SELECT count(*) FROM sagas.inbox").fetchone()
+        assert row
+        return int(row[0])
+
+
+def test_a_client_starts_and_waits(url: str) -> None:
+    """Many starts by two clients, some of the same keys: nodes take them, each once; ends, lists and conflicts are as at a node."""
+    kind = shop()
+
+    async def main() -> None:
+        async with sagas.open(url, [kind]), sagas.open(url, [kind]):
+            async with sagas.Client(url) as one, sagas.Client(url) as other:
+                runs = await asyncio.gather(*(client.start(kind, f"k{number}", number) for number in range(40) for client in (one, other)))
+                ends = await asyncio.gather(*(run.wait() for run in runs))
+                assert all(end.ok and end.results["reserve"] == {"for": end.key} for end in ends) and len(ends) == 80
+                assert (await (await one.start(kind, "bad", "fails")).wait()).states == {"reserve": "undone", "charge": "failed"}
+                with pytest.raises(sagas.KeyConflict):
+                    await other.start(kind, "bad", "other input")
+                assert await other.get("bad") is not None and await other.get("none") is None
+                assert len(await other.list(most=1000)) == 41 and [row.key for row in await one.list(phase="stuck")] == []
+                with pytest.raises(sagas.NoSuchSaga):
+                    await one.wait("none")
+                with pytest.raises(sagas.NotJson):
+                    await one.start(kind, "")
+        with pytest.raises(sagas.Closed):
+            await one.start(kind, "late")
+
+    run(main())
+    assert len(records.read(url).sagas) == 41 and inbox(url) == 0
+
+
+def test_a_start_waits_for_a_node(url: str, capsys: pytest.CaptureFixture[str]) -> None:
+    """It is kept while no node is there, and the operators' command shows it; the first that comes takes it. One that lacks the saga leaves it."""
+    kind, other = shop(), sagas.Saga("other")
+
+    @other.step
+    def x(task: Task) -> int:
+        return 1
+
+    async def main() -> None:
+        async with sagas.open(url, [other]) as store:  # makes the tables
+            async with sagas.Client(url) as client:
+                started = await client.start(kind, "k")
+                with pytest.raises(sagas.KeyConflict):
+                    await client.start(other, "k")
+                assert (await (await client.start(other, "x")).wait()).ok
+                assert inbox(url) == 1 and (await store.start(other, "y")) is not None
+                assert await asyncio.to_thread(command.main, [url, "nodes"]) == 0
+                said = capsys.readouterr().out
+                assert "No node has taken these starts:" in said and "shop (version 1)" in said
+                assert await asyncio.to_thread(command.main, [url, "show", "k"]) == 1
+                assert "k has not begun: its start waits for a node that has shop (version 1)" in capsys.readouterr().err
+                async with sagas.open(url, [kind]):
+                    assert (await started.wait()).ok
+
+    run(main())
+
+
+def test_a_start_is_in_the_inbox_or_in_a_log(url: str) -> None:
+    """In one of them at each moment, and never in both; one that a node took which is gone is another's."""
+    kind = shop()
+
+    def places() -> list[int]:
+        with psycopg.connect(url) as link:
+            text = "SELECT count(*) FROM (SELECT key FROM sagas.inbox UNION ALL SELECT key FROM sagas.sagas) one GROUP BY key"
+            return [count for (count,) in link.execute(text).fetchall()]
+
+    async def main() -> None:
+        async with sagas.Client(url) as client:
+            for number in range(40):
+                await client.start(kind, f"k{number}")
+            with psycopg.connect(url) as link:
+                link.execute("UPDATE sagas.inbox SET node = 'gone' WHERE id % 2 = 0")
+            assert inbox(url) == 40
+            async with sagas.open(url, [kind], grace=0.0):
+                await until(lambda: inbox(url) < 40 and places() == [1] * 40)
+            assert places() == [1] * 40
+            async with sagas.open(url, [kind]):
+                work = asyncio.gather(*(client.wait(f"k{number}") for number in range(40)))
+                while not work.done():
+                    assert places() == [1] * 40
+                    await asyncio.sleep(0.01)
+                assert all(end.ok for end in await work)
+
+    async def make() -> None:
+        async with sagas.open(url, [kind], new=False):
+            pass
+
+    run(make())
+    run(main())
+    assert inbox(url) == 0
+
+
+def made(url: str, kind: sagas.Saga) -> None:
+    """A node makes the tables, and leaves."""
+
+    async def main() -> None:
+        async with sagas.open(url, [kind]):
+            pass
+
+    run(main())
+
+
+def test_a_start_that_somebody_is_at_holds_up_no_other(url: str) -> None:
+    """Its row is locked: a node takes those before and behind it, and it later."""
+    kind = shop()
+    made(url, kind)
+
+    async def main() -> None:
+        async with sagas.Client(url) as client:
+            runs = [await client.start(kind, f"k{number}") for number in range(5)]
+            with psycopg.connect(url) as stranger:
+                stranger.execute("SELECT 1 FROM sagas.inbox WHERE key = 'k2' FOR UPDATE")
+                async with sagas.open(url, [kind]):
+                    async with asyncio.timeout(15):
+                        assert all(end.ok for end in await asyncio.gather(*(one.wait() for one in runs if one.key != "k2")))
+                    assert inbox(url) == 1
+                    stranger.rollback()
+                    assert (await runs[2].wait()).ok
+
+    run(main())
+
+
+def test_a_client_drives_nothing(url: str) -> None:
+    """It has no child, no lease and no log."""
+    kind = shop()
+    made(url, kind)
+    others = set(children(os.getpid()))  # servers that other tests use
+
+    async def main() -> None:
+        async with sagas.Client(url) as client:
+            await client.start(kind, "k")
+            with psycopg.connect(url) as link:
+                for table in ("nodes", "logs"):
+                    assert link.execute(f"SELECT count(*) FROM sagas.{table}").fetchone() == (0,)
+            assert set(children(os.getpid())) <= others
+
+    run(main())
+
+
+def test_abort_and_finish_by_a_client(url: str) -> None:
+    """Both wait until the node that has the saga has said so."""
+    saga = sagas.Saga("signed")
+
+    @saga.approval()
+    def sign(task: Task) -> None: ...
+
+    async def main() -> None:
+        async with sagas.open(url, [saga]):
+            async with sagas.Client(url) as client:
+                one, two = await client.start(saga, "one"), await client.start(saga, "two")
+                assert await one.abort() is True and await one.abort() is False
+                assert (await one.wait()).aborted
+                await two.finish("sign", {"by": "Ada"})
+                assert (await two.wait()).results == {"sign": {"by": "Ada"}}
+                with pytest.raises(sagas.NotWaiting):
+                    await two.finish(sign)
+
+    run(main())
+
+
+@pytest.mark.parametrize("commits", [True, False])
+def test_a_start_in_the_callers_transaction(url: str, commits: bool) -> None:
+    """The saga is there exactly if the caller's transaction commits."""
+    kind = shop()
+
+    async def main() -> None:
+        async with sagas.open(url, [kind]) as store, sagas.Client(url) as client:
+            async with await psycopg.AsyncConnection.connect(url) as link:
+                await link.execute("CREATE TABLE orders(number integer)")
+                await link.commit()
+                await link.execute("INSERT INTO orders VALUES(1)")
+                started = await client.start(kind, "k", connection=link)
+                assert await client.get("k") is None
+                await (link.commit() if commits else link.rollback())
+                rows = await (await link.execute("SELECT number FROM orders")).fetchall()
+            if commits:
+                assert rows == [(1,)] and (await started.wait()).ok
+            else:
+                assert rows == [] and inbox(url) == 0
+                with pytest.raises(sagas.NoSuchSaga):
+                    await started.wait()
+                assert store.list() == []
+
+    run(main())
+
+
+def test_a_client_without_async(url: str) -> None:
+    """`SyncClient`, and a start in the transaction of a plain connection."""
+    kind = shop()
+    with sagas.open_sync(url, [kind]), sagas.SyncClient(url) as client:
+        assert client.start(kind, "k").wait(200).ok
+        with psycopg.connect(url) as link:
+            started = client.start(kind, "in", connection=link)
+        assert started.wait(200).ok and client.get("in") is not None and len(client.list()) == 2
+        with psycopg.connect(url) as link, pytest.raises(sagas.KeyConflict):
+            client.start(kind, "in", "another", connection=link)
+        assert client.abort("in") is False
+    with pytest.raises(sagas.Closed):
+        client.wait("k")
+
+
+def test_a_start_that_loses_its_race_with_a_node(url: str) -> None:
+    """A node begins a key while a client's start of it, with another input, is not yet committed: the node's stands, and the client hears of it."""
+    kind = shop()
+
+    async def main() -> None:
+        async with sagas.open(url, [kind]) as store, sagas.Client(url) as client:
+            async with await psycopg.AsyncConnection.connect(url) as link:
+                late = await client.start(kind, "k", "the client's", connection=link)
+                assert (await (await store.start(kind, "k", "the node's")).wait()).ok
+                await link.commit()
+            await until(lambda: inbox(url) == 0)
+            with pytest.raises(sagas.KeyConflict):
+                await late.wait()
+
+    run(main())
+
+
+@pytest.mark.parametrize("where", ["starts", "find", "new_log"])
+def test_a_start_that_fails_at_first_is_taken_again(url: str, where: str, monkeypatch: pytest.MonkeyPatch) -> None:
+    """The answer to its taking is lost, or the node cannot open it then: the node, which has it, takes it up again by itself."""
+    kind = shop()
+
+    async def main() -> None:
+        async with sagas.open(url, [kind]) as store, sagas.Client(url) as client:
+            database = store._inside.store
+            right: Any = getattr(database, where)
+            left = 1
+
+            def failed() -> bool:
+                nonlocal left
+                left -= 1
+                return left == 0
+
+            async def later(*words: Any) -> Any:
+                told = await right(*words)
+                if told != [] and failed():
+                    raise sagas.StoreUnwritable("lost")
+                return told
+
+            def now() -> Any:
+                if failed():
+                    raise sagas.StoreUnwritable("none at hand")
+                return right()
+
+            monkeypatch.setattr(database, where, now if where == "new_log" else later)
+            run = await client.start(kind, "k", 1)
+            assert (await asyncio.wait_for(run.wait(), 60)).ok and left <= 0 and inbox(url) == 0
+
+    run(main())
+
+
+def test_a_race_for_one_key_fails_no_other_start(url: str, monkeypatch: pytest.MonkeyPatch) -> None:
+    """Two nodes begin one key at once: who loses finds the other's, and what it began in the same commit is begun again; nobody hears of it."""
+    kind = shop()
+
+    async def main() -> None:
+        async with sagas.open(url, [kind]) as one, sagas.open(url, [kind]) as two:
+            assert (await (await two.start(kind, "k5", 5)).wait()).ok
+            database = one._inside.store
+            right, blind = database.find, 10
+
+            async def find(key: str) -> Any:
+                nonlocal blind
+                blind -= 1
+                return None if blind >= 0 else await right(key)
+
+            monkeypatch.setattr(database, "find", find)
+            runs = await asyncio.gather(*(one.start(kind, f"k{number}", number) for number in range(10)))
+            assert all(end.ok for end in await asyncio.gather(*(run.wait() for run in runs)))
+            assert len(records.read(url).sagas) == 10
+
+    run(main())

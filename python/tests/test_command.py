@@ -1,0 +1,275 @@
+"""`sagas store`: what operators see and do, beside the running program and without one."""
+
+from __future__ import annotations
+
+import asyncio
+import contextlib
+import io
+import json
+import pathlib
+import re
+import sqlite3
+from typing import Any
+
+import pytest
+
+import sagas
+from cases import Task, run, until
+from sagas import command, sources
+
+Json = dict[str, Any]
+
+
+class Shell:
+    """Runs the command on a store, and gives what it prints."""
+
+    def __init__(self, path: str | pathlib.Path, capsys: pytest.CaptureFixture[str]) -> None:
+        self.path, self.capsys = path, capsys
+
+    def __call__(self, *words: str, status: int = 0) -> str:
+        self.capsys.readouterr()
+        assert command.main([str(self.path), *words]) == status
+        return self.capsys.readouterr().out
+
+    def json(self, *words: str, status: int = 0) -> Any:
+        """What it prints for programs."""
+        return json.loads(self(*words, "--json", status=status))
+
+
+def shop() -> sagas.Saga:
+    """A saga that ends well, is stuck, or waits, by its input."""
+    shop = sagas.Saga("shop")
+
+    @shop.step
+    def reserve(task: Task) -> Json:
+        return {"place": 17}
+
+    @reserve.compensation
+    def release(task: Task) -> None: ...
+
+    @shop.step(needs=[reserve], skip=sagas.NEVER, tries=2, backoff=sagas.Backoff(first=0.01), unknown_most=1)
+    def charge(task: Task) -> str:
+        if task.input == "fails":
+            raise ValueError("the card is refused")
+        if task.input == "nobody knows":
+            raise ConnectionError("no answer")
+        return "charged"
+
+    @charge.compensation
+    def refund(task: Task) -> None: ...
+
+    return shop
+
+
+def signed() -> sagas.Saga:
+    """A saga that waits for a person."""
+    signed = sagas.Saga("signed")
+
+    @signed.step
+    def write(task: Task) -> str:
+        return "letter"
+
+    @write.compensation
+    def tear(task: Task) -> None: ...
+
+    @signed.approval(needs=[write])
+    def sign(task: Task) -> None: ...
+
+    return signed
+
+
+def held(path: str) -> list[tuple[Any, ...]]:
+    """What the store holds for a person: keys and why."""
+    with contextlib.closing(sources.connect(path)) as link:
+        return link.ask("SELECT key, why FROM held JOIN sagas USING (id) WHERE why = 'approval' OR why = 'unknown' AND until IS NULL")
+
+
+async def filled(path: str, store: sagas.Store, sagas_: list[sagas.Saga]) -> None:
+    """Starts one saga of each fate, and waits until each has met it."""
+    shop, signed = sagas_
+    for key, given in (("good", None), ("bad", "fails"), ("odd", "nobody knows")):
+        await store.start(shop, key=key, input=given)
+    for key in ("letter-1", "letter-2"):
+        await store.start(signed, key=key)
+    for key in ("good", "bad"):
+        await store.wait(key)
+    await until(lambda: len(held(path)) == 3)
+
+
+@pytest.fixture(scope="module", params=["sqlite", "postgresql"])
+def path(request: pytest.FixtureRequest, tmp_path_factory: pytest.TempPathFactory) -> str:
+    """A store that no program has open, over either database."""
+    in_file = request.param == "sqlite"
+    path = str(tmp_path_factory.mktemp("store") / "store.db") if in_file else request.getfixturevalue("postgresql").create()
+    kinds = [shop(), signed()]
+
+    async def main() -> None:
+        async with sagas.open(path, kinds) as store:
+            await filled(path, store, kinds)
+
+    asyncio.run(main())
+    return str(path)
+
+
+@pytest.fixture
+def shell(path: str, capsys: pytest.CaptureFixture[str]) -> Shell:
+    """The command on that store."""
+    return Shell(path, capsys)
+
+
+def test_list(shell: Shell) -> None:
+    """In order of their starts, by phase, by name, and page by page."""
+    text = shell("list")
+    assert text.splitlines()[0].split() == ["KEY", "SAGA", "PHASE", "STARTED", "ENDED"]
+    assert [line.split()[:3] for line in text.splitlines()[1:3]] == [["good", "shop", "ended"], ["bad", "shop", "stuck"]]
+    assert [row["key"] for row in shell.json("list")] == ["good", "bad", "odd", "letter-1", "letter-2"]
+    assert [row["key"] for row in shell.json("list", "--phase", "open", "--saga", "signed")] == ["letter-1", "letter-2"]
+    assert [row["key"] for row in shell.json("list", "--after", "bad", "--most", "1")] == ["odd"]
+
+
+def test_show(shell: Shell) -> None:
+    """A saga's steps, its plan and what it waits for."""
+    text = shell("show", "bad")
+    assert "phase    stuck" in text and "none is allowed, because of charge" in text and "the card is refused" in text
+    assert shell("draw", "bad").startswith("digraph") and shell("draw", "good").startswith("digraph")
+    told = shell.json("show", "good")
+    assert [(step["step"], step["state"], step["said"]) for step in told["steps"]] == [
+        ("reserve", "committed", {"place": 17}), ("charge", "committed", "charged"),
+    ]
+    assert "an approval" in shell("show", "letter-1")
+    assert [step["attempts"] for step in shell.json("show", "bad")["steps"]] == [1, 2]
+
+
+def test_counts_stuck_and_waiting(shell: Shell) -> None:
+    """How many there are, which are stuck and why, and what waits for a person."""
+    assert shell.json("counts") == {
+        "sagas": {"shop": {"open": 1, "ended": 1, "stuck": 1, "resolved": 0}, "signed": {"open": 2, "ended": 0, "stuck": 0, "resolved": 0}},
+        "wait for a person": 3,
+    }
+    assert "3 wait for a person" in shell("counts")
+    assert [(one["key"], one["chain"]) for one in shell.json("stuck")] == [("bad", ["charge"])]
+    assert {(one["key"], one["step"], one["why"]) for one in shell.json("waiting")} == {
+        ("odd", "charge", "unknown"), ("letter-1", "sign", "approval"), ("letter-2", "sign", "approval"),
+    }
+    assert "a person: nobody knows" in shell("waiting")
+
+
+def test_audit_and_export(shell: Shell, path: str, tmp_path: pathlib.Path, capsys: pytest.CaptureFixture[str]) -> None:
+    """Each log is audited; a saga is exported with its events; a line that is changed is found."""
+    assert all(log["good"] for log in shell.json("audit"))
+    told = shell.json("export", "bad")
+    assert [event["event"] for event in told["events"]][:3] == ["open", "start_run", "commit"]
+    assert [result["outcome"] for result in told["results"]] == ["commit", "missed", "fail"] and told["definition"].startswith("format")
+    if path.startswith("postgresql:"):
+        return
+    spoilt = tmp_path / "spoilt.db"
+    source, copy = sqlite3.connect(path), sqlite3.connect(spoilt)
+    source.backup(copy)
+    copy.execute("""UPDATE lines SET text = replace(text, '"event":"fail"', '"event":"commit"')""")
+    copy.commit()
+    for link in (source, copy):
+        link.close()
+    assert "NO" in Shell(spoilt, capsys)("audit", status=1)
+
+
+def test_progress_on_a_terminal(path: str, monkeypatch: pytest.MonkeyPatch) -> None:
+    """What takes long says how far it has come, where somebody looks."""
+
+    class Terminal(io.StringIO):
+        def isatty(self) -> bool:
+            return True
+
+    said = Terminal()
+    monkeypatch.setattr("sys.stderr", said)
+    assert command.main([path, "audit"]) == 0
+    assert re.findall(r"logs: \d+ of \d+", said.getvalue())[-1] == "logs: 1 of 1"
+
+
+def test_what_is_not_there(shell: Shell, tmp_path: pathlib.Path, capsys: pytest.CaptureFixture[str]) -> None:
+    """Keys and files that are not there, words that are no text, and files that are no store, change nothing."""
+    for words in (["show", "none"], ["show", "\udcff"], ["resolve", "\udcff", "--note", "\udcff"], ["abort", "none"], ["export", "none"], ["resolve", "none", "--note", "x"], ["resolve", "good", "--note", "x"]):
+        shell(*words, status=1)
+    none = tmp_path / "none.db"
+    assert Shell(none, capsys)("list", status=4) == "" and not none.exists()
+    none.write_text("no store")
+    Shell(none, capsys)("counts", status=4)
+    for path in (tmp_path, pathlib.Path(":memory:")):
+        Shell(path, capsys)("counts", status=4)
+    with pytest.raises(SystemExit) as usage:
+        shell("burn")
+    assert usage.value.code == 2
+
+
+def test_show_says_why(tmp_path: pathlib.Path, capsys: pytest.CaptureFixture[str]) -> None:
+    """What a step raised, and not that the tries behind it were given up; of a step that stands since its compensation failed, both."""
+    must = sagas.Saga("must")
+
+    @must.step(keep=sagas.NEVER)
+    def take(task: Task) -> Json:
+        return {"called": False}
+
+    @take.compensation(tries=3)
+    def give(task: Task) -> None:
+        raise sagas.Fail("it is gone")
+
+    @must.step(needs=[take], tries=3)
+    def send(task: Task) -> None:
+        raise sagas.Fail("no address")
+
+    path = tmp_path / "must.db"
+
+    async def main() -> None:
+        async with sagas.open(path, [must]) as store:
+            assert (await (await store.start(must, "k")).wait()).phase == "stuck"
+
+    run(main())
+    told = Shell(path, capsys)("show", "k")
+    assert re.search(r'take  fixed +1  \{"called": false\}; its compensation: \{"error": "sagas.Fail: it is gone"', told), told
+    assert re.search(r'send  failed +3  \{"error": "sagas.Fail: no address"', told), told
+
+
+def test_beside_the_running_program(place: str, capsys: pytest.CaptureFixture[str]) -> None:
+    """abort, finish and resolve, while the program has the store open: it does what is asked, and the command says so."""
+    path, kinds = place, [shop(), signed()]
+    shell = Shell(path, capsys)
+
+    async def main() -> None:
+        async with sagas.open(path, kinds) as store:
+            await filled(path, store, kinds)
+
+            async def beside(*words: str, status: int = 0) -> str:
+                return await asyncio.to_thread(shell, *words, status=status)
+
+            assert "aborted" in await beside("abort", "letter-1")
+            end = await store.wait("letter-1")
+            assert end.aborted and end.states["write"] == "undone"
+            assert await beside("abort", "letter-1", status=1) == ""  # it is over, and nobody is asked
+            assert "finished" in await beside("finish", "letter-2", "sign", "--result", '"signed"')
+            assert (await store.wait("letter-2")).results["sign"] == "signed"
+            assert "finished" in await beside("finish", "odd", "charge", "--failed", "it was not charged")
+            await beside("finish", "good", "charge", status=1)
+            assert "resolved" in await beside("resolve", "bad", "--note", "paid in cash")
+            assert await beside("stuck") == "KEY  SAGA  STUCK SINCE  BECAUSE\n" or "bad" not in await beside("stuck")
+
+    run(main())
+
+
+def test_without_a_program(place: str, capsys: pytest.CaptureFixture[str]) -> None:
+    """What is asked while no program has the store open is done by the next one."""
+    path, kinds = place, [shop(), signed()]
+    shell = Shell(path, capsys)
+
+    async def first() -> None:
+        async with sagas.open(path, kinds) as store:
+            await filled(path, store, kinds)
+
+    async def second() -> None:
+        async with sagas.open(path, kinds) as store:
+            assert (await store.wait("letter-1")).aborted
+            assert (await store.wait("letter-2")).results["sign"] is None
+
+    run(first())
+    assert "once a program has the store open" in shell("abort", "letter-1")
+    assert "once a program has the store open" in shell("finish", "letter-2", "sign")
+    run(second())
+    assert shell.json("counts")["sagas"]["signed"]["ended"] == 2

@@ -1,0 +1,691 @@
+"""What can go wrong, and what it does: one case for each, with real processes where there are some."""
+
+from __future__ import annotations
+
+import asyncio
+import contextlib
+import datetime
+import os
+import pathlib
+import resource
+import signal
+import subprocess
+import sys
+import textwrap
+import threading
+import time
+from collections import Counter
+from collections.abc import Iterator
+from typing import Any
+
+import pytest
+
+import records
+import sagas
+from sagas import coordinator, lines, restoring
+from cases import QUICK, Task, ended, run, simple, until
+from driving import program
+from kills import children
+
+HERE = pathlib.Path(__file__).resolve().parent
+
+
+def script(path: pathlib.Path, text: str, *words: str) -> subprocess.Popen[str]:
+    """Starts a Python program, with the package and the tests in its path."""
+    path.write_text(textwrap.dedent(text))
+    environment = os.environ | {"PYTHONPATH": f"{HERE.parent / 'src'}{os.pathsep}{HERE}", "SAGAS_PROGRAM": program()}
+    return subprocess.Popen([sys.executable, "-u", str(path), *words], stdout=subprocess.PIPE, text=True, env=environment)
+
+
+def test_is_killed_with_the_program(tmp_path: pathlib.Path, place: str) -> None:
+    """What ran runs again with the same token; what had ended does not; what was told is there."""
+    program = f"""
+        import asyncio, os, sagas, signal, sys
+        saga = sagas.Saga("killed")
+        @saga.step
+        async def a(task):
+            print("a", task.token)
+            return 1
+        @saga.step(needs=[a])
+        async def b(task):
+            print("b", task.token)
+            if sys.argv[-1] == "kill":
+                os.kill(os.getpid(), signal.SIGKILL)
+            return task.of(a) + 1
+        async def main():
+            async with sagas.open({place!r}, [saga], node="one") as store:
+                run = await store.start(saga, key="k", input="once")
+                print("started")
+                print((await run.wait()).results)
+        asyncio.run(main())
+    """
+    first, _ = script(tmp_path / "first.py", program, "kill").communicate(timeout=60)
+    then, _ = script(tmp_path / "then.py", program).communicate(timeout=60)
+    told = [line.split() for line in first.splitlines()]
+    assert sorted(told)[-1] == ["started"] and [line[0] for line in told if line != ["started"]] == ["a", "b"]
+    b = next(" ".join(line) for line in told if line[0] == "b")
+    assert sorted(then.splitlines()) == sorted([b, "started", "{'a': 1, 'b': 2}"])
+
+
+# -- two programs, forks, the child --------------------------------------------------------------------------------
+
+
+def test_two_programs_open_one_store(tmp_path: pathlib.Path) -> None:
+    """The second gets StoreLocked, from the same process and from another; when the first is killed, it gets the store."""
+
+    other = f"""
+        import asyncio, sagas, sys
+        saga = sagas.Saga("simple")
+        @saga.step
+        def a(task): return 1
+        async def main():
+            async with sagas.open({str(tmp_path / 'store.db')!r}, [saga]) as store:
+                print("open", flush=True)
+                await asyncio.sleep(60)
+        asyncio.run(main())
+    """
+    process = script(tmp_path / "other.py", other)
+    assert process.stdout and process.stdout.readline() == "open\n"
+
+    async def main() -> None:
+        saga = simple(lambda task: 1)
+        with pytest.raises(sagas.StoreLocked, match=rf"another program \(process {process.pid}\)"):
+            async with sagas.open(tmp_path / "store.db", [saga]):
+                pass
+        process.kill()
+        process.wait()
+        async with sagas.open(tmp_path / "store.db", [saga]) as store:
+            with pytest.raises(sagas.StoreLocked, match="this program has this store open"):
+                async with sagas.open(tmp_path / "store.db", [saga]):
+                    pass
+            assert (await ended(store, saga)).phase == "ended"
+
+    try:
+        run(main())
+    finally:
+        process.kill()
+        process.wait()
+        process.stdout.close()
+
+
+def test_what_is_no_file(tmp_path: pathlib.Path) -> None:
+    """What users of other programs give as a store, folders, and numbers that are none: told before anything is made."""
+    saga = simple(lambda task: 1)
+    (tmp_path / "folder").mkdir()
+    names = {
+        ":memory:": (sagas.StoreFault, "sagas.testing.run"),
+        "": (sagas.StoreFault, "a store is a file"),
+        "sqlite:///a/b.db": (sagas.StoreFault, "by its path: a/b.db"),
+        "sqlite:////a.db": (sagas.StoreFault, "by its path: /a.db"),
+        "mysql://host/a": (sagas.StoreFault, "postgresql://"),
+        str(tmp_path / "folder"): (sagas.StoreFault, "it is a folder"),
+        str(tmp_path / "none/a.db"): (sagas.StoreUnwritable, "none: there is no such folder"),
+    }
+
+    async def opened(name: str) -> None:
+        async with sagas.open(name, [saga]):
+            pass
+
+    for name, (kind, text) in names.items():
+        with pytest.raises(kind, match=text):
+            run(opened(name))
+    assert [*tmp_path.iterdir()] == [tmp_path / "folder"]
+    for word, number in (("concurrency", 0), ("threads", 1.5), ("children", -1)):
+        with pytest.raises(ValueError, match=f"{word}=.*from 1 on"):
+            sagas.open(tmp_path / "store.db", [saga], **{word: number})  # type: ignore[arg-type]
+
+
+def test_a_function_forks(place: str) -> None:
+    """Lock and pipes are closed in the child: it outlives the store, and the store opens again."""
+    alive, leave = os.pipe()
+    forked: list[int] = []
+
+    def fork(task: Task) -> int:
+        child = os.fork()
+        if child == 0:
+            os.close(leave)
+            os.read(alive, 1)  # until the test ends
+            os._exit(0)
+        forked.append(child)
+        return child
+
+    async def main() -> None:
+        saga = simple(fork)
+        async with sagas.open(place, [saga]) as store:
+            assert (await ended(store, saga, "one")).phase == "ended"
+        async with sagas.open(place, [saga]) as store:
+            assert (await ended(store, saga, "two")).phase == "ended"
+
+    try:
+        run(main())
+        assert len(forked) == 2
+    finally:
+        os.close(leave)
+        for child in forked:
+            os.waitpid(child, 0)
+        os.close(alive)
+
+
+@pytest.mark.parametrize("in_thread", [False, True])
+def test_a_fork_that_comes_back(place: str, in_thread: bool) -> None:
+    """A function forks, and its child returns from it too: the child ends there, and does nothing to the saga."""
+    children_of_functions: list[int] = []
+
+    def fork(task: Task) -> str:
+        child = os.fork()
+        if child:
+            children_of_functions.append(child)
+        return "parent" if child else "child"
+
+    async def fork_in_loop(task: Task) -> str:
+        return fork(task)
+
+    async def main() -> None:
+        saga = simple(fork if in_thread else fork_in_loop)
+        async with sagas.open(place, [saga]) as store:
+            assert (await ended(store, saga)).results == {"a": "parent"}
+        (child,) = children_of_functions
+        try:
+            await until(lambda: os.waitpid(child, os.WNOHANG)[0], 10)
+        except TimeoutError:
+            os.kill(child, signal.SIGKILL)
+            os.waitpid(child, 0)
+            pytest.fail("the child that came back still runs")
+
+    run(main())
+
+
+def test_the_child_is_killed_again_and_again(place: str) -> None:
+    """It is started again from the database; what was asked and not committed never was."""
+    tokens: Counter[str] = Counter()
+
+    async def main() -> None:
+        saga = sagas.Saga("row")
+
+        @saga.step
+        async def a(task: Task) -> int:
+            tokens[task.token] += 1
+            await asyncio.sleep(0.01)
+            return 1
+
+        @saga.step(needs=[a])
+        async def b(task: Task) -> int:
+            tokens[task.token] += 1
+            return task.of(a) + 1
+
+        others = set(children(os.getpid()))  # servers that other tests use
+        async with sagas.open(place, [saga]) as store:
+            work = [asyncio.create_task(ended(store, saga, f"k{number}")) for number in range(60)]
+            for _ in range(8):
+                await asyncio.sleep(0.03)
+                for child in set(children(os.getpid())) - others:
+                    os.kill(child, signal.SIGKILL)
+            assert {end.results["b"] for end in await asyncio.gather(*work)} == {2}
+
+    run(main())
+    assert len(tokens) == 120 and set(tokens.values()) == {1}  # this program lived: each function was called once
+
+
+BETWEEN = """#!/usr/bin/env python3
+import json, os, subprocess, sys
+if sys.argv[1] != "drive":
+    os.execv({program!r}, [{program!r}, *sys.argv[1:]])
+fds = [int(word.rsplit("/", 1)[1]) for word in sys.argv if word.startswith("/proc/self/fd/")]
+drive = subprocess.Popen([{program!r}, *sys.argv[1:]], stdin=subprocess.PIPE, stdout=subprocess.PIPE, pass_fds=fds)
+for line in sys.stdin.buffer:
+    drive.stdin.write(line)
+    drive.stdin.flush()
+    lines = [drive.stdout.readline()]
+    while lines[-1].startswith(b"+"):
+        lines.append(drive.stdout.readline())
+    if json.loads(lines[-1]).get("event", {{}}).get("event") == {event!r}:
+        try:
+            os.unlink({once!r})
+            os.write(1, b"".join(lines[:-1]))
+            os._exit(9)  # it is decided, and nobody is told
+        except FileNotFoundError:
+            pass
+    os.write(1, b"".join(lines))
+"""
+
+
+@pytest.mark.parametrize("event", ["open", "missed", "commit", "fail", "undone", "abort"])
+def test_the_child_dies_between_log_and_reply(tmp_path: pathlib.Path, place: str, event: str) -> None:
+    """It has decided, and dies before it says so: the outcome is reported again, for the attempt that it is of."""
+    between, once = tmp_path / "between", tmp_path / "once"
+    between.write_text(BETWEEN.format(program=program(), event=event, once=str(once)))
+    between.chmod(0o755)
+    once.touch()
+    calls: list[tuple[str, int]] = []
+    saga = sagas.Saga("row")
+
+    @saga.step
+    async def a(task: Task) -> int:
+        calls.append(("a", task.attempt))
+        return 1
+
+    @a.compensation
+    async def not_a(task: Task) -> None:
+        calls.append(("not a", task.attempt))
+
+    @saga.step(needs=[a], tries=3, backoff=QUICK)
+    async def b(task: Task) -> int:
+        calls.append(("b", task.attempt))
+        if task.attempt == 1 or task.input == "fails":
+            raise ValueError("no")
+        if task.input == "waits":
+            await asyncio.sleep(0.2)
+        return 2
+
+    async def main() -> sagas.End:
+        async with sagas.open(place, [saga], program=str(between)) as store:
+            wanted = {"fail": "fails", "undone": "fails", "abort": "waits"}.get(event)
+            run = await store.start(saga, key="k", input=wanted)
+            if event == "abort":
+                assert await run.abort()
+            return await run.wait()
+
+    end = run(main())
+    assert not once.exists(), "it did not die"
+    assert end.phase == "ended"
+    if event in ("fail", "undone"):
+        assert calls == [("a", 1), ("b", 1), ("b", 2), ("b", 3), ("not a", 1)]
+    elif event != "abort":
+        assert calls == [("a", 1), ("b", 1), ("b", 2)]
+    assert max(Counter(calls).values()) == 1
+
+
+# -- functions -------------------------------------------------------------------------------------------------------
+
+
+@pytest.mark.parametrize("refused", ["other-attempt", "no-such-step"])
+def test_a_report_that_the_child_does_not_know(place: str, monkeypatch: pytest.MonkeyPatch, caplog: pytest.LogCaptureFixture, refused: str) -> None:
+    """The log is begun again from the store; what the function returned is reported then, and it is not called again."""
+    right, spoilt = lines.report_line, 0
+
+    def report_line(saga: int, step: int, task: str, attempt: int, ok: bool) -> str:
+        nonlocal spoilt
+        spoilt += 1
+        one_more = int(spoilt == 1)
+        return right(saga, step, task, attempt + one_more, ok) if refused == "other-attempt" else right(saga, step + one_more, task, attempt, ok)
+
+    monkeypatch.setattr(lines, "report_line", report_line)
+    calls: list[str] = []
+
+    async def main() -> sagas.End:
+        saga = simple(lambda task: calls.append(task.token))
+        async with sagas.open(place, [saga]) as store:
+            return await ended(store, saga)
+
+    assert run(main()).ok and len(calls) == 1
+    assert refused in caplog.text and "begun again from the store" in caplog.text
+
+
+def test_a_function_hangs(place: str) -> None:
+    """Nobody knows what it did: the same attempt again, with the same token; nobody else waits for it."""
+    tokens: list[str] = []
+
+    async def main() -> None:
+        async def hang(task: Task) -> int:
+            tokens.append(task.token)
+            if len(tokens) < 3:
+                await asyncio.sleep(3600)
+            return 1
+
+        slow, quick = simple(hang, timeout=0.1), sagas.Saga("quick")
+        quick.step(name="a")(lambda task: 1)
+        async with sagas.open(place, [slow, quick], concurrency=1) as store:
+            first = await store.start(slow, key="slow")
+            assert (await ended(store, quick, "quick")).phase == "ended"
+            assert (await first.wait()).results == {"a": 1}
+
+    run(main())
+    assert len(tokens) == 3 and len(set(tokens)) == 1
+
+
+def test_a_thread_ends_after_its_time(place: str) -> None:
+    """A thread that ends well after its time is done, and is not called again."""
+    calls: list[int] = []
+
+    def late(task: Task) -> int:
+        calls.append(task.attempt)
+        threading.Event().wait(0.3)
+        return 7
+
+    async def main() -> None:
+        saga = simple(late, timeout=0.05)
+        async with sagas.open(place, [saga]) as store:
+            assert (await ended(store, saga)).results == {"a": 7}
+
+    run(main())
+    assert calls == [1]
+
+
+def test_a_function_blocks_the_loop(place: str) -> None:
+    """All else is late, and nothing is lost."""
+
+    async def block(task: Task) -> int:
+        time.sleep(0.2)
+        return 1
+
+    async def main() -> None:
+        saga = simple(block, timeout=0.1)
+        async with sagas.open(place, [saga]) as store:
+            ends = await asyncio.gather(*(ended(store, saga, f"k{number}") for number in range(5)))
+            assert {end.phase for end in ends} == {"ended"}
+
+    run(main())
+
+
+@pytest.mark.parametrize("in_thread", [False, True])
+@pytest.mark.parametrize("kind", [SystemExit, KeyboardInterrupt, GeneratorExit, asyncio.CancelledError, StopIteration])
+def test_a_function_raises_what_it_should_not(place: str, kind: type[BaseException], in_thread: bool) -> None:
+    """The program goes on; the attempt is made again with its token, or fails where that was an exception as others are."""
+    tokens: list[str] = []
+
+    def odd(task: Task) -> int:
+        tokens.append(task.effect_token)
+        if len(tokens) == 1:
+            raise kind()
+        return 1
+
+    async def odd_in_loop(task: Task) -> int:
+        return odd(task)
+
+    async def main() -> None:
+        saga = simple(odd if in_thread else odd_in_loop, tries=2)
+        async with sagas.open(place, [saga]) as store:
+            assert (await ended(store, saga)).results == {"a": 1}
+
+    run(main())
+    assert len(tokens) == 2 and len(set(tokens)) == 1
+
+
+# -- clocks, disks, closing ------------------------------------------------------------------------------------------
+
+
+class Jumping:
+    """A clock that can be put forward and back."""
+
+    def __init__(self) -> None:
+        self.by = 0.0
+
+    def __call__(self) -> float:
+        return time.time() + self.by
+
+
+@pytest.mark.parametrize("jump", [-7 * 86400.0, 7 * 86400.0])
+def test_a_clock_that_jumps(place: str, jump: float) -> None:
+    """It is put forward or back by a week between tries and programs: nothing waits a week, and nothing is made again."""
+    clock, calls = Jumping(), Counter[str]()
+
+    async def fails(task: Task) -> int:
+        calls[task.token] += 1
+        clock.by += jump
+        if task.attempt < 3:
+            raise ValueError("again")
+        return 1
+
+    async def main() -> None:
+        saga = simple(fails, tries=3)
+        async with sagas.open(place, [saga], clock=clock) as store:
+            assert (await ended(store, saga, "one")).phase == "ended"
+        clock.by += jump
+        async with sagas.open(place, [saga], clock=clock) as store:
+            assert (await ended(store, saga, "two")).phase == "ended"
+
+    run(main())
+    assert len(calls) == 6 and set(calls.values()) == {1}
+
+
+def test_a_wait_is_over_while_nothing_runs(place: str) -> None:
+    """Three days pass between two programs; the wait is over when the second opens the store."""
+    clock, called = Jumping(), asyncio.Event()
+    saga = sagas.Saga("late")
+
+    @saga.wait(until=datetime.timedelta(days=3))
+    async def wait(task: Task) -> str:
+        called.set()
+        return "waited"
+
+    async def main() -> None:
+        async with sagas.open(place, [saga], clock=clock) as store:
+            await store.start(saga, key="k")
+        assert not called.is_set()
+        clock.by = 3 * 86400
+        async with sagas.open(place, [saga], clock=clock) as store:
+            assert (await store.wait("k")).results == {"wait": "waited"}
+
+    run(main())
+
+
+@contextlib.contextmanager
+def full() -> Iterator[None]:
+    """No file of this program grows."""
+    least, most = resource.getrlimit(resource.RLIMIT_FSIZE)
+    resource.setrlimit(resource.RLIMIT_FSIZE, (1, most))
+    try:
+        yield
+    finally:
+        resource.setrlimit(resource.RLIMIT_FSIZE, (least, most))
+
+
+def test_the_disk_is_full(tmp_path: pathlib.Path) -> None:
+    """`start` raises StoreUnwritable and nothing was begun; results wait for room; nothing is called twice by this program."""
+    calls: Counter[str] = Counter()
+    gate = asyncio.Event()
+
+    async def main() -> None:
+        async def hold(task: Task) -> str:
+            calls[task.token] += 1
+            await gate.wait()
+            return "x" * 2000
+
+        saga = simple(hold)
+        async with sagas.open(tmp_path / "store.db", [saga], concurrency=64) as store:
+            first = [await store.start(saga, key=f"k{number}") for number in range(20)]
+            with full():
+                gate.set()
+                with pytest.raises(sagas.StoreUnwritable):
+                    await store.start(saga, key="more")
+            ends = await asyncio.gather(*(run.wait() for run in first))
+            assert {end.phase for end in ends} == {"ended"}
+            assert (await ended(store, saga, "more")).phase == "ended"
+        assert set(calls.values()) == {1} and len(calls) == 21
+
+    run(main())
+
+
+def test_a_commit_fails_again_and_again(tmp_path: pathlib.Path, monkeypatch: pytest.MonkeyPatch) -> None:
+    """The pauses between two tries grow to two seconds, and no further."""
+    assert restoring.MOST_PAUSE == 2.0
+    monkeypatch.setattr(restoring, "MOST_PAUSE", 2 * restoring.FIRST_PAUSE)
+    gate, tries = asyncio.Event(), Counter[str]()
+
+    async def hold(task: Task) -> int:
+        await gate.wait()
+        return 1
+
+    async def main() -> None:
+        saga = simple(hold)
+        async with sagas.open(tmp_path / "store.db", [saga], on_event=lambda event: tries.update([event.name])) as store:
+            going = await store.start(saga, "k")
+            with full():
+                gate.set()
+                await until(lambda: tries["commit_failed"] + tries["child_died"] > 12, 30)  # with pauses that went on growing, minutes
+            assert (await going.wait()).ok
+
+    run(main())
+
+
+def test_a_failure_for_good_is_not_kept_at_first(tmp_path: pathlib.Path) -> None:
+    """The commit that has it fails: it is reported again, and the step is not called again."""
+    gate, told, calls = asyncio.Event(), Counter[str](), list[int]()
+    saga = sagas.Saga("one")
+
+    @saga.step(tries=3)
+    async def once(task: Task) -> None:
+        calls.append(task.attempt)
+        await gate.wait()
+        raise sagas.Fail("for good")
+
+    async def main() -> None:
+        async with sagas.open(tmp_path / "store.db", [saga], on_event=lambda event: told.update([event.name])) as store:
+            going = await store.start(saga, "k")
+            await until(lambda: calls)
+            with full():
+                gate.set()
+                await until(lambda: told["commit_failed"])
+            assert (await going.wait()).states == {"once": "failed"}
+
+    run(main())
+    assert calls == [1]
+
+
+def test_closing(place: str) -> None:
+    """Nothing new begins, what runs ends and is kept, who still waits gets Closed; the next program goes on."""
+    begun, gate = asyncio.Event(), asyncio.Event()
+    calls: list[str] = []
+    saga = sagas.Saga("row")
+
+    @saga.step
+    async def a(task: Task) -> int:
+        calls.append("a")
+        begun.set()
+        await gate.wait()
+        return 1
+
+    @saga.step(needs=[a])
+    async def b(task: Task) -> int:
+        calls.append("b")
+        return 2
+
+    async def main() -> None:
+        async with sagas.open(place, [saga]) as store:
+            run = await store.start(saga, key="k")
+            waiter = asyncio.create_task(run.wait())
+            await begun.wait()
+            asyncio.get_running_loop().call_later(0.05, gate.set)
+        with pytest.raises(sagas.Closed):
+            await waiter
+        with pytest.raises(sagas.Closed):
+            await store.start(saga, key="late")
+        assert calls == ["a"]
+        kept = records.read(place)
+        assert [result.outcome for result in kept.results.values()] == ["commit"]
+        async with sagas.open(place, [saga]) as store:
+            assert (await store.wait("k")).results == {"a": 1, "b": 2}
+        assert calls == ["a", "b"]
+
+    run(main())
+
+
+def test_closing_while_starts_wait(place: str, monkeypatch: pytest.MonkeyPatch) -> None:
+    """Sagas that wait for a log, and logs that wait for a child, keep nobody: who was not told of a start gets Closed."""
+    monkeypatch.setattr("sagas.kinds.MOST_LOG", 6_000)
+    saga = sagas.Saga("pair")
+    begun, gate = asyncio.Event(), asyncio.Event()
+
+    @saga.step
+    async def a(task: Task) -> int:
+        begun.set()
+        await gate.wait()
+        return 1
+
+    @saga.step(needs=[a])
+    async def b(task: Task) -> int:
+        return 2
+
+    async def main() -> None:
+        async with sagas.open(place, [saga], concurrency=1, children=2) as store:
+            starts = [asyncio.create_task(store.start(saga, key=f"k{number}")) for number in range(60)]
+            await begun.wait()
+            gate.set()
+            async with asyncio.timeout(20):
+                await store.close()
+            told = await asyncio.gather(*starts, return_exceptions=True)
+        assert all(isinstance(one, (sagas.Run, sagas.Closed)) for one in told)
+        kept = records.read(place)
+        assert {f"k{number}" for number, one in enumerate(told) if isinstance(one, sagas.Run)} <= set(kept.sagas)
+
+    run(main())
+
+
+def test_closing_says_what_it_waits_for(tmp_path: pathlib.Path, caplog: pytest.LogCaptureFixture, monkeypatch: pytest.MonkeyPatch) -> None:
+    """A function that runs for long: closing waits for its end, and says so."""
+    monkeypatch.setattr(coordinator, "QUIET", 0.01)
+
+    async def main() -> None:
+        begun, gate = asyncio.Event(), asyncio.Event()
+
+        async def slow(task: Task) -> int:
+            begun.set()
+            await gate.wait()
+            return 1
+
+        saga = simple(slow)
+        async with sagas.open(tmp_path / "store.db", [saga]) as store:
+            going = await store.start(saga, "k")
+            await begun.wait()
+            closing = asyncio.create_task(store.close())
+            await until(lambda: "closing waits for 1 functions: a of 'k'" in caplog.text)
+            gate.set()
+            await closing
+        async with sagas.open(tmp_path / "store.db", [saga]) as store:
+            assert (await store.wait(going.key)).ok
+
+    run(main())
+
+
+def test_closing_cancels_after_its_grace(place: str) -> None:
+    """What was cancelled runs again, with its token, when the store is opened again."""
+    tokens: list[str] = []
+
+    async def hang(task: Task) -> int:
+        tokens.append(task.token)
+        await asyncio.sleep(3600 if len(tokens) == 1 else 0)
+        return 1
+
+    async def main() -> None:
+        saga = simple(hang)
+        began = time.monotonic()
+        async with sagas.open(place, [saga], grace=0.1) as store:
+            await store.start(saga, key="k")
+        assert time.monotonic() - began < 20
+        async with sagas.open(place, [saga]) as store:
+            assert (await store.wait("k")).ok
+
+    run(main())
+    assert len(set(tokens)) == 1 and len(tokens) <= 2
+
+
+@pytest.mark.parametrize("must", [False, True])
+def test_a_compensation_fails_for_good(place: str, must: bool) -> None:
+    """The plan goes on with the step fixed; or no plan is left, and the saga is stuck with its chain until a person resolves it."""
+    saga = sagas.Saga("row")
+
+    @saga.step(keep=sagas.NEVER if must else 5)
+    async def a(task: Task) -> int:
+        return 1
+
+    @a.compensation(tries=2, backoff=QUICK)
+    async def not_a(task: Task) -> None:
+        raise ValueError("it cannot be undone")
+
+    @saga.step(needs=[a])
+    async def b(task: Task) -> None:
+        raise sagas.Fail("no")
+
+    async def main() -> None:
+        async with sagas.open(place, [saga]) as store:
+            end = await ended(store, saga)
+            assert end.states == {"a": "fixed", "b": "failed"} and end.results == {"a": 1}
+            if must:
+                assert end.phase == "stuck" and end.chain == ["a"] and end.cost is None
+                assert [one.key for one in store.stuck()] == ["k"]
+                await store.resolve("k", "undone by hand")
+                assert store.stuck() == [] and (await store.wait("k")).note == "undone by hand"
+            else:
+                assert end.phase == "ended" and end.cost == 5 and store.stuck() == []
+
+    run(main())

@@ -1,0 +1,247 @@
+"""Limits and rates of a step over all nodes: never exceeded, given back by whoever is gone, and nobody else is kept back."""
+
+from __future__ import annotations
+
+import asyncio
+import contextlib
+import os
+import pathlib
+import signal
+import sqlite3
+import subprocess
+import sys
+import textwrap
+import time
+from collections import Counter
+from typing import Any
+
+import psycopg
+import pytest
+
+import sagas
+from cases import QUICK, Task, ended, run, simple, until
+from driving import program
+from sagas.places_postgresql import Places
+from sagas.records import Grant
+
+HERE = pathlib.Path(__file__).resolve().parent
+
+
+class Count:
+    """How many are inside at once, and in all."""
+
+    def __init__(self) -> None:
+        self.now = self.most = 0
+        self.by: Counter[str] = Counter()
+        self.at: list[float] = []
+
+    async def inside(self, name: str, seconds: float = 0.005) -> None:
+        """Is inside for so long."""
+        self.at.append(time.monotonic())
+        self.now += 1
+        self.by[name] += 1
+        self.most = max(self.most, self.now)
+        await asyncio.sleep(seconds)
+        self.now -= 1
+
+
+def counted(count: Count, name: str = "here", seconds: float = 0.005, **words: Any) -> sagas.Saga:
+    """A step that is counted while it runs."""
+
+    async def step(task: Task) -> None:
+        await count.inside(name, seconds)
+
+    return simple(step, **words)
+
+
+def test_no_more_than_its_limit_at_once(place: str) -> None:
+    """Of one program, in a file and in a database; all places are used, and each call gets one in the end."""
+    count = Count()
+    kind = counted(count, fleet_limit=3)
+
+    async def main() -> None:
+        async with sagas.open(place, [kind], concurrency=16) as store:
+            ends = await asyncio.gather(*(ended(store, kind, f"k{number}") for number in range(40)))
+            assert all(end.ok for end in ends)
+
+    run(main())
+    assert count.most == 3 and sum(count.by.values()) == 40
+
+
+def test_a_limit_holds_over_all_nodes(url: str) -> None:
+    """Three nodes with more work than places: together no more than the limit, and each node has its turns."""
+    count = Count()
+    kinds = [counted(count, f"n{number}", fleet_limit=4) for number in range(3)]
+
+    async def main() -> None:
+        async with contextlib.AsyncExitStack() as stack:
+            nodes = [await stack.enter_async_context(sagas.open(url, [kind], node=f"n{number}")) for number, kind in enumerate(kinds)]
+            await asyncio.gather(*(ended(node, kind, f"{at}-{number}") for at, (node, kind) in enumerate(zip(nodes, kinds)) for number in range(20)))
+
+    run(main())
+    assert count.most == 4 and count.by == {f"n{number}": 20 for number in range(3)}
+
+
+def test_a_held_step_keeps_nobody_back(place: str) -> None:
+    """All that wait for a place take no slot: another step runs past them with the only other one."""
+    gate = asyncio.Event()
+
+    async def wait(task: Task) -> None:
+        await gate.wait()
+
+    slow, quick = simple(wait, fleet_limit=1), sagas.Saga("quick")
+    quick.step(name="a")(lambda task: 1)
+
+    async def main() -> None:
+        async with sagas.open(place, [slow, quick], concurrency=2) as store:
+            held = [await store.start(slow, f"slow-{number}") for number in range(10)]
+            await asyncio.gather(*(ended(store, quick, f"quick-{number}") for number in range(10)))
+            assert await held[9].abort() and (await held[9].wait()).aborted  # it was never called
+            gate.set()
+            assert all(end.ok for end in await asyncio.gather(*(one.wait() for one in held[:9])))
+
+    run(main())
+
+
+NODE = """
+    import asyncio, sagas
+    saga = sagas.Saga("simple")
+    @saga.step(name="a", fleet_limit=1)
+    async def a(task):
+        print("called", flush=True)
+        await asyncio.sleep(3600)
+    async def main():
+        async with sagas.open({url!r}, [saga], lease=1.5) as store:
+            await store.start(saga, "theirs")
+            await store.serve()
+    asyncio.run(main())
+"""
+
+
+def test_a_killed_nodes_places_are_free_after_its_lease(url: str, tmp_path: pathlib.Path) -> None:
+    """While it lives its place is its own; when it is killed, another node's step has it."""
+    script = tmp_path / "node.py"
+    script.write_text(textwrap.dedent(NODE.format(url=url)))
+    environment = os.environ | {"PYTHONPATH": str(HERE.parent / "src"), "SAGAS_PROGRAM": program()}
+    process = subprocess.Popen([sys.executable, "-u", str(script)], stdout=subprocess.PIPE, text=True, env=environment)
+    kind = simple(lambda task: 1, fleet_limit=1)
+
+    async def main() -> None:
+        assert process.stdout and await asyncio.to_thread(process.stdout.readline) == "called\n"
+        async with sagas.open(url, [kind], lease=1.5) as store:
+            waiting = asyncio.create_task(ended(store, kind, "mine"))
+            await asyncio.sleep(0.7)
+            assert not waiting.done()
+            process.send_signal(signal.SIGKILL)
+            assert (await waiting).ok and (await store.wait("theirs")).ok
+
+    try:
+        run(main())
+    finally:
+        process.kill()
+        process.wait()
+        assert process.stdout
+        process.stdout.close()
+
+
+PERIOD = 0.6
+
+
+def test_no_more_than_its_rate(place: str) -> None:
+    """In any period no more calls begin than its rate says, tries too, also where the program is started again in between."""
+    count = Count()
+
+    async def step(task: Task) -> None:
+        await count.inside("here")
+        if task.attempt == 1:
+            raise ValueError("again")
+
+    kind = simple(step, rate=(4, PERIOD), tries=2, backoff=QUICK)
+
+    async def main() -> None:
+        async with sagas.open(place, [kind]) as store:
+            await asyncio.gather(*(ended(store, kind, f"k{number}") for number in range(2)))
+        async with sagas.open(place, [kind]) as store:
+            await asyncio.gather(*(ended(store, kind, f"more-{number}") for number in range(4)))
+
+    began = time.monotonic()
+    run(main())
+    assert len(count.at) == 12 and time.monotonic() - began >= 2 * PERIOD
+    for first, fifth in zip(count.at, count.at[4:]):
+        assert fifth - first > PERIOD / 2, count.at  # counted when the place is given, which is before the call by as much as this machine is busy
+
+
+def test_a_rate_holds_over_all_nodes(url: str) -> None:
+    """Two nodes, and a limit beside it."""
+    count = Count()
+    kinds = [counted(count, f"n{number}", seconds=0.05, rate=(6, PERIOD), fleet_limit=2) for number in range(2)]
+
+    async def main() -> None:
+        async with sagas.open(url, [kinds[0]], node="one") as one, sagas.open(url, [kinds[1]], node="other") as other:
+            await asyncio.gather(*(ended(node, kind, f"{at}-{number}") for at, (node, kind) in enumerate(zip((one, other), kinds)) for number in range(10)))
+
+    began = time.monotonic()
+    run(main())
+    assert sum(count.by.values()) == 20 and count.most <= 2 and time.monotonic() - began >= 3 * PERIOD
+
+
+def test_a_clock_that_jumped_back_stops_no_rate(place: str) -> None:
+    """Places that are taken until a time past any period are free."""
+    kind = counted(Count(), rate=(2, 3.0))
+
+    async def main() -> None:
+        async with sagas.open(place, [kind]) as store:
+            await asyncio.gather(*(ended(store, kind, f"k{number}") for number in range(2)))
+            statement = "UPDATE places SET until = until + 86400 WHERE kind = 'rate'"
+            if place.startswith("postgresql:"):
+                with psycopg.connect(place, options="-csearch_path=sagas") as link:
+                    link.execute(statement)
+            else:
+                with contextlib.closing(sqlite3.connect(place)) as db:
+                    db.execute(statement)
+                    db.commit()
+            async with asyncio.timeout(2.5):
+                await ended(store, kind, "next")
+
+    run(main())
+
+
+def test_places_are_not_lost_with_their_answers(url: str, monkeypatch: pytest.MonkeyPatch) -> None:
+    """Statements are done and their answers lost: the limit holds, all sagas end, and each place is free again."""
+    count, turns = Count(), iter(range(1000))
+    kind = counted(count, fleet_limit=2)
+    right = Places.take
+
+    async def take(self: Places, *words: Any) -> Grant:
+        grant = await right(self, *words)
+        if next(turns) in (0, 4, 9):
+            raise sagas.StoreUnwritable("the answer is lost")
+        return grant
+
+    monkeypatch.setattr(Places, "take", take)
+
+    def taken() -> int:
+        with psycopg.connect(url) as link:
+            return len(link.execute("SELECT 1 FROM sagas.places WHERE node IS NOT NULL").fetchall())
+
+    async def main() -> None:
+        async with sagas.open(url, [kind]) as store:
+            ends = await asyncio.gather(*(ended(store, kind, f"k{number}") for number in range(12)))
+            assert all(end.ok for end in ends) and next(turns) > 10
+            await until(lambda: taken() == 0)
+
+    run(main())
+    assert count.most <= 2
+
+
+def test_what_is_no_limit_is_refused() -> None:
+    """Told by step, with what is allowed."""
+    for words, said in (
+        ({"fleet_limit": 0}, "fleet_limit=0"), ({"fleet_limit": True}, "fleet_limit=True"), ({"rate": (10, 0)}, "rate="), ({"rate": 5}, "rate=5"),
+        ({"rate": (10_001, 60)}, "10,000 calls"),
+    ):
+        with pytest.raises(sagas.DefinitionError, match=said):
+            simple(lambda task: 1, **words)
+    saga = sagas.Saga("elsewhere")
+    with pytest.raises(sagas.DefinitionError, match="done elsewhere"):
+        saga.step(handler=None, name="a", fleet_limit=2)  # type: ignore[call-overload]

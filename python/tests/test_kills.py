@@ -1,0 +1,22 @@
+"""Kills at random moments: each store is driven to its end, whatever is struck, and the judge finds nothing.
+
+`tests/kills.py --rounds N` makes as many as are wanted.
+"""
+
+from __future__ import annotations
+
+import pytest
+
+from kills import KINDS, play
+
+ROUNDS = 8
+"""Stores a kind. A store meets up to twelve strikes, and each is at a moment of its own."""
+
+
+@pytest.mark.parametrize("number", range(ROUNDS))
+@pytest.mark.parametrize("kind", KINDS)
+def test_nothing_is_lost_and_nothing_is_done_twice(kind: str, number: int) -> None:
+    """The program or its child is killed, it is asked to close, its disk is full: witness, database and logs agree in the end."""
+    one = play(kind, 1000 * number + KINDS.index(kind), 40)
+    assert not one.found, f"{one.folder}: {one.found[:5]}"
+    assert sum(one.kills.values()) > 0

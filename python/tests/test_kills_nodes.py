@@ -1,0 +1,20 @@
+"""Two nodes over one database, struck at random moments: the judge finds nothing. `tests/kills_nodes.py --rounds N` makes as many rounds as are wanted."""
+
+from __future__ import annotations
+
+import pytest
+
+from kills_nodes import KINDS, play
+from server import Server
+
+ROUNDS = 1
+"""Databases a kind; each meets up to twelve strikes."""
+
+
+@pytest.mark.parametrize("number", range(ROUNDS))
+@pytest.mark.parametrize("kind", KINDS)
+def test_nothing_is_lost_and_nothing_is_done_twice(postgresql: Server, kind: str, number: int) -> None:
+    """Witness, database and logs agree in the end."""
+    one = play(kind, 1000 * number + KINDS.index(kind), 30, postgresql)
+    assert not one.found, f"{one.folder}: {one.found[:5]}"
+    assert sum(one.kills.values()) > 0

@@ -1,0 +1,589 @@
+"""Several nodes over one database: what is owned, taken over, handed over and fenced."""
+
+from __future__ import annotations
+
+import asyncio
+import contextlib
+import os
+import pathlib
+import signal
+import subprocess
+import sys
+import textwrap
+import time
+from collections import Counter
+from collections.abc import Iterator
+from typing import Any
+
+import psycopg
+import pytest
+
+import records
+import sagas
+from cases import QUICK, Task, ended, run, simple, until
+from driving import program
+from sagas import leases, news
+from server import Server
+
+HERE = pathlib.Path(__file__).resolve().parent
+
+
+def pair(gate: asyncio.Event | None = None, calls: list[str] | None = None, name: str = "pair") -> sagas.Saga:
+    """Two steps; the second waits for a gate, and each call of it is noted."""
+    pair = sagas.Saga(name)
+
+    @pair.step
+    async def a(task: Task) -> int:
+        return 1
+
+    @a.compensation
+    async def not_a(task: Task) -> None: ...
+
+    @pair.step(needs=[a])
+    async def b(task: Task) -> int:
+        if calls is not None:
+            calls.append(task.key)
+        if gate:
+            await gate.wait()
+        return task.of(a) + 1
+
+    return pair
+
+
+NODE = """
+    import asyncio, sys, sagas
+    pair = sagas.Saga("pair")
+    @pair.step
+    async def a(task): return 1
+    @a.compensation
+    async def not_a(task): pass
+    @pair.step(needs=[a])
+    async def b(task):
+        print("called", task.key, flush=True)
+        await asyncio.sleep({seconds})
+        return task.of(a) + 1
+    async def main():
+        async with sagas.open({url!r}, [pair], node={name!r}, lease={lease}) as store:
+            for number in range({count}):
+                await store.start(pair, f"{name}-{{number}}")
+            print("open", flush=True)
+            await store.serve()
+        print("closed", flush=True)
+    asyncio.run(main())
+"""
+
+
+@contextlib.contextmanager
+def node(path: pathlib.Path, url: str, name: str, count: int, *, lease: float = 2.0, seconds: float = 3600) -> Iterator[subprocess.Popen[str]]:
+    """A node in a process of its own, with sagas whose second step waits."""
+    file = path / f"{name}.py"
+    file.write_text(textwrap.dedent(NODE.format(url=url, name=name, count=count, lease=lease, seconds=seconds)))
+    environment = os.environ | {"PYTHONPATH": str(HERE.parent / "src"), "SAGAS_PROGRAM": program()}
+    process = subprocess.Popen([sys.executable, "-u", str(file)], stdout=subprocess.PIPE, text=True, env=environment)
+    try:
+        yield process
+    finally:
+        process.send_signal(signal.SIGCONT)
+        process.kill()
+        process.wait()
+        assert process.stdout
+        process.stdout.close()
+
+
+async def is_open(process: subprocess.Popen[str], called: int = 0) -> None:
+    """Returns once it has started its sagas, and so many second steps of them run."""
+    assert process.stdout
+    lines = Counter[str]()
+    while line := await asyncio.to_thread(process.stdout.readline):
+        lines[line.split()[0]] += 1
+        if lines["open"] and lines["called"] >= called:
+            return
+    raise AssertionError("it ended")
+
+
+# -- keys ------------------------------------------------------------------------------------------------------------
+
+
+def test_a_key_is_unique_over_all_nodes(url: str) -> None:
+    """Three nodes start the same keys at once: each is there once, and all three are told of its end."""
+    kind = pair()
+
+    async def main() -> None:
+        async with contextlib.AsyncExitStack() as stack:
+            nodes = [await stack.enter_async_context(sagas.open(url, [kind], node=f"n{number}")) for number in range(3)]
+            ends = await asyncio.gather(*(ended(node, kind, f"k{number}", number) for number in range(60) for node in nodes))
+            assert {end.phase for end in ends} == {"ended"} and len(ends) == 180
+            for other in nodes:
+                with pytest.raises(sagas.KeyConflict):
+                    await other.start(kind, "k1", "another input")
+
+    run(main())
+    kept = records.read(url)
+    assert set(kept.sagas) == {f"k{number}" for number in range(60)}
+
+
+def test_who_waits_elsewhere_hears_of_the_end(url: str) -> None:
+    """`wait`, `abort` and `finish` at a node that does not have the saga."""
+    gate = asyncio.Event()
+    kind = pair(gate)
+    signed = sagas.Saga("signed")
+
+    @signed.approval()
+    def sign(task: Task) -> None: ...
+
+    async def main() -> None:
+        async with sagas.open(url, [kind, signed]) as one, sagas.open(url, [kind, signed]) as other:
+            await one.start(kind, "k")
+            waiting = asyncio.create_task(other.wait("k"))
+            await one.start(kind, "gone")
+            assert await other.abort("gone") is True and await other.abort("gone") is False
+            await one.start(signed, "s")
+            await until(lambda: records.read(url).sagas["s"])
+            await other.finish("s", sign, {"by": "Ada"})
+            assert (await other.wait("s")).results == {"sign": {"by": "Ada"}}
+            with pytest.raises(sagas.NotWaiting):
+                await other.finish("s", sign)
+            with pytest.raises(sagas.NoSuchSaga):
+                await other.abort("none")
+            gate.set()
+            assert (await waiting).results == {"a": 1, "b": 2}
+            assert (await other.wait("gone")).aborted
+
+    run(main())
+
+
+# -- takeover ----------------------------------------------------------------------------------------------------------
+
+
+def test_a_killed_nodes_sagas_go_on(tmp_path: pathlib.Path, url: str) -> None:
+    """After its lease another node calls its open steps again, with the same tokens."""
+    calls: list[str] = []
+
+    async def main() -> None:
+        with node(tmp_path, url, "first", 20) as process:
+            await is_open(process)
+            async with sagas.open(url, [pair(calls=calls)], lease=2.0) as store:
+                assert calls == []
+                process.kill()
+                ends = await asyncio.gather(*(store.wait(f"first-{number}") for number in range(20)))
+                assert all(end.ok for end in ends)
+
+    run(main())
+    assert Counter(calls) == Counter(f"first-{number}" for number in range(20))
+
+
+def test_a_node_that_slept_past_its_lease_writes_nothing(tmp_path: pathlib.Path, url: str) -> None:
+    """It is stopped while its steps run; another node ends them; when it goes on, its results are not recorded."""
+
+    async def main() -> None:
+        with node(tmp_path, url, "sleeper", 5, lease=1.5, seconds=1.0) as process:
+            await is_open(process)
+            process.send_signal(signal.SIGSTOP)
+            async with sagas.open(url, [pair()], lease=1.5) as store:
+                ends = await asyncio.gather(*(store.wait(f"sleeper-{number}") for number in range(5)))
+                assert all(end.ok for end in ends)
+                before = records.read(url)
+                process.send_signal(signal.SIGCONT)
+                await ended(store, pair_of(store), "after")
+                process.send_signal(signal.SIGTERM)
+                assert await asyncio.to_thread(process.wait, 120) == 0
+                after = records.read(url)
+                assert {key: row for key, row in after.sagas.items() if key != "after"} == before.sagas
+                assert all(said.startswith("yes") for said in (await store.audit()).values())
+
+    run(main())
+
+
+def pair_of(store: sagas.Store) -> sagas.Saga:
+    """The saga that a store was opened with."""
+    return next(iter(store._shelf.sagas.values()))
+
+
+def test_sigterm_hands_over_at_once(tmp_path: pathlib.Path, url: str) -> None:
+    """Nothing new begins, what runs ends and is kept, and the logs are another node's long before the lease's end."""
+    calls: list[str] = []
+
+    async def main() -> None:
+        with node(tmp_path, url, "leaving", 3, lease=600, seconds=1.0) as process:
+            await is_open(process, called=3)
+            async with sagas.open(url, [pair(calls=calls)], lease=600) as store:
+                process.send_signal(signal.SIGTERM)
+                assert await asyncio.to_thread(process.wait, 120) == 0
+                await until(lambda: all(row.phase == "ended" for row in records.read(url).sagas.values()))
+                await ended(store, pair_of(store), "one more")
+
+    run(main())
+    assert calls == ["one more"]
+
+
+def test_an_old_name_has_its_logs_at_once(url: str, tmp_path: pathlib.Path) -> None:
+    """A node that is started again under its name does not wait for the lease of its earlier run."""
+
+    async def main() -> None:
+        with node(tmp_path, url, "web", 3, lease=600) as process:
+            await is_open(process)
+            process.kill()
+            process.wait()
+            async with sagas.open(url, [pair()], node="web", lease=600) as store:
+                assert all(end.ok for end in await asyncio.gather(*(store.wait(f"web-{number}") for number in range(3))))
+
+    run(main())
+
+
+def test_two_nodes_of_one_name(url: str) -> None:
+    """The second has the first one's logs; both go on, and nothing is done twice by one of them."""
+    gate = asyncio.Event()
+    calls: list[list[str]] = [[], []]
+    kinds = [pair(gate, calls[0]), pair(gate, calls[1])]
+
+    async def main() -> None:
+        async with sagas.open(url, [kinds[0]], node="same", lease=2.0) as first:
+            await asyncio.gather(*(first.start(kinds[0], f"k{number}") for number in range(5)))
+            await until(lambda: len(calls[0]) == 5)
+            async with sagas.open(url, [kinds[1]], node="same", lease=2.0) as second:
+                await until(lambda: len(calls[1]) == 5)
+                gate.set()
+                ends = await asyncio.gather(*(store.wait(f"k{number}") for number in range(5) for store in (first, second)))
+                assert all(end.ok for end in ends)
+                assert (await ended(first, kinds[0], "new")).ok and (await ended(second, kinds[1], "newer")).ok
+
+    run(main())
+    assert all(row.phase == "ended" for row in records.read(url).sagas.values())
+
+
+def test_a_log_that_another_wrote_while_its_child_was_let_go(url: str, caplog: pytest.LogCaptureFixture) -> None:
+    """A node reports into a log that another has ended meanwhile: it hears that the log is not its own, before it asks its child anything."""
+    gates = asyncio.Event(), asyncio.Event()
+    calls: list[list[str]] = [[], []]
+    kinds = [pair(gate, of) for gate, of in zip(gates, calls)]
+
+    async def main() -> None:
+        async with sagas.open(url, [kinds[0]], node="same", lease=600, idle=0.01) as first:
+            await first.start(kinds[0], "k")
+            await until(lambda: calls[0])
+            assert first._coordinator
+            (pump,) = first._coordinator.pumps.values()
+            await until(lambda: pump.state == "asleep")
+            async with sagas.open(url, [kinds[1]], node="same", lease=600) as second:
+                gates[1].set()
+                assert (await second.wait("k")).ok
+                gates[0].set()
+                assert (await first.wait("k")).ok
+                await until(lambda: pump.state == "closed")
+
+    run(main())
+    assert calls == [["k"], ["k"]] and not caplog.records
+
+
+def test_a_log_that_a_node_has_no_functions_for_is_left(url: str) -> None:
+    """It is shown by name, and driven by the node that has them: a deploy that rolls from one program to the next."""
+    gate = asyncio.Event()
+    calls: list[str] = []
+    old, new = pair(gate, calls), simple(lambda task: 1)
+
+    async def main() -> None:
+        async with sagas.open(url, [old], grace=0.0) as store:
+            await store.start(old, "old")
+            await until(lambda: calls)
+        async with sagas.open(url, [new], lease=2.0) as store:
+            assert (await ended(store, new, "new")).ok
+            assert records.read(url).sagas["old"].phase is None
+            gate.set()
+            async with sagas.open(url, [old], lease=2.0):
+                assert (await store.wait("old")).ok
+
+    run(main())
+
+
+def test_a_rolling_deploy_of_a_changed_definition(url: str) -> None:
+    """Sagas of the old definition go on with the old functions while their node is there, and then by that definition with the new ones."""
+    gates = {"stays": asyncio.Event(), "leaves": asyncio.Event()}
+    called: list[str] = []
+
+    def release(word: str) -> sagas.Saga:
+        kind = sagas.Saga("pair")
+
+        @kind.step
+        async def a(task: Task) -> str:
+            return word
+
+        @kind.step(needs=[a])
+        async def b(task: Task) -> str:
+            called.append(task.key)
+            if word == "old":
+                await gates[task.key].wait()
+            return word
+
+        if word == "new":
+
+            @kind.step(needs=[b])
+            async def c(task: Task) -> str:
+                return word
+
+        return kind
+
+    async def main() -> None:
+        old, new = release("old"), release("new")
+        async with sagas.open(url, [old], node="old", grace=0.0) as first:
+            for key in gates:
+                await first.start(old, key)
+            await until(lambda: len(called) == 2)
+            async with sagas.open(url, [new], node="new") as second:
+                assert (await ended(second, new, "begun")).results == {"a": "new", "b": "new", "c": "new"}
+                gates["stays"].set()
+                assert (await second.wait("stays")).results == {"a": "old", "b": "old"}
+                await first.close()
+                assert (await second.wait("leaves")).results == {"a": "old", "b": "new"}
+
+    run(main())
+    assert len(records.read(url).logs) == 2
+
+
+def test_a_lease_is_over_before_its_end() -> None:
+    """A node counts on its own clock, and leaves a tenth for what it began just before."""
+    lease = leases.Lease(None, "n", 10.0, "")  # type: ignore[arg-type]
+    for left, held in ((10.0, True), (1.5, True), (0.9, False), (-1.0, False)):
+        lease._until = leases.now() + left
+        assert lease.holds() is held
+    assert not lease.fresh
+
+
+def test_no_function_begins_behind_the_lease(url: str) -> None:
+    """A node cannot say that it lives: what it has is kept still, and nothing begins until it has said so and looked at its logs."""
+    gate, calls = asyncio.Event(), list[str]()
+    kind = sagas.Saga("pair")
+
+    @kind.step
+    async def a(task: Task) -> None:
+        calls.append("a")
+        await gate.wait()
+
+    @kind.step(needs=[a])
+    async def b(task: Task) -> None:
+        calls.append("b")
+
+    async def main() -> None:
+        async with sagas.open(url, [kind], lease=1.5) as store:
+            await store.start(kind, "k")
+            await until(lambda: calls)
+            with psycopg.connect(url) as stranger:
+                stranger.execute("LOCK TABLE sagas.nodes IN EXCLUSIVE MODE")
+                assert store._coordinator
+                holds = store._coordinator.store.holds
+                await until(lambda: not holds())
+                gate.set()
+                await until(lambda: [row.outcome for row in records.read(url).results.values()] == ["commit"])
+                await asyncio.sleep(0.2)
+                assert calls == ["a"]
+            assert (await store.wait("k")).ok
+
+    run(main())
+    assert calls == ["a", "b"]
+
+
+def test_takeover_in_lots_goes_past_a_locked_log(url: str, monkeypatch: pytest.MonkeyPatch) -> None:
+    """More logs than a lot; one that somebody else is at is left, and taken later."""
+    monkeypatch.setattr("sagas.kinds.ROOM", 1)
+    calls: list[str] = []
+
+    async def main() -> None:
+        gate = asyncio.Event()
+        async with sagas.open(url, [pair(gate, calls)], concurrency=80, grace=0.0) as store:
+            await asyncio.gather(*(store.start(pair_of(store), f"k{number}") for number in range(60)))
+            await until(lambda: len(calls) == 60)
+        calls.clear()
+        with psycopg.connect(url) as stranger:
+            row = stranger.execute("SELECT key FROM sagas.sagas WHERE id / 1000 = (SELECT min(log) FROM sagas.logs)").fetchone()
+            stranger.execute("SELECT 1 FROM sagas.logs ORDER BY log LIMIT 1 FOR UPDATE")
+            assert row
+            async with sagas.open(url, [pair(calls=calls)], concurrency=80) as store:
+                await until(lambda: len(calls) == 59)
+                assert row[0] not in calls
+                stranger.rollback()
+                assert (await store.wait(row[0])).ok
+
+    run(main())
+    assert Counter(calls) == Counter(f"k{number}" for number in range(60))
+
+
+def test_what_happens_is_told(url: str, monkeypatch: pytest.MonkeyPatch) -> None:
+    """A client's start that is taken, an answer, an end: whoever waits hears of it, and would look by himself minutes later."""
+    monkeypatch.setattr(news, "FIRST_LOOK", 600.0)
+    monkeypatch.setattr(news, "MOST_LOOK", 600.0)
+    gate = asyncio.Event()
+    kind = pair(gate)
+
+    async def main() -> None:
+        async with sagas.open(url, [kind]) as one, sagas.open(url, [kind]) as other, sagas.Client(url) as client:
+            async with asyncio.timeout(100):
+                await one.start(kind, "k")
+                waiting = [asyncio.create_task(other.wait("k")), asyncio.create_task(client.wait("k"))]
+                started = await client.start(kind, "of a client")
+                await one.start(kind, "gone")
+                assert await other.abort("gone")
+                gate.set()
+                assert all(end.ok for end in await asyncio.gather(*waiting)) and (await started.wait()).ok
+
+    run(main())
+
+
+def test_an_end_is_heard_of_without_a_word(url: str, monkeypatch: pytest.MonkeyPatch) -> None:
+    """What the database tells may be lost: whoever waits looks by himself, at intervals that grow."""
+    monkeypatch.setattr("sagas.postgresql.PostgreSQL._say", lambda self, words: None)
+    monkeypatch.setattr(news, "FIRST_LOOK", 0.01)
+    gate = asyncio.Event()
+    kind = pair(gate)
+    right, turns = news.News.of, list[int]()
+
+    async def of(self: news.News, id: int, turn: int) -> None:
+        turns.append(turn)
+        await right(self, id, turn)
+
+    monkeypatch.setattr(news.News, "of", of)
+
+    async def main() -> None:
+        async with sagas.open(url, [kind], node="one") as one, sagas.open(url, [kind], node="other") as other:
+            await one.start(kind, "k")
+            waiting = asyncio.create_task(other.wait("k"))
+            await asyncio.sleep(1.0)
+            assert turns == [*range(len(turns))] and 3 <= len(turns) <= 10  # each second one, it would be a hundred
+            gate.set()
+            assert (await waiting).ok
+
+    run(main())
+
+
+# -- the server ------------------------------------------------------------------------------------------------------
+
+
+def test_the_server_is_stopped_and_started(postgresql: Server, tmp_path: pathlib.Path) -> None:
+    """Steps that run meanwhile keep their results until it is there again; no function is called twice by a node that lived."""
+    from server import serving
+
+    calls: Counter[str] = Counter()
+
+    async def slow(task: Task) -> int:
+        calls[task.token] += 1
+        await asyncio.sleep(0.3)
+        return 1
+
+    kind = simple(slow)
+
+    async def main(server: Server) -> None:
+        url = server.create()
+        async with sagas.open(url, [kind], concurrency=50, lease=60) as store:
+            runs = [await store.start(kind, f"k{number}") for number in range(20)]
+            await until(lambda: len(calls) == 20)
+            await asyncio.to_thread(server.stop, "immediate")
+            await asyncio.sleep(0.5)
+            await asyncio.to_thread(server.start)
+            assert all(end.ok for end in await asyncio.gather(*(one.wait() for one in runs)))
+
+    with serving({"fsync": "on"}) as server:
+        run(main(server))
+    assert set(calls.values()) == {1} and len(calls) == 20
+
+
+def test_a_start_without_a_server_is_refused(url: str, monkeypatch: pytest.MonkeyPatch) -> None:
+    """No number of a log is at hand, and none can be asked for: it hears so, as who finds the server gone; nobody waits for ever."""
+    monkeypatch.setattr("sagas.kinds.ROOM", 1)
+    kind = pair()
+
+    async def main() -> None:
+        async with sagas.open(url, [kind]) as store:
+            told = await asyncio.gather(*(ended(store, kind, f"k{number}") for number in range(200)), return_exceptions=True)
+            refused = [number for number, one in enumerate(told) if isinstance(one, sagas.StoreUnwritable)]
+            assert refused and len(refused) + sum(isinstance(one, sagas.End) for one in told) == 200
+            assert (await started(store, kind, f"k{refused[0]}")).ok
+
+    run(main())
+
+
+def test_sessions_are_ended_by_the_server(url: str) -> None:
+    """Each session of the node is ended, again and again: all sagas end."""
+    kind = pair()
+
+    async def main() -> None:
+        with psycopg.connect(url, autocommit=True) as stranger:
+            async with sagas.open(url, [kind], lease=60) as store:
+                work = [asyncio.create_task(started(store, kind, f"k{number}")) for number in range(40)]
+                for _ in range(4):
+                    await asyncio.sleep(0.05)
+                    stranger.execute("SELECT pg_terminate_backend(pid) FROM pg_stat_activity WHERE datname = current_database() AND pid <> pg_backend_pid()")
+                assert all(end.ok for end in await asyncio.gather(*work))
+
+    run(main())
+    assert len(records.read(url).sagas) == 40
+
+
+async def started(store: sagas.Store, kind: sagas.Saga, key: str) -> sagas.End:
+    """A saga from its start, which is asked for until it is there, to its end."""
+    while True:
+        try:
+            return await ended(store, kind, key)
+        except sagas.StoreUnwritable:
+            await asyncio.sleep(0.02)
+
+
+def test_a_stranger_locks_a_table(url: str) -> None:
+    """For ten seconds: nothing is lost while nobody can write; a lease that runs out meanwhile costs nothing but time."""
+    kind = pair()
+
+    async def main() -> None:
+        async with sagas.open(url, [kind], lease=1.5) as store:
+            assert (await ended(store, kind, "before")).ok
+            with psycopg.connect(url) as stranger:
+                stranger.execute("LOCK TABLE sagas.results, sagas.nodes IN ACCESS EXCLUSIVE MODE")
+                work = asyncio.create_task(started(store, kind, "meanwhile"))
+                await asyncio.sleep(10.0)
+                assert not work.done()
+                stranger.rollback()
+            assert (await work).ok
+
+    run(main())
+
+
+# -- clocks ----------------------------------------------------------------------------------------------------------
+
+
+def test_clocks_a_minute_apart_that_jump(url: str) -> None:
+    """Two nodes' clocks are two minutes apart and jump by a minute at each call: nobody's log is taken while he lives, and what goes over goes on."""
+    clocks = {"late": -60.0, "early": 60.0}
+    calls: Counter[str] = Counter()
+    by: dict[str, str] = {}
+    gate = asyncio.Event()
+
+    def kind_of(name: str) -> sagas.Saga:
+        kind = sagas.Saga("clocked")
+
+        @kind.step(tries=3, backoff=QUICK)
+        async def a(task: Task) -> str:
+            clocks[name] += 60.0 if calls.total() % 2 else -60.0
+            calls[task.token] += 1
+            assert by.setdefault(task.key, name) == name
+            if task.attempt < 3:
+                raise ValueError("again")
+            return name
+
+        @kind.step(needs=[a])
+        async def b(task: Task) -> str:
+            calls[task.token] += 1
+            await gate.wait()
+            return name
+
+        return kind
+
+    async def main() -> None:
+        late, early = kind_of("late"), kind_of("early")
+        async with sagas.open(url, [early], node="early", clock=lambda: time.time() + clocks["early"], lease=1.5, concurrency=64) as other:
+            async with sagas.open(url, [late], node="late", clock=lambda: time.time() + clocks["late"], lease=1.5, concurrency=64, grace=0.0) as store:
+                await asyncio.gather(*(store.start(late, f"l{number}") for number in range(10)), *(other.start(early, f"e{number}") for number in range(10)))
+                await until(lambda: sum("-b-run-" in token for token in calls) == 20)
+                assert set(calls.values()) == {1}
+            gate.set()
+            ends = await asyncio.gather(*(other.wait(f"{letter}{number}") for letter in "le" for number in range(10)))
+            assert {(end.results["a"], end.results["b"]) for end in ends} == {("late", "early"), ("early", "early")}
+            assert all(said.startswith("yes") for said in (await other.audit()).values())
+
+    run(main())
+    assert all(count == 1 or "-b-run-" in token for token, count in calls.items())

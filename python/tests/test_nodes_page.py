@@ -1,0 +1,58 @@
+"""The page on more than one machine is run: a server, two nodes, a client; one node is killed, and the saga ends."""
+
+from __future__ import annotations
+
+import contextlib
+import os
+import pathlib
+import re
+import signal
+import subprocess
+import sys
+import time
+
+import sagas
+from driving import program
+from server import Server
+
+PAGE = (pathlib.Path(sagas.__file__).resolve().parents[2] / "NODES.md").read_text()
+
+
+def code(name: str) -> str:
+    """The block of the page that begins with a comment naming the file."""
+    found = re.search(rf"^```python\n# {name}\n(.*?)^```$", PAGE, re.S | re.M)
+    assert found, name
+    return found[1]
+
+
+def test_two_nodes_and_a_client(url: str, postgresql: Server, tmp_path: pathlib.Path) -> None:
+    """As the page says: what the client prints, though the node that had the saga was killed."""
+    for name in ("trip.py", "node.py", "client.py"):
+        (tmp_path / name).write_text(code(name).replace("asyncio.sleep(10)", "asyncio.sleep(3)"))
+    environment = os.environ | {
+        "PYTHONPATH": str(pathlib.Path(sagas.__file__).resolve().parents[1]), "SAGAS_PROGRAM": program(), "STORE": url, "PYTHONUNBUFFERED": "1",
+    }  # fmt: skip
+
+    def start(*words: str) -> subprocess.Popen[str]:
+        return subprocess.Popen([sys.executable, *words], cwd=tmp_path, env=environment, stdout=subprocess.PIPE, text=True)
+
+    with contextlib.ExitStack() as stack:
+        nodes = {}
+        for name in ("one", "two"):
+            nodes[name] = stack.enter_context(start("node.py", name))
+            stack.callback(nodes[name].kill)
+            assert nodes[name].stdout and nodes[name].stdout.readline() == f"node {name}\n"
+        client = stack.enter_context(start("client.py", "order-1"))
+        stack.callback(client.kill)
+        owner = None
+        until = time.monotonic() + 120
+        while owner is None and time.monotonic() < until:
+            said = subprocess.run([sys.executable, "-m", "sagas", "store", url, "nodes"], env=environment, capture_output=True, text=True, check=True).stdout
+            owner = next((line.split()[0] for line in said.splitlines()[1:] if line.split()[-1] == "1"), None)
+        assert owner
+        nodes[owner].send_signal(signal.SIGKILL)
+        out, _ = client.communicate(timeout=200)
+        assert out == re.search(r"\$ python client.py order-1\n(.*?)```", PAGE, re.S)[1]  # type: ignore[index]
+        other = nodes["two" if owner == "one" else "one"]
+        other.send_signal(signal.SIGTERM)
+        assert other.wait(120) == 0

@@ -1,0 +1,319 @@
+"""What a function does, and what that means; and the tokens that it is handed."""
+
+from __future__ import annotations
+
+import asyncio
+import dataclasses
+import datetime
+import logging
+import pathlib
+import threading
+from typing import Any
+
+import pytest
+
+import records
+import sagas
+import sagas.testing
+from cases import HOUR, QUICK, Task, ended, run, simple, until
+
+
+def test_returns(place: str) -> None:
+    """It is done, and its result is JSON."""
+
+    async def main() -> sagas.End:
+        saga = simple(lambda task: {"id": 7, "days": [1, 2]})
+        async with sagas.open(place, [saga]) as store:
+            return await ended(store, saga)
+
+    end = run(main())
+    assert end.ok and end.results == {"a": {"id": 7, "days": [1, 2]}} and end.cost is None
+
+
+def test_returns_what_is_no_json(place: str, caplog: pytest.LogCaptureFixture) -> None:
+    """The effect is there and is not lost: it is kept as unstorable, with a warning."""
+
+    async def main() -> sagas.End:
+        saga = simple(lambda task: object())
+        async with sagas.open(place, [saga]) as store:
+            return await ended(store, saga)
+
+    with caplog.at_level(logging.WARNING, "sagas"):
+        end = run(main())
+    assert end.ok and "unstorable" in end.results["a"]
+    assert "result_unstorable key=k saga=simple step=a" in caplog.text
+
+
+@dataclasses.dataclass
+class Seat:
+    """The type of a result."""
+
+    row: int
+
+
+def test_a_result_that_is_not_of_its_type(place: str) -> None:
+    """What could not be stored, or a person said, is told as it is kept: who waits, or asks for what is stuck, hears of it all the same."""
+    saga = sagas.Saga("typed")
+
+    @saga.step
+    def book(task: Task) -> Seat:
+        return object()  # type: ignore[return-value]
+
+    @saga.step(needs=[book], unknown_most=0)
+    def pay(task: Task) -> Seat:
+        raise sagas.Unknown("?")
+
+    @saga.step(needs=[pay], skip=sagas.NEVER)
+    def must(task: Task) -> None:
+        raise sagas.Fail("no")
+
+    well = sagas.Saga("well")
+    well.step(name="book")(book.run.function or print)
+
+    async def main() -> None:
+        async with sagas.open(place, [saga, well]) as store:
+            assert "unstorable" in (await ended(store, well, "w")).results["book"]
+            going = await store.start(saga, "k")
+            await until(store.unknown)
+            await store.finish("k", pay, "by hand")
+            end = await going.wait()
+            assert "unstorable" in end.results["book"] and end.results["pay"] == "by hand"
+            assert [one.results for one in store.stuck()] == [end.results]
+        async with sagas.open(place, [saga, well]) as store:
+            assert await store.wait("k") == end
+
+    run(main())
+
+
+def test_raises(place: str, caplog: pytest.LogCaptureFixture) -> None:
+    """It has had no effect: as many tries as it has, then it has failed. Each miss is a warning, the last with the function's traceback."""
+    attempts: list[int] = []
+
+    def fails(task: Task) -> None:
+        attempts.append(task.attempt)
+        raise ValueError("no")
+
+    async def main() -> sagas.End:
+        saga = simple(fails, tries=3)
+        async with sagas.open(place, [saga]) as store:
+            return await ended(store, saga)
+
+    end = run(main())
+    assert end.phase == "ended" and end.states == {"a": "failed"} and attempts == [1, 2, 3]
+    assert end.errors == {"a": "ValueError: no"} and str(end).endswith("failed    a: ValueError: no")
+    assert run(main()) == end  # it is over: what is told is read from the store
+    told = [record for record in caplog.records if record.name == "sagas"]
+    assert [record.levelname for record in told] == 3 * ["WARNING"]
+    assert [record.exc_info is None for record in told] == [True, True, False]
+    info = told[2].exc_info
+    assert info and info[2] and info[2].tb_frame.f_code.co_name == "fails"
+
+
+def test_raises_fail(place: str) -> None:
+    """No more tries: those that are left are reported without a call."""
+    attempts: list[int] = []
+
+    def fails(task: Task) -> None:
+        attempts.append(task.attempt)
+        raise sagas.Fail("for good")
+
+    async def main() -> sagas.End:
+        saga = simple(fails, tries=9, backoff=sagas.Backoff(first=3600))
+        async with sagas.open(place, [saga]) as store:
+            return await ended(store, saga)
+
+    end = run(main())
+    assert end.states == {"a": "failed"} and end.errors == {"a": "sagas.Fail: for good"} and attempts == [1]
+    outcomes = [result.outcome for result in records.read(place).results.values()]
+    assert sorted(outcomes) == ["fail"] + 8 * ["missed"]
+
+
+@pytest.mark.parametrize("error", [sagas.Unknown("?"), TimeoutError("?"), ConnectionResetError("?"), KeyError("?")])
+def test_raises_unknown(place: str, error: Exception) -> None:
+    """Nobody knows: the same attempt again, with the same token, and nothing is reported; by default for timeouts and lost connections."""
+    tokens: list[str] = []
+
+    def lost(task: Task) -> int:
+        tokens.append(task.token)
+        if len(tokens) < 3:
+            raise error
+        return 1
+
+    async def main() -> sagas.End:
+        words = {"unknown": (KeyError,)} if isinstance(error, KeyError) else {}
+        saga = simple(lost, **words)
+        async with sagas.open(place, [saga]) as store:
+            return await ended(store, saga)
+
+    assert run(main()).ok and len(tokens) == 3 and len(set(tokens)) == 1
+    assert len(records.read(place).results) == 1
+
+
+def test_unknown_waits_for_its_back_off(place: str) -> None:
+    """The same attempt is made again once that is over, also where another program has the store by then."""
+    clock = sagas.testing.Clock(datetime.datetime.now(datetime.timezone.utc))
+    tokens: list[str] = []
+
+    def lost(task: Task) -> int:
+        tokens.append(task.token)
+        if len(tokens) < 2:
+            raise sagas.Unknown("?")
+        return 1
+
+    saga = simple(lost, backoff=HOUR)
+
+    async def first() -> None:
+        async with sagas.open(place, [saga], clock=clock) as store:
+            await store.start(saga, key="k")
+            (held,) = await until(store.unknown)
+            assert held.until == clock() + 3600 and not held.asked
+
+    async def second() -> None:
+        async with sagas.open(place, [saga], clock=clock) as store:
+            assert (await store.wait("k")).ok
+
+    run(first())
+    clock.advance(3600)
+    assert len(tokens) == 1
+    run(second())
+    assert len(tokens) == 2 and len(set(tokens)) == 1
+
+
+def test_takes_longer_than_its_time(place: str) -> None:
+    """A timeout is no failure: its effect could be lost. The same attempt is made again."""
+    tokens: list[str] = []
+
+    async def slow(task: Task) -> int:
+        tokens.append(task.token)
+        await asyncio.sleep(0 if len(tokens) > 1 else 60)
+        return 1
+
+    async def main() -> sagas.End:
+        saga = simple(slow, timeout=0.05)
+        async with sagas.open(place, [saga]) as store:
+            return await ended(store, saga)
+
+    assert run(main()).ok and len(tokens) == 2 and len(set(tokens)) == 1
+
+
+@pytest.mark.parametrize("most", [2, datetime.timedelta(seconds=0.05)])
+@pytest.mark.parametrize("done", [True, False])
+def test_unknown_for_too_long_waits_for_a_person(place: str, most: Any, done: bool) -> None:
+    """`unknown_most` bounds it; then it stands in `store.unknown()`, and a person says done or failed, also after a restart."""
+    calls: list[str] = []
+
+    def lost(task: Task) -> None:
+        calls.append(task.token)
+        raise ConnectionError("no answer")
+
+    saga = simple(lost, unknown_most=most)
+
+    async def first() -> None:
+        async with sagas.open(place, [saga]) as store:
+            await store.start(saga, key="k")
+            await until(lambda: [held for held in store.unknown() if held.asked])
+
+    async def second() -> sagas.End:
+        before = len(calls)
+        async with sagas.open(place, [saga]) as store:
+            (held,) = store.unknown()
+            assert (held.key, held.step, held.asked) == ("k", "a", True) and "no answer" in (held.error or "")
+            if done:
+                await store.finish("k", "a", "it was done")
+            else:
+                await store.finish("k", "a", failed="it was not")
+            end = await store.wait("k")
+            assert store.unknown() == [] and len(calls) == before
+            return end
+
+    run(first())
+    assert len(set(calls)) == 1 and len(calls) >= 2
+    assert run(second()).states == {"a": "committed" if done else "failed"}
+
+
+def test_ends_well_after_its_time_in_a_thread(place: str) -> None:
+    """It is done; that it is late is told, and how long it took."""
+    calls: list[str] = []
+    told: list[sagas.Event] = []
+
+    def late(task: Task) -> int:
+        calls.append(task.token)
+        threading.Event().wait(0.2)
+        return 7
+
+    async def main() -> sagas.End:
+        saga = simple(late, timeout=0.05)
+        async with sagas.open(place, [saga], on_event=told.append) as store:
+            return await ended(store, saga)
+
+    assert run(main()).results == {"a": 7} and len(calls) == 1
+    assert [(event.name, event.key, event.step) for event in told if event.name == "step_late"] == [("step_late", "k", "a")]
+    (done,) = (event for event in told if event.name == "step_done")
+    assert done.seconds is not None and 0.19 < done.seconds < 60
+
+
+def test_plain_functions_run_in_threads(tmp_path: pathlib.Path) -> None:
+    """Two of them wait for each other."""
+    both = threading.Barrier(2, timeout=60)
+
+    def meet(task: Task) -> bool:
+        both.wait()
+        return threading.current_thread() is not threading.main_thread()
+
+    async def main() -> None:
+        saga = simple(meet)
+        async with sagas.open(tmp_path / "store.db", [saga]) as store:
+            one, two = await asyncio.gather(ended(store, saga, "one"), ended(store, saga, "two"))
+            assert one.results == two.results == {"a": True}
+
+    run(main())
+
+
+def test_tokens(place: str) -> None:
+    """The effect token is the same over all tries, the token is not; a compensation has its own, and that of what it undoes."""
+    tasks: list[Task] = []
+    saga = sagas.Saga("row")
+
+    @saga.step
+    async def a(task: Task) -> str:
+        tasks.append(task)
+        return "A"
+
+    @a.compensation(tries=2, backoff=QUICK)
+    async def not_a(task: Task) -> None:
+        tasks.append(task)
+        if task.attempt == 1:
+            raise ValueError("again")
+
+    @saga.step(needs=[a], tries=2, backoff=QUICK)
+    def b(task: Task) -> None:
+        tasks.append(task)
+        raise ValueError("no")
+
+    async def main() -> sagas.End:
+        async with sagas.open(place, [saga]) as store:
+            return await ended(store, saga)
+
+    assert run(main()).states == {"a": "undone", "b": "failed"}
+    done, first, second, undo, undo_again = tasks
+    assert first.effect_token == second.effect_token and first.token != second.token
+    assert undo.effect_token == undo_again.effect_token and undo.token != undo_again.token
+    assert undo.action_token == done.effect_token != undo.effect_token
+    assert undo.undo and undo.result == "A" and not done.undo
+    assert len({task.token for task in tasks}) == 5
+    name = next(iter(records.read(place).logs.values())).name
+    assert all(task.token.startswith(f"{name}-0-") for task in tasks)
+
+
+def test_a_logs_name_is_used_once(tmp_path: pathlib.Path) -> None:
+    """Two stores, and so two programs on copies, have no token in common."""
+    tokens: list[str] = []
+    saga = simple(lambda task: tokens.append(task.effect_token))
+
+    async def main(name: str) -> None:
+        async with sagas.open(tmp_path / name, [saga]) as store:
+            await ended(store, saga)
+
+    run(main("one.db"))
+    run(main("two.db"))
+    assert len(set(tokens)) == 2

@@ -1,0 +1,138 @@
+"""Hypothesis drives random sagas through the package, in a store and in memory, against the follower of the rules."""
+
+from __future__ import annotations
+
+import asyncio
+import json
+import pathlib
+import tempfile
+from typing import Any
+
+import pytest
+from hypothesis import HealthCheck, given, settings
+from hypothesis import strategies as st
+
+import records
+import sagas
+import sagas.testing
+from definitions import StepDraw, steps, toml
+from follower import Definition, Follower, follow
+
+Task = sagas.Task[Any]
+Failures = dict[tuple[str, str], int]
+"""How many attempts fail, by step and `run` or `undo`."""
+
+EXAMPLES = settings(max_examples=40, deadline=None, suppress_health_check=list(HealthCheck))
+NO_WAIT = sagas.Backoff(first=0.0, most=0.0)
+
+
+def price(value: int | str) -> sagas.Price:
+    """A price as the package takes it."""
+    return value if isinstance(value, int) else sagas.NEVER
+
+
+def build(drawn: list[StepDraw], failures: Failures) -> sagas.Saga:
+    """A saga of a random definition, whose functions fail as they are told."""
+    saga = sagas.Saga("random")
+
+    def act(task: Task) -> str:
+        if task.attempt <= failures.get((task.step, "undo" if task.undo else "run"), 0):
+            raise ValueError("it is told to fail")
+        assert not task.undo or task.result == f"{task.step} is done"
+        return f"{task.step} is done"
+
+    async def act_in_loop(task: Task) -> str:
+        return act(task)
+
+    for number, one in enumerate(drawn):
+        words: dict[str, Any] = {"run": price(one.run), "skip": price(one.skip), "keep": price(one.keep), "tries": one.tries}
+        needs = [drawn[need].name for need in one.needs]
+        if one.undo != "never":
+            words["undo"] = price(one.undo)
+        step = saga.step(name=one.name, needs=needs, backoff=NO_WAIT, **words)(act if number % 2 else act_in_loop)
+        if one.undo != "never":
+            step.compensation(tries=one.undo_tries, backoff=NO_WAIT)(act_in_loop if number % 2 else act)
+    return saga
+
+
+def failures_of(drawn: list[StepDraw]) -> st.SearchStrategy[Failures]:
+    """Failures of some steps, for some attempts or for all."""
+    keys = [(step.name, kind) for step in drawn for kind in ("run", "undo")]
+    return st.dictionaries(st.sampled_from(keys), st.integers(1, 3), max_size=4)
+
+
+def same_definition(drawn: list[StepDraw], saga: sagas.Saga) -> None:
+    """The package writes the definition that was drawn; where nothing can be undone, tries of that do not count."""
+    wanted, written = Definition.read(toml("random", drawn)), Definition.read(saga.toml())
+    for one, other in zip(wanted.steps, written.steps):
+        assert (one.name, one.needs, one.run, one.undo, one.skip, one.keep, one.tries) == (
+            other.name, other.needs, other.run, other.undo, other.skip, other.keep, other.tries,
+        )
+
+
+@EXAMPLES
+@given(st.data())
+def test_a_store_keeps_the_rules(data: st.DataObject) -> None:
+    """Each log is legal, each end is the follower's, and the results are those of the steps that stand."""
+    drawn = data.draw(steps())
+    many = [data.draw(failures_of(drawn)) for _ in range(1)]
+    aborts = data.draw(st.lists(st.booleans(), min_size=3, max_size=3))
+    together = data.draw(st.sampled_from([1, 2, 16]))
+    saga = build(drawn, many[0])
+    same_definition(drawn, saga)
+
+    async def one(store: sagas.Store, number: int) -> sagas.End:
+        run = await store.start(saga, key=f"k{number}")
+        if aborts[number]:
+            await run.abort()
+        return await run.wait()
+
+    async def main(path: pathlib.Path) -> list[sagas.End]:
+        async with sagas.open(path, [saga], concurrency=together) as store:
+            return await asyncio.gather(*(one(store, number) for number in range(3)))
+
+    with tempfile.TemporaryDirectory() as name:
+        path = pathlib.Path(name) / "store.db"
+        ends = asyncio.run(asyncio.wait_for(main(path), 60))
+        kept = records.read(path)
+    (log,) = kept.logs.values()
+    follower = follow(log.texts, log.events)
+    for number, end in enumerate(ends):
+        state = follower.sagas[kept.sagas[f"k{number}"].number]
+        assert (end.phase, list(end.states.values()), end.aborted) == (state.phase, state.states, state.aborted)
+        answer = state.answer or {"cost": 0}
+        assert (end.cost or 0) == answer.get("cost", 0)
+        assert set(end.results) == {step for step, word in end.states.items() if word in ("committed", "fixed")}
+        assert all(value == f"{step} is done" for step, value in end.results.items())
+
+
+@EXAMPLES
+@given(st.data())
+def test_a_saga_in_memory_keeps_the_rules(data: st.DataObject) -> None:
+    """Each reply that `sagas.testing` meets is the follower's, and so is the end."""
+    drawn = data.draw(steps())
+    saga = build(drawn, {})
+    fails = data.draw(failures_of(drawn))
+    names = [step.name for step in drawn]
+    abort = data.draw(st.one_of(st.none(), st.sampled_from(names)))
+    unknown = data.draw(st.dictionaries(st.sampled_from(names), st.integers(1, 2), max_size=2))
+    follower = Follower([Definition.read(saga.toml())])
+    right = sagas.testing._Drive.ask
+
+    def ask(self: Any, request: str) -> Any:
+        reply = right(self, request)
+        follower.answer(json.loads(request), reply)
+        return reply
+
+    with pytest.MonkeyPatch.context() as patch:
+        patch.setattr(sagas.testing._Drive, "ask", ask)
+        trial = sagas.testing.run(
+            saga,
+            fail={step: count for (step, kind), count in fails.items() if kind == "run"},
+            fail_undo={step: count for (step, kind), count in fails.items() if kind == "undo"},
+            unknown=unknown,
+            abort=abort,
+        )
+    (state,) = follower.sagas
+    assert (trial.phase, list(trial.states.values()), trial.aborted) == (state.phase, state.states, state.aborted)
+    assert trial.phase in ("ended", "stuck")

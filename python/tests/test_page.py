@@ -1,0 +1,119 @@
+"""README.md is run: installed from a checkout into an empty environment, its code saved, each command given, each output compared."""
+
+from __future__ import annotations
+
+import os
+import pathlib
+import re
+import subprocess
+import sys
+
+import pytest
+
+import sagas
+
+PACKAGE = pathlib.Path(sagas.__file__).resolve().parents[2]
+PAGE = (PACKAGE / "README.md").read_text()
+
+
+@pytest.fixture(scope="module")
+def folder(tmp_path_factory: pytest.TempPathFactory) -> pathlib.Path:
+    """An empty folder with the package beside it, and `python`, `pip` and `sagas` of an environment that has it installed by the page's first command."""
+    folder = tmp_path_factory.mktemp("page")
+    subprocess.run([sys.executable, "-m", "venv", "--without-pip", "environment"], cwd=folder, check=True)
+    (folder / "python").symlink_to(PACKAGE)
+    words = [sys.executable, "-m", "pip", "--python", str(folder / "environment/bin/python"), "install", "--no-index", "-q", "./python"]
+    subprocess.run(words, cwd=folder, check=True, env=clean(), capture_output=True)
+    return folder
+
+
+def clean() -> dict[str, str]:
+    return {name: value for name, value in os.environ.items() if not name.startswith(("PYTHON", "SAGAS", "PIP"))}
+
+
+def shell(folder: pathlib.Path, command: str) -> str:
+    """What a command prints; unbuffered, so that what was printed before a kill is there."""
+    path = f"{folder / 'environment/bin'}:{os.environ['PATH']}"
+    env = clean() | {"PATH": path, "PYTHONUNBUFFERED": "1"}
+    return subprocess.run(["bash", "-c", command], cwd=folder, env=env, stdout=subprocess.PIPE, stderr=subprocess.STDOUT, text=True, timeout=60).stdout
+
+
+def blocks(language: str) -> list[str]:
+    return [text for told, text in re.findall(r"^```(\w*)\n(.*?)^```$", PAGE, re.S | re.M) if told == language]
+
+
+def commands() -> list[tuple[str, str]]:
+    """Each command of the page, with what it prints."""
+    found = []
+    for block in blocks(""):
+        for part in re.split(r"^\$ ", block, flags=re.M)[1:]:
+            command, _, output = part.partition("\n")
+            found.append((command, output))
+    return found
+
+
+def test_the_page(folder: pathlib.Path) -> None:
+    """The dozen lines, a failing step, the same key, kill -9, and on again."""
+    for name, code in zip(("order.py", "trip.py"), blocks("python")):
+        (folder / name).write_text(code)
+    told = commands()
+    assert told[0] == ("pip install ./python", "")
+    assert len(told) == 8
+    for command, output in told[1:]:
+        said = shell(folder, command)
+        said = re.sub(r'File "/.*/trip.py"', 'File "trip.py"', said)
+        kept = [line for line in said.splitlines() if line and "Killed" not in line]  # what the shell itself says of it
+        assert _sorted(kept) == _sorted([line for line in output.splitlines() if line]), command
+
+
+def _sorted(lines: list[str]) -> list[str]:
+    """Car and hotel are booked side by side, in either order."""
+    side = [line for line in lines if line.startswith(("car", "hotel"))]
+    return sorted(side) + [line for line in lines if line not in side]
+
+
+def test_the_pieces() -> None:
+    """The other code of the page declares what it says it does."""
+    code = blocks("python")[1:]
+    there: dict[str, object] = {}
+    exec(code[0].replace("import asyncio", "import datetime, asyncio", 1), there)
+    exec(code[1].replace("from trip import trip", ""), there)
+    there["test_a_full_tour"]()  # type: ignore[operator]
+    exec(code[2], there)
+    trip = there["trip"]
+    assert isinstance(trip, sagas.Saga)
+    assert [(step.name, step.kind) for step in trip.steps[4:]] == [("reminder", "wait"), ("review", "approval"), ("billing", "step"), ("report", "step"), ("mail", "step")]
+    assert trip.steps[-2].limit == 4 and trip.steps[-3].run.elsewhere and trip.steps[-1].bounds is not None
+    assert trip.warnings() == [] and 'name = "billing"' in trip.toml()
+
+
+def test_the_commands(folder: pathlib.Path) -> None:
+    """`sagas` and `python -m sagas` are the program; `sagas store` looks at the store."""
+    root = PACKAGE.parent / "examples"
+    case = f"check {root / 'licence.toml'} {root / 'licence.case.json'} {root / 'licence.answer.json'}"
+    for command in ("sagas", "python -m sagas"):
+        assert shell(folder, f"{command} --version").startswith("sagas ")
+        assert shell(folder, f"{command} {case}") == "blocked\n"
+        assert "list" in shell(folder, f"{command} store --help")
+    assert shell(folder, "echo 'nothing' | sagas; echo $?").strip().endswith("3")
+
+
+def test_a_wheel_and_an_archive(folder: pathlib.Path, tmp_path: pathlib.Path) -> None:
+    """`pip wheel` needs no network; the archive builds the same wheel; the same sources give the same bytes."""
+    sys.path.insert(0, str(PACKAGE / "packaging"))
+    try:
+        import wheels  # type: ignore[import]
+
+        first, second = (tmp_path / name for name in ("first", "second"))
+        for place in (first, second):
+            place.mkdir()
+        name = wheels.build_wheel(str(first))
+        assert wheels.build_wheel(str(second)) == name
+        assert (first / name).read_bytes() == (second / name).read_bytes()
+        archive = wheels.build_sdist(str(tmp_path))
+    finally:
+        sys.path.remove(str(PACKAGE / "packaging"))
+        sys.modules.pop("wheels", None)
+    words = [sys.executable, "-m", "pip", "wheel", "--no-index", "-q", "-w", str(tmp_path / "again"), str(tmp_path / archive)]
+    subprocess.run(words, check=True, env=clean(), capture_output=True)
+    assert (tmp_path / "again" / name).read_bytes() == (first / name).read_bytes()

@@ -1,0 +1,304 @@
+"""Ended sagas are let go with their log, exported before where that is wished, over both kinds of database."""
+
+from __future__ import annotations
+
+import asyncio
+import contextlib
+import datetime
+import json
+import os
+import pathlib
+import sqlite3
+import subprocess
+import sys
+import textwrap
+from collections.abc import Callable
+from typing import Any
+
+import psycopg
+import pytest
+
+import records
+import sagas
+from cases import Task, ended, run, until
+from driving import audit, program
+from sagas import command, retention, sources
+
+HERE = pathlib.Path(__file__).resolve().parent
+ROOM = 4
+"""Sagas of a log, in these cases."""
+MONTH = 30 * 86400.0
+
+
+@pytest.fixture(autouse=True)
+def small(monkeypatch: pytest.MonkeyPatch) -> None:
+    """Logs of four sagas, so that some are full and closed."""
+    monkeypatch.setattr("sagas.kinds.ROOM", ROOM)
+
+
+def shop() -> sagas.Saga:
+    """Ends well, is undone or is stuck, by its input."""
+    shop = sagas.Saga("shop")
+
+    @shop.step(undo=1, keep=5)
+    async def take(task: Task) -> Any:
+        return {"of": task.key}
+
+    @take.compensation
+    async def give(task: Task) -> None:
+        if task.input == "stuck":
+            raise sagas.Fail("no")
+
+    @shop.step(needs=[take], skip=2)
+    async def pay(task: Task) -> int:
+        if task.input:
+            raise sagas.Fail("refused")
+        return 1
+
+    return shop
+
+
+def must() -> sagas.Saga:
+    """Is stuck where its input says so: what cannot be undone may not stand."""
+    must = sagas.Saga("must")
+
+    @must.step(undo=1, keep=sagas.NEVER)
+    async def take(task: Task) -> int:
+        return 1
+
+    @take.compensation
+    async def give(task: Task) -> None:
+        raise sagas.Fail("no")
+
+    @must.step(needs=[take])
+    async def pay(task: Task) -> None:
+        if task.input:
+            raise sagas.Fail("refused")
+
+    return must
+
+
+def change(place: str, statement: str) -> None:
+    """Changes rows as nobody but a test does."""
+    if place.startswith("postgresql:"):
+        with psycopg.connect(place, options="-csearch_path=sagas") as link:
+            link.execute(statement)
+    else:
+        with contextlib.closing(sqlite3.connect(place)) as db:
+            db.execute(statement)
+            db.commit()
+
+
+def age(place: str, *logs: int, days: int = 40) -> None:
+    """The sagas of these logs ended that long ago."""
+    for log in logs:
+        change(place, f"UPDATE sagas SET ended = ended - {days} * 86400.0 WHERE id >= {1000 * log} AND id < {1000 * (log + 1)}")
+
+
+async def fill(place: str, kind: sagas.Saga, count: int, given: Callable[[int], Any] = lambda number: None) -> list[int]:
+    """Sagas that are over, in logs that are closed but for the last; gives the numbers of those that are closed."""
+    async with sagas.open(place, [kind]) as store:
+        for number in range(count):
+            await ended(store, kind, f"k{number}", given(number))
+        await until(lambda: sum(log.closed for log in records.read(place).logs.values()) == count // ROOM)
+    return sorted(log.log for log in records.read(place).logs.values() if log.closed)
+
+
+def tables(place: str) -> dict[str, int]:
+    """How many rows each table has."""
+    with contextlib.closing(sources.connect(place)) as link:
+        return {table: link.ask(f"SELECT count(*) FROM {table}")[0][0] for table in ("logs", "lines", "sagas", "results", "held", "requests", "reports")}
+
+
+def test_old_logs_go_as_a_whole_and_their_keys_are_free(place: str, capsys: pytest.CaptureFixture[str]) -> None:
+    """What is younger, open or not closed stays; of what goes nothing is left; a key that is free takes another input."""
+    kind = shop()
+    first, second, third = run(fill(place, kind, 3 * ROOM + 2))
+    open = max(records.read(place).logs)
+    age(place, first, second, open)
+    change(place, f"UPDATE sagas SET ended = ended + 86400 * 39 WHERE id = {1000 * second}")  # one of its sagas is younger
+    change(place, "INSERT INTO requests(key, what, value, at, answer) VALUES('k0', 'abort', 'null', 1, 'false')")
+    before = tables(place)
+    assert command.main([place, "prune", "--older-than", "30d", "--json"]) == 0
+    told = json.loads(capsys.readouterr().out)
+    kept = records.read(place)
+    assert told["sagas"] == ROOM and len(told["logs"]) == 1 and not told["more"]
+    assert sorted(kept.logs) == [second, third, open] and set(kept.sagas) == {f"k{number}" for number in range(ROOM, 3 * ROOM + 2)}
+    after = tables(place)
+    assert {table: before[table] - after[table] for table in before} == {
+        "logs": 1, "lines": before["lines"] - after["lines"], "sagas": ROOM, "results": 2 * ROOM, "held": 0, "requests": 1, "reports": 0,
+    }
+    assert not any(row // 1000 == first for row in {id for id, _, _, _ in kept.results})
+
+    async def again() -> None:
+        async with sagas.open(place, [kind]) as store:
+            with pytest.raises(sagas.NoSuchSaga):
+                await store.wait("k0")
+            assert (await ended(store, kind, "k0", "another")).states["pay"] == "failed"
+            with pytest.raises(sagas.KeyConflict):
+                await store.start(kind, f"k{ROOM}", "another")
+            assert all(said.startswith("yes") for said in (await store.audit()).values())
+
+    run(again())
+    assert command.main([place, "prune", "--older-than", "0s"]) == 0
+    assert f"{2 * ROOM} sagas in 2 logs" in capsys.readouterr().out
+
+
+def test_what_a_person_has_to_see_stays(place: str) -> None:
+    """A log with a stuck saga that nobody has resolved, and one whose audit said no."""
+    kind = must()
+
+    async def main() -> None:
+        first, second = await fill(place, kind, 2 * ROOM, lambda number: "stuck" if number == 1 else None)
+        change(place, f"UPDATE logs SET closed = 2 WHERE log = {second}")
+        age(place, first, second)
+        assert retention.prune(place, MONTH).logs == []
+        async with sagas.open(place, [kind]) as store:
+            await store.resolve("k1", "seen to")
+        gone = retention.prune(place, MONTH)
+        assert gone.sagas == ROOM and set(records.read(place).logs) == {second}
+
+    run(main())
+
+
+def test_an_export_is_what_the_audit_judges(place: str, tmp_path: pathlib.Path) -> None:
+    """Log and definitions, keys with inputs and results, and each plan with its certificate, as the program judges them."""
+    kind, folder = shop(), tmp_path / "archive"
+    logs = run(fill(place, kind, ROOM, lambda number: "fails" if number % 2 else None))
+    age(place, *logs)
+    before = records.read(place)
+    (name,) = retention.prune(place, MONTH, folder).logs
+    whole = folder / name
+    assert [path.name for path in folder.iterdir()] == [name] and records.read(place).logs == {}
+    about = json.loads((whole / "about.json").read_text())
+    assert audit(whole / "log", [whole / "definition-00.toml"]) == about["audit"] and about["audit"].startswith(f"yes sagas {ROOM}")
+    told = {row["key"]: row for row in map(json.loads, (whole / "sagas.jsonl").read_text().splitlines())}
+    for key, row in before.sagas.items():
+        assert (told[key]["number"], told[key]["input"], told[key]["phase"], told[key]["end"]) == (row.number, row.input, row.phase, row.end)
+        assert [one["value"] for one in told[key]["results"] if one["outcome"] == "commit"][0] == {"of": key}
+    plans = [json.loads(line) for line in (whole / "plans.jsonl").read_text().splitlines()]
+    assert {plan["key"] for plan in plans} == {"k1", "k3"}
+    for plan in plans:
+        (tmp_path / "case.json").write_text(json.dumps(plan["case"]))
+        (tmp_path / "answer.json").write_text(json.dumps(plan["answer"]))
+        words = [program(), "check", str(whole / "definition-00.toml"), str(tmp_path / "case.json"), str(tmp_path / "answer.json")]
+        assert subprocess.run(words, capture_output=True, text=True).stdout.startswith("least ")
+
+
+def test_nothing_goes_that_cannot_be_exported(place: str, tmp_path: pathlib.Path, capsys: pytest.CaptureFixture[str]) -> None:
+    """A folder that cannot be made: the command says so, and the log stays."""
+    logs = run(fill(place, shop(), ROOM))
+    age(place, *logs)
+    (tmp_path / "file").touch()
+    assert command.main([place, "prune", "--older-than", "30d", "--export", str(tmp_path / "file")]) == 4
+    assert "cannot write below" in capsys.readouterr().err and set(records.read(place).logs) == set(logs)
+    with pytest.raises(SystemExit):
+        command.main([place, "prune", "--older-than", "soon"])
+
+
+KILLED = """
+    import os, sys
+    from sagas import archives, retention, sources
+    point = int(sys.argv[3])
+    kind = sources.Base if sys.argv[1].startswith("postgresql:") else sources.File
+    right, count = kind.changed, 0
+    def changed(self, text, *words):
+        global count
+        if count == point:
+            os._exit(9)
+        count += 1
+        return right(self, text, *words)
+    kind.changed = changed
+    synced, files = archives._synced, 0
+    def written(path, text):
+        global files
+        files += 1
+        if point < 0 and files == 3:
+            os._exit(9)
+        return synced(path, text)
+    archives._synced = written
+    print(retention.prune(sys.argv[1], 30 * 86400.0, sys.argv[2]).sagas)
+"""
+
+
+def test_a_run_that_is_killed(place: str, tmp_path: pathlib.Path) -> None:
+    """In the middle of the export, or before each statement: the log is there as a whole until it is gone as a whole, and then the export is whole."""
+    logs = run(fill(place, shop(), ROOM))
+    age(place, *logs)
+    before, rows = records.read(place), tables(place)
+    script = tmp_path / "killed.py"
+    script.write_text(textwrap.dedent(KILLED))
+    environment = os.environ | {"PYTHONPATH": str(HERE.parent / "src"), "SAGAS_PROGRAM": program()}
+    words = [sys.executable, str(script), place, str(tmp_path / "archive")]
+    last = 1 + len(retention.OF_SAGAS) + len(retention.OF_LOG)
+    for point in (-1, 0, 1, last // 2, last - 1):
+        done = subprocess.run([*words, str(point)], env=environment, capture_output=True, text=True)
+        assert done.returncode == 9, done.stderr
+        assert records.read(place) == before and tables(place) == rows
+    done = subprocess.run([*words, str(last)], env=environment, capture_output=True, text=True)
+    assert done.stdout == f"{ROOM}\n", done.stderr
+    (folder,) = (tmp_path / "archive").iterdir()
+    assert audit(folder / "log", [folder / "definition-00.toml"]).startswith(f"yes sagas {ROOM}")
+    assert tables(place)["sagas"] == 0
+
+
+def test_a_run_takes_no_more_than_its_most(place: str) -> None:
+    """In order of the logs' numbers, and the rest in further runs; by itself 100,000 sagas."""
+    assert retention.MOST == 100_000
+    logs = run(fill(place, shop(), 3 * ROOM))
+    age(place, *logs)
+    gone = retention.prune(place, MONTH, most=2 * ROOM)
+    assert gone.sagas == 2 * ROOM and gone.more and set(records.read(place).logs) == {logs[-1]}
+    gone = retention.prune(place, MONTH, most=2 * ROOM)
+    assert gone.sagas == ROOM and not gone.more
+
+
+def test_a_clock_that_is_put_forward_lets_nothing_go(place: str) -> None:
+    """The earlier one of two clocks counts."""
+    logs = run(fill(place, shop(), ROOM))
+    later = records.read(place)
+    assert retention.prune(place, MONTH, clock=lambda: 4e9).logs == [] and records.read(place) == later
+    age(place, *logs)
+    assert retention.prune(place, MONTH, clock=lambda: 0.0).logs == []
+
+
+def test_an_open_store_lets_them_go(place: str, tmp_path: pathlib.Path) -> None:
+    """`keep_ended` and `export_ended`, while sagas are started: a node says what went."""
+    kind = shop()
+    told: list[sagas.Event] = []
+
+    async def main() -> None:
+        logs = await fill(place, kind, 2 * ROOM)
+        age(place, *logs)
+        month = datetime.timedelta(days=30)
+        async with sagas.open(place, [kind], keep_ended=month, export_ended=tmp_path / "archive", on_event=told.append) as store:
+            await asyncio.gather(*(ended(store, kind, f"new-{number}") for number in range(10)))
+            await until(lambda: any(event.name == "logs_gone" for event in told))
+            assert (await ended(store, kind, "k0", "fails")).states["pay"] == "failed"
+        assert not set(logs) & set(records.read(place).logs)
+
+    run(main())
+    assert [event.detail for event in told if event.name == "logs_gone"] == [f"2 logs, {2 * ROOM} sagas"]
+    assert len(list((tmp_path / "archive").iterdir())) == 2
+    with pytest.raises(TypeError, match="timedelta"):
+        sagas.open(place, [kind], keep_ended=30)  # type: ignore[arg-type]
+
+
+def test_a_start_feels_no_lock_of_it(url: str) -> None:
+    """A log is being deleted, and that is not committed: sagas are started and end; another run goes past."""
+    kind = shop()
+
+    async def main() -> None:
+        (log,) = await fill(url, kind, ROOM)
+        age(url, log)
+        with sources.writing(url) as link:
+            assert link.alone()
+            async with sagas.open(url, [kind]) as store:
+                with link.transaction():
+                    assert retention._delete(link, log)
+                    async with asyncio.timeout(10):
+                        await asyncio.gather(*(ended(store, kind, f"new-{number}") for number in range(10)))
+                    assert retention.prune(url, MONTH).other
+            assert log not in records.read(url).logs
+
+    run(main())

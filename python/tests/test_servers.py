@@ -1,0 +1,189 @@
+"""What becomes of the database's server: a standby takes over, its connections are used up, its disk is full."""
+
+from __future__ import annotations
+
+import asyncio
+import contextlib
+import pathlib
+import secrets
+import subprocess
+import tempfile
+from collections import Counter
+from collections.abc import Iterator
+
+import psycopg
+import pytest
+
+import records
+import sagas
+from cases import Task, ended, run, simple, until
+from judge import judge
+from moments import Node
+from server import paired, serving
+from witness import Witness, witness_at
+
+
+def test_a_synchronous_standby_takes_over(tmp_path: pathlib.Path) -> None:
+    """The primary fails while sagas are under way, and its standby is promoted: nothing that was told is lost, by witness and judge."""
+
+    async def main(url: str) -> None:
+        node = Node(Witness(str(tmp_path / "socket")), url, gates=True)
+        async with sagas.open(url, node.sagas, concurrency=64, lease=60) as store:
+            work = [asyncio.create_task(node.one(store, number)) for number in range(40)]
+            await until(lambda: len(node.called) == 40)
+            for number in range(20):  # some are over, some at their second step, some at their first
+                node.gates[f"k{number}", "a"].set()
+            for number in range(10):
+                node.gates[f"k{number}", "b"].set()
+            await until(lambda: sum(one.done() for one in work) == 10)
+            await asyncio.to_thread(pair.fail_over)
+            node.open_all()
+            await asyncio.gather(*work)
+            assert Counter(node.called) == {(f"k{number}", step): 1 for number in range(40) for step in "ab"}  # this program lived
+
+    with paired(synchronous=True) as pair:
+        url = pair.url(pair.primary.create().rpartition("/")[2])
+        with witness_at(tmp_path / "socket", tmp_path / "notes"):
+            run(main(url))
+        verdict = judge(url, tmp_path / "notes", 40)
+        assert not verdict.faults, verdict.faults[:5]
+
+
+@pytest.mark.parametrize("room", [1, 1000])
+def test_an_asynchronous_standby_may_lack_the_last_commits(monkeypatch: pytest.MonkeyPatch, room: int) -> None:
+    """A saga of which the standby knows goes back to what it knows, and its step is called again with its token; one that it lacks is not there, and is
+    started again. The store goes on, also where a whole log is lacking."""
+    monkeypatch.setattr("sagas.kinds.ROOM", room)
+    calls: Counter[tuple[str, str]] = Counter()
+    late = asyncio.Event()
+    kind = sagas.Saga("pair")
+
+    @kind.step
+    async def a(task: Task) -> str:
+        calls[task.key, "a"] += 1
+        if task.key == "there":
+            await late.wait()
+        return task.effect_token
+
+    @kind.step(needs=[a])
+    async def b(task: Task) -> str:
+        return task.of(a)
+
+    async def main(url: str) -> None:
+        async with sagas.open(url, [kind], lease=60) as store:
+            await store.start(kind, "there")
+            await until(lambda: calls["there", "a"])
+            await asyncio.to_thread(pair.hold_back)
+            late.set()
+            before = await store.wait("there")
+            assert before.ok and (await ended(store, kind, "lacking")).ok
+            await asyncio.to_thread(pair.fail_over)
+            after = await store.wait("there")
+            assert after == before and calls["there", "a"] == 2
+            again = await started_again(store, kind, "lacking")
+            assert again.ok and calls["lacking", "a"] == 2
+            assert all((await asyncio.gather(*(ended(store, kind, f"new-{number}") for number in range(5)))))
+            assert all(said.startswith("yes") for said in (await store.audit()).values())
+
+    with paired(synchronous=False) as pair:
+        run(main(pair.url(pair.primary.create().rpartition("/")[2])))
+
+
+async def started_again(store: sagas.Store, kind: sagas.Saga, key: str) -> sagas.End:
+    """Starts it, as long as the store cannot be written, and waits for its end."""
+    while True:
+        try:
+            return await ended(store, kind, key)
+        except (sagas.StoreUnwritable, sagas.NoSuchSaga):
+            await asyncio.sleep(0.02)
+
+
+def test_all_connections_are_taken() -> None:
+    """Strangers have all that the server gives: what is open goes on or waits, what is to be opened is refused by name; nothing is called twice."""
+    calls: Counter[str] = Counter()
+
+    async def step(task: Task) -> str:
+        calls[task.token] += 1
+        return "done"
+
+    kind = simple(step)
+
+    async def main(url: str) -> None:
+        async with sagas.open(url, [kind], lease=60) as store:
+            assert (await ended(store, kind, "before")).ok
+            with contextlib.ExitStack() as strangers:
+                with contextlib.suppress(psycopg.OperationalError):
+                    while True:
+                        strangers.enter_context(psycopg.connect(url))
+                work = [asyncio.create_task(started_again(store, kind, f"k{number}")) for number in range(10)]
+                with pytest.raises(sagas.StoreUnwritable):
+                    async with sagas.open(url, [kind]):
+                        pass
+                with pytest.raises(sagas.StoreUnwritable):
+                    async with sagas.Client(url):
+                        pass
+            assert all(end.ok for end in await asyncio.gather(*work))
+            async with sagas.Client(url) as client:
+                assert (await client.wait("k1")).ok
+
+    with serving({"max_connections": "12", "superuser_reserved_connections": "0", "max_wal_senders": "0"}) as server:
+        run(main(server.create()))
+    assert set(calls.values()) == {1} and len(calls) == 11
+
+
+@contextlib.contextmanager
+def small_disk(size: str) -> Iterator[pathlib.Path]:
+    """A file system of this test's own, in memory."""
+    folder = pathlib.Path(tempfile.mkdtemp(prefix="sagas-disk-", dir="/tmp"))
+    try:
+        done = subprocess.run(["mount", "-t", "tmpfs", "-o", f"size={size},mode=755", "tmpfs", str(folder)], capture_output=True, text=True, check=False)
+        if done.returncode:
+            pytest.skip(f"no file system can be mounted here: {done.stderr.strip()}")
+        try:
+            yield folder
+        finally:
+            subprocess.run(["umount", "-l", str(folder)], check=True)
+    finally:
+        folder.rmdir()
+
+
+def fill(path: pathlib.Path) -> None:
+    """Writes a file until there is no room."""
+    with open(path, "wb", buffering=0) as file:
+        block = bytes(1 << 16)
+        while block:
+            try:
+                file.write(block)
+            except OSError:
+                block = block[: len(block) // 2]
+
+
+def test_the_databases_disk_is_full() -> None:
+    """`start` raises StoreUnwritable and nothing was begun; results wait for room; nothing is called twice by this program."""
+    calls: Counter[str] = Counter()
+    gate = asyncio.Event()
+    large = [secrets.token_hex(20_000) for _ in range(20)]
+
+    async def hold(task: Task) -> str:
+        calls[task.token] += 1
+        await gate.wait()
+        return large[int(task.key[1:])]
+
+    kind = simple(hold)
+
+    async def main(url: str, ballast: pathlib.Path) -> None:
+        async with sagas.open(url, [kind], concurrency=64, lease=600) as store:
+            first = [await store.start(kind, f"k{number}") for number in range(19)]
+            fill(ballast)
+            gate.set()
+            with pytest.raises(sagas.StoreUnwritable):
+                await store.start(kind, "k19", large)
+            ballast.unlink()
+            ends = await asyncio.gather(*(one.wait() for one in first))
+            assert [end.results["a"] for end in ends] == large[:19]
+            assert (await started_again(store, kind, "k19")).ok
+            assert all(said.startswith("yes") for said in (await store.audit()).values())
+
+    with small_disk("160m") as disk, serving(inside=disk) as server:
+        run(main(server.create(), disk / "ballast"))
+    assert set(calls.values()) == {1} and len(calls) == 20

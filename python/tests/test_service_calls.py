@@ -1,0 +1,424 @@
+"""The service for callers and workers: a real process, and what it answers."""
+
+from __future__ import annotations
+
+import asyncio
+import json
+import pathlib
+import subprocess
+import threading
+import time
+from collections.abc import Iterator
+from typing import Any
+
+import httpx
+import pytest
+import uvicorn
+
+from driving import program
+from sagas.server import running
+from serving import DEFINITIONS, LONG, Served, all_done, report, served, start, stuck, take
+
+
+@pytest.fixture(scope="module")
+def service(tmp_path_factory: pytest.TempPathFactory, store: str | None) -> Iterator[Served]:
+    """One service for the cases of this file, over each kind of database; each case has keys of its own, and takes only its own tasks."""
+    with served(tmp_path_factory.mktemp("service"), store=store) as one:
+        yield one
+
+
+@pytest.fixture
+def client(service: Served) -> Iterator[httpx.Client]:
+    with service.client() as one:
+        yield one
+
+
+def get(client: httpx.Client, path: str, status: int = 200) -> Any:
+    answer = client.get(path)
+    assert answer.status_code == status, answer.text
+    return answer.json()
+
+
+def test_a_start_is_once(client: httpx.Client) -> None:
+    """The same key again is the same saga; another input, or another definition, is a conflict; what is no saga is told."""
+    assert start(client, "order", "once", {"a": 1}).status_code == 201
+    again = start(client, "order", "once", {"a": 1})
+    assert (again.status_code, again.json()) == (200, {"key": "once", "definition": "order", "new": False})
+    assert start(client, "order", "once", {"a": 2}).json()["error"] == "KeyConflict"
+    assert start(client, "trip", "once", {"a": 1}).status_code == 409
+    none = start(client, "nothing", "x")
+    assert (none.status_code, none.json()["detail"]) == (404, "there is no definition 'nothing', but few, licence, order, trip")
+    for body, kind, says in (('{"key":', "application/json", "the body is no JSON: "), ("{}", "text/plain", "send it with Content-Type: application/json"), ("[1]", "application/json", "no JSON object")):
+        wrong = client.post("/sagas", content=body, headers={"content-type": kind})
+        assert wrong.status_code == 422 and says in wrong.json()["detail"]
+    assert start(client, "order", "a\nb").status_code == 422
+    assert client.post("/sagas", content='{"definition":"order","key":"n","input":NaN}', headers={"content-type": "application/json"}).status_code == 422
+    assert get(client, "/sagas/nobody", 404)["error"] == "NoSuchSaga"
+    assert client.post("/sagas/once/abort", json={}).json()["aborted"] is True
+
+
+def test_a_saga_through_workers(client: httpx.Client) -> None:
+    """Tasks with their inputs, results and tokens; a failure is planned for, and the plan's certificate is right."""
+    start(client, "trip", "t/1 ü", {"to": "Rome"})
+    (flight,) = take(client, "trip/flight")
+    assert (flight["key"], flight["input"], flight["results"], flight["attempt"]) == ("t/1 ü", {"to": "Rome"}, {}, 1)
+    assert flight["token"] == flight["effect_token"] + "-1" and flight["action_token"] == flight["effect_token"]
+    assert report(client, flight, result={"seat": 1}).json() == {"kept": True, "repeated": False}
+    (car,) = take(client, "trip/tour", "trip/car")
+    assert car["results"] == {"flight": {"seat": 1}}
+    report(client, car, result=7)
+    for attempt in (1, 2):
+        (tour,) = take(client, "trip/tour")
+        assert tour["attempt"] == attempt
+        report(client, tour, "failed", error="full")
+    (undo,) = take(client, "trip/car/undo")
+    assert (undo["undo"], undo["result"], undo["action_token"]) == (True, 7, car["effect_token"])
+    report(client, undo)
+    end = get(client, "/sagas/t%2F1%20%C3%BC/wait?seconds=60")
+    assert (end["phase"], end["states"]) == ("ended", {"flight": "committed", "car": "undone", "tour": "failed"})
+    assert end["results"] == {"flight": {"seat": 1}} and end["plan"]["cost"] == 15
+    assert [step["decided"] for step in end["plan"]["steps"]] == ["stands", "is undone", "is left out"]
+    text = client.get("/sagas/t%2F1%20%C3%BC/certificate?form=text").text
+    assert subprocess.run([program()], input=text, capture_output=True, text=True).stdout == "least 15\n"
+    certificate = get(client, "/sagas/t%2F1%20%C3%BC/certificate")
+    assert certificate["answer"]["cost"] == 15 and certificate["case"] == {"states": ["committed", "committed", "failed"]}
+    events = get(client, "/sagas/t%2F1%20%C3%BC/log")["events"]
+    assert [event["event"] for event in events if event["step"] == "tour"] == ["start_run", "missed", "start_run", "fail"]
+    picture = client.get("/sagas/t%2F1%20%C3%BC/picture.svg")
+    assert picture.headers["content-type"] == "image/svg+xml" and "given back for 5" in picture.text and "t/1 ü" in picture.text
+
+
+def test_leases(client: httpx.Client) -> None:
+    """One that runs out gives the task to another with the same token; failed counts under the newest, done under any; the first report stays."""
+    start(client, "trip", "leases")
+    (old,) = take(client, "trip/flight", lease=0.5)
+    (new,) = take(client, "trip/flight")
+    assert take(client, "trip/flight", wait=0) == []
+    assert new["token"] == old["token"] and new["lease"] > old["lease"]
+    assert report(client, old, "failed", error="no").json()["error"] == "LeaseLost"
+    assert report(client, old, "unknown", error="no").json()["error"] == "LeaseLost"
+    assert client.post(f"/tasks/{old['token']}/beat", json={"lease": old["lease"]}).status_code == 409
+    assert client.post(f"/tasks/{new['token']}/beat", json={"lease": new["lease"], "seconds": 500}).json()["until"] > time.time() + 400
+    assert report(client, old, result=1).json() == {"kept": True, "repeated": False}
+    assert report(client, new, result=1).json() == {"kept": True, "repeated": True}
+    assert report(client, new, result=2).json()["error"] == "ReportedOtherwise"
+    assert report(client, new, "failed", error="no").status_code == 409
+    assert client.post(f"/tasks/{new['token']}/beat", json={"lease": new["lease"]}).json()["error"] == "LeaseLost"
+    assert report(client, {**new, "token": "0" * 16 + "-0-flight-run-1"}).status_code == 404
+    assert report(client, {**new, "token": "x"}).json()["error"] == "NoSuchTask"
+    client.post("/sagas/leases/abort", json={"note": "it was a try"})
+    assert get(client, "/sagas/leases/wait?seconds=60")["aborted"] is True
+
+
+def test_a_beaten_lease_holds(client: httpx.Client) -> None:
+    """As long as it is beaten for, nobody else gets the task."""
+    start(client, "trip", "beats")
+    (task,) = take(client, "trip/flight", lease=2)
+    until = client.post(f"/tasks/{task['token']}/beat", json={"lease": task["lease"], "seconds": 600}).json()["until"]
+    time.sleep(2.5)
+    assert until > time.time() and take(client, "trip/flight", wait=0) == []
+    report(client, task)
+    all_done(client, "trip/car", "trip/tour")
+    assert get(client, "/sagas/beats/wait?seconds=60")["phase"] == "ended"
+
+
+def test_a_report_takes_the_next(client: httpx.Client) -> None:
+    """In one request; what is wrong with it is told before anything is kept."""
+    for key in ("next-1", "next-2"):
+        start(client, "trip", key)
+    (first,) = take(client, "trip/flight")
+    assert report(client, first, next={"steps": ["no step"]}).status_code == 422
+    answer = report(client, first, next={"steps": ["trip/flight"], "lease": 600}).json()
+    (second,) = answer.pop("tasks")
+    assert answer == {"kept": True, "repeated": False} and {first["key"], second["key"]} == {"next-1", "next-2"}
+    assert report(client, second, "failed", error="no", next={"steps": ["trip/flight"]}).json()["tasks"] == []
+    all_done(client, "trip/car", "trip/tour")
+    for key in ("next-1", "next-2"):
+        assert get(client, f"/sagas/{key}/wait?seconds=60")["phase"] == "ended"
+
+
+def test_a_limit_holds_for_leases(service: Served, client: httpx.Client) -> None:
+    """Two are out at once. Whoever waits gets the next one when one is reported, is unknown, or its lease has run out; compensations are not counted."""
+    for number in range(5):
+        start(client, "few", f"few-{number}")
+    first, second = take(client, "few/a", most=10)
+    assert take(client, "few/a", wait=0) == []
+    found: list[Any] = []
+    with service.client() as other:
+        taker = threading.Thread(target=lambda: found.extend(take(other, "few/a", most=10, lease=1)))
+        taker.start()
+        report(client, first)
+        taker.join(LONG)
+    (third,) = found  # its lease runs out, and then the next one is there
+    (fourth,) = take(client, "few/a", most=10)
+    assert {first["key"], second["key"], third["key"], fourth["key"]} >= {f"few-{number}" for number in range(3)}
+    if fourth["key"] != third["key"]:
+        late = client.post(f"/tasks/{third['token']}/beat", json={"lease": third["lease"]})
+        assert late.json()["error"] == "LeaseLost" and "have its place" in late.json()["detail"]
+        assert report(client, third).status_code == 200  # done counts all the same
+    report(client, second, "unknown", error="who knows")
+    left = {f"few-{number}" for number in range(5)} - {first["key"]}
+    assert report(client, fourth).status_code == 200
+    while True:
+        for task in take(client, "few/a", wait=1, most=10):
+            report(client, task)
+        states = {key: client.get(f"/sagas/{key}").json()["states"]["a"] for key in left}
+        if set(states.values()) == {"committed"}:
+            break
+    tasks = take(client, "few/b", most=10)
+    assert len(tasks) == 5
+    for task in tasks:
+        report(client, task, "failed", error="no")
+    undone = []
+    while len(undone) < 5:
+        undone += take(client, "few/a/undo", most=10)
+    assert [queue for queue in client.get("/queues").json()["queues"] if queue["saga"] == "few"] == [{"saga": "few", "step": "a", "undo": True, "ready": 0, "oldest": None, "taken": 5}]
+    for task in undone:
+        report(client, task)
+    for number in range(5):
+        assert get(client, f"/sagas/few-{number}/wait?seconds=60")["states"] == {"a": "undone", "b": "failed"}
+
+
+def test_unknown_is_said_once_under_a_lease(client: httpx.Client) -> None:
+    """Also when the task waits for a worker again; under that lease nothing else counts but that it is done."""
+    start(client, "few", "hazy-few")
+    (task,) = take(client, "few/a")
+    assert report(client, task, "unknown", error="who knows").json()["repeated"] is False
+    deadline = time.monotonic() + LONG
+    while not any(queue["step"] == "a" and queue["ready"] for queue in get(client, "/queues")["queues"]):
+        assert time.monotonic() < deadline
+    assert report(client, task, "unknown", error="who knows").json()["repeated"] is True
+    assert report(client, task, "failed", error="no").json()["error"] == "ReportedOtherwise"
+    assert client.post(f"/tasks/{task['token']}/beat", json={"lease": task["lease"]}).json()["error"] == "LeaseLost"
+    (again,) = take(client, "few/a")
+    assert again["token"] == task["token"] and again["lease"] > task["lease"]
+    assert report(client, task, "failed", error="no").json()["error"] == "LeaseLost"
+    assert report(client, task, result=1).json() == {"kept": True, "repeated": False}
+    all_done(client, "few/b")
+    assert get(client, "/sagas/hazy-few/wait?seconds=60")["results"]["a"] == 1
+
+
+def test_nobody_knows(client: httpx.Client) -> None:
+    """After an unknown outcome, where no more are allowed, a person has to say; no lease of before gives the task to anybody."""
+    start(client, "trip", "hazy")
+    all_done(client, "trip/flight", "trip/car")
+    (tour,) = take(client, "trip/tour", lease=1)
+    assert report(client, tour, "unknown", error="the line went dead").json()["repeated"] is False
+    assert report(client, tour, "unknown", error="the line went dead").json()["repeated"] is True
+    assert take(client, "trip/tour", wait=2) == []
+    (held,) = get(client, "/sagas/hazy")["waits"]
+    assert (held["why"], held["person"], held["said"]) == ("unknown", True, "the line went dead")
+    assert client.post("/sagas/hazy/steps/tour", json={"result": "it is there", "note": "asked them"}).status_code == 200
+    end = get(client, "/sagas/hazy/wait?seconds=60")
+    assert end["results"]["tour"] == "it is there"
+    notes = [event["value"] for event in get(client, "/sagas/hazy/log")["events"] if event["event"] == "note"]
+    assert [(note["what"], note["by"], note["note"], note["answer"]) for note in notes] == [("finish", "local", "asked them", True)]
+
+
+def test_an_approval(client: httpx.Client) -> None:
+    """It waits for a word; once it is said, another is too late."""
+    start(client, "order", "approve-me")
+    deadline = time.monotonic() + LONG
+    while not get(client, "/sagas/approve-me")["waits"]:
+        assert time.monotonic() < deadline
+    assert client.post("/sagas/approve-me/steps/send", json={}).json()["error"] == "NotWaiting"
+    assert client.post("/sagas/approve-me/steps/review", json={"result": {"by": "Ada"}}).status_code == 200
+    assert client.post("/sagas/approve-me/steps/review", json={"failed": "no"}).status_code == 409
+    all_done(client, "order/send")
+    assert get(client, "/sagas/approve-me/wait?seconds=60")["results"]["review"] == {"by": "Ada"}
+
+
+def test_an_aborted_task_that_nobody_took_is_not_begun(client: httpx.Client) -> None:
+    start(client, "order", "early")
+    client.post("/sagas/early/steps/review", json={})
+    assert client.post("/sagas/early/abort", json={"note": "wrong address"}).json() == {"key": "early", "aborted": True}
+    end = get(client, "/sagas/early/wait?seconds=60")
+    assert end["phase"] == "ended" and end["states"]["send"] != "committed"
+    assert client.post("/sagas/early/abort", json={}).json()["aborted"] is False
+
+
+def test_a_long_take_is_woken(service: Served, client: httpx.Client) -> None:
+    """Whoever waits for a task gets it when it comes; one who has gone gets none."""
+    with pytest.raises(httpx.ReadTimeout), service.client() as gone:
+        gone.post("/tasks/take", json={"steps": ["licence/server"], "wait": 30}, timeout=0.5)
+    found: list[Any] = []
+    with service.client() as other:
+        taker = threading.Thread(target=lambda: found.extend(take(other, "licence/server", wait=30)))
+        taker.start()
+        time.sleep(1.0)
+        start(client, "licence", "woken")
+        taker.join(LONG)
+    assert [task["key"] for task in found] == ["woken"]
+    report(client, found[0])
+    all_done(client, "licence/licence")
+
+
+def test_the_list(client: httpx.Client) -> None:
+    """Newest first, by pages, filtered and searched; a search is no pattern."""
+    keys = [f"list%_{number}" for number in range(5)]
+    for key in keys:
+        start(client, "order", key)
+    found: list[str] = []
+    after = ""
+    while True:
+        page = get(client, f"/sagas?search=list%25_&definition=order&phase=open&most=2{after}")
+        found += [saga["key"] for saga in page["sagas"]]
+        if page["next"] is None:
+            break
+        after = f"&after={page['next']}"
+    assert found == keys[::-1]
+    assert get(client, "/sagas?search=list_%25")["sagas"] == []
+    assert client.get("/sagas?phase=none").status_code == 422
+
+
+def test_events_are_streamed(service: Served, client: httpx.Client) -> None:
+    """Those of one saga, from now on; again behind the last that was seen."""
+    with service.client() as other, other.stream("GET", "/events?key=streamed") as stream:
+        lines = stream.iter_lines()
+        assert next(lines).startswith("retry")
+        start(client, "licence", "streamed")
+        all_done(client, "licence/server", "licence/licence")
+        names, last = [], ""
+        for line in lines:
+            if line.startswith("event:"):
+                names.append(line[7:].strip())
+            if line.startswith("id:"):
+                last = line[3:].strip()
+            if line.startswith("data:") and names[-1] == "saga_ended":
+                assert json.loads(line[5:])["key"] == "streamed"
+                break
+    assert names[0] == "saga_started" and names.count("step_begun") == 2 and "step_done" in names
+    boot, _, number = last.partition("-")
+    with service.client() as other, other.stream("GET", "/events?key=streamed", headers={"Last-Event-ID": f"{boot}-{int(number) - 1}"}) as stream:
+        again = next(line.strip() for line in stream.iter_lines() if line.startswith("event:"))
+    assert again == "event: saga_ended"
+    with service.client() as other, other.stream("GET", "/events", headers={"Last-Event-ID": "0-0"}) as stream:
+        assert "event: missed" in [line.strip() for _, line in zip(range(3), stream.iter_lines())]
+
+
+def test_a_stuck_one_is_resolved(client: httpx.Client) -> None:
+    stuck(client, "stuck-1")
+    assert get(client, "/sagas/stuck-1")["plan"] == {
+        "cost": None,
+        "chain": ["licence"],
+        "steps": [
+            {"step": "server", "found": "committed", "stand": 0, "leave": None, "decided": "stuck"},
+            {"step": "licence", "found": "failed", "stand": None, "leave": None, "decided": "stuck"},
+        ],
+    }
+    assert client.post("/sagas/stuck-1/resolve", json={"note": ""}).status_code == 422
+    assert client.post("/sagas/stuck-1/resolve", json={"note": "bought one"}).status_code == 200
+    assert get(client, "/sagas/stuck-1")["phase"] == "resolved"
+
+
+def test_figures_and_life(client: httpx.Client) -> None:
+    """What Prometheus reads has each figure that the page of the docs names."""
+    start(client, "licence", "figures")
+    all_done(client, "licence/server", "licence/licence")
+    text = client.get("/metrics").text
+    for name in (
+        'sagas_started_total{saga="licence"}', 'sagas{phase="ended",saga="licence"}', 'sagas_steps_total{kind="run",outcome="done",saga="licence",step="server"}',
+        "sagas_step_seconds_bucket", "sagas_waiting_for_a_person", "sagas_tasks_ready", "sagas_takeovers_total", "sagas_commits_total", "sagas_http_requests_total",
+    ):
+        assert name in text, name
+    assert get(client, "/health") == {"alive": True}
+    assert get(client, "/ready") == {"ready": True, "reason": None}
+
+
+def test_the_log_is_lines_of_json(service: Served, client: httpx.Client) -> None:
+    """What happens to a saga, and each request with who made it."""
+    start(client, "licence", "logged")
+    all_done(client, "licence/server", "licence/licence", failing=["licence/licence"])
+    get(client, "/sagas/logged/wait?seconds=60")
+    told = [json.loads(line) for line in service.told().splitlines() if not line.startswith("sagas serve: ")]  # what it says before
+    assert all({"at", "level", "logger", "message"} <= set(line) for line in told)
+    (stuck,) = (line for line in told if line.get("name") == "saga_stuck" and line["key"] == "logged")
+    assert (stuck["level"], stuck["logger"], stuck["saga"]) == ("error", "sagas", "licence")
+    asked = next(line for line in told if line.get("path") == "/sagas/logged/wait")
+    assert (asked["logger"], asked["method"], asked["status"], asked["who"]) == ("sagas.http", "GET", 200, "local")
+
+
+def test_it_goes_on_after_a_kill(tmp_path: pathlib.Path, place: str) -> None:
+    """Leases, approvals and reports outlive the service; the same report again is still one."""
+    with served(tmp_path, DEFINITIONS, "--node", "one", store=place) as service, service.client() as client:
+        start(client, "trip", "k")
+        (flight,) = take(client, "trip/flight", lease=600)
+        start(client, "order", "o")
+        client.post("/sagas/o/steps/review", json={"result": 1})
+        service.kill()
+        service.start()
+        assert take(client, "trip/flight", wait=0) == []
+        assert report(client, flight, result=5).json()["repeated"] is False
+        service.kill()
+        service.start()
+        assert report(client, flight, result=5).json()["repeated"] is True
+        all_done(client, "order/send")
+        assert get(client, "/sagas/o/wait?seconds=60")["results"]["review"] == 1
+        assert service.stop() == 0
+    assert "Traceback" not in service.told()
+
+
+def test_a_connection_that_comes_while_it_ends() -> None:
+    """It is ended as those before: else a worker that asks on and on over it would keep the service from ending."""
+
+    class Late:
+        def shutdown(self) -> None:
+            server.server_state.connections.discard(self)
+
+    async def main() -> None:
+        server.config.load()
+        server.lifespan, server.servers = server.config.lifespan_class(server.config), []
+        ending = asyncio.create_task(server.shutdown())
+        for _ in range(3):
+            await asyncio.sleep(0)  # it has begun, and has looked at the connections that there were
+        server.server_state.connections.add(Late())
+        await asyncio.wait_for(ending, LONG)
+
+    server = running.Server(uvicorn.Config(lambda: None, lifespan="off", log_config=None), None, lambda: None)  # type: ignore[arg-type]
+    asyncio.run(main())
+
+
+@pytest.mark.parametrize(
+    "files, words, says",
+    [
+        ({}, (), "it has no definition"),
+        ({"a.toml": "format = 2\nname = "}, (), "a.toml: it is no TOML"),
+        ({"a.toml": 'format = 2\nname = "a"\n[[step]]\nname = "x"\nprice = 1\n'}, (), "a.toml: it is no definition: step 'x' has no key 'price'"),
+        ({"a.toml": 'format = 2\nname = "a"\n[[step]]\n'}, (), "a.toml: it is no definition: step 1 has no name"),
+        ({**DEFINITIONS, "b.toml": DEFINITIONS["order.toml"]}, (), "order.toml: saga 'order', which"),
+        ({**DEFINITIONS, "order.service.toml": "[step.send]\nbackoff = { frist = 1 }\n"}, (), "order.service.toml: step 'send': backoff has the keys"),
+        ({"a.toml": 'format = 2\nname = "a"\n'}, (), "a.toml: saga 'a': it has no step"),
+        ({"a.toml": 'format = 2\nname = "a"\n[[step]]\nname = "x"\nneeds = ["y"]\n'}, (), "a.toml: saga 'a', step 'x': needs 'y'"),
+        ({**DEFINITIONS, "order.service.toml": '[step.no]\nkind = "approval"\n'}, (), "order.service.toml: no step is named 'no'"),
+        ({**DEFINITIONS, "order.service.toml": '[step.review]\nkind = "x"\n'}, (), "kind is one of"),
+        (DEFINITIONS, ("--listen", "0.0.0.0:0"), "it listens on the loopback only"),
+        (DEFINITIONS, ("--listen", "here"), "it is HOST:PORT"),
+        (DEFINITIONS, ("--token-file", "nowhere.toml"), "nowhere.toml: it is not there; `sagas token"),
+        (DEFINITIONS, ("--app", "nowhere:store"), "--app nowhere:store: No module"),
+    ],
+)
+def test_what_cannot_be_served(tmp_path: pathlib.Path, files: dict[str, str], words: tuple[str, ...], says: str) -> None:
+    """It says what is wrong and where, and does not start."""
+    from serving import environment
+
+    one = Served(tmp_path, files, *words)
+    done = subprocess.run(one.command(), env=environment(), capture_output=True, text=True, timeout=LONG, cwd=tmp_path)
+    assert done.returncode in (1, 2, 4) and says in done.stderr, done.stderr
+    assert "Traceback" not in done.stderr
+
+
+def test_a_module_s_steps_run_here(tmp_path: pathlib.Path) -> None:
+    """`--app module:store`: functions in the service, and steps of the same saga by workers."""
+    (tmp_path / "shop.py").write_text(
+        'import sagas\nshop = sagas.Saga("shop")\n\n@shop.step\ndef price(task):\n    return task.input * 2\n\n'
+        'send = shop.step(handler=None, name="send", needs=[price])\nstore = sagas.open("unused.db", [shop])\n'
+    )
+    with served(tmp_path, {"order.toml": ORDER_OF_ONE}, "--app", "shop:store") as service, service.client() as client:
+        start(client, "shop", "s", 21)
+        (task,) = take(client, "shop/send")
+        assert task["results"] == {"price": 42}
+        report(client, task)
+        assert get(client, "/sagas/s/wait?seconds=60")["phase"] == "ended"
+
+
+ORDER_OF_ONE = 'format = 2\nname = "one"\n[[step]]\nname = "a"\n'

@@ -1,0 +1,264 @@
+"""Whoever is not meant well: any JSON by the schema and against it, bytes, long bodies, idle connections, clients that never read."""
+
+from __future__ import annotations
+
+import contextlib
+import json
+import pathlib
+import re
+import resource
+import socket
+import string
+from collections.abc import Iterator
+from typing import Any
+from urllib.parse import quote, urlencode
+
+import httpx
+import pytest
+from hypothesis import HealthCheck, given, settings
+from hypothesis import strategies as st
+
+from serving import DEFINITIONS, LONG, Served, served, start, take
+
+MANY = settings(max_examples=120, deadline=None, suppress_health_check=list(HealthCheck))
+MEGA = 1 << 20
+
+
+@pytest.fixture(scope="module")
+def service(tmp_path_factory: pytest.TempPathFactory) -> Iterator[Served]:
+    with served(tmp_path_factory.mktemp("hostile"), DEFINITIONS, "--log-level", "error") as one:
+        with one.client() as client:
+            start(client, "trip", "there", {"a": [1, None]})
+            start(client, "order", "ordered")
+        yield one
+
+
+def memory(service: Served) -> int:
+    """The most memory that the service has had, in bytes."""
+    assert service.process
+    found = re.search(r"VmHWM:\s+(\d+) kB", pathlib.Path(f"/proc/{service.process.pid}/status").read_text())
+    assert found
+    return int(found[1]) * 1024
+
+
+def is_well(service: Served) -> None:
+    """It answers, and nothing of it has failed."""
+    with service.client() as client:
+        assert client.get("/health").json() == {"alive": True}
+        assert client.get("/sagas/there").json()["key"] == "there"
+    assert "Traceback" not in service.told() and '"trace"' not in service.told(), service.told()[-3000:]
+
+
+TEXT = st.one_of(st.text(max_size=20), st.sampled_from(["there", "ordered", "trip", "order", "tour", "review", "trip/flight", "order/send/undo", "..", "\ud800", "0" * 700]))
+VALUES = st.recursive(
+    st.one_of(st.none(), st.booleans(), st.integers(-(2**70), 2**70), st.floats(allow_nan=False, allow_infinity=False), TEXT),
+    lambda inner: st.one_of(st.lists(inner, max_size=3), st.dictionaries(TEXT, inner, max_size=3)),
+    max_leaves=8,
+)
+
+
+def of_schema(told: dict[str, Any], whole: dict[str, Any]) -> st.SearchStrategy[Any]:
+    """Values as a schema says, mostly."""
+    if "$ref" in told:
+        return of_schema(whole["components"]["schemas"][told["$ref"].rsplit("/", 1)[1]], whole)
+    if "enum" in told:
+        return st.sampled_from(told["enum"])
+    kind = told.get("type")
+    if kind == "object":
+        needed = {name: of_schema(part, whole) for name, part in told.get("properties", {}).items() if name in told.get("required", ())}
+        more = {name: of_schema(part, whole) for name, part in told.get("properties", {}).items() if name not in needed}
+        return st.fixed_dictionaries(needed, optional=more)
+    if kind == "array":
+        return st.lists(of_schema(told.get("items", {}), whole), min_size=told.get("minItems", 0), max_size=3)
+    if kind in ("integer", "number"):
+        low, high = int(told.get("minimum", 0)), int(min(told.get("maximum", 1000), 2**62))
+        return st.integers(low, high)
+    if kind == "boolean":
+        return st.booleans()
+    return TEXT if kind == "string" else VALUES
+
+
+@st.composite
+def requests(draw: st.DrawFn, schema: dict[str, Any]) -> tuple[str, str, bytes, str]:
+    """A request of a path of the schema: right, nearly right, or not at all."""
+    path = draw(st.sampled_from(sorted(set(schema["paths"]) - {"/events"})))
+    method, told = draw(st.sampled_from(sorted(schema["paths"][path].items())))
+    query = {}
+    for word in told.get("parameters", ()):
+        if word["in"] == "path":
+            path = path.replace(f"{{{word['name']}}}", quote(draw(TEXT).encode("utf-8", "surrogatepass"), safe=""))
+        elif draw(st.booleans()):
+            query[word["name"]] = draw(st.one_of(of_schema(word["schema"], schema), TEXT))
+    query = {name: str(value).encode("utf-8", "surrogatepass") for name, value in query.items()} | ({"seconds": b"0"} if path.endswith("/wait") else {})
+    body = b""
+    if "requestBody" in told:
+        of = told["requestBody"]["content"]["application/json"]["schema"]
+        value = draw(st.one_of(of_schema(of, schema), of_schema(of, schema), VALUES))
+        if isinstance(value, dict) and path == "/tasks/take":
+            value = value | {"wait": 0}
+        body = draw(st.one_of(st.just(json.dumps(value).encode()), st.binary(max_size=30))) if draw(st.integers(0, 9)) == 0 else json.dumps(value).encode()
+    return method.upper(), f"{path}?{urlencode(query)}" if query else path, body, draw(st.sampled_from(["application/json"] * 5 + ["text/plain", "application/x-www-form-urlencoded", "x"]))
+
+
+def send_any_json(service: Served, most: settings) -> None:
+    """Whatever is asked, by the schema or nearly: an answer in JSON that is no fault of the service."""
+    with service.client() as client:
+        schema = client.get("/openapi.json").json()
+
+        @most
+        @given(requests(schema))
+        def holds(request: tuple[str, str, bytes, str]) -> None:
+            method, path, body, kind = request
+            answer = client.request(method, path, content=body, headers={"content-type": kind})
+            assert answer.status_code < 500, (answer.status_code, answer.text)
+            if answer.status_code >= 400:
+                assert set(answer.json()) == {"error", "detail"}, answer.text
+
+        holds()
+
+
+ODD = ("%00", "a%00b", "%ED%A0%80", "%FF", "%F0%9F%92%A9", "%", "_", "'%22%3B--", "%5C", "9" * 40)
+
+
+def send_odd_texts(service: Served) -> None:
+    """Zeros, halves of pairs and what is no UTF-8, wherever a text may stand."""
+    with service.client() as client:
+        for odd in ODD:
+            for path in (f"/sagas?search={odd}", f"/sagas?definition={odd}", f"/sagas?after={odd}", f"/sagas/{odd}", f"/sagas/{odd}/log", f"/sagas/{odd}/wait?seconds=0"):
+                assert client.get(path).status_code < 500, path
+            for path in (f"/ui/sagas?search={odd}", f"/ui/sagas?definition={odd}", f"/ui/sagas/{odd}"):
+                assert client.get(path).status_code < 500, path
+            for path in (f"/sagas/{odd}/abort", f"/sagas/there/steps/{odd}", f"/sagas/{odd}/resolve"):
+                assert client.post(path, json={"note": odd}).status_code < 500, path
+            assert client.post(f"/tasks/{odd}/done", json={"lease": 1}).status_code < 500
+        for text in ("\0", "\ud800", "a\0b"):
+            body = json.dumps({"definition": "order", "key": f"odd-{text!r}", "input": {text: [text]}}).encode()
+            assert client.post("/sagas", content=body, headers={"content-type": "application/json"}).status_code == 201
+            key = quote(f"odd-{text!r}", safe="")
+            for path in (f"/sagas/{key}/steps/review", f"/sagas/{key}/abort"):
+                more = {"result": text} if "steps" in path else {}
+                body = json.dumps({**more, "note": f"x{text}"}).encode()
+                assert client.post(path, content=body, headers={"content-type": "application/json"}).status_code < 500, path
+            assert client.get(f"/sagas/{key}").json()["input"] == {text: [text]}
+            for path in (f"/ui/sagas/{key}", f"/sagas/{key}/log", f"/sagas/{key}/picture.svg", "/ui/sagas", "/ui"):
+                assert client.get(path).status_code == 200, path
+
+
+def test_any_json(service: Served) -> None:
+    send_any_json(service, MANY)
+    is_well(service)
+
+
+def test_odd_texts(service: Served) -> None:
+    send_odd_texts(service)
+    is_well(service)
+
+
+DEEP = b'{"definition":"trip","key":"deep","input":' + b"[" * 5000 + b"]" * 5000 + b"}"
+BODIES = [b"[" * 200_000, DEEP, b"1" * 50_000, b'"\xff"', b'{"a":1e999}', b"\x00" * 100]
+
+
+def test_bodies_that_are_none(service: Served) -> None:
+    with service.client() as client:
+        for body in BODIES:
+            answer = client.post("/sagas", content=body, headers={"content-type": "application/json"})
+            assert 400 <= answer.status_code < 500 and "error" in answer.json(), body[:20]
+    is_well(service)
+
+
+PARTS = [b"GET / HTTP/1.1\r\nHost: 127.0.0.1\r\n", b"POST /sagas HTTP/1.1\r\n", b"Content-Length: 10\r\n", b"Transfer-Encoding: chunked\r\n", b"\r\n", b"GET /\xff\xfe HTTP/1.1\r\n", b"Host: [\r\n\r\n"]
+
+
+@MANY
+@given(st.lists(st.one_of(st.binary(max_size=200), st.sampled_from(PARTS)), max_size=6))
+def send_any_bytes(service: Served, parts: list[bytes]) -> None:
+    """What is no HTTP is refused, or closed."""
+    with connection(service) as one:
+        with contextlib.suppress(OSError):
+            one.sendall(b"".join(parts))
+            one.shutdown(socket.SHUT_WR)
+            while one.recv(65536):
+                pass
+
+
+@contextlib.contextmanager
+def connection(service: Served) -> Iterator[socket.socket]:
+    host, _, port = service.address.rpartition(":")
+    with socket.create_connection((host, int(port)), timeout=LONG) as one:
+        yield one
+
+
+def test_any_bytes_leave_it_well(service: Served) -> None:
+    send_any_bytes(service)
+    is_well(service)
+
+
+def pieces(count: int, size: int) -> Iterator[bytes]:
+    for _ in range(count):
+        yield b"x" * size
+
+
+def is_refused(service: Served, path: str, content: Any) -> None:
+    """It is too long: 413, or the connection ends while it is sent."""
+    with service.client() as client, contextlib.suppress(httpx.TransportError):
+        assert client.post(path, content=content, headers={"content-type": "application/json"}).status_code == 413
+
+
+def test_long_bodies(service: Served) -> None:
+    """A body of 100 MB is refused, whether it says its length or not, and never stands in memory."""
+    before = memory(service)
+    with connection(service) as one:
+        one.sendall(b"POST /sagas HTTP/1.1\r\nHost: 127.0.0.1\r\nContent-Type: application/json\r\nContent-Length: 104857600\r\n\r\n")
+        assert one.recv(4096).startswith(b"HTTP/1.1 413 ")
+    for _ in range(3):
+        is_refused(service, "/sagas", pieces(100, MEGA))
+    assert memory(service) - before < 50 * MEGA
+    with service.client() as client:
+        assert start(client, "trip", "large", "x" * (MEGA - 1000)).status_code == 201
+        assert len(client.get("/sagas/large").json()["input"]) == MEGA - 1000
+        (task,) = [one for one in take(client, "trip/flight", most=10) if one["key"] == "large"]
+        is_refused(service, f"/tasks/{task['token']}/done", json.dumps({"lease": task["lease"], "result": "y" * MEGA}).encode())
+    is_well(service)
+
+
+def test_ten_thousand_idle_connections(service: Served) -> None:
+    """They give way to whoever asks something, and memory is bounded."""
+    soft, hard = resource.getrlimit(resource.RLIMIT_NOFILE)
+    resource.setrlimit(resource.RLIMIT_NOFILE, (hard, hard))
+    before, open = memory(service), []
+    host, _, port = service.address.rpartition(":")
+    try:
+        for number in range(min(10_000, hard - 500)):
+            one = socket.socket()
+            one.setblocking(False)
+            one.connect_ex((host, int(port)))
+            open.append(one)
+            if number % 1000 == 999:
+                with service.client() as client:
+                    assert client.get("/health").status_code == 200
+        with service.client() as client:
+            assert client.get("/sagas/there").status_code == 200
+        assert memory(service) - before < 150 * MEGA
+    finally:
+        for one in open:
+            one.close()
+        resource.setrlimit(resource.RLIMIT_NOFILE, (soft, hard))
+    is_well(service)
+
+
+def test_clients_that_never_read(service: Served) -> None:
+    """Long answers and streams that nobody takes hold up nobody, and memory is bounded."""
+    with service.client() as client:
+        start(client, "order", "long", "z" * (MEGA - 1000))
+    before = memory(service)
+    with contextlib.ExitStack() as stack:
+        for path in ["/sagas/long"] * 30 + ["/events"] * 30:
+            one = stack.enter_context(connection(service))
+            one.setsockopt(socket.SOL_SOCKET, socket.SO_RCVBUF, 4096)
+            one.sendall(f"GET {path} HTTP/1.1\r\nHost: 127.0.0.1\r\n\r\n".encode())
+        with service.client() as client:
+            for number in range(100):
+                assert start(client, "order", f"meanwhile-{number}").status_code in (200, 201)
+            assert client.get("/sagas/there").status_code == 200
+    assert memory(service) - before < 200 * MEGA
+    is_well(service)

@@ -1,0 +1,258 @@
+"""Several services over one PostgreSQL database: each gives out all tasks, takes all reports, and shows all sagas; one is killed."""
+
+from __future__ import annotations
+
+import contextlib
+import pathlib
+import subprocess
+import threading
+import time
+from collections.abc import Callable, Iterator
+from typing import Any
+
+import httpx
+import pytest
+from hypothesis import HealthCheck, settings
+
+import sagas
+from server import Server, folder_of_programs
+from serving import DEFINITIONS, LONG, Served, all_done, report, served, start, stuck, take
+from test_service_hostile import is_well, send_any_json, send_odd_texts
+from test_service_workers import working
+
+LEASE = 3.0
+
+
+class Pair:
+    """Two services over one database, `one` and `two`, and a client of each."""
+
+    def __init__(self, folder: pathlib.Path, url: str, stack: contextlib.ExitStack) -> None:
+        self.services = []
+        for name in ("one", "two"):
+            (folder / name).mkdir()
+            service = Served(folder / name, DEFINITIONS, "--node", f"the \"{name}\"", "--lease", str(LEASE), store=url)
+            stack.callback(service.kill)
+            service.start()
+            self.services.append(service)
+        self.one, self.two = (stack.enter_context(service.client()) for service in self.services)
+
+
+@contextlib.contextmanager
+def pair(folder: pathlib.Path, url: str) -> Iterator[Pair]:
+    with contextlib.ExitStack() as stack:
+        yield Pair(folder, url, stack)
+
+
+@pytest.fixture(scope="module")
+def both(tmp_path_factory: pytest.TempPathFactory, postgresql: Server) -> Iterator[Pair]:
+    """A pair for the cases that kill nobody."""
+    url = postgresql.create()
+    with pair(tmp_path_factory.mktemp("pair"), url) as found:
+        yield found
+    postgresql.drop(url)
+
+
+def test_a_task_goes_through_both(both: Pair) -> None:
+    """It is begun at one, taken and beaten for at the other, and reported at the first; each shows all of it."""
+    one, two = both.one, both.two
+    assert start(one, "trip", "both", {"to": "Rome"}).status_code == 201
+    again = start(two, "trip", "both", {"to": "Rome"})
+    assert (again.status_code, again.json()["new"]) == (200, False)
+    assert start(two, "trip", "both", {"to": "Oslo"}).json()["error"] == "KeyConflict"
+    (flight,) = take(two, "trip/flight")
+    assert (flight["key"], flight["input"]) == ("both", {"to": "Rome"}) and 500 < flight["seconds"] <= 600
+    assert take(one, "trip/flight", wait=0) == take(two, "trip/flight", wait=0) == []
+    assert two.post(f"/tasks/{flight['token']}/beat", json={"lease": flight["lease"], "seconds": 700}).json()["until"] > time.time() + 600
+    assert two.post(f"/tasks/{flight['token']}/beat", json={"lease": flight["lease"] - 1}).json()["error"] == "LeaseLost"
+    assert report(two, {**flight, "lease": 1}, "failed", error="no").json()["error"] == "LeaseLost"
+    assert report(one, flight, result={"seat": 1}).json() == {"kept": True, "repeated": False}
+    assert report(two, flight, result={"seat": 1}).json() == {"kept": True, "repeated": True}
+    assert report(two, flight, result={"seat": 2}).json()["error"] == "ReportedOtherwise"
+    assert two.post(f"/tasks/{flight['token']}/beat", json={"lease": flight["lease"]}).json()["error"] == "LeaseLost"
+    (car,) = take(two, "trip/car")
+    assert car["results"] == {"flight": {"seat": 1}}
+    answer = report(two, car, result=7, next={"steps": ["trip/tour"], "wait": 10, "lease": 600}).json()
+    (tour,) = answer["tasks"]
+    report(two, tour, "failed", error="full", final=True)
+    (undo,) = take(two, "trip/car/undo")
+    assert undo["result"] == 7 and undo["action_token"] == car["effect_token"]
+    report(two, undo)
+    for client in (one, two):
+        end = client.get("/sagas/both/wait?seconds=60").json()
+        assert end["states"] == {"flight": "committed", "car": "undone", "tour": "failed"} and end["plan"]["cost"] == 15
+        assert client.get("/sagas?search=both").json()["sagas"][0]["key"] == "both"
+        assert 'phase="ended",saga="trip"' in client.get("/metrics").text
+        assert "both" in client.get("/ui/sagas/both").text
+
+
+def test_a_long_take_hears_of_the_other_s_task(both: Pair) -> None:
+    """Whoever waits at one gets what comes at the other; one who has gone gets none."""
+    with pytest.raises(httpx.ReadTimeout), both.services[1].client() as gone:
+        gone.post("/tasks/take", json={"steps": ["licence/server"], "wait": 30}, timeout=0.5)
+    found: list[Any] = []
+    taker = threading.Thread(target=lambda: found.extend(take(both.two, "licence/server", wait=30, most=5)))
+    with both.services[0].client() as client:
+        taker.start()
+        time.sleep(0.5)
+        start(client, "licence", "heard")
+        taker.join(LONG)
+        assert [task["key"] for task in found] == ["heard"]
+        (queue,) = [queue for queue in client.get("/queues").json()["queues"] if queue["step"] == "server"]
+        assert queue == both.two.get("/queues").json()["queues"][0] and (queue["ready"], queue["taken"]) == (0, 1)
+        assert "local/w" in client.get("/ui/workers").text  # who asked at the other
+    report(both.two, found[0])
+    all_done(both.two, "licence/licence")
+
+
+def test_what_has_waited_longest_comes_first(both: Pair) -> None:
+    """Whichever service has it; and many who wait at one get what comes at the other, all of them."""
+    start(both.one, "licence", "first")
+    deadline = time.monotonic() + LONG
+    while not any(queue["oldest"] < time.time() - 2 for queue in both.two.get("/queues").json()["queues"]):
+        assert time.monotonic() < deadline
+        time.sleep(0.1)
+    start(both.two, "licence", "second")
+    (first,) = take(both.two, "licence/server")
+    (second,) = take(both.two, "licence/server")
+    assert (first["key"], second["key"]) == ("first", "second")
+    for task in (first, second):
+        report(both.one, task, "failed", error="no", final=True)
+    found: list[str] = []
+
+    def work() -> None:
+        with both.services[1].client() as client:
+            (task,) = take(client, "licence/server")
+            found.append(task["key"])
+            report(client, task, "failed", error="no", final=True)
+
+    keys = [f"many-{number}" for number in range(8)]
+    takers = [threading.Thread(target=work) for _ in keys]
+    for taker in takers:
+        taker.start()
+    for key in keys:
+        start(both.one, "licence", key)
+    for taker in takers:
+        taker.join(LONG)
+    assert sorted(found) == keys
+
+
+def test_people_say_it_anywhere(both: Pair) -> None:
+    """An approval, an abort and a stuck saga that is resolved, each at the service that has not the saga."""
+    start(both.one, "order", "approved")
+    deadline = time.monotonic() + LONG
+    while not both.two.get("/sagas/approved").json()["waits"]:
+        assert time.monotonic() < deadline
+    assert both.two.post("/sagas/approved/steps/review", json={"result": "yes", "note": "by two"}).status_code == 200
+    assert both.two.post("/sagas/approved/steps/review", json={}).json()["error"] == "NotWaiting"
+    all_done(both.two, "order/send")
+    assert both.two.get("/sagas/approved/wait?seconds=60").json()["results"]["review"] == "yes"
+    notes = [event["value"] for event in both.one.get("/sagas/approved/log").json()["events"] if event["event"] == "note"]
+    assert [(note["by"], note["note"], note["answer"]) for note in notes if note["answer"] is True] == [("local", "by two", True)]
+    start(both.one, "order", "aborted")
+    assert both.two.post("/sagas/aborted/abort", json={"note": "no"}).json()["aborted"] is True
+    assert both.one.get("/sagas/aborted/wait?seconds=60").json()["aborted"] is True
+    stuck(both.one, "stuck")
+    assert both.two.post("/sagas/stuck/resolve", json={"note": "bought one"}).status_code == 200
+    assert both.one.get("/sagas/stuck").json()["phase"] == "resolved"
+
+
+def test_events_of_all(both: Pair) -> None:
+    """A stream at one has what happens at the other."""
+    with both.services[1].client() as other, other.stream("GET", "/events?key=streamed") as stream:
+        lines = stream.iter_lines()
+        assert next(lines).startswith("retry")
+        start(both.one, "licence", "streamed")
+        all_done(both.one, "licence/server", "licence/licence")
+        names: list[str] = []
+        for line in lines:
+            if line.startswith("event:"):
+                names.append(line[7:].strip())
+                if names[-1] == "saga_ended":
+                    break
+    assert names[0] == "saga_started" and names.count("step_begun") == 2 and "step_done" in names
+
+
+def test_whatever_is_asked(both: Pair) -> None:
+    """As over a file: nothing comes to a fault of the service that PostgreSQL does not take, or of the one that has the saga."""
+    start(both.one, "trip", "there")
+    start(both.one, "order", "ordered")
+    service = both.services[1]
+    send_odd_texts(service)
+    send_any_json(service, settings(max_examples=60, deadline=None, suppress_health_check=list(HealthCheck)))
+    is_well(service)
+    is_well(both.services[0])
+
+
+def test_one_is_killed(tmp_path: pathlib.Path, url: str) -> None:
+    """Its sagas, leases and reports are the other's after its lease; the tasks that it gave out are reported there."""
+    with pair(tmp_path, url) as two:
+        start(two.one, "trip", "k")
+        (flight,) = take(two.two, "trip/flight")
+        start(two.one, "order", "o")
+        two.one.post("/sagas/o/steps/review", json={"result": 1})
+        two.services[0].kill()
+        deadline = time.monotonic() + LONG
+        while (answer := report(two.two, flight, result=5)).status_code == 503:  # nobody drives it, until the lease has run out
+            assert time.monotonic() < deadline and answer.json()["error"] == "NotHere"
+            time.sleep(0.1)
+        assert answer.json()["repeated"] is False
+        assert report(two.two, flight, result=5).json()["repeated"] is True
+        worker = sagas.Worker([service.url for service in two.services], wait=1.0)
+        for saga, step in (("order", "send"), ("trip", "car"), ("trip", "tour")):
+            worker.step(saga, step)(lambda task: task.step)
+        with working(worker):  # its first service does not answer
+            two.two.get("/sagas/k/wait?seconds=60")
+        assert two.two.get("/sagas/o/wait?seconds=60").json()["phase"] == "ended"
+        assert two.two.get("/sagas/k/wait?seconds=60").json()["results"] == {"flight": 5, "car": "car", "tour": "tour"}
+        assert "sagas_logs_taken_total 1.0" in two.two.get("/metrics").text
+        two.services[0].start()
+        assert two.services[0].stop() == two.services[1].stop() == 0
+    for service in two.services:
+        assert "Traceback" not in service.told() and '"trace"' not in service.told()
+
+
+def test_the_database_goes_away(tmp_path: pathlib.Path, postgresql: Server, url: str) -> None:
+    """It says so, and refuses what it cannot keep; once it is there again, all goes on, and a task's report is taken."""
+
+    def until(status: int, ask: Callable[[], httpx.Response]) -> httpx.Response:
+        deadline = time.monotonic() + 2 * LONG
+        while (answer := ask()).status_code != status:
+            assert time.monotonic() < deadline and answer.status_code in (200, 503), answer.text
+            time.sleep(0.1)
+        return answer
+
+    with served(tmp_path, DEFINITIONS, "--lease", "2", store=url) as service, service.client() as client:
+        start(client, "trip", "k")
+        (flight,) = take(client, "trip/flight")
+        postgresql.stop()
+        try:
+            until(503, lambda: client.get("/ready"))
+            assert client.get("/health").status_code == 200
+            assert client.get("/sagas/k").json()["error"] == start(client, "trip", "x").json()["error"] == "StoreUnwritable"
+        finally:
+            postgresql.start()
+        until(200, lambda: client.get("/ready"))
+        assert until(200, lambda: report(client, flight, result=1)).json()["kept"] is True
+        until(200, lambda: client.get("/sagas/k"))
+        all_done(client, "trip/car", "trip/tour")
+        assert client.get("/sagas/k/wait?seconds=60").json()["phase"] == "ended"
+    assert '"trace"' not in service.told(), service.told()[-3000:]
+
+
+def test_a_backup_of_the_database(tmp_path: pathlib.Path, postgresql: Server, url: str) -> None:
+    """`pg_dump` beside a running service, and the copy served: what was open goes on, and its task has the same token."""
+    words = [str(folder_of_programs() / name) for name in ("pg_dump", "pg_restore")]
+    with served(tmp_path, DEFINITIONS, "--node", "one", "--lease", str(LEASE), store=url) as service, service.client() as client:
+        start(client, "trip", "k")
+        (flight,) = take(client, "trip/flight")
+        subprocess.run([words[0], "-Fc", "-f", str(tmp_path / "dump"), url], check=True)
+        report(client, flight)
+    copy = postgresql.create()
+    subprocess.run([words[1], "-d", copy, str(tmp_path / "dump")], check=True)
+    (tmp_path / "copy").mkdir()
+    with served(tmp_path / "copy", DEFINITIONS, "--node", "one", store=copy) as service, service.client() as client:
+        assert take(client, "trip/flight", wait=0) == []  # its lease holds
+        assert report(client, flight, result=1).json() == {"kept": True, "repeated": False}
+        all_done(client, "trip/car", "trip/tour")
+        assert client.get("/sagas/k/wait?seconds=60").json()["phase"] == "ended"
+    postgresql.drop(copy)

@@ -1,0 +1,342 @@
+"""The page in a real Chromium: what a person sees, clicks and types; screenshots stay in the test's folder."""
+
+from __future__ import annotations
+
+import json
+import pathlib
+import shutil
+import sqlite3
+import time
+from collections.abc import Iterator
+from typing import Any
+
+import httpx
+import pytest
+from selenium import webdriver
+from selenium.webdriver.chrome.options import Options
+from selenium.webdriver.chrome.service import Service as Driver
+from selenium.webdriver.common.by import By
+from selenium.webdriver.common.keys import Keys
+from selenium.webdriver.support.ui import WebDriverWait
+
+from serving import LONG, Served, all_done, report, served, start, stuck, take
+
+MANY = 100_000
+CONTRAST = """
+const parse = (text) => text.match(/[\\d.]+/g).map(Number);
+const light = ([r, g, b]) => { const f = (v) => (v /= 255) <= .04045 ? v / 12.92 : ((v + .055) / 1.055) ** 2.4; return .2126 * f(r) + .7152 * f(g) + .0722 * f(b); };
+const ground = (one) => { for (; one; one = one.parentElement) { const c = parse(getComputedStyle(one).backgroundColor); if (c.length < 4 || c[3] > .9) return c; } return [255, 255, 255]; };
+const found = [];
+for (const one of document.querySelectorAll("body *")) {
+  if (one.closest("svg, .skip, .sr") || ![...one.childNodes].some((n) => n.nodeType === 3 && n.textContent.trim())) continue;
+  const a = light(parse(getComputedStyle(one).color)), b = light(ground(one));
+  const ratio = (Math.max(a, b) + .05) / (Math.min(a, b) + .05);
+  if (ratio < 4.5) found.push(`${one.tagName}.${one.className} "${one.textContent.trim().slice(0, 30)}" ${ratio.toFixed(2)}`);
+}
+return found;
+"""
+FOCUSABLE = "return [...document.querySelectorAll('a[href], button, input:not([type=hidden]), select, textarea, [tabindex=\"0\"]')].filter((e) => e.getClientRects().length).length"
+
+
+class Browser:
+    """A Chromium that looks at a service. `shots` is where its pictures go."""
+
+    def __init__(self, service: Served, shots: pathlib.Path) -> None:
+        options = Options()
+        options.binary_location = str(shutil.which("chromium"))
+        for word in ("--headless=new", "--no-sandbox", "--disable-gpu", "--disable-dev-shm-usage", f"--user-data-dir={shots / 'profile'}"):
+            options.add_argument(word)
+        options.set_capability("goog:loggingPrefs", {"browser": "ALL"})
+        self.driver = webdriver.Chrome(service=Driver(shutil.which("chromedriver")), options=options)
+        self.driver.set_page_load_timeout(LONG)
+        self.service, self.shots = service, shots
+
+    def size(self, width: int, dark: bool = False) -> None:
+        told = {"width": width, "height": 900, "deviceScaleFactor": 1, "mobile": width < 500}
+        self.driver.execute_cdp_cmd("Emulation.setDeviceMetricsOverride", told)
+        feature = {"name": "prefers-color-scheme", "value": "dark" if dark else "light"}
+        self.driver.execute_cdp_cmd("Emulation.setEmulatedMedia", {"features": [feature]})
+
+    def go(self, path: str) -> None:
+        self.driver.get(self.service.url + path)
+
+    def click(self, css: str, text: str = "") -> None:
+        """Clicks what is like that, once it is there."""
+        self.wait(lambda: self._click(css, text))
+
+    def _click(self, css: str, text: str) -> bool:
+        for one in self.driver.find_elements(By.CSS_SELECTOR, css):
+            if text in (one.text or one.get_attribute("aria-label") or "") or text in (one.get_attribute("aria-label") or ""):
+                one.click()
+                return True
+        return False
+
+    def type(self, css: str, text: str) -> None:
+        one = self.driver.find_element(By.CSS_SELECTOR, css)
+        one.clear()
+        one.send_keys(text)
+
+    def wait(self, found: Any) -> None:
+        """Until it is so; the page may be renewed meanwhile."""
+
+        def ask(_: Any) -> bool:
+            try:
+                return bool(found())
+            except Exception as error:
+                if "stale" in str(error).lower():
+                    return False
+                raise
+
+        WebDriverWait(self.driver, LONG, 0.1).until(ask)
+
+    def has(self, text: str) -> None:
+        self.wait(lambda: text in self.driver.find_element(By.TAG_NAME, "body").text)
+
+    @property
+    def text(self) -> str:
+        return str(self.driver.execute_script("return document.body.innerText"))
+
+    def shot(self, name: str) -> None:
+        self.driver.save_screenshot(str(self.shots / f"{name}.png"))
+
+    def is_quiet(self) -> None:
+        """No error in the console."""
+        assert [entry for entry in self.driver.get_log("browser") if entry["level"] in ("SEVERE", "WARNING")] == []
+
+
+@pytest.fixture(scope="module")
+def shots(tmp_path_factory: pytest.TempPathFactory) -> pathlib.Path:
+    return tmp_path_factory.mktemp("page")
+
+
+@pytest.fixture(scope="module")
+def service(shots: pathlib.Path) -> Iterator[Served]:
+    with served(shots) as one:
+        with one.client() as client:
+            seed(client)
+        yield one
+
+
+@pytest.fixture(scope="module")
+def browser(service: Served, shots: pathlib.Path) -> Iterator[Browser]:
+    one = Browser(service, shots)
+    try:
+        one.size(1280)
+        yield one
+    finally:
+        one.driver.quit()
+
+
+def seed(client: httpx.Client) -> None:
+    """One of each kind: failed, stuck, unknown, to approve, at work."""
+    start(client, "trip", "failed-1", {"to": "Rome"})
+    all_done(client, "trip/flight", "trip/car")
+    for _ in range(2):
+        (tour,) = take(client, "trip/tour")
+        report(client, tour, "failed", error="the tour is full")
+    all_done(client, "trip/car/undo")
+    assert client.get("/sagas/failed-1/wait?seconds=60").json()["over"]
+    stuck(client, "stuck-1")
+    stuck(client, "stuck-2")
+    start(client, "trip", "hazy-1")
+    all_done(client, "trip/flight", "trip/car")
+    (tour,) = take(client, "trip/tour")
+    report(client, tour, "unknown", error="the line went dead")
+    for key in ("order-1", "order-2"):
+        start(client, "order", key)
+    start(client, "trip", "work-1")
+    take(client, "trip/flight", lease=3000)
+
+
+def test_a_failed_saga_says_what_stands(browser: Browser) -> None:
+    """Its picture has each step, what was kept and why, and the price of the plan."""
+    browser.go("/ui/sagas/failed-1")
+    titles = browser.driver.execute_script("return [...document.querySelectorAll('svg.picture g.step title')].map((t) => t.textContent)")
+    assert titles == ["flight: done, kept", "car: undone, given back for 5", "tour: failed, left out for 10"]
+    text = browser.text
+    assert "plan of cost 15" in text and "the tour is full" in text and "Timeline" in text
+    bars = browser.driver.execute_script("return [...document.querySelectorAll('svg.timeline g.run title')].map((t) => t.textContent)")
+    assert len(bars) == 5 and bars[2].startswith("tour, action, attempt 1: failed, and is tried again after")
+    browser.shot("failed")
+    browser.driver.find_element(By.LINK_TEXT, "Its certificate").click()
+    browser.has('"cost": 15')
+    browser.is_quiet()
+
+
+def test_a_stuck_one_is_found_in_two_clicks_and_resolved(browser: Browser) -> None:
+    """From the first page: look, mark as resolved; then it is asked again, with a note that is written down."""
+    browser.go("/ui")
+    browser.shot("overview")
+    assert browser.text.index("Needs a person") < browser.text.index("Latest sagas")
+    browser.click("a.button", "Look at stuck-1")
+    browser.has("It is stuck")
+    assert "because of licence" in browser.text
+    browser.shot("stuck")
+    browser.click("a.button", "Mark as resolved…")
+    browser.has("Mark it as resolved?")
+    browser.shot("resolve")
+    browser.click("main button", "Mark as resolved")
+    assert "/resolve" in browser.driver.current_url  # a note is needed
+    browser.type("textarea[name=note]", "bought a licence by hand")
+    browser.click("main button", "Mark as resolved")
+    browser.has("It was stuck, and is resolved")
+    assert "local marked it as resolved" in browser.text and "bought a licence by hand" in browser.text
+    browser.go("/ui")
+    assert "stuck-1" not in browser.text.split("Latest sagas")[0] and "stuck-2" in browser.text
+    browser.is_quiet()
+
+
+def test_an_approval(browser: Browser) -> None:
+    """It is found on the first page, said with a result and a note, and the saga goes on."""
+    browser.go("/ui")
+    browser.click("a.button", "Look at order-1")
+    browser.has("review waits to be approved")
+    browser.click("a.button", "Approve…")
+    browser.has("Approve review?")
+    browser.type("textarea[name=result]", "yes")
+    browser.type("textarea[name=note]", "asked the boss")
+    browser.click("main button", "Approve")
+    browser.has("The result is no JSON")
+    assert all("422" in entry["message"] for entry in browser.driver.get_log("browser"))
+    browser.type("textarea[name=result]", '{"by": "Ada"}')
+    browser.click("main button", "Approve")
+    browser.has("asked the boss")
+    assert '"by": "Ada"' in browser.text and "review is done" in browser.text
+    browser.shot("approved")
+    with browser.service.client() as client:
+        all_done(client, "order/send")
+    browser.wait(lambda: browser.driver.find_elements(By.CSS_SELECTOR, ".head .badge.ended"))  # it came by itself
+    browser.is_quiet()
+
+
+def test_an_unknown_outcome_and_an_abort(browser: Browser) -> None:
+    """A person says that it had no effect, and why; another saga is aborted."""
+    browser.go("/ui/sagas/hazy-1")
+    browser.has("Nobody knows what tour did")
+    assert "-tour-run" in browser.text.split("with the same token,")[1].split(".")[0]  # to look for it in the other system
+    browser.click("a.button", "It had no effect…")
+    browser.type("input[name=failed]", "they have no booking")
+    browser.click("main button", "It had no effect")
+    browser.has("they have no booking")
+    with browser.service.client() as client:
+        all_done(client, "trip/car/undo")
+        assert client.get("/sagas/hazy-1/wait?seconds=60").json()["states"] == {"flight": "committed", "car": "undone", "tour": "failed"}
+    browser.go("/ui/sagas/order-2")
+    browser.click("a.button", "Abort…")
+    browser.has("Abort this saga?")
+    browser.type("textarea[name=note]", "ordered twice")
+    browser.click("main button", "Abort it")
+    browser.has("Aborted")
+    browser.has("ordered twice")
+    browser.go("/ui/workers")
+    browser.has("work-1")
+    browser.shot("workers")
+    browser.is_quiet()
+
+
+def test_what_no_worker_takes(browser: Browser) -> None:
+    """A step that waits for a worker says so, and who asks for a step that is not there is shown."""
+    with browser.service.client() as client:
+        start(client, "trip", "idle-1")
+        take(client, "trip/train")
+        browser.go("/ui/sagas/idle-1")
+        browser.has("waits for a worker")
+        assert "flight: waits for a worker" in client.get("/sagas/idle-1/picture.svg").text
+        browser.go("/ui/workers")
+        browser.has("no definition has trip/train")
+        client.post("/sagas/idle-1/abort", json={})
+    browser.go("/ui/sagas?definition=trip")
+    rows = {row.find_element(By.CSS_SELECTOR, ".key").text: row.text for row in browser.driver.find_elements(By.CSS_SELECTOR, "tbody tr")}
+    assert "Ended by plan" in rows["failed-1"]
+    browser.is_quiet()
+
+
+PATHS = ("/ui", "/ui/sagas", "/ui/sagas/failed-1", "/ui/sagas/stuck-2", "/ui/sagas/work-1", "/ui/workers", "/ui/sagas/work-1/abort", "/ui/sagas/nobody")
+
+
+@pytest.mark.parametrize("width, dark", [(1280, False), (1280, True), (360, False), (360, True)])
+def test_each_page_can_be_read(browser: Browser, width: int, dark: bool) -> None:
+    """Nothing is wider than the screen, and all text has enough contrast, light and dark."""
+    browser.size(width, dark)
+    try:
+        for path in PATHS:
+            browser.go(path)
+            browser.shot(f"{path.strip('/').replace('/', '-')}-{width}{'-dark' if dark else ''}")
+            assert browser.driver.execute_script("return document.documentElement.scrollWidth") <= width, path
+            assert browser.driver.execute_script(CONTRAST) == [], path
+    finally:
+        browser.size(1280)
+    logged = [entry for entry in browser.driver.get_log("browser") if "nobody" not in entry["message"]]
+    assert logged == []
+
+
+def test_each_control_has_a_name_and_is_reached_by_keyboard(browser: Browser) -> None:
+    """By the accessibility tree, and by the tabulator alone."""
+    for path in PATHS:
+        browser.go(path)
+        nodes = browser.driver.execute_cdp_cmd("Accessibility.getFullAXTree", {})["nodes"]
+        roles = ("link", "button", "textbox", "searchbox", "combobox", "img", "table")
+        nameless = [node["role"]["value"] for node in nodes if not node["ignored"] and node["role"]["value"] in roles and not node["name"].get("value", "").strip()]
+        assert nameless == [], path
+        wanted = browser.driver.execute_script(FOCUSABLE)
+        browser.driver.execute_script("document.activeElement.blur(); window.seen = new Set(); document.addEventListener('focusin', (e) => seen.add(e.target))")
+        for _ in range(4):  # a page may be renewed meanwhile
+            browser.driver.switch_to.active_element.send_keys(Keys.TAB * (wanted + 2))
+            if (seen := browser.driver.execute_script("return seen.size")) >= wanted:
+                break
+        assert seen >= wanted, path
+    browser.go("/ui/sagas")
+    browser.driver.find_element(By.TAG_NAME, "body").send_keys("/")
+    assert browser.driver.switch_to.active_element.get_attribute("name") == "search"
+    browser.driver.get_log("browser")
+
+
+def fill(store: pathlib.Path, count: int) -> None:
+    """Makes a store of so many sagas that ended, some of them stuck, in logs that are closed."""
+    end = json.dumps({"aborted": False, "answer": None, "kept": [0, 1], "states": ["committed"] * 2})
+    rows = (
+        (1_000_000 + n, f"old-{n:06}", "licence", 0, '{"n":%d,"more":"%s"}' % (n, "x" * 200), 1.7e9 + n, "stuck" if n % 1000 == 0 else "ended", end, 1.7e9 + n + 60, None)
+        for n in range(count)
+    )
+    with sqlite3.connect(store) as db:
+        for log in range(1000, 1000 + count // 1000):
+            db.execute("INSERT INTO logs(log, name, shelf, closed) SELECT ?, ?, shelf, 1 FROM shelves LIMIT 1", (log, f"{log:016x}"))
+        db.executemany("INSERT INTO sagas VALUES(?, ?, ?, ?, ?, ?, ?, ?, ?, ?)", rows)
+    db.close()
+
+
+def test_a_hundred_thousand_sagas(tmp_path: pathlib.Path, shots: pathlib.Path) -> None:
+    """The list, its pages, filters and search stay usable; a stuck one is still on the first page."""
+    with served(tmp_path) as service:
+        with service.client() as client:
+            start(client, "licence", "newest")
+        service.stop()
+        fill(pathlib.Path(service.store), MANY)
+        service.start()
+        browser = Browser(service, tmp_path)
+        try:
+            browser.size(1280)
+            browser.go("/ui")
+            assert "99,900" in browser.text and "100 stuck" in browser.text
+            browser.shots = shots
+            browser.shot("many-overview")
+            browser.go("/ui/sagas")
+            assert len(browser.driver.find_elements(By.CSS_SELECTOR, "tbody tr")) == 50
+            browser.click("a.button", "Older →")
+            browser.has("old-099900")
+            browser.click("a.button", "← Newer")
+            browser.has("old-099999")
+            browser.type("[data-search]", "old-012345")
+            browser.driver.find_element(By.CSS_SELECTOR, "[data-search]").send_keys(Keys.ENTER)
+            browser.wait(lambda: len(browser.driver.find_elements(By.CSS_SELECTOR, "tbody tr")) == 1)
+            browser.go("/ui/sagas?phase=stuck")
+            assert len(browser.driver.find_elements(By.CSS_SELECTOR, "tbody tr")) == 50
+            browser.shot("many-stuck")
+            browser.is_quiet()
+        finally:
+            browser.driver.quit()
+        with service.client() as client:
+            began = time.monotonic()
+            for path in ("/ui/sagas", "/ui/sagas?phase=ended&definition=licence", "/ui/sagas?search=99999", "/ui/sagas?before=1050000"):
+                assert client.get(path).status_code == 200
+            assert time.monotonic() - began < LONG

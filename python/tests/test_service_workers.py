@@ -1,0 +1,236 @@
+"""Workers over HTTP: `sagas.Worker`, and the examples in Python, Node and shell, killed and left without their service."""
+
+from __future__ import annotations
+
+import asyncio
+import contextlib
+import pathlib
+import shutil
+import signal
+import subprocess
+import sys
+import threading
+import time
+from collections.abc import Iterator
+
+import pytest
+
+import sagas
+from serving import DEFINITIONS, LONG, Served, environment, served, start, token
+
+EXAMPLES = pathlib.Path(__file__).resolve().parents[2] / "examples" / "service"
+STEPS = """format = 2
+name = "steps"
+[[step]]
+name = "flaky"
+tries = 3
+[[step]]
+name = "hazy"
+needs = ["flaky"]
+[[step]]
+name = "slow"
+needs = ["hazy"]
+[[step]]
+name = "odd"
+needs = ["slow"]
+undo = "never"
+[[step]]
+name = "last"
+needs = ["odd"]
+undo = "never"
+skip = 10
+tries = 9
+"""
+SERVICE = "[step.flaky]\nbackoff = { first = 0.01 }\n[step.hazy]\nbackoff = { first = 0.01 }\n"
+
+
+@contextlib.contextmanager
+def working(worker: sagas.Worker) -> Iterator[None]:
+    """A worker in a thread, until the block ends."""
+    thread = threading.Thread(target=worker.run)
+    thread.start()
+    try:
+        yield
+    finally:
+        worker.stop()
+        thread.join(LONG)
+
+
+def test_a_worker(tmp_path: pathlib.Path) -> None:
+    """What its functions do means what it means in a store; a long one keeps its lease by beats."""
+    calls: list[tuple[str, bool, str]] = []
+    with served(tmp_path, {"steps.toml": STEPS, "steps.service.toml": SERVICE}) as service, service.client() as client:
+        worker = sagas.Worker(service.url, lease=3.0, wait=1.0, concurrency=2)
+
+        @worker.step("steps", "flaky")
+        def flaky(task: sagas.Task[int]) -> int:
+            calls.append((task.step, task.undo, task.effect_token))
+            if task.attempt < 3:
+                raise ValueError("not yet")
+            return task.input + 1
+
+        @worker.step("steps", "hazy")
+        async def hazy(task: sagas.Task[int]) -> str:
+            calls.append((task.step, task.undo, task.effect_token))
+            await asyncio.sleep(0)
+            if len([call for call in calls if call[0] == "hazy"]) == 1:
+                raise sagas.Unknown("who knows")
+            return f"{task.results['flaky']}"
+
+        @worker.step("steps", "slow")
+        def slow(task: sagas.Task[int]) -> None:
+            calls.append((task.step, task.undo, task.effect_token))
+            deadline = time.monotonic() + LONG
+            while service.told().count("/beat 200") < 3 and time.monotonic() < deadline:
+                time.sleep(0.1)
+
+        @worker.step("steps", "odd")
+        def odd(task: sagas.Task[int]) -> object:
+            return object()
+
+        @worker.step("steps", "last")
+        def last(task: sagas.Task[int]) -> None:
+            raise sagas.Fail("never")
+
+        @worker.compensation("steps", "slow")
+        @worker.compensation("steps", "hazy")
+        @worker.compensation("steps", "flaky")
+        def undo(task: sagas.Task[int]) -> None:
+            calls.append((task.step, task.undo, task.action_token))
+
+        start(client, "steps", "s", 41)
+        with working(worker):
+            end = client.get("/sagas/s/wait?seconds=60").json()
+        log = client.get("/sagas/s/log").json()["events"]
+    assert end["phase"] == "ended" and end["results"]["flaky"] == 42 and end["results"]["hazy"] == "42"
+    assert "unstorable" in end["results"]["odd"] and end["states"]["last"] == "failed"
+    assert [event["event"] for event in log if event["step"] == "flaky"] == ["start_run", "missed"] * 2 + ["start_run", "commit"]
+    first = next(event for event in log if event["event"] == "missed" and event["step"] == "last")
+    assert first["value"] == {"error": "sagas.Fail: never", "final": True}
+    assert [step for step, undone, _ in calls][:6] == ["flaky"] * 3 + ["hazy"] * 2 + ["slow"]
+    assert len({effect for _, _, effect in calls}) == 3 and "/beat 200" in service.told()
+
+
+def test_a_worker_that_is_interrupted(tmp_path: pathlib.Path) -> None:
+    """Ctrl-C ends it once what it has at hand has ended, and is reported. An address without a scheme is refused."""
+    with pytest.raises(ValueError, match="no address of a service"):
+        sagas.Worker("127.0.0.1:8080")
+    (tmp_path / "worker.py").write_text(INTERRUPTED)
+    with served(tmp_path) as service, service.client() as client:
+        start(client, "trip", "x")
+        words = [sys.executable, str(tmp_path / "worker.py"), service.url]
+        with subprocess.Popen(words, env=environment(), stdin=subprocess.PIPE, stdout=subprocess.PIPE, stderr=subprocess.PIPE, text=True) as worker:
+            assert worker.stdin and worker.stdout and worker.stderr
+            assert worker.stdout.readline() == "at work\n"
+            worker.send_signal(signal.SIGINT)
+            worker.stdin.write("\n")
+            worker.stdin.flush()
+            assert worker.stdout.readline() == "over\n"
+            assert (worker.wait(LONG), worker.stderr.read()) == (0, "")
+        assert client.get("/sagas/x").json()["states"]["flight"] == "committed"
+
+
+INTERRUPTED = """import sagas, signal, sys
+signal.signal(signal.SIGINT, signal.default_int_handler)  # which a job in the background ignores
+worker = sagas.Worker(sys.argv[1])
+
+@worker.step("trip", "flight")
+def flight(task):
+    print("at work", flush=True)
+    sys.stdin.readline()
+
+worker.run()
+print("over", flush=True)
+"""
+
+
+def test_a_worker_that_may_not(tmp_path: pathlib.Path) -> None:
+    """It ends with the reason; one without a service waits for it."""
+    wrong = token(tmp_path, "shop", "caller")
+    with served(tmp_path, DEFINITIONS, "--token-file", str(tmp_path / "tokens.toml")) as service:
+        for text in (wrong, "nobody's"):
+            worker = sagas.Worker(service.url, text)
+            worker.step("trip", "flight")(lambda task: None)
+            with pytest.raises(sagas.ServiceRefused) as refused:
+                worker.run()
+            assert refused.value.status in (401, 403)
+        right = token(tmp_path, "worker", "worker")
+        caller = service.client(wrong)
+        assert start(caller, "trip", "later").status_code == 201
+        service.kill()
+        done = threading.Event()
+        worker = sagas.Worker(service.url, right, wait=1.0)
+        worker.step("trip", "flight")(lambda task: done.set())
+        with working(worker):
+            service.start()
+            assert done.wait(LONG)
+        caller.close()
+    with pytest.raises(ValueError):
+        sagas.Worker("http://127.0.0.1:1").run()
+
+
+class Workers:
+    """The three examples as processes, each started again when it is killed."""
+
+    def __init__(self, service: Served) -> None:
+        folder = service.folder / "bin"
+        folder.mkdir()
+        (folder / "python3").write_text(f'#!/bin/sh\nexec {sys.executable} "$@"\n')
+        (folder / "python3").chmod(0o755)
+        self.environment = environment() | {"PATH": f"{folder}:{environment()['PATH']}"}
+        node = shutil.which("node")
+        assert node
+        self.commands = [[sys.executable, str(EXAMPLES / "worker.py")], [node, str(EXAMPLES / "worker.mjs")], [str(EXAMPLES / "worker.sh")]]
+        self.service = service
+        self.there = [self._start(command) for command in self.commands]
+
+    def _start(self, command: list[str]) -> subprocess.Popen[bytes]:
+        with open(self.service.folder / "workers", "ab") as log:
+            return subprocess.Popen([*command, self.service.url], env=self.environment, stdout=log, stderr=log, start_new_session=True)
+
+    def kill(self, place: int) -> None:
+        self._end(self.there[place])
+        self.there[place] = self._start(self.commands[place])
+
+    def _end(self, process: subprocess.Popen[bytes]) -> None:
+        with contextlib.suppress(ProcessLookupError):
+            import os
+            import signal
+
+            os.killpg(process.pid, signal.SIGKILL)  # its own session: the shell with its curl
+        process.wait(LONG)
+
+    def end(self) -> None:
+        for process in self.there:
+            self._end(process)
+
+
+def test_the_examples_go_on(tmp_path: pathlib.Path) -> None:
+    """Service and workers are killed; each saga ends, with the results of all three workers."""
+    files = {path.name: path.read_text() for path in (EXAMPLES / "definitions").glob("*.toml")}
+    with served(tmp_path, files) as service, service.client() as client:
+        workers = Workers(service)
+        try:
+            keys = [f"t{number}" for number in range(6)]
+            for key in keys[:3]:
+                start(client, "trip", key, {"to": "Rome"})
+            service.kill()
+            service.start()
+            for key in keys[3:]:
+                start(client, "trip", key, {"to": "Rome"})
+            for place in range(3):
+                workers.kill(place)
+            waiting = set(keys)
+            deadline = time.monotonic() + 2 * LONG
+            while waiting and time.monotonic() < deadline:
+                for key in sorted(waiting):
+                    if client.post(f"/sagas/{key}/steps/review", json={"result": "yes"}).status_code == 200:
+                        waiting.discard(key)
+                time.sleep(0.1)
+            service.kill()
+            service.start()
+            for key in keys:
+                end = client.get(f"/sagas/{key}/wait?seconds=60").json()
+                assert end["phase"] == "ended" and end["results"]["tour"] == "booked" and end["results"]["hotel"]["room"] == 4, end
+        finally:
+            workers.end()

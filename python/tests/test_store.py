@@ -1,0 +1,787 @@
+"""What a store promises: keys, results, aborts, held steps, logs and definitions, and the questions that it answers."""
+
+from __future__ import annotations
+
+import asyncio
+import contextlib
+import datetime
+import logging
+import os
+import pathlib
+import sqlite3
+import subprocess
+import threading
+import time
+from collections import Counter
+from collections.abc import Iterator, Sequence
+from typing import Any
+
+import psycopg
+import pytest
+
+import records
+import sagas
+from cases import HOUR, Task, ended, run, simple, until
+from kills import children
+from sagas import lines, program
+
+
+def row(gate: asyncio.Event | None = None) -> sagas.Saga:
+    """Three steps in a row, the last of which fails where the input says so."""
+    row = sagas.Saga("row")
+
+    @row.step
+    async def a(task: Task) -> str:
+        if gate:
+            await gate.wait()
+        return "A"
+
+    @a.compensation
+    async def not_a(task: Task) -> None: ...
+
+    @row.step(needs=[a])
+    async def b(task: Task) -> str:
+        return task.of(a) + "B"
+
+    @b.compensation
+    async def not_b(task: Task) -> None: ...
+
+    @row.step(needs=[b])
+    async def c(task: Task) -> dict[str, Any]:
+        if task.input == "fails":
+            raise sagas.Fail("no")
+        return task.results
+
+    return row
+
+
+# -- keys and results ------------------------------------------------------------------------------------------------
+
+
+def test_start_with_a_key_that_is_there(place: str) -> None:
+    """It gives the saga that is there, whatever became of it; another saga or another input is KeyConflict."""
+    kinds = [row(), simple(lambda task: 1)]
+
+    async def main() -> None:
+        async with sagas.open(place, kinds) as store:
+            first = await ended(store, kinds[0], given={"a": 1, "b": [2]})
+            assert await ended(store, kinds[0], given={"b": [2], "a": 1}) == first
+            for saga, given in ((kinds[0], {"a": 2}), (kinds[1], {"a": 1, "b": [2]})):
+                with pytest.raises(sagas.KeyConflict):
+                    await store.start(saga, key="k", input=given)
+            same = await asyncio.gather(*(ended(store, kinds[0], "many") for _ in range(20)))
+            assert len({end.key for end in same}) == 1
+        async with sagas.open(place, kinds) as store:
+            assert await ended(store, kinds[0], given={"a": 1, "b": [2]}) == first
+            with pytest.raises(sagas.KeyConflict):
+                await store.start(kinds[1], key="k")
+            with pytest.raises(sagas.NotJson):
+                await store.start(kinds[0], key="new", input=object())
+
+    run(main())
+    assert len(records.read(place).sagas) == 2
+
+
+def test_results(place: str) -> None:
+    """`task.results` are of all steps that a step needs, directly or not; `end.results` of the steps that stand."""
+    saga = row()
+
+    async def main() -> None:
+        async with sagas.open(place, [saga]) as store:
+            assert (await ended(store, saga, "good")).results == {"a": "A", "b": "AB", "c": {"a": "A", "b": "AB"}}
+            end = await ended(store, saga, "bad", "fails")
+            assert end.results == {} and end.states == {"a": "undone", "b": "undone", "c": "failed"} and end.cost == 0
+
+    run(main())
+
+
+# -- aborts and held steps ---------------------------------------------------------------------------------------------
+
+
+def test_abort(place: str) -> None:
+    """No step begins any more; what is under way ends, and the plan says what is undone. False where it is over or was aborted."""
+    gate = asyncio.Event()
+    saga = row(gate)
+
+    async def main() -> None:
+        async with sagas.open(place, [saga]) as store:
+            going = await store.start(saga, key="k")
+            assert await going.abort() is True and await going.abort() is False
+            gate.set()
+            end = await going.wait()
+            assert end.aborted and end.phase == "ended" and end.states == {"a": "undone", "b": "waiting", "c": "waiting"}
+            assert await going.abort() is False
+            at_once = asyncio.create_task(store.start(saga, key="new"))
+            await asyncio.sleep(0)
+            assert await store.abort("new") is True  # it has no number yet
+            assert (await (await at_once).wait()).aborted
+            with pytest.raises(sagas.NoSuchSaga):
+                await store.abort("none")
+
+    run(main())
+
+
+def test_a_held_step_takes_no_slot_and_keeps_nothing_from_draining(place: str) -> None:
+    """While a step waits an hour for its next try, another saga runs at concurrency 1; an abort does not wait for it."""
+
+    def fails(task: Task) -> int:
+        if task.input:
+            raise ValueError("later")
+        return 1
+
+    saga = simple(fails, tries=3, backoff=HOUR)
+
+    async def main() -> None:
+        async with sagas.open(place, [saga], concurrency=1) as store:
+            slow = await store.start(saga, key="slow", input=1)
+            await until(lambda: any(event.event == "missed" for event in slow.log()))
+            assert (await ended(store, saga, "quick")).ok
+            assert await slow.abort()
+            end = await slow.wait()
+            assert end.aborted and end.phase == "ended"
+
+    run(main())
+
+
+def test_no_more_than_its_concurrency(place: str) -> None:
+    """Over all steps and sagas, in the loop and in threads; and all its places are used."""
+    inside, most = set[str](), 0
+    gate = threading.Event()
+    one, other = sagas.Saga("one"), sagas.Saga("other")
+
+    def enter(task: Task) -> None:
+        nonlocal most
+        inside.add(task.key)
+        most = max(most, len(inside))
+
+    @one.step
+    async def a(task: Task) -> None:
+        enter(task)
+        while not gate.is_set():
+            await asyncio.sleep(0.005)
+        inside.discard(task.key)
+
+    @other.step
+    def b(task: Task) -> None:
+        enter(task)
+        gate.wait()
+        inside.discard(task.key)
+
+    async def main() -> None:
+        async with sagas.open(place, [one, other], concurrency=3) as store:
+            work = [asyncio.create_task(ended(store, (one, other)[number % 2], f"k{number}")) for number in range(12)]
+            await until(lambda: len(inside) == 3)
+            await asyncio.sleep(0.1)  # a fourth would be there by now
+            gate.set()
+            assert all(end.ok for end in await asyncio.gather(*work))
+
+    run(main())
+    assert most == 3
+
+
+def test_a_limit_holds_back_nobody_else(place: str) -> None:
+    """At most two of the slow step run at once, over all sagas; the quick ones go by."""
+    running, most, gate = Counter[str](), Counter[str](), asyncio.Event()
+    slow, quick = sagas.Saga("slow"), sagas.Saga("quick")
+
+    @slow.step(limit=2)
+    async def a(task: Task) -> None:
+        running["a"] += 1
+        most["a"] = max(most["a"], running["a"])
+        await gate.wait()
+        running["a"] -= 1
+
+    @quick.step
+    async def b(task: Task) -> None: ...
+
+    async def main() -> None:
+        async with sagas.open(place, [slow, quick], concurrency=8) as store:
+            held = [await store.start(slow, key=f"s{number}") for number in range(6)]
+            await asyncio.gather(*(ended(store, quick, f"q{number}") for number in range(20)))
+            assert running["a"] == 2
+            gate.set()
+            await asyncio.gather(*(one.wait() for one in held))
+
+    run(main())
+    assert most["a"] == 2
+
+
+# -- waits, approvals, work elsewhere ------------------------------------------------------------------------------------
+
+
+@pytest.mark.parametrize("how", ["timedelta", "datetime", "function"])
+def test_wait(place: str, how: str) -> None:
+    """A timer: its function is called when the time has come, and not before."""
+    soon = datetime.timedelta(seconds=0.3)
+    at = datetime.datetime.now(datetime.timezone.utc) + soon
+    times = {"timedelta": soon, "datetime": at, "function": lambda task: datetime.timedelta(seconds=task.input)}
+    saga = sagas.Saga("late")
+
+    @saga.wait(until=times[how])  # type: ignore[arg-type]
+    def wait(task: Task) -> float:
+        return time.time()
+
+    async def main() -> None:
+        async with sagas.open(place, [saga]) as store:
+            began = time.time()
+            end = await ended(store, saga, given=0.3)
+            assert end.results["wait"] >= (at.timestamp() if how == "datetime" else began + 0.3) - 0.01
+
+    run(main())
+
+
+@pytest.mark.parametrize("answer", ["yes", "no", "nothing"])
+def test_approval(place: str, answer: str) -> None:
+    """A person, or another program, says done or failed; where nobody says anything in time it has failed. It outlives the program."""
+    asked: list[str] = []
+    saga = sagas.Saga("signed")
+
+    @saga.approval(within=datetime.timedelta(seconds=0.2) if answer == "nothing" else None)
+    def sign(task: Task) -> None:
+        asked.append(task.key)
+
+    @saga.step(needs=[sign])
+    def go(task: Task) -> Any:
+        return task.of(sign)
+
+    async def first() -> None:
+        async with sagas.open(place, [saga]) as store:
+            await store.start(saga, key="k")
+            await until(lambda: asked)
+            with pytest.raises(sagas.NotWaiting):
+                await store.finish("k", go, 1)
+
+    async def second() -> sagas.End:
+        async with sagas.open(place, [saga]) as store:
+            if answer == "yes":
+                await store.finish("k", sign, {"by": "Ada"})
+            elif answer == "no":
+                await store.finish("k", sign, failed="too dear")
+            return await store.wait("k")
+
+    run(first())
+    end = run(second())
+    assert asked == ["k"]
+    assert end.results == ({"sign": {"by": "Ada"}, "go": {"by": "Ada"}} if answer == "yes" else {})
+    assert end.states["sign"] == ("committed" if answer == "yes" else "failed")
+
+
+def test_an_answer_that_comes_at_once(place: str) -> None:
+    """Whoever is asked answers before the asking function has returned: the answer is not lost."""
+    saga = sagas.Saga("signed")
+    answers: list[asyncio.Task[None]] = []
+
+    async def asks(task: Task) -> None:
+        answers.append(asyncio.create_task(stores[0].finish(task.key, "sign", "at once")))
+        await asyncio.sleep(0.05)
+
+    saga.approval(name="sign")(asks)
+    stores: list[sagas.Store] = []
+
+    async def case() -> None:
+        async with sagas.open(place, [saga]) as store:
+            stores.append(store)
+            assert (await ended(store, saga)).results == {"sign": "at once"}
+            await answers[0]
+
+    run(case())
+
+
+def test_a_step_that_is_done_elsewhere(place: str) -> None:
+    """`handler=None`: it has no function here; a worker elsewhere reports, for the compensation too."""
+    saga = sagas.Saga("far")
+    print_it = saga.step(handler=None, name="print")
+    print_it.compensation(handler=None)
+
+    @saga.step(needs=[print_it])
+    def check(task: Task) -> None:
+        raise sagas.Fail(f"{task.of(print_it)} is torn")
+
+    async def finish(store: sagas.Store, **words: Any) -> None:
+        while True:
+            try:
+                return await store.finish("k", print_it, **words)
+            except sagas.NotWaiting:
+                await asyncio.sleep(0.01)
+
+    async def main() -> sagas.End:
+        async with sagas.open(place, [saga]) as store:
+            going = await store.start(saga, key="k")
+            await finish(store, result="page 1")
+            await finish(store, undo=True)
+            return await going.wait()
+
+    assert run(main()).states == {"print": "undone", "check": "failed"}
+
+
+# -- logs and definitions ------------------------------------------------------------------------------------------------
+
+
+def test_full_logs_are_audited_and_closed(place: str, monkeypatch: pytest.MonkeyPatch) -> None:
+    """New sagas go to the newest log until it is full; a settled one is audited once and marked closed, and then never again."""
+    monkeypatch.setattr("sagas.kinds.MOST_LOG", 30_000)
+    saga, right, audits = row(), program.run, Counter[str]()
+
+    def counting(command: str, texts: Sequence[str], where: str | None = None) -> subprocess.CompletedProcess[str]:
+        if command == "audit":
+            audits[texts[0]] += 1
+        return right(command, texts, where)
+
+    monkeypatch.setattr("sagas.program.run", counting)
+
+    async def again() -> None:
+        async with sagas.open(place, [saga]) as store:
+            assert (await ended(store, saga, "again")).ok
+
+    async def main() -> None:
+        async with sagas.open(place, [saga]) as store:
+            await asyncio.gather(*(ended(store, saga, f"k{number}", "fails" if number % 3 else None) for number in range(120)))
+            path = place
+            await until(lambda: sum(log.closed for log in records.read(path).logs.values()) >= len(records.read(path).logs) - 1)
+
+    run(main())
+    closed = [lines.HEADER + "".join(text for _, text in log.chunks) for log in records.read(place).logs.values() if log.closed]
+    run(again())
+    assert [audits[text] for text in closed] == [1] * len(closed)
+    kept = records.read(place)
+    assert len(kept.logs) > 3 and len(kept.sagas) == 121
+
+
+def test_definitions_change(place: str) -> None:
+    """Open sagas go on by the definition that they were begun with; new ones begin a new log; the old one is closed once it is settled."""
+    gates = [asyncio.Event(), asyncio.Event()]
+
+    def version(number: int) -> sagas.Saga:
+        saga = sagas.Saga("trip")
+
+        @saga.step
+        async def a(task: Task) -> int:
+            await gates[number].wait()
+            return number
+
+        if number:
+
+            @saga.step(needs=[a])
+            async def b(task: Task) -> int:
+                return 2
+
+        return saga
+
+    async def first(saga: sagas.Saga) -> None:
+        async with sagas.open(place, [saga], grace=0.0) as store:
+            await store.start(saga, key="old")
+
+    async def second(saga: sagas.Saga) -> None:
+        gates[1].set()
+        async with sagas.open(place, [saga]) as store:
+            assert (await store.wait("old")).results == {"a": 1}
+            assert (await ended(store, saga, "new")).results == {"a": 1, "b": 2}
+            await until(lambda: records.read(place).logs[0].closed)
+
+    run(first(version(0)))
+    run(second(version(1)))
+    assert len(records.read(place).logs) == 2
+
+
+def test_functions_and_times_change_at_any_start(place: str) -> None:
+    """Another function, timeout and back-off of a step, and another order of the sagas: it is the same log, and what is open goes on with them."""
+    tokens: list[str] = []
+
+    def kinds(number: int) -> list[sagas.Saga]:
+        first, second = sagas.Saga("first"), sagas.Saga("second")
+
+        @first.step(name="a", tries=2, timeout=60.0 if number else None, backoff=sagas.Backoff(first=number), limit=number or None)
+        async def a(task: Task) -> int:
+            tokens.append(task.token)
+            if number == 0:
+                await asyncio.sleep(3600)
+            return number
+
+        second.step(name="b")(lambda task: number)
+        return [second, first] if number else [first, second]
+
+    async def begin(old: list[sagas.Saga]) -> None:
+        async with sagas.open(place, old, grace=0.0) as store:
+            await store.start(old[0], "k")
+            await until(lambda: tokens)
+
+    async def go_on(new: list[sagas.Saga]) -> None:
+        async with sagas.open(place, new) as store:
+            assert (await store.wait("k")).results == {"a": 1}
+            assert (await ended(store, new[0], "new")).results == {"b": 1}
+
+    run(begin(kinds(0)))
+    run(go_on(kinds(1)))
+    assert len(tokens) == 2 and len(set(tokens)) == 1 and len(records.read(place).logs) == 1
+
+
+def test_versions(place: str) -> None:
+    """A definition's meaning changes by a version: both are given to open, and each saga goes on by its own."""
+    gate = asyncio.Event()
+
+    def version(number: int) -> sagas.Saga:
+        saga = sagas.Saga("trip", version=number)
+
+        @saga.step
+        async def a(task: Task) -> int:
+            await gate.wait()
+            return number
+
+        return saga
+
+    old, new = version(1), version(2)
+
+    async def first() -> None:
+        async with sagas.open(place, [old], grace=0.0) as store:
+            await store.start(old, key="old")
+
+    async def second() -> None:
+        gate.set()
+        async with sagas.open(place, [old, new]) as store:
+            assert (await store.wait("old")).results == {"a": 1}
+            assert (await ended(store, new, "new")).results == {"a": 2}
+
+    run(first())
+    run(second())
+
+
+def test_a_function_that_is_gone(place: str) -> None:
+    """An error at open that names the step; the older program settles it with new=False, and takes no new sagas."""
+    gate = asyncio.Event()
+    old, new = sagas.Saga("trip"), sagas.Saga("trip")
+
+    @old.step
+    async def a(task: Task) -> None:
+        await gate.wait()
+
+    @new.step
+    async def b(task: Task) -> None: ...
+
+    async def first() -> None:
+        async with sagas.open(place, [old], grace=0.0) as store:
+            await store.start(old, key="k")
+        if place.startswith("postgresql:"):  # another node may have it: this one leaves the saga alone
+            async with sagas.open(place, [new]) as store:
+                assert store.list(phase="open")[0].key == "k"
+            return
+        with pytest.raises(sagas.MissingHandler, match="'a'"):
+            async with sagas.open(place, [new]):
+                pass
+        with pytest.raises(sagas.MissingHandler, match="'trip' .* not open the store with that saga"):
+            async with sagas.open(place, [row()]):
+                pass
+
+    async def second() -> None:
+        gate.set()
+        async with sagas.open(place, [old], new=False) as store:
+            with pytest.raises(sagas.SagasError):
+                await store.start(old, key="another")
+            await store.settled()
+        async with sagas.open(place, [new]) as store:
+            assert (await ended(store, new, "new")).ok
+
+    run(first())
+    run(second())
+
+
+def test_a_compensation_that_is_gone(tmp_path: pathlib.Path) -> None:
+    """One that may still be called: an error at open that names its step."""
+    old, new = sagas.Saga("trip"), sagas.Saga("trip")
+
+    async def a(task: Task) -> None:
+        await asyncio.sleep(3600)
+
+    old.step(a).compensation(lambda task: None)
+    new.step(a)
+
+    async def main() -> None:
+        async with sagas.open(tmp_path / "store.db", [old], grace=0.0) as store:
+            await store.start(old, key="k")
+        with pytest.raises(sagas.MissingHandler, match="step 'a' has no compensation"):
+            async with sagas.open(tmp_path / "store.db", [new], grace=0.0):
+                pass
+
+    run(main())
+
+
+def test_a_log_whose_sagas_wait_lets_its_process_go(place: str) -> None:
+    """It is started again when one is due."""
+    saga = sagas.Saga("late")
+
+    @saga.wait(until=datetime.timedelta(seconds=1.5))
+    def wait(task: Task) -> int:
+        return 1
+
+    others = set(children(os.getpid()))  # servers that other tests use
+
+    async def main() -> None:
+        async with sagas.open(place, [saga], idle=0.1) as store:
+            going = await store.start(saga, key="k")
+            assert len(set(children(os.getpid())) - others) == 1
+            await until(lambda: not set(children(os.getpid())) - others)
+            assert (await going.wait()).results == {"wait": 1}
+
+    run(main())
+
+
+def lives(pid: int) -> bool:
+    """Whether a process is neither dead nor killed and about to be."""
+    try:
+        told = dict(line.split(":\t", 1) for line in pathlib.Path(f"/proc/{pid}/status").read_text().splitlines() if ":\t" in line)
+    except OSError:
+        return False
+    return told["State"][0] not in "ZX" and not int(told["ShdPnd"], 16) & 1 << 8
+
+
+def test_few_children_for_many_logs(place: str, monkeypatch: pytest.MonkeyPatch) -> None:
+    """Sagas in many logs share two children, also when the store is opened again."""
+    monkeypatch.setattr("sagas.kinds.MOST_LOG", 15_000)
+    gate, most = asyncio.Event(), 0
+    saga = row(gate)
+    others = set(children(os.getpid()))  # servers that other tests use
+
+    def look() -> None:
+        nonlocal most
+        most = max(most, sum(map(lives, set(children(os.getpid())) - others)))
+
+    async def watched(work: Any) -> Any:
+        task = asyncio.ensure_future(work)
+        while not task.done():
+            look()
+            await asyncio.wait([task], timeout=0.005)
+        return await task
+
+    async def first() -> None:
+        async with sagas.open(place, [saga], children=2, grace=0.0) as store:
+            await watched(asyncio.gather(*(store.start(saga, key=f"k{number}") for number in range(60))))
+
+    async def second() -> None:
+        gate.set()
+        async with sagas.open(place, [saga], children=2) as store:
+            ends = await watched(asyncio.gather(*(store.wait(f"k{number}") for number in range(60))))
+            assert all(end.ok for end in ends)
+
+    run(first())
+    assert len(records.read(place).logs) > 4
+    run(second())
+    assert 1 <= most <= 3  # two that drive, and one that audits
+
+
+def test_one_slot_for_many_logs(place: str, monkeypatch: pytest.MonkeyPatch) -> None:
+    """Logs that find no slot are fed when one is given back unused, too: nothing hangs."""
+    monkeypatch.setattr("sagas.kinds.MOST_LOG", 6_000)
+    saga = sagas.Saga("pair")
+
+    @saga.step
+    async def a(task: Task) -> int:
+        return 1
+
+    @saga.step(needs=[a])
+    async def b(task: Task) -> int:
+        return 2
+
+    async def main() -> None:
+        async with sagas.open(place, [saga], concurrency=1, children=2) as store:
+            for turn in range(6):
+                ends = await asyncio.gather(*(ended(store, saga, f"k{turn}-{number}") for number in range(30)))
+                assert all(end.ok for end in ends)
+
+    run(main())
+
+
+# -- what is written -----------------------------------------------------------------------------------------------------
+
+
+@contextlib.contextmanager
+def locked(place: str) -> Iterator[None]:
+    """Nobody can write the store's lines."""
+    if place.startswith("postgresql:"):
+        with psycopg.connect(place) as link:
+            link.execute("LOCK TABLE sagas.lines IN EXCLUSIVE MODE")
+            yield
+    else:
+        with contextlib.closing(sqlite3.connect(place, isolation_level=None)) as db:
+            db.execute("BEGIN IMMEDIATE")
+            yield
+
+
+def test_one_transaction_takes_what_all_logs_have(place: str, monkeypatch: pytest.MonkeyPatch) -> None:
+    """Steps end in eight logs while a commit is under way: one more holds all of it."""
+    monkeypatch.setattr("sagas.kinds.ROOM", 2)
+    gate, far = asyncio.Event(), sagas.Saga("far")
+    far.step(handler=None, name="b")  # it stays open, so that no log is closed meanwhile
+    calls: list[str] = []
+
+    async def a(task: Task) -> None:
+        calls.append(task.key)
+        await gate.wait()
+
+    saga = simple(a)
+
+    async def main() -> None:
+        async with sagas.open(place, [saga, far]) as store:
+            runs = []
+            for number in range(8):
+                await store.start(far, f"far-{number}")
+                runs.append(await store.start(saga, f"k{number}"))
+            await until(lambda: len(calls) == 8)
+            assert store._coordinator
+            pumps = store._coordinator.pumps.values()
+            await until(lambda: len(pumps) == 8 and not any(pump.unwritten for pump in pumps))
+            before = store.commits
+            with locked(place):
+                gate.set()
+                await until(lambda: all(pump.unwritten for pump in pumps))
+            assert all(end.ok for end in await asyncio.gather(*(one.wait() for one in runs)))
+            assert store.commits - before <= 2
+
+    run(main())
+
+
+def test_a_file_is_synced_at_each_commit(tmp_path: pathlib.Path) -> None:
+    """A WAL, and each commit on the disk before anything is told."""
+    saga = simple(lambda task: 1)
+
+    async def main() -> None:
+        async with sagas.open(tmp_path / "store.db", [saga]) as store:
+            assert (await ended(store, saga)).ok
+            inside: Any = store._coordinator
+            assert inside.store._db.execute("PRAGMA journal_mode").fetchone() == ("wal",)
+            assert inside.store._db.execute("PRAGMA synchronous").fetchone() == (2,)  # FULL
+
+    run(main())
+
+
+TEXTS = ["'; DROP TABLE sagas; --", '"', "%", "%s %(key)s", "{rows}", "{}", "\\", "?", "$1", ":a", "é💩"]
+ODD = "\0\ud800'; DROP TABLE sagas; --"
+
+
+def test_texts_are_no_statements(place: str, caplog: pytest.LogCaptureFixture) -> None:
+    """Keys, inputs, results, what is raised and notes, with whatever a database could take for something else."""
+    caplog.set_level(logging.CRITICAL, "sagas")  # the tests' runner takes no halves of pairs
+    saga, hazy, must = sagas.Saga("plain"), sagas.Saga("hazy"), sagas.Saga("must")
+
+    @saga.step
+    async def a(task: Task) -> Any:
+        return task.input
+
+    @hazy.step(unknown_most=0)
+    async def b(task: Task) -> None:
+        raise sagas.Unknown(task.input)
+
+    @must.step(skip=sagas.NEVER)
+    async def c(task: Task) -> None:
+        raise sagas.Fail(task.input)
+
+    async def main() -> None:
+        async with sagas.open(place, [saga, hazy, must]) as store:
+            for text in TEXTS:
+                assert (await ended(store, saga, text, {text: ODD})).results == {"a": {text: ODD}}
+                with pytest.raises(sagas.KeyConflict):
+                    await store.start(saga, text, ODD)
+                assert store.list(saga=text) == [] and [event.value for event in store.log(text) if event.event == "commit"] == [{text: ODD}]
+            assert [one.key for one in store.list()] == TEXTS
+            await store.start(hazy, "hazy", ODD)
+            (held,) = await until(store.unknown)
+            assert "DROP TABLE" in (held.error or "")
+            await store.finish("hazy", "b", ODD, by=ODD, note=ODD)
+            assert (await store.wait("hazy")).results == {"b": ODD}
+            assert (await ended(store, must, "must", ODD)).errors == {"c": f"sagas.Fail: {ODD}"}
+            await store.resolve("must", ODD)
+            assert [one.key for one in store.list(phase="resolved")] == ["must"]
+
+    run(main())
+    assert set(records.read(place).sagas) == {*TEXTS, "hazy", "must"}
+
+
+# -- questions -----------------------------------------------------------------------------------------------------------
+
+
+def test_questions(place: str) -> None:
+    """get, list, stuck, resolve, log, audit and draw."""
+    good, bad = row(), sagas.Saga("must")
+
+    @bad.step(skip=sagas.NEVER)
+    def must(task: Task) -> None:
+        raise sagas.Fail("never")
+
+    async def main() -> None:
+        async with sagas.open(place, [good, bad]) as store:
+            for number in range(5):
+                await ended(store, good, f"g{number}", "fails" if number == 1 else None)
+            end = await ended(store, bad, "b")
+            assert end.phase == "stuck" and end.chain == ["must"]
+            assert store.get("none") is None and store.get("b") is not None
+            assert [one.key for one in store.list(phase="ended", saga=good)] == [f"g{number}" for number in range(5)]
+            page = store.list(most=2)
+            assert [one.key for one in store.list(most=2, after=page[-1].id)] == ["g2", "g3"]
+            assert [one.key for one in store.stuck()] == ["b"]
+            await store.resolve("b", "seen to")
+            assert store.stuck() == [] and [one.note for one in store.list(phase="resolved")] == ["seen to"]
+            events = store.log("g1")
+            words = [event.event for event in events]
+            assert words[:2] == ["open", "start_run"] and words.count("undone") == 2 and "adopt" in words
+            assert [event.value for event in events if event.event == "commit"] == ["A", "AB"]
+            assert all(0 <= time.time() - event.at < 60 for event in events)
+            assert list((await store.audit()).values())[0].startswith("yes sagas 6 ended 5 stuck 1")
+            assert store.draw("g1").startswith("digraph")
+
+    run(main())
+
+
+def test_events_and_logging(place: str, caplog: pytest.LogCaptureFixture) -> None:
+    """Hooks for metrics and traces, and structured logging under `sagas`; a hook that raises stops no saga."""
+    told: list[sagas.Event] = []
+
+    def hook(event: sagas.Event) -> None:
+        told.append(event)
+        raise RuntimeError("the metrics are down")
+
+    saga = row()
+
+    async def main() -> None:
+        async with sagas.open(place, [saga], on_event=hook) as store:
+            await ended(store, saga, given="fails")
+
+    with caplog.at_level(logging.INFO, "sagas"):
+        run(main())
+    names = Counter(event.name for event in told)
+    assert names["saga_started"] == names["saga_ended"] == names["saga_planned"] == names["step_failed"] == 1
+    assert names["step_begun"] == 5 and names["step_done"] == 4
+    assert all((event.seconds is not None) == (event.name in ("step_done", "step_failed")) for event in told)
+    kept = [record for record in caplog.records if record.name == "sagas" and getattr(record, "sagas", {}).get("name") == "step_failed"]
+    assert kept and getattr(kept[0], "sagas")["key"] == "k"
+
+
+def test_without_async(place: str) -> None:
+    """`open_sync`: a thread has the loop."""
+    saga = row()
+    with sagas.open_sync(place, [saga]) as store:
+        assert store.start(saga, key="good").wait(30).ok and not store.start(saga, key="good").new
+        assert store.start(saga, key="bad", input="fails").wait(30).states["a"] == "undone"
+        ends: list[sagas.End] = []
+        threads = [threading.Thread(target=lambda: ends.append(store.start(saga, key="one").wait(30))) for _ in range(4)]
+        for thread in threads:
+            thread.start()
+        for thread in threads:
+            thread.join()
+        assert len(ends) == 4 and len({end.key for end in ends}) == 1
+        assert [one.key for one in store.list()] == ["good", "bad", "one"] and store.get("none") is None
+        assert all(said.startswith("yes") for said in store.audit().values())
+    with pytest.raises(sagas.Closed):
+        store.start(saga, key="late")
+
+
+def test_another_loop(tmp_path: pathlib.Path) -> None:
+    """A store is of its loop: another one, in a thread, hears so at once."""
+    saga = row()
+
+    async def main() -> None:
+        async with sagas.open(tmp_path / "store.db", [saga]) as store:
+            calls: list[Any] = [store.start(saga, "k"), store.wait("k"), store.abort("k"), store.finish("k", "a")]
+            for call in calls:
+                with pytest.raises(RuntimeError, match="sagas.open_sync"):
+                    await asyncio.to_thread(asyncio.run, call)
+            assert store.list() == []
+
+    run(main())

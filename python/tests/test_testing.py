@@ -1,0 +1,199 @@
+"""`sagas.testing`: a whole saga in memory, with failures by step and attempt, and a clock that nobody waits for."""
+
+from __future__ import annotations
+
+import asyncio
+import datetime
+import time
+from typing import Any
+
+import pytest
+
+import sagas
+import sagas.testing
+from sagas.testing import Clock, run
+
+DAY = datetime.timedelta(days=1)
+
+
+def trip() -> sagas.Saga:
+    """A flight for ever, a car worth keeping, a hotel with three tries, a tour from it."""
+    trip = sagas.Saga("trip")
+
+    @trip.step
+    async def flight(task: sagas.Task[Any]) -> str:
+        return f"flight {task.input}"
+
+    @trip.step(needs=[flight], undo=5, keep=3, unknown_most=3)
+    def car(task: sagas.Task[Any]) -> str:
+        return f"car for {task.of(flight)}"
+
+    @car.compensation(tries=2)
+    def cancel_car(task: sagas.Task[Any]) -> None:
+        assert task.result == "car for flight LH400"
+
+    @trip.step(needs=[flight], skip=25, tries=3, backoff=sagas.Backoff(first=60, most=90))
+    async def hotel(task: sagas.Task[Any]) -> int:
+        return task.attempt
+
+    @hotel.compensation
+    async def cancel_hotel(task: sagas.Task[Any]) -> None:
+        assert task.result
+
+    @trip.step(needs=[hotel], run=30, skip=10)
+    async def tour(task: sagas.Task[Any]) -> str:
+        return "tour"
+
+    return trip
+
+
+def late(approves: bool = True) -> sagas.Saga:
+    """Something that can be undone, three days, and a person's word."""
+    late = sagas.Saga("late")
+
+    @late.step
+    def order(task: sagas.Task[Any]) -> int:
+        return 7
+
+    @order.compensation
+    def cancel(task: sagas.Task[Any]) -> None: ...
+
+    @late.wait(needs=[order], until=3 * DAY)
+    def wait(task: sagas.Task[Any]) -> str:
+        return "waited"
+
+    @late.approval(needs=[wait], within=2 * DAY if approves else None, name="manager")
+    def ask(task: sagas.Task[Any]) -> None: ...
+
+    @late.step(needs=["manager"])
+    def go(task: sagas.Task[Any]) -> Any:
+        return task.results["manager"]
+
+    return late
+
+
+def test_all_goes_well() -> None:
+    """Each step is called once, with the results of what it needs."""
+    trial = run(trip(), "LH400")
+    assert trial.phase == "ended" and set(trial.states.values()) == {"committed"}
+    assert trial.results == {"flight": "flight LH400", "car": "car for flight LH400", "hotel": 1, "tour": "tour"}
+    assert (trial.cost, trial.chain, trial.aborted, trial.seconds) == (0, None, False, 0.0)
+    assert len(trial.calls) == 4 and not trial.undone
+
+
+def test_fails_by_number() -> None:
+    """The first two attempts fail, the third does well, and the back-off takes no time."""
+    began = time.perf_counter()
+    trial = run(trip(), "LH400", fail={"hotel": 2})
+    assert time.perf_counter() - began < 2
+    assert trial.results["hotel"] == 3
+    assert [(call.attempt, call.outcome, call.at) for call in trial.calls if call.step == "hotel"] == [
+        (1, "failed", 0.0), (2, "failed", 60.0), (3, "done", 150.0),
+    ]
+
+
+def test_fails_for_good() -> None:
+    """Flight and car stand, for 0 + 3 + 25 + 10; the other tries are not made after `Fail`."""
+    ways: tuple[sagas.testing.Attempts, ...] = (3, sagas.Fail("full"))
+    for fail in ways:
+        trial = run(trip(), "LH400", fail={"hotel": fail})
+        assert trial.states == {"flight": "committed", "car": "committed", "hotel": "failed", "tour": "waiting"}
+        assert trial.cost == 38 and set(trial.results) == {"flight", "car"}
+    assert len([call for call in trial.calls if call.step == "hotel"]) == 1
+
+
+def test_fails_at_one_attempt() -> None:
+    """A list names attempts."""
+    trial = run(trip(), "LH400", fail={"hotel": [1]})
+    assert trial.results["hotel"] == 2
+
+
+def test_unknown_is_made_again_with_the_same_token() -> None:
+    """What the function returned is lost twice: three calls, one token, one attempt."""
+    trial = run(trip(), "LH400", unknown={"car": 2})
+    cars = [call for call in trial.calls if call.step == "car"]
+    assert [call.outcome for call in cars] == ["unknown", "unknown", "done"]
+    assert len({call.token for call in cars}) == 1 and trial.phase == "ended"
+
+
+def test_unknown_for_ever_waits_for_a_person() -> None:
+    """After three of them somebody has to say."""
+    with pytest.raises(LookupError, match="car"):
+        run(trip(), "LH400", unknown={"car": 99})
+    assert run(trip(), "LH400", unknown={"car": 99}, answers={"car": "it was hired"}).results["car"] == "it was hired"
+
+
+def test_abort_undoes_what_costs_less_undone() -> None:
+    """Once the order is there the saga is aborted: it is undone, and nothing waits three days."""
+    trial = run(late(), abort="order")
+    assert trial.aborted and trial.states["order"] == "undone" and trial.phase == "ended"
+    assert [call.step for call in trial.undone] == ["order"] and trial.seconds == 0.0
+
+
+def test_a_compensation_fails() -> None:
+    """It has one try: the order stays as it is, and the saga ends with it."""
+    trial = run(late(), abort="order", fail_undo={"order": 1})
+    assert trial.states["order"] == "fixed" and trial.phase == "ended"
+
+
+def test_three_days_take_no_time() -> None:
+    """The clock goes on to what is next."""
+    clock = Clock(datetime.datetime(2031, 5, 1, tzinfo=datetime.timezone.utc))
+    trial = run(late(), answers={"manager": "yes"}, clock=clock)
+    assert trial.results["go"] == "yes" and trial.seconds == 3 * 86400
+    assert clock.now().isoformat() == "2031-05-04T00:00:00+00:00"
+
+
+def test_nobody_approves_in_time() -> None:
+    """After two more days it has failed, and what can be undone is."""
+    trial = run(late())
+    assert trial.states["manager"] == "failed" and trial.states["order"] == "undone" and trial.seconds == 5 * 86400
+
+
+def test_somebody_has_to_be_asked() -> None:
+    """Without a time an approval needs an answer, by a value, a function or an exception."""
+    with pytest.raises(LookupError, match="manager"):
+        run(late(approves=False))
+    assert run(late(), answers={"manager": lambda task: task.results["order"] + 1}).results["go"] == 8
+    assert run(late(), answers={"manager": sagas.Fail("no")}).states["manager"] == "failed"
+
+
+def test_stuck() -> None:
+    """What must not be left out fails for good."""
+    must = sagas.Saga("must")
+
+    @must.step(skip=sagas.NEVER)
+    def licence(task: sagas.Task[Any]) -> None: ...
+
+    trial = run(must, fail={licence: 1})
+    assert trial.phase == "stuck" and trial.chain == ["licence"]
+
+
+def test_a_trial_is_as_an_end() -> None:
+    """`ok`, `of` and `errors`, as of `End`; an exception is told by its class, too."""
+    saga = trip()
+    trial = run(saga, "LH400")
+    assert trial.ok and trial.of(saga.steps[0]) == "flight LH400" and trial.errors == {}
+    trial = run(saga, "LH400", fail={"hotel": ValueError})
+    assert not trial.ok and trial.errors == {"hotel": "ValueError"}
+
+
+def test_a_name_that_no_step_has() -> None:
+    """A script that names no step is a fault of the test."""
+    with pytest.raises(KeyError, match="boat"):
+        run(trip(), fail={"boat": 1})
+
+
+def test_in_a_loop() -> None:
+    """`run_async` where a loop runs."""
+
+    async def main() -> sagas.testing.Trial:
+        return await sagas.testing.run_async(trip(), "LH400")
+
+    assert asyncio.run(main()).phase == "ended"
+
+    async def wrong() -> None:
+        run(trip(), "LH400")
+
+    with pytest.raises(RuntimeError, match="await sagas.testing.run_async"):
+        asyncio.run(wrong())

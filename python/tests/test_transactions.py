@@ -1,0 +1,262 @@
+"""Steps whose effect in the database and its record are one transaction: exactly once, whatever is cut or killed."""
+
+from __future__ import annotations
+
+import asyncio
+import contextlib
+import os
+import pathlib
+import subprocess
+import sys
+import textwrap
+from collections import Counter
+from typing import Any
+
+import psycopg
+import pytest
+
+import records
+import sagas
+from cases import QUICK, Task, ended, run, until
+from driving import program
+from relay import relaying
+from server import Server
+
+
+def bank(in_thread: bool) -> sagas.Saga:
+    """Books an amount, by an async function or a plain one; the second step fails where the input says so."""
+    bank = sagas.Saga("bank")
+    text = "INSERT INTO book(key, step, token) VALUES(%s, %s, %s)"
+
+    if in_thread:
+
+        @bank.step(transaction=True, tries=3, backoff=QUICK)
+        def book(task: Task) -> str:
+            task.connection.execute(text, (task.key, "book", task.effect_token))
+            if task.input == "once" and task.attempt == 1:
+                raise ValueError("the first try fails behind its row")
+            return "booked"
+
+        @book.compensation(tries=2, backoff=QUICK)
+        def unbook(task: Task) -> None:
+            task.connection.execute(text, (task.key, "unbook", task.effect_token))
+
+    else:
+
+        @bank.step(transaction=True, tries=3, backoff=QUICK)
+        async def book(task: Task) -> str:
+            await task.connection.execute(text, (task.key, "book", task.effect_token))
+            if task.input == "once" and task.attempt == 1:
+                raise ValueError("the first try fails behind its row")
+            return "booked"
+
+        @book.compensation(tries=2, backoff=QUICK)
+        async def unbook(task: Task) -> None:
+            await task.connection.execute(text, (task.key, "unbook", task.effect_token))
+
+    @bank.step(needs=["book"])
+    async def check(task: Task) -> str:
+        if task.input == "fails":
+            raise sagas.Fail("no")
+        return str(task.results["book"])
+
+    return bank
+
+
+def prepare(url: str) -> None:
+    """A table of the user's own."""
+    with psycopg.connect(url) as link:
+        link.execute("CREATE TABLE book(key text, step text, token text)")
+
+
+def booked(url: str) -> Counter[tuple[str, str]]:
+    """The rows of it."""
+    with psycopg.connect(url) as link:
+        return Counter((key, step) for key, step in link.execute("SELECT key, step FROM book").fetchall())
+
+
+@pytest.mark.parametrize("in_thread", [False, True])
+def test_effect_and_result_are_one(url: str, in_thread: bool) -> None:
+    """A row for each effect; what was raised is rolled back; the compensation the same."""
+    prepare(url)
+    kind = bank(in_thread)
+
+    async def main() -> None:
+        async with sagas.open(url, [kind]) as store:
+            assert (await ended(store, kind, "good")).results == {"book": "booked", "check": "booked"}
+            assert (await ended(store, kind, "again", "once")).ok
+            assert (await ended(store, kind, "bad", "fails")).states == {"book": "undone", "check": "failed"}
+            assert all(said.startswith("yes") for said in (await store.audit()).values())
+
+    run(main())
+    assert booked(url) == {("good", "book"): 1, ("again", "book"): 1, ("bad", "book"): 1, ("bad", "unbook"): 1}
+    assert {result.outcome for result in records.read(url).results.values()} == {"commit", "missed", "fail", "undone"}
+
+
+@pytest.mark.parametrize("in_thread", [False, True])
+def test_exactly_once_while_connections_are_cut(postgresql: Server, url: str, in_thread: bool) -> None:
+    """Statements are cut on their way, answers on their way back, commits' answers too: each effect is there once."""
+    prepare(url)
+    kind = bank(in_thread)
+
+    async def one(store: sagas.Store, number: int) -> sagas.End:
+        while True:
+            try:
+                return await ended(store, kind, f"k{number}", "fails" if number % 3 == 0 else None)
+            except sagas.StoreUnwritable:
+                await asyncio.sleep(0.02)
+
+    async def main() -> None:
+        with relaying(postgresql.port, 7) as relay:
+            async with sagas.open(postgresql.url(url.rpartition("/")[2], port=relay.port), [kind], lease=30) as store:
+                relay.before = relay.after = 0.02
+                ends = await asyncio.gather(*(one(store, number) for number in range(40)))
+                relay.before = relay.after = 0.0
+                assert all(end.phase == "ended" for end in ends)
+            assert relay.cuts["after"] > 0 and relay.cuts["before"] > 0
+
+    run(main())
+    wanted = Counter({(f"k{number}", "book"): 1 for number in range(40)}) + Counter({(f"k{number}", "unbook"): 1 for number in range(0, 40, 3)})
+    assert booked(url) == wanted
+
+
+def test_a_step_of_a_lost_log_is_rolled_back(url: str) -> None:
+    """Two nodes of one name are at the same step: the one that has the log commits, and of the other's nothing stays."""
+    prepare(url)
+    gates = asyncio.Event(), asyncio.Event()
+    inside: list[int] = []
+
+    def kind_of(number: int) -> sagas.Saga:
+        kind = sagas.Saga("one")
+
+        @kind.step(transaction=True)
+        async def book(task: Task) -> int:
+            await task.connection.execute("INSERT INTO book(key, step, token) VALUES(%s, 'book', %s)", (task.key, str(number)))
+            inside.append(number)
+            await gates[number].wait()
+            return number
+
+        return kind
+
+    async def main() -> None:
+        kinds = [kind_of(0), kind_of(1)]
+        async with sagas.open(url, [kinds[0]], node="same", lease=600) as first:
+            await first.start(kinds[0], "k")
+            await until(lambda: inside == [0])
+            async with sagas.open(url, [kinds[1]], node="same", lease=600) as second:
+                await until(lambda: inside == [0, 1])
+                gates[0].set()
+                await until(lambda: first._coordinator and not first._coordinator.pumps)
+                assert booked(url) == {}
+                gates[1].set()
+                assert (await first.wait("k")).results == {"book": 1} == (await second.wait("k")).results
+
+    run(main())
+    assert booked(url) == {("k", "book"): 1}
+
+
+KILLED = """
+    import asyncio, os, sagas
+    from sagas.doing import Doing
+    saga = sagas.Saga("one")
+    @saga.step(transaction=True)
+    async def book(task):
+        await task.connection.execute("INSERT INTO book(key, step, token) VALUES(%s, 'book', %s)", (task.key, task.token))
+        return "booked"
+    Doing.outcome = lambda self, attempt, outcome: os._exit(9)
+    async def main():
+        async with sagas.open({url!r}, [saga], node="killed") as store:
+            await (await store.start(saga, "k")).wait()
+    asyncio.run(main())
+"""
+
+
+def test_a_kill_between_the_transaction_and_its_report(url: str, tmp_path: pathlib.Path) -> None:
+    """The result is there without its event: the next node reports it, and does not call the step again."""
+    prepare(url)
+    script = tmp_path / "killed.py"
+    script.write_text(textwrap.dedent(KILLED.format(url=url)))
+    environment = os.environ | {"PYTHONPATH": str(pathlib.Path(__file__).resolve().parents[1] / "src"), "SAGAS_PROGRAM": program()}
+    assert subprocess.run([sys.executable, str(script)], env=environment, check=False).returncode == 9
+    assert [row.outcome for row in records.read(url).results.values()] == ["ok"] and booked(url) == {("k", "book"): 1}
+    calls: list[str] = []
+    kind = sagas.Saga("one")
+
+    @kind.step(transaction=True)
+    async def book(task: Task) -> str:
+        calls.append(task.token)
+        return "called again"
+
+    async def main() -> None:
+        async with sagas.open(url, [kind], node="killed") as store:
+            assert (await store.wait("k")).results == {"book": "booked"}
+            assert all(said.startswith("yes") for said in (await store.audit()).values())
+
+    run(main())
+    assert not calls and booked(url) == {("k", "book"): 1}
+
+
+def test_a_file_has_no_transactions(tmp_path: pathlib.Path) -> None:
+    """Such a step is refused by name; a step without one has no connection."""
+    kind, plain = bank(False), sagas.Saga("plain")
+    refused: list[str] = []
+
+    @plain.step
+    def a(task: Task) -> Any:
+        with pytest.raises(RuntimeError, match="transaction=True"):
+            task.connection
+        refused.append("a")
+
+    async def main() -> None:
+        with pytest.raises(sagas.DefinitionError, match="'book'"):
+            async with sagas.open(tmp_path / "store.db", [kind]):
+                pass
+        async with sagas.open(tmp_path / "store.db", [plain]) as store:
+            await ended(store, plain)
+
+    run(main())
+    assert refused == ["a"]
+
+
+@pytest.mark.parametrize("in_thread", [False, True])
+def test_what_the_server_refuses_is_a_miss(url: str, in_thread: bool) -> None:
+    """A constraint that is looked at in the commit, a failed statement that the function passes over, and its own commit: rolled back, and tried again."""
+    with psycopg.connect(url, autocommit=True) as link:
+        link.execute("CREATE TABLE orders(key text PRIMARY KEY)")
+        link.execute("CREATE TABLE items(key text REFERENCES orders DEFERRABLE INITIALLY DEFERRED)")
+    shop = sagas.Saga("shop")
+    text = "INSERT INTO items VALUES (%s)"
+
+    if in_thread:
+
+        @shop.step(transaction=True, tries=4, backoff=QUICK)
+        def item(task: Task) -> None:
+            task.connection.execute(text, (task.input if task.attempt == 4 else "none",))
+            if task.attempt == 2:
+                task.connection.commit()
+            if task.attempt == 3:
+                with contextlib.suppress(psycopg.Error):
+                    task.connection.execute("SELECT 1 / 0")
+    else:
+
+        @shop.step(name="item", transaction=True, tries=4, backoff=QUICK)
+        async def item_in_loop(task: Task) -> None:
+            await task.connection.execute(text, (task.input if task.attempt == 4 else "none",))
+            if task.attempt == 2:
+                await task.connection.commit()
+            if task.attempt == 3:
+                with contextlib.suppress(psycopg.Error):
+                    await task.connection.execute("SELECT 1 / 0")
+
+    async def main() -> None:
+        said: list[str] = []
+        async with sagas.open(url, [shop], on_event=lambda event: said.append(event.detail or "") if event.name == "step_missed" else None) as store:
+            with psycopg.connect(url) as link:
+                link.execute("INSERT INTO orders VALUES ('k')")
+            run = await store.start(shop, "k", "k")
+            assert (await asyncio.wait_for(run.wait(), 60)).ok
+        assert [next(word for word in ("ForeignKey", "commit()", "InFailedSql") if word in one) for one in said] == ["ForeignKey", "commit()", "InFailedSql"]
+
+    run(main())
+    with psycopg.connect(url) as link:
+        assert link.execute("TABLE items").fetchall() == [("k",)]

@@ -1,0 +1,171 @@
+"""Values as JSON, both ways, by type hints."""
+
+from __future__ import annotations
+
+import dataclasses
+import datetime
+import decimal
+import enum
+import json
+import math
+import uuid
+from typing import Any, NamedTuple, Optional, Union
+
+import pytest
+from hypothesis import given
+from hypothesis import strategies as st
+
+import sagas
+from sagas import values
+
+JSON = st.recursive(
+    st.none() | st.booleans() | st.integers() | st.floats(allow_nan=False, allow_infinity=False) | st.text(),
+    lambda inner: st.lists(inner, max_size=4) | st.dictionaries(st.text(), inner, max_size=4),
+    max_leaves=12,
+)
+
+
+class Colour(enum.Enum):
+    RED = "red"
+
+
+@dataclasses.dataclass
+class Seat:
+    row: int
+    colour: Colour
+    price: decimal.Decimal = decimal.Decimal("1.50")
+
+
+@dataclasses.dataclass
+class Flight:
+    id: uuid.UUID
+    at: datetime.datetime
+    seats: list[Seat]
+    names: dict[str, Seat]
+    next: Optional[Flight] = None
+    span: tuple[int, ...] = ()
+
+
+class Model:
+    """As a pydantic model: `model_dump` and `model_validate`."""
+
+    def __init__(self, word: str) -> None:
+        self.word = word
+
+    def model_dump(self, mode: str) -> dict[str, str]:
+        return {"word": self.word, "mode": mode}
+
+    @classmethod
+    def model_validate(cls, told: dict[str, str]) -> Model:
+        return cls(told["word"])
+
+
+class OldModel:
+    """As a model of pydantic 1."""
+
+    __fields__ = {"word": str}
+
+    def __init__(self, word: str) -> None:
+        self.word = word
+
+    def json(self) -> str:
+        return json.dumps({"word": self.word})
+
+    @classmethod
+    def parse_obj(cls, told: dict[str, str]) -> OldModel:
+        return cls(told["word"])
+
+
+class Pair(NamedTuple):
+    """Crosses as a list."""
+
+    seat: Seat
+    row: int
+
+
+def there_and_back(value: Any, hint: Any) -> Any:
+    return values.read(values.write(value), values.decoder(hint))
+
+
+@given(JSON)
+def test_json_is_written_as_the_standard_library_does(value: Any) -> None:
+    assert values.write(value) == json.dumps(value, sort_keys=True, separators=(",", ":"), allow_nan=False)
+    assert values.read(values.write(value)) == value
+
+
+def test_canonical() -> None:
+    assert values.write({"b": 1, "a": [True, None, "é\ud800"]}) == '{"a":[true,null,"\\u00e9\\ud800"],"b":1}'
+
+
+class Broken:
+    """What fails when it is asked for its JSON."""
+
+    def model_dump(self, mode: str) -> Any:
+        return {"mode": mode}["none"]
+
+
+@pytest.mark.parametrize("value", [math.nan, math.inf, object(), {1, 2}, {"a": object()}, {(1, 2): 3}, b"bytes", Broken(), [Broken()]])
+def test_what_is_not_json(value: Any) -> None:
+    with pytest.raises(sagas.NotJson):
+        values.write(value)
+
+
+def test_what_holds_itself() -> None:
+    value: list[Any] = []
+    value.append(value)
+    with pytest.raises(sagas.NotJson):
+        values.write(value)
+
+
+def test_dataclasses() -> None:
+    seat = Seat(1, Colour.RED)
+    time = datetime.datetime(2026, 1, 2, 3, 4, tzinfo=datetime.timezone.utc)
+    flight = Flight(uuid.UUID(int=7), time, [seat], {"a": seat}, Flight(uuid.UUID(int=8), time, [], {}), (1, 2))
+    assert there_and_back(flight, Flight) == flight
+
+
+@pytest.mark.parametrize(
+    "value, hint",
+    [
+        (None, Optional[Seat]),
+        (Seat(1, Colour.RED), Optional[Seat]),
+        (Seat(1, Colour.RED), Union[int, Seat]),
+        (7, Seat | int),
+        ((1, Colour.RED), tuple[int, Colour]),
+        (datetime.date(2026, 1, 2), datetime.date),
+        (datetime.time(1, 2), datetime.time),
+        ({"a": [1]}, dict[str, list[int]]),
+        ([Colour.RED], list[Colour]),
+        ("text", str),
+        (Pair(Seat(1, Colour.RED), 2), Pair),
+    ],
+)
+def test_types(value: Any, hint: Any) -> None:
+    assert there_and_back(value, hint) == value
+
+
+def test_models() -> None:
+    assert values.write(Model("a")) == '{"mode":"json","word":"a"}'
+    assert there_and_back(Model("a"), Model).word == "a"
+    assert there_and_back([Model("a")], list[Model])[0].word == "a"
+    assert values.write(OldModel("a")) == '{"word":"a"}' and there_and_back([OldModel("a")], list[OldModel])[0].word == "a"
+
+
+def test_what_is_told_of_a_wrong_value() -> None:
+    """Keys of a dict that cannot be sorted, and what is no object."""
+    with pytest.raises(sagas.NotJson, match="keys of a dict"):
+        values.write({1: 2, "a": 3})
+    with pytest.raises(TypeError, match="Seat is read from an object"):
+        there_and_back(None, Seat)
+
+
+def test_hints_of_functions() -> None:
+    def function(task: sagas.Task[Seat]) -> Colour: ...  # type: ignore[empty-body]
+
+    async def plain(task): ...  # type: ignore[no-untyped-def]
+
+    def nowhere(task: NoSuchName) -> int: ...  # type: ignore[name-defined,empty-body]
+
+    given, returned = values.hints(function)
+    assert given and returned and given({"row": 1, "colour": "red"}) == Seat(1, Colour.RED) and returned("red") is Colour.RED
+    assert values.hints(plain) == (None, None) == values.hints(nowhere)

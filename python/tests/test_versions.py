@@ -1,0 +1,244 @@
+"""Tables of each version, who may use them, and what `sagas store` says of nodes."""
+
+from __future__ import annotations
+
+import asyncio
+import json
+import pathlib
+import socket
+import sqlite3
+
+import psycopg
+import pytest
+
+import sagas
+from cases import Task, ended, run, simple, until
+from sagas import command, links, postgresql_schema, schema
+from server import Server
+
+OLD_SAGA = (0, "old", "simple", 0, "null", 1.0)
+
+
+def old_file(path: pathlib.Path, version: int, texts: str, shelf: str) -> None:
+    """A file as a release of that version left it, with a saga that waits for its step."""
+    db = sqlite3.connect(path)
+    for step in schema.MIGRATIONS[:version]:
+        for statement in step:
+            db.execute(statement)
+    db.execute(f"PRAGMA user_version = {version}")
+    db.execute("INSERT INTO shelves VALUES(?, ?)", (shelf, texts))
+    db.execute("INSERT INTO logs(log, name, shelf) VALUES(0, 'abcd', ?)", (shelf,))
+    db.execute("INSERT INTO lines VALUES(0, 0, 1.0, ?)", ('{"def":0,"event":"open","saga":0}\n',))
+    db.execute("INSERT INTO sagas(id, key, saga, def, input, at) VALUES(?, ?, ?, ?, ?, ?)", OLD_SAGA)
+    db.commit()
+    db.close()
+
+
+def old_database(url: str, version: int, texts: str, shelf: str) -> None:
+    """The same in PostgreSQL, left by a node that is gone."""
+    with psycopg.connect(url, autocommit=True) as link:
+        postgresql_schema.migrate(link, url, version)
+        link.execute("INSERT INTO sagas.shelves VALUES(%s, %s)", (shelf, texts))
+        link.execute("INSERT INTO sagas.logs(log, name, shelf, owner, epoch) VALUES(nextval('sagas.numbers'), 'abcd', %s, 'gone', 1)", (shelf,))
+        link.execute("INSERT INTO sagas.lines VALUES(0, 0, 1.0, %s)", ('{"def":0,"event":"open","saga":0}\n',))
+        link.execute("INSERT INTO sagas.sagas(id, key, saga, def, input, at) VALUES(%s, %s, %s, %s, %s, %s)", OLD_SAGA)
+
+
+@pytest.mark.parametrize("kind", ["sqlite", "postgresql"])
+@pytest.mark.parametrize("by", ["open", "command"])
+def test_from_each_older_version(request: pytest.FixtureRequest, tmp_path: pathlib.Path, kind: str, by: str, capsys: pytest.CaptureFixture[str]) -> None:
+    """With data: what was there goes on, and what is new can be used."""
+    saga = simple(lambda task: 7)
+    texts = json.dumps([saga.toml()])
+    for version in range(1, schema.VERSION if kind == "sqlite" else postgresql_schema.VERSION):
+        if kind == "sqlite":
+            place = str(tmp_path / f"{version}.db")
+            old_file(pathlib.Path(place), version, texts, "other")
+        else:
+            server: Server = request.getfixturevalue("postgresql")
+            place = server.create()
+            old_database(place, version, texts, "other")
+        if by == "command":
+            assert command.main([place, "migrate"]) == 0
+            assert f"{version} before" in capsys.readouterr().out
+
+        async def main() -> None:
+            async with sagas.open(place, [saga]) as store:
+                assert (await store.wait("old")).results == {"a": 7}
+                assert (await ended(store, saga, "new")).ok
+
+        run(main())
+
+
+def test_a_program_that_is_older_than_the_tables(place: str, capsys: pytest.CaptureFixture[str]) -> None:
+    """It refuses by name and changes nothing; so does the command."""
+    saga = simple(lambda task: 7)
+
+    async def main() -> None:
+        async with sagas.open(place, [saga]) as store:
+            assert (await ended(store, saga)).ok
+        if place.startswith("postgresql:"):
+            with psycopg.connect(place.replace("app@", "owner@")) as link:
+                link.execute("UPDATE sagas.store SET version = 99")
+            with pytest.raises(sagas.StoreNewer, match="99"):
+                async with sagas.Client(place):
+                    pass
+        else:
+            db = sqlite3.connect(place)
+            db.execute("PRAGMA user_version = 99")
+            db.close()
+        with pytest.raises(sagas.StoreNewer, match="99"):
+            async with sagas.open(place, [saga]):
+                pass
+
+    run(main())
+    assert command.main([place, "list"]) == 4 and "later version (99)" in capsys.readouterr().err
+    assert command.main([place, "migrate"]) == 4
+
+
+def test_two_programs_migrate_at_once(url: str) -> None:
+    """An advisory lock: the tables are made once."""
+    saga = simple(lambda task: 7)
+
+    async def one(number: int) -> None:
+        async with sagas.open(url, [saga]) as store:
+            assert (await ended(store, saga, f"k{number}")).ok
+
+    async def main() -> None:
+        await asyncio.gather(*(one(number) for number in range(4)))
+
+    run(main())
+
+
+def asked(url: str) -> bool:
+    """Whether an approval is waited for."""
+    with psycopg.connect(url) as link:
+        return link.execute("SELECT 1 FROM sagas.held WHERE why = 'approval'").fetchone() is not None
+
+
+def test_least_rights(postgresql: Server, url: str, capsys: pytest.CaptureFixture[str]) -> None:
+    """`init --role` gives a role what a node, a client and the command need; it can make no tables, and before it has no rights it hears so."""
+    saga = simple(lambda task: 7, fleet_limit=2, rate=(100, 1))
+    inside = sagas.Saga("inside")
+
+    @inside.step(transaction=True)
+    async def a(task: Task) -> int:
+        await task.connection.execute("SELECT 1")
+        return 1
+
+    @inside.approval(needs=[a])
+    async def b(task: Task) -> None: ...
+
+    role = f"app_{url[-8:]}"
+    with psycopg.connect(url, autocommit=True) as link:
+        link.execute(f"CREATE ROLE {role} LOGIN")
+    theirs = postgresql.url(url.rpartition("/")[2], user=role)
+
+    async def refused() -> None:
+        with pytest.raises(sagas.StoreFault, match=f"init --role {role}"):
+            async with sagas.open(theirs, [saga, inside]):
+                pass
+
+    async def main() -> None:
+        async with sagas.open(theirs, [saga, inside]) as store, sagas.Client(theirs) as client:
+            assert (await ended(store, saga)).ok
+            await store.start(inside, "i")
+            await until(lambda: asked(url))
+            await client.finish("i", "b", "yes")
+            assert (await store.wait("i")).results == {"a": 1, "b": "yes"}
+            assert (await (await client.start(saga, "c")).wait()).ok
+            assert await client.abort("c") is False
+            assert all(said.startswith("yes") for said in (await store.audit()).values())
+
+    run(refused())
+    with pytest.raises(sagas.StoreFault, match="no tables yet.*sagas store URL init"), sagas.SyncClient(theirs):
+        pass
+    assert command.main([url, "init"]) == 0
+    with pytest.raises(sagas.StoreUnwritable, match="sagas store URL init --role NAME"), sagas.SyncClient(theirs):
+        pass
+    assert command.main([theirs, "list"]) == 4 and "init --role NAME" in capsys.readouterr().err
+    assert command.main([url, "init", "--role", role]) == 0
+    assert role in capsys.readouterr().out
+    run(main())
+    assert command.main([theirs, "list"]) == 0 and command.main([theirs, "nodes"]) == 0 and command.main([theirs, "counts"]) == 0
+    assert command.main([theirs, "prune", "--older-than", "1d"]) == 0 and command.main([theirs, "audit"]) == 0
+    with psycopg.connect(theirs) as link, pytest.raises(psycopg.errors.InsufficientPrivilege):
+        link.execute("DROP TABLE sagas.lines")
+    with psycopg.connect(url, autocommit=True) as link:
+        link.execute(f"CREATE ROLE {role}_2")
+    assert command.main([theirs, "init", "--role", f"{role}_2"]) == 4 and "cannot give" in capsys.readouterr().err
+
+
+@pytest.mark.parametrize("name, why", [
+    ("postgres:/a:geheim@b/c", "two slashes"), ("postgresql://a:ge%heim@b/c", "two hex digits"), ("postgresql://a:geheim@b/c?x=1", '"x"'),
+    ("psql://a:geheim@b/c", "psql://"), ("postgresql+psycopg://a:geheim@b/c", "postgresql\\+psycopg://"), ("host=b user=a password=geheim dbname=c", "words"),
+])  # fmt: skip
+def test_what_is_no_store(name: str, why: str, capsys: pytest.CaptureFixture[str]) -> None:
+    """A URL that is none is refused by node, client and command, with what is wrong, and without its password."""
+
+    async def main() -> None:
+        async with sagas.open(name, [simple(lambda task: 1)]):
+            pass
+
+    with pytest.raises(sagas.StoreFault, match=why) as told:
+        run(main())
+    with pytest.raises(sagas.StoreFault) as client:
+        sagas.SyncClient(name)
+    assert command.main([name, "list"]) == 4 and command.main([name, "nodes"]) in (2, 4)
+    for said in (str(told.value), str(client.value), capsys.readouterr().err):
+        assert "postgresql://user@host/database" in said and "geheim" not in said
+
+
+def test_a_server_that_is_not_there(monkeypatch: pytest.MonkeyPatch) -> None:
+    """The client says why it cannot connect, as the node does, once it has tried for a while."""
+    monkeypatch.setattr(links, "CONNECT", 0.1)
+    with socket.socket() as one:
+        one.bind(("127.0.0.1", 0))
+        url = f"postgresql://a@127.0.0.1:{one.getsockname()[1]}/c"
+        with pytest.raises(sagas.StoreUnwritable, match="[Rr]efused"), sagas.SyncClient(url):
+            pass
+
+
+@pytest.mark.parametrize("setting", ["off", "local"])
+def test_commits_wait_for_the_disk(url: str, setting: str) -> None:
+    """Whatever the database says of commits, those of the store are on the disk before anybody is told."""
+    with psycopg.connect(url, autocommit=True) as link:
+        link.execute(f"ALTER DATABASE {url.rpartition('/')[2]} SET synchronous_commit = {setting}")  # type: ignore[arg-type]
+
+    async def said() -> list[str]:
+        async with links.pool(url, 1) as some, some.connection() as pooled:
+            own = await links.connect(url)
+            told = [await (await link.execute("SHOW synchronous_commit")).fetchone() for link in (pooled, own)]
+            await own.close()
+        with links.connect_now(url) as now:
+            told.append(now.execute("SHOW synchronous_commit").fetchone())
+        return [str(row[0]) for row in told if row]
+
+    assert run(said()) == ["on"] * 3
+
+
+def test_nodes_are_shown(url: str, tmp_path: pathlib.Path, capsys: pytest.CaptureFixture[str]) -> None:
+    """Each with its lease, logs and open sagas; and the logs that none drives, by the names of their sagas."""
+    gate = asyncio.Event()
+
+    async def wait(task: Task) -> None:
+        await gate.wait()
+
+    old, new = simple(wait), sagas.Saga("other")
+    new.step(name="x")(lambda task: 1)
+
+    async def main() -> None:
+        async with sagas.open(url, [old], node="first", grace=0.0) as store:
+            await store.start(old, "k")
+            assert await asyncio.to_thread(command.main, [url, "nodes", "--json"]) == 0
+            told = json.loads(capsys.readouterr().out)
+            (shown,) = told["nodes"]
+            assert (shown["name"], shown["logs"], shown["open"], shown["definitions"]) == ("first", 1, 1, store._shelf.shelf)
+            assert 0 < shown["lease"] <= 10 and told["logs without a node"] == []
+        async with sagas.open(url, [new], node="second"):
+            assert await asyncio.to_thread(command.main, [url, "nodes"]) == 0
+            said = capsys.readouterr().out
+            assert "second" in said and "No node drives:" in said and "simple (version 1)" in said
+
+    run(main())
+    assert command.main([str(tmp_path / "x.db"), "nodes"]) == 2

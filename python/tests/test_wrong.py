@@ -1,0 +1,35 @@
+"""Wrong coordinators, each found by name: the judge of the kill tests has teeth."""
+
+from __future__ import annotations
+
+import importlib
+import pathlib
+import pkgutil
+import shutil
+
+import pytest
+
+import wrong
+from kills import play
+
+NAMES = sorted(module.name for module in pkgutil.iter_modules(wrong.__path__))
+
+
+def test_there_are_enough() -> None:
+    """At least eight."""
+    assert len(NAMES) >= 8
+
+
+@pytest.mark.parametrize("name", NAMES)
+def test_a_wrong_coordinator_is_found(name: str) -> None:
+    """Under the kind of strike at which it shows, within a few stores."""
+    module = importlib.import_module(f"wrong.{name}")
+    found: set[str] = set()
+    for seed in range(4):
+        one = play(module.STRIKES, seed, 30, most=15, wrong=name, quiet=5)
+        found |= one.verdict.names
+        if one.folder is not None:
+            shutil.rmtree(pathlib.Path(one.folder))
+        if module.FINDS in found:
+            return
+    pytest.fail(f"{name} was not found by {module.FINDS}, but by {sorted(found)}")

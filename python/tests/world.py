@@ -1,0 +1,317 @@
+"""The program that the kill tests kill: four sagas, each of whose calls is told to a witness outside.
+
+    python3 tests/world.py STORE SOCKET COUNT [--concurrency N] [--small] [--wrong NAME] [--eye URL] [--node NAME] [--lease SECONDS]
+
+Whether an attempt fails is drawn from the key, the step and the attempt alone, so that it is the same whenever that attempt
+is made again. With `--small` a log takes few sagas, and two children share many logs. What the program is told (a saga is started, aborted, over) it tells the witness, with what a look into
+the database's file shows at that moment.
+"""
+
+from __future__ import annotations
+
+import argparse
+import asyncio
+import contextlib
+import datetime
+import importlib
+import json
+import logging
+import random
+import signal
+import sqlite3
+import time
+from collections.abc import Callable
+from typing import Any
+
+import psycopg
+
+import sagas
+import sagas.kinds
+from witness import Witness
+
+QUICK = sagas.Backoff(first=0.01, most=0.05)
+SILENT = {("approve", "run"), ("approve", "undo"), ("pause", "undo")}
+"""What has no effect that the witness sees."""
+
+
+def chance(seed: str) -> float:
+    """A number from 0 to 1, the same for the same text."""
+    return random.Random(seed).random()
+
+
+def expected(key: str, step: str) -> Any:
+    """The result that a step of a saga gives."""
+    return None if chance(f"{key}/{step}/none") < 0.3 else {"of": [key, step]}
+
+
+class Eye:
+    """A look into the store from beside it."""
+
+    def __init__(self, store: str) -> None:
+        self.store = store
+
+    def _ask(self, text: str, *words: Any) -> list[tuple[Any, ...]]:
+        if self.store.startswith("postgresql:"):
+            return self._ask_server(text.replace("%", "%%").replace("?", "%s"), words)
+        db = sqlite3.connect(f"file:{self.store}?mode=ro", uri=True, timeout=10)
+        try:
+            return db.execute(text, words).fetchall()
+        finally:
+            db.close()
+
+    def _ask_server(self, text: str, words: tuple[Any, ...]) -> list[tuple[Any, ...]]:
+        """Again and again while the server is down: what it does not say cannot be judged."""
+        until = time.monotonic() + 120
+        while True:
+            try:
+                with psycopg.connect(self.store, options="-csearch_path=sagas", connect_timeout=10) as link:
+                    return link.execute(text, words or None).fetchall()
+            except psycopg.OperationalError:
+                if time.monotonic() > until:
+                    raise
+                time.sleep(0.05)
+
+    def phase(self, key: str) -> tuple[bool, str | None]:
+        """Whether a key is there, and its phase."""
+        rows = self._ask("SELECT phase FROM sagas WHERE key = ?", key)
+        return (True, rows[0][0]) if rows else (False, None)
+
+    def begins(self, name: str, saga: int, step: int, kind: str) -> int:
+        """How often the lines of a log begin a step's action or compensation."""
+        line = f'{{"event":"start_{kind}","saga":{saga},"step":{step}}}\n'
+        rows = self._ask("SELECT text FROM lines JOIN logs USING (log) WHERE name = ?", name)
+        return sum(text.count(line) for (text,) in rows)
+
+    def asked(self) -> list[str]:
+        """The keys of the sagas whose approval is waited for."""
+        return [key for (key,) in self._ask("SELECT key FROM held JOIN sagas USING (id) WHERE why = 'approval'")]
+
+    def finished(self, key: str, value: Any) -> bool:
+        """Whether a result is there."""
+        words = "SELECT value FROM results JOIN sagas USING (id) WHERE key = ? AND outcome = 'commit'"
+        return json.dumps(value, separators=(",", ":"), sort_keys=True) in {text for (text,) in self._ask(words, key)}
+
+    def aborts(self, key: str) -> bool:
+        """Whether the lines abort the saga of a key."""
+        rows = self._ask("SELECT id % 1000, text FROM sagas JOIN lines ON log = id / 1000 WHERE key = ?", key)
+        return any(f'{{"event":"abort","saga":{number}}}\n' in text for number, text in rows)
+
+
+class World:
+    """The sagas, over a witness and an eye."""
+
+    def __init__(self, witness: Witness, eye: Eye) -> None:
+        self.witness, self.eye = witness, eye
+        self.sagas = [self.chain(), self.trip(), self.must(), self.late()]
+
+    def act(self, task: Any, failing: float, unknown: float = 0.0) -> Any:
+        """A call: begins, fails or has its effect, and perhaps does not hear of it."""
+        kind = "undo" if task.undo else "run"
+        said = {"key": task.key, "step": task.step, "kind": kind, "attempt": task.attempt, "token": task.token}
+        name, number, _ = task.token.split("-", 2)
+        steps = [step.name for saga in self.sagas if saga.name == task.saga for step in saga.steps]
+        begins = self.eye.begins(name, int(number), steps.index(task.step), kind)
+        self.witness.note(what="begin", input=task.input, begun=begins, effect_token=task.effect_token, **said)
+        draw = chance(f"{task.key}/{task.step}/{kind}/{task.attempt}")
+        if draw < failing:
+            raise sagas.Fail("for good") if draw < failing / 4 else ValueError("fails")
+        more: dict[str, Any] = {"results": task.results}
+        if kind == "undo":
+            more |= {"of": task.action_token, "result": task.result}
+        self.witness.note(what="effect", **said, **more)
+        if self.is_hazy(said, unknown):
+            raise ConnectionError("nobody knows")
+        return expected(task.key, task.step)
+
+    def is_hazy(self, said: dict[str, Any], unknown: float) -> bool:
+        """Whether the caller does not hear of the effect, this time."""
+        return random.random() < unknown
+
+    def chain(self) -> sagas.Saga:
+        """Three steps in a row, with threads, misses and times."""
+        chain = sagas.Saga("chain")
+
+        @chain.step(keep=9, undo=1)
+        async def reserve(task: Any) -> Any:
+            await asyncio.sleep(0.001)
+            return self.act(task, 0.05)
+
+        @reserve.compensation(tries=3, backoff=QUICK)
+        async def release(task: Any) -> None:
+            self.act(task, 0.3)
+
+        @chain.step(needs=[reserve], tries=3, backoff=QUICK, keep=9, undo=1)
+        def charge(task: Any) -> Any:
+            return self.act(task, 0.3, unknown=0.1)
+
+        @charge.compensation(backoff=QUICK)
+        def refund(task: Any) -> None:
+            self.act(task, 0.05, unknown=0.1)
+
+        @chain.step(needs=[charge], tries=2, timeout=5, backoff=QUICK)
+        async def ship(task: Any) -> Any:
+            return self.act(task, 0.4)
+
+        return chain
+
+    def trip(self) -> sagas.Saga:
+        """A diamond with prices: some of it is worth keeping."""
+        trip = sagas.Saga("trip")
+
+        @trip.step
+        async def flight(task: Any) -> Any:
+            return self.act(task, 0.1)
+
+        @trip.step(needs=[flight], keep=8, undo=2, backoff=QUICK)
+        async def hotel(task: Any) -> Any:
+            return self.act(task, 0.2, unknown=0.1)
+
+        @hotel.compensation
+        async def cancel_hotel(task: Any) -> None:
+            self.act(task, 0.0)
+
+        @trip.step(needs=[flight], keep=8, undo=5, tries=2, backoff=QUICK)
+        def car(task: Any) -> Any:
+            return self.act(task, 0.2)
+
+        @car.compensation
+        def cancel_car(task: Any) -> None:
+            self.act(task, 0.1)
+
+        @trip.step(needs=[hotel, car], skip=3)
+        async def tour(task: Any) -> Any:
+            return self.act(task, 0.3)
+
+        return trip
+
+    def must(self) -> sagas.Saga:
+        """A saga that may be stuck."""
+        must = sagas.Saga("must")
+
+        @must.step(skip=sagas.NEVER, tries=2, backoff=QUICK)
+        async def machine(task: Any) -> Any:
+            return self.act(task, 0.4)
+
+        @must.step(needs=[machine], skip=sagas.NEVER)
+        async def licence(task: Any) -> Any:
+            return self.act(task, 0.1)
+
+        return must
+
+    def late(self) -> sagas.Saga:
+        """A saga with a wait, an approval, and a step of which two run at once."""
+        late = sagas.Saga("late")
+
+        @late.step(limit=2, keep=9, undo=1)
+        async def order(task: Any) -> Any:
+            return self.act(task, 0.05, unknown=0.1)
+
+        @order.compensation(tries=2, backoff=QUICK)
+        async def cancel_order(task: Any) -> None:
+            self.act(task, 0.2)
+
+        @late.wait(needs=[order], until=datetime.timedelta(seconds=0.05), backoff=QUICK)
+        async def pause(task: Any) -> Any:
+            return self.act(task, 0.1)
+
+        @late.approval(needs=[pause], backoff=QUICK)
+        async def approve(task: Any) -> None:
+            self.witness.note(what="asked", key=task.key)
+
+        @late.step(needs=[approve])
+        def go(task: Any) -> Any:
+            return self.act(task, 0.3)
+
+        return late
+
+
+async def approve_all(world: World, store: sagas.Store) -> None:
+    """Somebody who says yes to whatever is asked."""
+    while True:
+        for key in world.eye.asked():
+            value = expected(key, "approve")
+            with contextlib.suppress(sagas.SagasError):
+                await store.finish(key, "approve", value)
+                world.witness.note(what="finished", key=key, there=world.eye.finished(key, value))
+        await asyncio.sleep(0.05)
+
+
+async def started(store: sagas.Store, saga: sagas.Saga, key: str, given: Any) -> sagas.Run:
+    """Starts a saga, again and again while the disk is full."""
+    while True:
+        try:
+            return await store.start(saga, key=key, input=given)
+        except sagas.StoreUnwritable:
+            await asyncio.sleep(0.05)
+
+
+async def one(world: World, store: sagas.Store, number: int) -> None:
+    """A saga from its start to its end, each thing told to the witness once the program was told it."""
+    key, note, eye = f"k{number}", world.witness.note, world.eye
+    run = await started(store, world.sagas[number % 4], key, {"i": number})
+    note(what="started", key=key, there=eye.phase(key)[0])
+    if number % 17 == 0:
+        await asyncio.sleep(0.01)
+        with contextlib.suppress(sagas.StoreUnwritable):
+            if await run.abort():
+                note(what="aborted", key=key, there=eye.aborts(key))
+    end = await run.wait()
+    told = {"phase": end.phase, "states": end.states, "results": end.results, "cost": end.cost, "aborted": end.aborted}
+    note(what="over", key=key, there=eye.phase(key)[1], **told)
+
+
+async def opened(stack: contextlib.AsyncExitStack, make: Callable[[], sagas.Store]) -> sagas.Store:
+    """Opens a store, again and again while its server is down."""
+    while True:
+        try:
+            return await stack.enter_async_context(make())
+        except sagas.StoreUnwritable:
+            if not make().path.startswith("PostgreSQL"):
+                raise
+            await asyncio.sleep(0.05)
+
+
+async def main(words: argparse.Namespace) -> None:
+    """Starts what is not there, waits for all, and closes; SIGTERM closes it earlier."""
+    world = World(Witness(words.socket), Eye(words.eye or words.store))
+    if words.wrong:
+        package = "wrong_stores" if words.node else "wrong"
+        importlib.import_module(f"{package}.{words.wrong}").apply()
+    if words.small:
+        setattr(sagas.kinds, "MOST_LOG", 40_000)
+    children = 2 if words.small else 16
+    async with contextlib.AsyncExitStack() as stack:
+        store = await opened(stack, lambda: sagas.open(
+            words.store, world.sagas, concurrency=words.concurrency, children=children, node=words.node, lease=words.lease
+        ))
+        approving = asyncio.create_task(approve_all(world, store))
+        work = asyncio.gather(*(one(world, store, number) for number in range(words.count)))
+        asyncio.get_running_loop().add_signal_handler(signal.SIGTERM, work.cancel)
+        print("open", flush=True)
+        try:
+            await work
+            print("done", flush=True)
+        except asyncio.CancelledError:
+            print("closing", flush=True)
+        approving.cancel()
+
+
+def is_unexpected(record: logging.LogRecord) -> bool:
+    """Not what the functions here raise on purpose: a traceback is to be one of the package's own."""
+    return getattr(record, "sagas", {}).get("name") not in ("step_missed", "step_failed")
+
+
+if __name__ == "__main__":
+    parser = argparse.ArgumentParser(description=__doc__)
+    parser.add_argument("store")
+    parser.add_argument("socket")
+    parser.add_argument("count", type=int)
+    parser.add_argument("--concurrency", type=int, default=16)
+    parser.add_argument("--small", action="store_true")
+    parser.add_argument("--wrong")
+    parser.add_argument("--eye")
+    parser.add_argument("--node")
+    parser.add_argument("--lease", type=float, default=10.0)
+    logging.basicConfig(level=logging.WARNING, format="%(asctime)s %(name)s %(message)s")
+    logging.getLogger("sagas").addFilter(is_unexpected)
+    asyncio.run(main(parser.parse_args()))

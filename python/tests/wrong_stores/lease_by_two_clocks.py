@@ -1,0 +1,13 @@
+"""A lease is written by the node's clock, which is a minute late, and judged by the database's."""
+
+from __future__ import annotations
+
+from sagas import leases
+
+FINDS = {"called-again"}
+MOMENT = "a_node_lives"
+
+
+def apply() -> None:
+    """What a node says of itself is over before it is read."""
+    setattr(leases, "SAY", leases.SAY.replace("%(lease)s", "(%(lease)s - 660)"))

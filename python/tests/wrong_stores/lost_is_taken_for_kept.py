@@ -1,0 +1,23 @@
+"""The statement writes nothing of a log that is another node's, and nobody looks at what it says."""
+
+from __future__ import annotations
+
+from collections.abc import Sequence
+
+from sagas.postgresql import PostgreSQL
+from sagas.records import Batch
+
+FINDS = {"told-early", "begun-early", "lost", "told-otherwise", "wrong-attempt", "effect-lost"}
+STRIKES = "sleep"
+MOMENT = "another_node_has_the_log"
+
+
+def apply() -> None:
+    """Says of each log that it was written."""
+    right = PostgreSQL._write
+
+    async def write(self: PostgreSQL, batches: Sequence[Batch]) -> frozenset[int]:
+        await right(self, batches)
+        return frozenset()
+
+    setattr(PostgreSQL, "_write", write)

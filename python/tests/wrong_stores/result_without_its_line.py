@@ -1,0 +1,24 @@
+"""Of each fifth commit with results the rows are written, and not its lines."""
+
+from __future__ import annotations
+
+import itertools
+from typing import Any
+
+from sagas.postgresql_commit import Commit
+
+FINDS = {"illegal", "audit", "gap", "results", "end", "keys"}
+STRIKES = "nodes"
+MOMENT = "nothing_happens"
+
+
+def apply() -> None:
+    """Leaves lines out."""
+    right, turns = Commit.words, itertools.count(1)
+
+    def words(self: Commit, node: str) -> tuple[str, dict[str, Any]]:
+        if "results" in self._rows and next(turns) % 5 == 0:
+            self._rows.pop("lines", None)
+        return right(self, node)
+
+    setattr(Commit, "words", words)

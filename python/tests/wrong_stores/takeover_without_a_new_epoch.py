@@ -1,0 +1,17 @@
+"""The epoch alone fences, and a node that takes a log over leaves it as it is."""
+
+from __future__ import annotations
+
+from sagas import leases, postgresql, postgresql_commit
+
+FINDS = {"illegal", "audit", "results", "end", "gap", "no-effect", "told-early", "begun-early", "effect-lost", "wrong-attempt"}
+STRIKES = "sleep"
+MOMENT = "another_node_has_the_log"
+
+
+def apply() -> None:
+    """Epochs stay what they are, and owners are not compared."""
+    setattr(leases, "TAKE", leases.TAKE.replace("epoch = epoch + 1", "epoch = epoch"))
+    setattr(postgresql, "TAKE_UP", postgresql.TAKE_UP.replace("SET epoch = epoch + 1", "SET epoch = epoch"))
+    setattr(postgresql_commit, "KEPT", postgresql_commit.KEPT.replace("WHERE l.owner = %(node)s", "WHERE TRUE"))
+    postgresql_commit.PARTS["lines"] += " ON CONFLICT DO NOTHING"

@@ -1,0 +1,14 @@
+"""Another node's saga with the same key is no reason not to begin one."""
+
+from __future__ import annotations
+
+from sagas import postgresql_commit
+
+FINDS = {"keys"}
+STRIKES = "nodes"
+MOMENT = "two_nodes_start_a_key_at_once"
+
+
+def apply() -> None:
+    """Leaves the row out where the key is there, and keeps the lines."""
+    postgresql_commit.PARTS["opened"] += " ON CONFLICT DO NOTHING"

@@ -1,0 +1,24 @@
+"""A report that cannot be written is let go, and its message is acknowledged."""
+
+from __future__ import annotations
+
+import contextlib
+from typing import Any
+
+from celery.exceptions import Reject
+
+from sagas.celery.worker import Work
+
+FINDS = "report-lost"
+STRIKES = "store"
+
+
+def apply() -> None:
+    """Takes whatever message for done."""
+    right = Work.perform
+
+    def perform(self: Work, told: dict[str, Any]) -> None:
+        with contextlib.suppress(Reject):
+            right(self, told)
+
+    setattr(Work, "perform", perform)

@@ -1,0 +1,29 @@
+"""What the function will have done is reported, and then it is called."""
+
+from __future__ import annotations
+
+import contextlib
+from typing import Any
+
+from sagas import calling
+from sagas.celery.worker import Work
+from sagas.remote import Order
+from world import expected
+
+FINDS = "no-effect"
+STRIKES = "run"
+
+
+def apply() -> None:
+    """Reports first."""
+
+    def perform(self: Work, told: dict[str, Any]) -> None:
+        order, function = Order.read(told), self.manner.function
+        desk = self.queue.desk()
+        begun = desk.begin(order)
+        if begun and function:
+            desk.report(order, calling.done(expected(order.key, order.step) if order.kind == "run" else None))
+            with contextlib.suppress(Exception):
+                function(self._task(order, begun))
+
+    setattr(Work, "perform", perform)

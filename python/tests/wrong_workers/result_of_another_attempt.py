@@ -1,0 +1,29 @@
+"""What the first attempt came to is taken for what each one comes to."""
+
+from __future__ import annotations
+
+from typing import Any
+
+from sagas.celery import worker
+from sagas.calling import Outcome
+from sagas.definition import Function, Manner
+from sagas.task import Task
+
+FINDS = "not-called"
+STRIKES = "run"
+
+
+def apply() -> None:
+    """Keeps outcomes by the effect's token, and not by the attempt's."""
+    right = worker._call
+    kept: dict[str, Outcome] = {}
+
+    def call(function: Function, manner: Manner, task: Task[Any]) -> Outcome:
+        if task.effect_token not in kept:
+            outcome = right(function, manner, task)
+            if outcome.kind == "unknown":
+                return outcome
+            kept[task.effect_token] = outcome
+        return kept[task.effect_token]
+
+    setattr(worker, "_call", call)

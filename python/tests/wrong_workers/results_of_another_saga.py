@@ -1,0 +1,26 @@
+"""A function is handed the results of another saga."""
+
+from __future__ import annotations
+
+from typing import Any
+
+from sagas.celery.worker import Work
+from sagas.desks import Begun
+from sagas.remote import Order
+from sagas.task import Task
+
+FINDS = "handed"
+STRIKES = "run"
+
+
+def apply() -> None:
+    """Keeps results by the step's name alone."""
+    right = Work._task
+    seen: dict[str, str] = {}
+
+    def task(self: Work, order: Order, begun: Begun) -> Task[Any]:
+        made = right(self, order, begun)
+        made._results = {name: seen.setdefault(name, text) for name, text in made._results.items()}
+        return made
+
+    setattr(Work, "_task", task)
