@@ -1,32 +1,35 @@
 """Lists the words of specs/ that contracts of public calls cite and docs/DEFINITIONS.md does not have, and looks whether the crates of
 docs/ARCHITECTURE.md are those of crates.txt.
 
-A public call is a function that a crate's src/lib.rt exports, or a public method of a type that it exports; of the program
-those that the README names. Prints a line for each word that is missing, and ends with status 1 where there is one; likewise for each crate.
+A public call is a function that a crate's src/lib.rt exports, or a public method of a type that it exports; of a static library what C can
+call; of the program those that docs/PROMISES.md names. Prints a line for each word that is missing, and ends with status 1 where there is one; likewise for each crate.
 """
 import pathlib
 import re
 import sys
+import textwrap
 
 ROOT = pathlib.Path(__file__).resolve().parent.parent
-PROGRAM = {"check_text", "check_input", "plan_text", "draw_text", "audit_text", "run_text", "read_words", "run"}
+PROGRAM = {"check_input", "read_words", "run"}
 
 # Programs that promise nothing, or nothing that others stand on.
 SILENT = {"saga_bench", "saga_trials", "saga_booking"}
 
 CITED = re.compile(r"ghost use Rattle\.(saga_\w+)\.specs\.([\w.]+)\.\{([^}]*)\}")
 EXPORTED = re.compile(r"^pub use (?:crate::)?[\w:]+::(?:\{([^}]*)\}|(\w+));", re.M)
-CALL = re.compile(r"^( *)pub (?:const )?fn (\w+)\b.*?(?:\n\1\{|;$)", re.M | re.S)
+FOR_C = re.compile(r'^#\[unsafe\(no_mangle\)\]\npub extern "C" fn (\w+)', re.M)
+CALL = re.compile(r'^( *)pub (?:const )?(?:extern "C" )?fn (\w+)\b.*?(?:\n\1\{|;$)', re.M | re.S)
 IMPL = re.compile(r"^impl\b[^{]*?\b(?:for )?(\w+)(?:<[^>]*>)? \{(.*?)^\}", re.M | re.S)
 
 
 def exported(crate):
-    """The names that a library exports; of the program its text functions."""
+    """The names that a library exports, or offers to C; of the program the calls of its own that the pages name."""
     library = crate / "src" / "lib.rt"
     if not library.exists():
         return PROGRAM
     found = EXPORTED.findall(library.read_text(encoding="utf-8"))
-    return {name.strip() for many, one in found for name in (many or one).split(",")}
+    for_c = {name for path in crate.glob("src/*.rt") for name in FOR_C.findall(path.read_text(encoding="utf-8"))}
+    return for_c | {name.strip() for many, one in found for name in (many or one).split(",")}
 
 
 def public_calls(text, names):
@@ -61,6 +64,16 @@ def misplaced_crates():
                 yield f"docs/ARCHITECTURE.md has {name} before {below}, which it stands on"
 
 
+def other_examples():
+    """The crates whose head shows another example than the one that `saga_tests` runs: the body of its function of the crate's name."""
+    source = (ROOT / "crates" / "saga_tests" / "src" / "examples.rt").read_text(encoding="utf-8")
+    for crate, body in re.findall(r"^fn of_(\w+)\b.*?\{\n(.*?)^\}", source, re.M | re.S):
+        head = (ROOT / "crates" / crate / "src" / "lib.rt").read_text(encoding="utf-8")
+        shown = re.search(r"^//! ```\n(.*?)^//! ```$", head, re.M | re.S)
+        if shown is None or re.sub(r"^//! ?", "", shown[1], flags=re.M) != textwrap.dedent(body):
+            yield f"crates/{crate}/src/lib.rt shows another example than crates/saga_tests/src/examples.rt"
+
+
 def main():
     known = set(re.findall(r"`([^`]+)`", (ROOT / "docs" / "DEFINITIONS.md").read_text(encoding="utf-8")))
     crates = [crate for crate in sorted((ROOT / "crates").iterdir()) if crate.name not in SILENT]
@@ -69,10 +82,10 @@ def main():
     missing = sorted((file, word) for word, file in words if word not in known and "/declared." not in file)
     for file, word in missing:
         print(f"docs/DEFINITIONS.md has no {word} ({file})")
-    wrong = list(misplaced_crates())
+    wrong = [*misplaced_crates(), *other_examples()]
     for line in wrong:
         print(line)
-    print(f"definitions: {len(words)} words of public contracts, {len(missing)} missing; {len(wrong)} crates out of place")
+    print(f"definitions: {len(words)} words of public contracts, {len(missing)} missing; {len(wrong)} crates out of place or with another example")
     return 1 if missing or wrong else 0
 
 

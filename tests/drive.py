@@ -1,9 +1,10 @@
-"""Drives `sagas drive`: conversations, random ones, kills, cut and changed logs, refused writes and memory, the lock, the examples.
+"""Drives `sagas drive`: conversations, random ones, lines on standard output, kills, power cuts, cut and changed logs, refused writes and
+memory, the lock, the examples.
 
     tests/drive.py [--program P] [--libraries FOLDER] [--only SECTION] [--kills N] [--seed S]
 
-SECTION is `said`, `starts`, `random`, `kills`, `cuts`, `writes`, `memory`, `lock` or `service`. FOLDER has the libraries of
-tests/unwritten.c and tests/refusing.c, as tests/drive.sh builds them.
+SECTION is `said`, `starts`, `random`, `lines`, `kills`, `power`, `cuts`, `writes`, `memory`, `lock` or `service`. FOLDER has the
+libraries of tests/unwritten.c, tests/power.c and tests/refusing.c, as tests/drive.sh builds them.
 """
 import argparse
 import concurrent.futures
@@ -21,6 +22,8 @@ import sys
 import tempfile
 import time
 import zlib
+
+import follower
 
 ROOT = pathlib.Path(__file__).resolve().parent.parent
 EXAMPLES = ROOT / "examples"
@@ -153,6 +156,8 @@ def events_of(reply):
     """The lines of the events that a reply tells of."""
     if reply is None:
         return []
+    if "tasks" in reply:
+        return told(reply["tasks"])
     if "event" in reply:
         events = [reply["event"]]
     elif reply.get("task") in ("run", "undo"):
@@ -181,36 +186,53 @@ def aborting(saga):
     return {"do": "abort", "saga": saga}
 
 
-def report(saga, step, outcome):
-    return {"do": "report", "outcome": outcome, "saga": saga, "step": step}
+def report(saga, step, outcome, attempted=None):
+    """A report, which names the attempt of a task where one is given."""
+    named = {} if attempted is None else {"attempt": attempted["attempt"], "task": attempted["task"]}
+    return named | {"do": "report", "outcome": outcome, "saga": saga, "step": step}
 
 
-def event(word, saga, step=None):
-    return {"event": {"event": word, "saga": saga} | ({} if step is None else {"step": step})}
+def many(most):
+    return {"do": "next", "most": most}
+
+
+def named(name, saga):
+    """An opening by name, as the saga of a number."""
+    return {"do": "open", "name": name, "saga": saga}
+
+
+def event(word, saga, step=None, phase="going"):
+    return {"event": {"event": word, "saga": saga} | ({} if step is None else {"step": step}), "phase": phase}
 
 
 def opened(saga, definition=0):
-    return {"event": {"def": definition, "event": "open", "saga": saga}}
+    return {"event": {"def": definition, "event": "open", "saga": saga}, "phase": "going"}
 
 
 def task(word, saga, step, name, attempt=1):
     return {"attempt": attempt, "name": name, "saga": saga, "step": step, "task": word}
 
 
-def stands(saga, name, phase, states, kept, aborted=False):
-    return {"aborted": aborted, "kept": kept, "name": name, "phase": phase, "saga": saga, "states": states.split()}
+def stands(saga, name, phase, states, kept, aborted=False, answer=None):
+    answered = {} if answer is None else {"answer": answer["answer"]}
+    return answered | {"aborted": aborted, "kept": kept, "name": name, "phase": phase, "saga": saga, "states": states.split()}
 
 
 def none(settled):
     return {"settled": settled, "task": "none"}
 
 
-def plan(saga, cost, kept, leave, links, stand):
+def plan(saga, cost, kept, leave, links, stand, phase="going"):
     answer = {"cost": cost, "kept": kept, "kind": "plan", "leave": leave, "links": links, "stand": stand}
-    return {"answer": answer, "saga": saga, "task": "plan"}
+    return {"answer": answer, "phase": phase, "saga": saga, "task": "plan"}
 
 
 # ---- what is said: requests and replies
+
+# Answers that are adopted: nothing is kept, a is kept, and none is allowed.
+NONE_KEPT = plan(0, 2, [], [1, 1], [0], [1, 1])
+A_KEPT = plan(0, 10, [0], [9, 1], [0], [9, 1], "ended")
+CHAIN = {"answer": {"chain": [0], "kind": "blocked"}, "phase": "stuck", "saga": 0, "task": "plan"}
 
 # A saga whose step b fails, so that a is undone, at its second attempt.
 UNDONE = [
@@ -224,10 +246,10 @@ UNDONE = [
     (report(0, 0, "ok"), event("commit", 0, 0)),
     (report(0, 0, "ok"), {"refused": "not-taken"}),
     (NEXT, task("run", 0, 1, "b")),
-    (report(0, 1, "fail"), event("fail", 0, 1)),
+    (report(0, 1, "fail"), event("fail", 0, 1, "draining")),
     (shown(0), stands(0, "pair", "draining", "committed failed", [])),
-    (NEXT, plan(0, 2, [], [1, 1], [0], [1, 1])),
-    (shown(0), stands(0, "pair", "going", "committed failed", [])),
+    (NEXT, NONE_KEPT),
+    (shown(0), stands(0, "pair", "going", "committed failed", [], answer=NONE_KEPT)),
     (NEXT, task("undo", 0, 0, "a")),
     (BUSY, {"busy": [task("undo", 0, 0, "a")]}),
     (report(0, 0, "fail"), event("undo_missed", 0, 0)),
@@ -242,7 +264,7 @@ CONVERSATIONS = [
         [
             (opening(0), opened(0)),
             (NEXT, task("run", 0, 0, "a")),
-            (report(0, 0, "ok"), event("commit", 0, 0)),
+            (report(0, 0, "ok"), event("commit", 0, 0, "ended")),
             (shown(0), stands(0, "must", "ended", "committed", [0])),
             (NEXT, none(True)),
             (aborting(0), {"refused": "not-now"}),
@@ -253,8 +275,8 @@ CONVERSATIONS = [
         ["pair"],
         UNDONE
         + [
-            (report(0, 0, "ok"), event("undone", 0, 0)),
-            (shown(0), stands(0, "pair", "ended", "undone failed", [])),
+            (report(0, 0, "ok"), event("undone", 0, 0, "ended")),
+            (shown(0), stands(0, "pair", "ended", "undone failed", [], answer=NONE_KEPT)),
             (NEXT, none(True)),
         ],
     ),
@@ -263,10 +285,10 @@ CONVERSATIONS = [
         ["pair"],
         UNDONE
         + [
-            (report(0, 0, "fail"), event("undo_fail", 0, 0)),
-            (shown(0), stands(0, "pair", "draining", "fixed failed", [])),
-            (NEXT, plan(0, 10, [0], [9, 1], [0], [9, 1])),
-            (shown(0), stands(0, "pair", "ended", "fixed failed", [0])),
+            (report(0, 0, "fail"), event("undo_fail", 0, 0, "draining")),
+            (shown(0), stands(0, "pair", "draining", "fixed failed", [], answer=NONE_KEPT)),
+            (NEXT, A_KEPT),
+            (shown(0), stands(0, "pair", "ended", "fixed failed", [0], answer=A_KEPT)),
             (NEXT, none(True)),
         ],
     ),
@@ -276,9 +298,9 @@ CONVERSATIONS = [
         [
             (opening(0), opened(0)),
             (NEXT, task("run", 0, 0, "a")),
-            (report(0, 0, "fail"), event("fail", 0, 0)),
-            (NEXT, {"answer": {"chain": [0], "kind": "blocked"}, "saga": 0, "task": "plan"}),
-            (shown(0), stands(0, "must", "stuck", "failed", [])),
+            (report(0, 0, "fail"), event("fail", 0, 0, "draining")),
+            (NEXT, CHAIN),
+            (shown(0), stands(0, "must", "stuck", "failed", [], answer=CHAIN)),
             (aborting(0), {"refused": "not-now"}),
             (NEXT, none(True)),
         ],
@@ -290,16 +312,16 @@ CONVERSATIONS = [
             (opening(0), opened(0)),
             (opening(0), opened(1)),
             (NEXT, task("run", 0, 0, "a")),
-            (aborting(0), event("abort", 0)),
+            (aborting(0), event("abort", 0, phase="draining")),
             (aborting(0), {"refused": "not-now"}),
             (shown(0), stands(0, "pair", "draining", "running waiting", [], True)),
             (NEXT, task("run", 1, 0, "a")),
             (BUSY, {"busy": [task("run", 0, 0, "a"), task("run", 1, 0, "a")]}),
-            (report(0, 0, "ok"), event("commit", 0, 0)),
-            (NEXT, plan(0, 2, [], [1, 1], [0], [1, 1])),
+            (report(0, 0, "ok"), event("commit", 0, 0, "draining")),
+            (NEXT, NONE_KEPT),
             (NEXT, task("undo", 0, 0, "a")),
-            (report(0, 0, "ok"), event("undone", 0, 0)),
-            (shown(0), stands(0, "pair", "ended", "undone waiting", [], True)),
+            (report(0, 0, "ok"), event("undone", 0, 0, "ended")),
+            (shown(0), stands(0, "pair", "ended", "undone waiting", [], True, NONE_KEPT)),
             (NEXT, none(False)),
             (BUSY, {"busy": [task("run", 1, 0, "a")]}),
         ],
@@ -356,9 +378,16 @@ LINES = [
     (b'{"do":"busy","saga":0}', {"fault": "unknown-key"}),
     (b'{"do":"next","":0}', {"fault": "unknown-key"}),
     (b'{"do":"open","x":0}', {"fault": "unknown-key"}),
-    (b'{"do":"open","def":"a","saga":0}', {"fault": "unknown-key"}),
+    (b'{"do":"open","def":"a","name":"a"}', {"fault": "unknown-key"}),
     (b'{"do":"show","saga":0,"step":0}', {"fault": "unknown-key"}),
     (b'{"do":"open"}', {"fault": "missing-key"}),
+    (b'{"do":"open","saga":"a"}', {"fault": "missing-key"}),
+    (b'{"do":"report","outcome":"ok","saga":"a","step":0,"task":"run"}', {"fault": "missing-key"}),
+    (b'{"attempt":1,"do":"report","outcome":"ok","saga":0,"step":"a"}', {"fault": "missing-key"}),
+    (b'{"do":"open","def":"a","saga":0}', {"fault": "bad-type"}),
+    (b'{"do":"open","name":["pair"]}', {"fault": "bad-type"}),
+    (b'{"do":"next","most":0}', {"fault": "bad-type"}),
+    (b'{"do":"next","most":1001}', {"fault": "bad-type"}),
     (b'{"do":"show"}', {"fault": "missing-key"}),
     (b'{"do":"abort"}', {"fault": "missing-key"}),
     (b'{"do":"report","outcome":"ok","saga":"a"}', {"fault": "missing-key"}),
@@ -414,16 +443,22 @@ def converse(state, name, definitions, pairs):
     state.expect(f"{name}: the end", driven.end(), (0, ""))
 
 
-# The keys of each request, and the bounds of numbers.
-KEYS = {"open": ["def"], "next": [], "report": ["outcome", "saga", "step"], "abort": ["saga"], "show": ["saga"], "busy": []}
-BOUNDS = {"def": 2**32, "saga": 2**32, "step": 65536}
+# The keys of each request, those that it may have besides, and the bounds of numbers.
+KEYS = {"open": [], "next": [], "take": ["saga"], "report": ["outcome", "saga", "step"], "abort": ["saga"], "show": ["saga"], "busy": []}
+KEYS |= {"ready": [], "list": [], "status": []}
+OPTIONAL = {"open": ["def", "name", "saga"], "next": ["most"], "take": ["step"], "report": ["attempt", "task"]}
+OPTIONAL |= {"ready": ["from"], "list": ["from", "phase"]}
+BOUNDS = {"def": 2**32, "saga": 2**32, "from": 2**32, "step": 65536, "attempt": 65536, "most": 1001}
+WORDS = {"outcome": ("ok", "fail"), "task": ("run", "undo"), "phase": follower.PHASES}
 
 
 def is_of_type(key, value):
     """Whether a request may have this value at a key."""
-    if key == "outcome":
-        return value in ("ok", "fail")
-    return type(value) is int and 0 <= value < BOUNDS[key]
+    if key in WORDS:
+        return value in WORDS[key]
+    if key == "name":
+        return isinstance(value, str)
+    return type(value) is int and (key == "most") <= value < BOUNDS[key]
 
 
 def fault_of(line):
@@ -436,23 +471,25 @@ def fault_of(line):
     keys = KEYS.get(word) if isinstance(word, str) else None
     if keys is None:
         return "kind"
-    if set(value) - {"do", *keys}:
+    if set(value) - {"do", *keys, *OPTIONAL.get(word, [])} or {"def", "name"} <= set(value):
         return "unknown-key"
-    if set(keys) - set(value):
+    if set(keys) - set(value) or (word == "open" and not {"def", "name"} & set(value)) or ("task" in value) != ("attempt" in value):
         return "missing-key"
-    return None if all(is_of_type(key, value[key]) for key in keys) else "bad-type"
+    return None if all(is_of_type(key, value[key]) for key in value if key != "do") else "bad-type"
 
 
 def hostile(state):
     """Each prefix of each request, each request with one byte changed, and objects of random keys and values: the fault that has to come."""
     draw = random.Random(state.seed)
-    shortest = [written(request).encode() for request in (opening(0), NEXT, report(0, 0, "ok"), aborting(0), shown(0), BUSY)]
+    asked = [named("a", 0), many(64), report(0, 0, "ok", task("run", 0, 0, "a")), BUSY, {"do": "ready", "from": 0}, {"do": "list", "phase": "stuck"}, {"do": "status"}]
+    shortest = [written(request).encode() for request in (opening(0), NEXT, report(0, 0, "ok"), aborting(0), shown(0), *asked)]
     lines = [text[:place] for text in shortest for place in range(len(text))]
     lines += [text[:place] + byte + text[place + 1 :] for text in shortest for place in range(len(text)) for byte in (b"\0", b"\xff", b"}")]
-    values = [0, 1, 3, 65535, 65536, 2**32 - 1, 2**32, -1, 1.5, "ok", "fail", "0", "", None, True, [], {}, {"do": "next"}]
+    values = [0, 1, 3, 65535, 65536, 2**32 - 1, 2**32, -1, 1.5, "ok", "fail", "run", "going", "0", "", None, True, [], {}, {"do": "next"}]
     for _ in range(2000):
         word = draw.choice([*KEYS, *KEYS, "close", 7])
-        keys = [*KEYS.get(word, []), *draw.sample(["def", "saga", "step", "outcome", "x"], draw.choice([0, 0, 0, 1]))]
+        others = ["def", "name", "saga", "step", "outcome", "task", "attempt", "most", "from", "phase", "x"]
+        keys = [*KEYS.get(word, []), *OPTIONAL.get(word, []), *draw.sample(others, draw.choice([0, 0, 0, 1]))]
         pairs = [("do", word)] + [(key, draw.choice(values)) for key in keys if draw.random() < 0.9]
         draw.shuffle(pairs)
         lines.append(json.dumps(dict(pairs)).encode())
@@ -611,27 +648,39 @@ def random_definition(draw, path):
     return path
 
 
-def random_request(draw, busy, sagas, definitions):
+def random_report(draw, book):
+    """A report on a busy step, mostly of the attempt that is on its way, or on any step."""
+    busy, outcome = book.busy()["busy"], draw.choice(["ok", "ok", "ok", "fail"])
+    if not busy or draw.random() < 0.1:
+        other = task(draw.choice(["run", "undo"]), 0, 0, "", draw.randint(1, 3))
+        return report(draw.randrange(len(book.sagas) + 1), draw.randrange(7), outcome, draw.choice([None, other]))
+    one = draw.choice(busy)
+    wrong = draw.choice([one | {"attempt": one["attempt"] - 1}, one | {"task": draw.choice(["run", "undo"])}])
+    return report(one["saga"], one["step"], outcome, draw.choice([None, one, one, one, wrong]))
+
+
+def random_request(draw, book):
     """A request, mostly one that is accepted."""
-    number = draw.random()
+    number, sagas, definitions = draw.random(), len(book.sagas), book.definitions
     if sagas == 0 or number < 0.06:
-        return opening(draw.randrange(definitions + (number < 0.005)))
-    if number < 0.46:
+        opening_of_one = opening(draw.randrange(len(definitions) + (number < 0.005)))
+        return draw.choice([opening_of_one, named(draw.choice(definitions)["name"], sagas), named("none", 0), opening_of_one | {"saga": draw.choice([0, sagas])}])
+    if number < 0.36:
         return NEXT
-    if number < 0.86 and busy:
-        one = draw.choice(busy)
-        return report(one["saga"], one["step"], draw.choice(["ok", "ok", "ok", "fail"]))
+    if number < 0.46:
+        return many(draw.choice([1, 2, 3, 64]))
+    if number < 0.55:
+        step = draw.randrange(-1, 6)
+        return {"do": "take", "saga": draw.randrange(sagas + 1)} | ({} if step < 0 else {"step": step})
     if number < 0.9:
-        return report(draw.randrange(sagas + 1), draw.randrange(7), draw.choice(["ok", "fail"]))
+        return random_report(draw, book)
     if number < 0.93:
         return aborting(draw.randrange(sagas + 1))
-    if number < 0.97:
-        return shown(draw.randrange(sagas + 1))
-    return draw.choice([BUSY, b"{\n", b'{"do":"close"}\n', b'{"do":"open","def":0,"x":1}\n'])
+    return draw.choice([b"{\n", b'{"do":"close"}\n', b'{"do":"open","def":0,"x":1}\n', b'{"do":"next","most":0}\n'])
 
 
 def random_conversation(state, seed):
-    """A conversation of 150 requests, and then another start on its log, and on a copy of it."""
+    """A conversation of 150 requests, which the rules answer, and as many questions; then another start on its log, and on a copy of it."""
     draw = random.Random(seed)
     name = f"random {seed}"
     folder = state.folder / f"random{seed}"
@@ -639,28 +688,29 @@ def random_conversation(state, seed):
     definitions = [random_definition(draw, folder / "drawn.toml"), *state.defined(*draw.sample(["trip", "order", "server", "licence", "pair"], 2))]
     log = folder / "log"
     driven = Driven(state, definitions, log)
-    busy, sagas, pairs = [], 0, []
+    pairs, book = [], follower.Book(definitions)
     for _ in range(150):
-        request = random_request(draw, busy, sagas, len(definitions))
+        request = random_request(draw, book)
         reply = driven.ask(request)
         if reply is None:
             break
         pairs.append((request, reply))
-        sagas += "def" in reply.get("event", {})
-        if reply.get("task") in ("run", "undo"):
-            busy.append(reply)
-        elif request != NEXT and "step" in reply.get("event", {}):
-            busy = [one for one in busy if (one["saga"], one["step"]) != (request["saga"], request["step"])]
+        wanted = {"fault": fault_of(request)} if isinstance(request, bytes) else book.replied(request, reply)
+        state.expect(f"{name}: {request}", reply, wanted)
+        for question, wanted in book.questions(draw):
+            answered = driven.ask(question)
+            pairs.append((question, answered))
+            state.expect(f"{name}: {question}", answered, wanted)
+    sagas = len(book.sagas)
     lines = told(reply for _, reply in pairs)
     state.expect(f"{name}: the log", log.read_bytes(), HEADER + b"".join(lines))
-    book = seen(driven, sagas)
-    state.expect(f"{name}: busy", sorted(map(written, book[-1]["busy"])), sorted(map(written, busy)))
+    stands_now = seen(driven, sagas)
     state.audited(log, definitions)
     shutil.copy(log, folder / "copy")
     ahead = [driven.ask(NEXT) for _ in range(30)]
     state.expect(f"{name}: the end", driven.end(), (0, ""))
     again = Driven(state, definitions, folder / "copy")
-    state.expect(f"{name}: after another start", seen(again, sagas), book)
+    state.expect(f"{name}: after another start", seen(again, sagas), stands_now)
     state.expect(f"{name}: next after another start", [again.ask(NEXT) for _ in range(30)], ahead)
     state.expect(f"{name}: the other end", again.end(), (0, ""))
     state.expect(f"{name}: the other log", (folder / "copy").read_bytes(), log.read_bytes())
@@ -674,6 +724,97 @@ def random_ones(state):
     """Random conversations: the log has just what was told, it is legal, and another start goes on with the same book."""
     with concurrent.futures.ThreadPoolExecutor(PROCESSORS) as pool:
         return sum(pool.map(lambda seed: random_conversation(state, seed), range(state.seed, state.seed + 30))), "requests"
+
+
+# ---- lines that are shown before their replies
+
+
+def ran_with_lines(state, definitions, text, begun=None):
+    """A whole run that shows its lines, from a log that comes by a pipe, where there is one: its status, the lines without their `+`, the
+    replies, and what it said on standard error."""
+    out, into = os.pipe()
+    known = [] if begun is None else ["--from", f"/dev/fd/{out}"]
+    command = [state.program, "drive", "--lines", *known, *definitions]
+    with open(out, "rb"), concurrent.futures.ThreadPoolExecutor(1) as pool:
+        done = pool.submit(subprocess.run, command, input=text, capture_output=True, check=False, timeout=60, pass_fds=[out])
+        with open(into, "wb") as log:
+            log.write(begun or b"")
+        run = done.result()
+    printed = run.stdout.splitlines(True)
+    lines = b"".join(line[1:] for line in printed if line.startswith(b"+"))
+    return run.returncode, lines, b"".join(line for line in printed if not line.startswith(b"+")), run.stderr
+
+
+def lines_of_a_conversation(state, seed):
+    """Random requests: with lines they have the replies and the log that they have with a file, from nothing and from each of some
+    beginnings of the log."""
+    draw = random.Random(seed)
+    name, log = f"lines {seed}", state.folder / f"lines{seed}"
+    definitions = state.defined(*draw.sample(["trip", "order", "server", "licence", "pair"], 2))
+    book, asked = follower.Book(definitions), []
+    driven = Driven(state, definitions, log)
+    for _ in range(100):
+        request = random_request(draw, book)
+        if not isinstance(request, bytes):
+            book.replied(request, driven.ask(request))
+        asked.append(line_of(request))
+    state.expect(f"{name}: the end", driven.end(), (0, ""))
+    text, whole = b"".join(asked), whole_lines(log)
+    for count in [None, 0, 1, draw.randrange(1, len(whole)), len(whole)]:
+        begun = None if count is None else b"".join(whole[:count])
+        file = state.folder / f"lines{seed}.{count}"
+        file.write_bytes(begun or b"")
+        status, replies, said = state.ran(definitions, file, text)
+        left = begun or b""
+        if said:  # a plan that its last line begins is made anew
+            left = b"".join(whole[: count - 1])
+        wanted = (status, file.read_bytes().removeprefix(left), replies, said)
+        state.expect(f"{name}: from {count} lines", ran_with_lines(state, definitions, text, begun), wanted)
+    return 5 * len(asked)
+
+
+def lines(state):
+    """What is shown of a log, and a log that is only read, which comes by a pipe."""
+    with concurrent.futures.ThreadPoolExecutor(PROCESSORS) as pool:
+        return sum(pool.map(lambda seed: lines_of_a_conversation(state, seed), range(state.seed, state.seed + 12))), "requests with lines"
+
+
+# ---- what of a log is on the disk
+
+
+class Disk:
+    """What of a log is on the disk, whatever comes, as the library of tests/power.c notes it."""
+
+    def __init__(self, state, log, kept=0):
+        self.library, self.log = state.libraries / "power.so", log
+        self.known = log.with_name(f"{log.name}.disk")
+        self.image = log.with_name(f"{log.name}.disk.image")
+        self.note(kept)
+
+    def note(self, kept):
+        """So many bytes are on the disk; of a log that is there its name is, too."""
+        self.known.write_text(f"kept {kept:12} named {int(self.log.exists())}\n")
+        self.image.unlink(missing_ok=True)
+
+    def settings(self, stop=0):
+        """What lets a program note it, and end before a call."""
+        return {"LD_PRELOAD": str(self.library), "LOG": str(self.log), "DISK": str(self.known), "STOP": str(stop)}
+
+    def may_be(self):
+        """All that the log may be if power goes off now: what is on the disk, with each beginning of what was not synced; the same of
+        what it was before a cut that was not synced; and no file, where its name is not on the disk."""
+        words = self.known.read_text().split()
+        kept, named = int(words[1]), words[3] == "1"
+        files = [file.read_bytes() for file in (self.log, self.image) if file.exists()]
+        return [text[:end] for text in files for end in range(kept, len(text) + 1)] + ([] if named else [None])
+
+    def leave(self, text):
+        """Power went off, and that is left, all of it on the disk."""
+        if text is None:
+            self.log.unlink(missing_ok=True)
+        else:
+            self.log.write_bytes(text)
+        self.note(len(text or b""))
 
 
 # ---- kills
@@ -696,16 +837,20 @@ class Load:
         self.definitions = state.defined(*CHAINS, "trip")
         self.base = []
         self.told = []
+        self.sure = []
+        self.disk = Disk(state, log) if state.libraries else None
 
     def start(self):
         """Starts the program on what is in the log, and takes up what was begun."""
         before = whole_lines(self.log)
+        while before and b'"start_plan"' in before[-1]:  # its adopt was cut off: the plan is made anew
+            before.pop()
         cut = self.log.exists() and self.log.read_bytes()[sum(map(len, before)) :]
         self.base = [line for line in before if line != HEADER]
         self.told = []
         self.line = f"sagas: log: cut line taken away: {len(cut)} bytes\n" if cut else ""
         self.sagas = sum(b'"open"' in line for line in self.base)
-        self.child = Driven(self.state, self.definitions, self.log)
+        self.child = Driven(self.state, self.definitions, self.log, self.disk and self.disk.settings())
         self.tasks = []
         self.settled = False
         self.started = False
@@ -750,20 +895,23 @@ class Load:
             self.child.send(*self.batch())
             time.sleep(self.draw.choice([0, 0.0002, 0.001, 0.003]) * self.draw.random())
         self.take(self.child.kill())
-        self.look()
+        self.look(self.base + self.told)
+        if self.disk and self.draw.random() < 0.5:
+            # power goes off as well: what was told, and all that it rests on, is there
+            self.sure = self.base + self.told if self.started else self.sure
+            self.disk.leave(self.draw.choice(self.disk.may_be()))
+            self.look(self.sure)
 
-    def look(self):
-        """What was told is in the log, in its order, behind what was there at the start; and the log is legal."""
-        lines = whole_lines(self.log)
-        found = lines[1:][: len(self.base) + len(self.told)]
-        self.state.expect("kills: the log after a kill", found, self.base + self.told)
+    def look(self, sure):
+        """These events are in the log, in their order: those told, behind what was there at the start; and the log is legal."""
+        self.state.expect("kills: the log after a kill", whole_lines(self.log)[1:][: len(sure)], sure)
         self.state.audited(self.log, self.definitions)
 
     def end(self):
         """Ends the program; gives each saga's story and how it stands."""
         stands = [self.child.ask(shown(saga)) for saga in range(OF_A_BOOK)]
         self.state.expect("kills: the end of a book", self.child.end(), (0, self.line))
-        self.look()
+        self.look(self.base + self.told)
         stories = [[] for _ in range(OF_A_BOOK)]
         for line in whole_lines(self.log)[1:]:
             told_event = json.loads(line)
@@ -796,8 +944,7 @@ def kills(state):
     _, whole = driven_to_its_end(state, folder / "whole.log", draw, 0)
     count = books = 0
     while count < state.kills and not state.wrong:
-        log = folder / "killed.log"
-        log.unlink(missing_ok=True)
+        log = folder / f"killed{books}.log"
         found, book = driven_to_its_end(state, log, draw, state.kills - count)
         count, books = count + found, books + 1
         if book is None or whole is None:
@@ -808,6 +955,95 @@ def kills(state):
             elif now["phase"] not in ("ended", "stuck"):
                 state.fail(f"kills: saga {saga}: {now}")
     return count, f"kills of {books} books"
+
+
+# ---- power cuts
+
+
+def stopped(state, disk, requests, stop):
+    """The program is ended before a call, or ends with the requests, each of which is sent once the one before is replied to; gives the
+    replies, and whether it was ended."""
+    driven = Driven(state, state.defined("pair"), disk.log, disk.settings(stop))
+    replies = []
+    for request in requests:
+        reply = driven.ask(request)
+        if reply is None:
+            break
+        replies.append(reply)
+    with contextlib.suppress(BrokenPipeError):
+        driven.child.stdin.close()
+    replies += driven.rest()
+    status, said = driven.end()
+    if status not in (0, -signal.SIGKILL):
+        state.fail(f"power: status {status}: {said}")
+    return replies, status != 0
+
+
+def left_whole(state, disk, name, sure):
+    """Whatever power leaves of the log, another start makes of it a log that begins with these lines; gives how many were tried."""
+    left = disk.may_be()
+    for number, text in enumerate(left):
+        place = disk.log.with_name(f"{disk.log.name}.left")
+        place.unlink(missing_ok=True)
+        if text is not None:
+            place.write_bytes(text)
+        status, _, _ = state.ran(state.defined("pair"), place, line_of(BUSY))
+        found = whole_lines(place)[1:][: len(sure)]
+        state.expect(f"{name}: {number} of {len(left)} left", (status, found), (0, sure))
+    return len(left)
+
+
+def settled_lines(log):
+    """The events that a start goes on with: without what was cut off, and without the plans that the last ones begin."""
+    lines = whole_lines(log)[1:]
+    while lines and b'"start_plan"' in lines[-1]:
+        lines.pop()
+    return lines
+
+
+def power_at(state, case, stop):
+    """Power goes off as the program has come to a call, in a case: what the log is at the start, how much of that is on the disk, and
+    the requests. Gives how many logs may be left, or 0 where the program ended before."""
+    name, text, kept, requests = case
+    disk = Disk(state, state.folder / f"power.{name}.{stop}")
+    if text is not None:
+        disk.leave(text)
+        disk.note(kept)
+    before = settled_lines(disk.log)
+    sure = before if kept == len(text or b"") else []
+    replies, was_stopped = stopped(state, disk, requests, stop)
+    sure = before + told(replies) if replies else sure
+    count = left_whole(state, disk, f"power: {name} at call {stop}", sure)
+    return count if was_stopped else 0
+
+
+def power(state):
+    """Power goes off between any two calls of the system: what was told, and all that it rests on, is in each log that may be left."""
+    requests = [request for request, _ in UNDONE] + [report(0, 0, "ok"), NEXT]
+    at_once = [b"".join(line_of(request) for request in requests)]
+    lines = HEADER + OPEN + RUN
+    cases = [
+        ("new", None, 0, requests),
+        ("at once", None, 0, at_once),
+        ("nothing kept", lines, 0, [BUSY, *requests[2:]]),
+        ("a line not kept", lines, len(HEADER + OPEN), [BUSY, shown(0)]),
+        ("a cut line", lines + RUN[:9], len(lines) + 9, [BUSY, shown(0)]),
+        ("a cut line not kept", lines + RUN[:9], len(HEADER), [BUSY, shown(0)]),
+        ("a cut header", HEADER[:5], 0, [BUSY, opening(0)]),
+    ]
+    with concurrent.futures.ThreadPoolExecutor(PROCESSORS) as pool:
+
+        def tried(case):
+            counts = []
+            while not counts or counts[-1]:
+                counts.append(power_at(state, case, len(counts) + 1))
+            return counts
+
+        found = list(pool.map(tried, cases))
+    for case, counts in zip(cases, found):
+        if len(counts) < 10:
+            state.fail(f"power: {case[0]}: {len(counts)} calls")
+    return sum(map(sum, found)), "logs left by power cuts"
 
 
 # ---- logs that are cut or changed
@@ -1021,9 +1257,63 @@ def memory_once(state, number, the_rest, wanted):
     return refusals > 0
 
 
+# How many sagas begin a task each: one reply that tells of all of them grows more than once.
+TOGETHER = 12
+
+
+def many_refused_once(state, number, the_rest):
+    """A run in which a growth of memory is refused, or all from it on, while many tasks are asked for at once: those that have begun are
+    told, and each once. Gives whether there was such a growth, and whether it came in the middle."""
+    name = f"memory: many tasks, growth {number}{' and the rest' if the_rest else ''}"
+    log = state.folder / f"many.{number}.{the_rest}"
+    told_by = log.with_name(f"{log.name}.told")
+    settings = {"LD_PRELOAD": str(state.libraries / "refusing.so"), "COUNT": "all", "REFUSE": str(number), "TOLD": str(told_by)}
+    driven = Driven(state, state.defined("pair"), log, settings | ({"REST": "1"} if the_rest else {}))
+    opened_ones, tasks, faults, cut = 0, [], 0, False
+    while opened_ones < TOGETHER or tasks[-1:] != [task("run", TOGETHER - 1, 0, "a")]:
+        before = events_in(log)
+        found = driven.ask(opening(0) if opened_ones < TOGETHER else many(64))
+        if found == NO_MEMORY:
+            state.expect(f"{name}: the log of a request that lacked memory", events_in(log), before)
+            faults += 1
+        elif found is not None and "tasks" in found:
+            tasks += found["tasks"]
+            cut = cut or "settled" not in found
+        elif found is not None:
+            opened_ones += 1
+        if found is None or (faults and the_rest):
+            break
+    status, line = driven.end()
+    refusals, _ = calls_of(told_by)
+    if status == 0:
+        state.expect(f"{name}: tasks", tasks, [task("run", saga, 0, "a") for saga in range(len(tasks) if faults else TOGETHER)])
+        state.expect(f"{name}: the log", events_in(log).splitlines(True)[opened_ones:], told(tasks))
+    else:
+        state.expect(f"{name}: the end", (status, line, tasks), (4, "sagas: out of memory\n", []))
+    log.unlink(missing_ok=True)
+    told_by.unlink(missing_ok=True)
+    return refusals > 0, cut
+
+
+def many_refused(state):
+    """Each growth of memory is refused in turn while many tasks are asked for at once, alone and with all behind it; gives how many were."""
+    refused, cut = 0, False
+    with concurrent.futures.ThreadPoolExecutor(PROCESSORS) as pool:
+        for the_rest in (False, True):
+            for first in range(0, 5000, 64):
+                tried = list(pool.map(lambda number: many_refused_once(state, number, the_rest), range(first, first + 64)))
+                refused += sum(met for met, _ in tried)
+                cut = cut or any(of_one for _, of_one in tried)
+                if not all(met for met, _ in tried):
+                    break
+    state.expect("memory: many tasks: growths that came in the middle", cut, True)
+    return refused
+
+
 def memory(state):
     """Each growth of memory is refused in turn, alone and with all behind it."""
     requests = [request for request, _ in UNDONE] + [report(0, 0, "ok"), opening(0), NEXT, aborting(1), report(1, 0, "fail"), NEXT, b"{\n"]
+    requests += [opening(0), {"do": "ready"}, {"do": "list"}, {"do": "status"}, shown(0)]
     _, replies, _ = state.ran(state.defined("pair"), None, b"".join(map(line_of, requests)))
     wanted = list(zip(requests, map(json.loads, replies.splitlines())))
     refused = 0
@@ -1036,10 +1326,12 @@ def memory(state):
                     break
     if refused == 0:
         state.fail("memory: no growth was refused")
-    return refused, "refused growths"
+    return refused + many_refused(state), "refused growths"
 
 
 # ---- the lock
+
+LOCKED = (4, b"", b"sagas: log: locked\n")
 
 
 def lock(state):
@@ -1048,27 +1340,137 @@ def lock(state):
     driven = Driven(state, pair, log)
     state.expect("lock: the first", driven.ask(opening(0)), opened(0))
     before = log.read_bytes()
-    state.expect("lock: the second", state.ran(pair, log, line_of(opening(0))), (4, b"", b"sagas: log: locked\n"))
+    state.expect("lock: the second", state.ran(pair, log, line_of(opening(0))), LOCKED)
     (state.folder / "link.log").symlink_to(log)
-    state.expect("lock: by a link", state.ran(pair, state.folder / "link.log", b""), (4, b"", b"sagas: log: locked\n"))
+    state.expect("lock: by a link", state.ran(pair, state.folder / "link.log", b""), LOCKED)
     state.expect("lock: the log", log.read_bytes(), before)
     state.expect("lock: the first goes on", driven.ask(NEXT), task("run", 0, 0, "a"))
     state.expect("lock: the end of the first", driven.end(), (0, ""))
     state.expect("lock: after it", state.ran(pair, log, line_of(BUSY)), (0, line_of({"busy": [task("run", 0, 0, "a")]}), b""))
     with log.open("rb") as file:
         fcntl.flock(file, fcntl.LOCK_SH)
-        state.expect("lock: of a reader", state.ran(pair, log, b""), (4, b"", b"sagas: log: locked\n"))
-    return 4, "locks"
+        state.expect("lock: of a reader", state.ran(pair, log, b""), LOCKED)
+    return 4 + refused_runs(state, pair, log) + held_by_a_run(state, pair, log), "locks"
+
+
+def run_of(state, log, definitions):
+    """Runs definitions with a log; gives status, output and errors."""
+    done = subprocess.run([state.program, "run", "--log", log, *definitions], capture_output=True, check=False, timeout=60)
+    return done.returncode, done.stdout, done.stderr
+
+
+def refused_runs(state, pair, log):
+    """A run whose log a drive or a reader holds is refused, by its path or by a link, before anything is run or written."""
+    driven = Driven(state, pair, log)
+    # (its first answer says that it holds the log)
+    state.expect("lock: the drive before the runs", driven.ask(BUSY), {"busy": [task("run", 0, 0, "a")]})
+    before = log.read_bytes()
+    for name, path in [("its path", log), ("a link", state.folder / "link.log")]:
+        state.expect(f"lock: a run by {name}", run_of(state, path, pair), LOCKED)
+        state.expect(f"lock: the log after a run by {name}", log.read_bytes(), before)
+    bad = state.folder / "bad.toml"
+    bad.write_text("x")
+    state.expect("lock: a run of a text that is no definition", run_of(state, log, [bad]), LOCKED)
+    none = state.folder / "none"
+    state.expect("lock: a run without a file", run_of(state, log, [none]), (4, b"", f"sagas: cannot read {none}\n".encode()))
+    state.expect("lock: the drive goes on", driven.ask(BUSY), {"busy": [task("run", 0, 0, "a")]})
+    state.expect("lock: the end of the drive", driven.end(), (0, ""))
+    with log.open("rb") as file:
+        fcntl.flock(file, fcntl.LOCK_SH)
+        state.expect("lock: a run, of a reader", run_of(state, log, pair), LOCKED)
+    state.expect("lock: the log after the runs", log.read_bytes(), before)
+    status, report, errors = run_of(state, log, pair)
+    state.expect("lock: a run after them", (status, errors), (0, b""))
+    state.expect("lock: its log", run_of(state, state.folder / "other.log", pair), (status, report, b""))
+    state.expect("lock: the file", log.read_bytes(), (state.folder / "other.log").read_bytes())
+    return 5
+
+
+def full_pipe():
+    """A pipe that takes no more until it is read."""
+    out, into = os.pipe()
+    os.set_blocking(into, False)
+    with contextlib.suppress(BlockingIOError):
+        while True:
+            os.write(into, b" " * 4096)
+    os.set_blocking(into, True)
+    return out, into
+
+
+def is_held(log):
+    """Whether a process holds a log; asked of the kernel, since to try its lock would refuse it to others."""
+    held = pathlib.Path("/proc/locks").read_text().split("\n")
+    return any("FLOCK" in line and f":{log.stat().st_ino} " in line for line in held)
+
+
+def held_by_a_run(state, pair, log):
+    """A run holds its log until it has written it: a drive and another run are refused, and the file is as it was until then."""
+    before = log.read_bytes() + b"{"
+    log.write_bytes(before)
+    out, into = full_pipe()
+    child = subprocess.Popen([state.program, "run", "--log", log, *pair], stdout=into, stderr=subprocess.PIPE)
+    os.close(into)
+    patience = time.monotonic() + 60
+    while not is_held(log) and child.poll() is None and time.monotonic() < patience:
+        time.sleep(0.01)
+    state.expect("lock: a drive beside a run", state.ran(pair, log, b""), LOCKED)
+    state.expect("lock: a run beside a run", run_of(state, log, pair), LOCKED)
+    state.expect("lock: the log before the report is taken", log.read_bytes(), before)
+    with open(out, "rb") as report:
+        report.read()
+    state.expect("lock: the end of the run", (child.wait(60), child.stderr.read()), (0, b""))
+    child.stderr.close()
+    state.expect("lock: the log of the run", log.read_bytes(), (state.folder / "other.log").read_bytes())
+    return 2
 
 
 # ---- the booking service
 
 SERVICES = [["python3", EXAMPLES / "booking.py"], ["node", EXAMPLES / "booking.js"]]
 
+# The same services over bookings that take each request, and answer it only when it is asked again.
+LATE = [
+    [
+        "python3",
+        "-c",
+        """
+import pathlib, sys
+sys.path.insert(0, str(pathlib.Path(sys.argv[1]).parent))
+import booking
+kept, late = booking.Bookings.note, set()
+def note(self, *entry):
+    done = kept(self, *entry)
+    if entry not in late:
+        late.add(entry)
+        raise TimeoutError
+    return done
+booking.Bookings.note = note
+booking.main(pathlib.Path(sys.argv[2]))
+""",
+        EXAMPLES / "booking.py",
+    ],
+    [
+        "node",
+        "-e",
+        """
+const { Bookings, main } = require(process.argv[1]);
+const [kept, late] = [Bookings.prototype.note, new Set()];
+Bookings.prototype.note = function note(...entry) {
+  const done = kept.apply(this, entry);
+  if (late.has(`${entry}`)) return done;
+  late.add(`${entry}`);
+  throw Object.assign(new Error("no answer in time"), { code: "ETIMEDOUT" });
+};
+main(process.argv[2]);
+""",
+        EXAMPLES / "booking.js",
+    ],
+]
+
 
 def serve(state, service, folder, lines=None):
     """Runs the service in a folder, and kills it, with its child, once it has printed so many lines; gives what it printed."""
-    settings = os.environ | {"SAGAS": str(state.program)}
+    settings = os.environ | {"SAGAS": str(state.program), "PYTHONDONTWRITEBYTECODE": "1"}
     child = subprocess.Popen([*service, folder], env=settings, stdout=subprocess.PIPE, text=True, start_new_session=True)
     printed = []
     for line in child.stdout:
@@ -1078,8 +1480,18 @@ def serve(state, service, folder, lines=None):
     child.stdout.close()
     status = child.wait(60)
     if lines is None:
-        state.expect(f"{service[1].name}: status", status, 0)
+        state.expect(f"{service[-1].name}: status", status, 0)
     return printed
+
+
+def late(state, service, wanted):
+    """The service's bookings are answered late: what was done is not reported as failed, and nothing is booked twice."""
+    folder = state.folder / f"late{service[-1].suffix}"
+    folder.mkdir()
+    printed = serve(state, service, folder)
+    found = (printed[-2:], sorted(json.loads((folder / "bookings.json").read_text())))
+    state.expect(f"{service[-1].name}: late answers", found, wanted)
+    state.audited(folder / "trips.log", state.defined("booking"))
 
 
 def service_at(state, service, lines, wanted):
@@ -1100,7 +1512,7 @@ def service_at(state, service, lines, wanted):
 def service(state):
     """The examples: killed after each line that they print, they end as without it, and book nothing twice."""
     runs = []
-    for one in SERVICES:
+    for one, answers_late in zip(SERVICES, LATE, strict=True):
         if not shutil.which(one[0]):
             continue
         folder = state.folder / f"whole{one[1].suffix}"
@@ -1109,6 +1521,7 @@ def service(state):
         wanted = (printed[-2:], sorted(json.loads((folder / "bookings.json").read_text())))
         ended = ["trip 0: ended: committed committed committed\n", "trip 1: ended: committed undone failed\n"]
         state.expect(f"{one[1].name}: the end", (printed[-2:], len(wanted[1])), (ended, 6))
+        late(state, answers_late, wanted)
         runs += [(one, lines, wanted) for lines in range(1, len(printed) - 1)]
     with concurrent.futures.ThreadPoolExecutor(PROCESSORS) as pool:
         return sum(pool.map(lambda run: service_at(state, *run), runs)), "services killed"
@@ -1118,7 +1531,9 @@ SECTIONS = {
     "said": said,
     "starts": starts,
     "random": random_ones,
+    "lines": lines,
     "kills": kills,
+    "power": power,
     "cuts": cuts,
     "writes": writes,
     "memory": memory,
@@ -1130,7 +1545,7 @@ SECTIONS = {
 def main():
     parser = argparse.ArgumentParser(description=__doc__.splitlines()[0])
     parser.add_argument("--program", type=pathlib.Path, default=ROOT / "crates/saga_tool/out/saga_tool", help="the program `sagas`")
-    parser.add_argument("--libraries", type=pathlib.Path, help="the folder of the preloaded libraries; without it nothing is refused")
+    parser.add_argument("--libraries", type=pathlib.Path, help="the folder of the preloaded libraries; without it nothing is refused, and power stays on")
     parser.add_argument("--only", choices=SECTIONS, help="one section alone")
     parser.add_argument("--kills", type=int, default=50, help="how many kills")
     parser.add_argument("--seed", type=int, default=1, help="the first seed")
@@ -1138,7 +1553,7 @@ def main():
     bad = 0
     counts = []
     for name, section in SECTIONS.items():
-        if words.only not in (None, name) or (name in ("writes", "memory") and not words.libraries):
+        if words.only not in (None, name) or (name in ("power", "writes", "memory") and not words.libraries):
             continue
         with tempfile.TemporaryDirectory() as folder:
             state = State(words, folder)

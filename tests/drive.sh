@@ -1,5 +1,5 @@
 #!/usr/bin/env bash
-# Drives `sagas drive` (tests/drive.py): conversations, logs at the start, random requests, kills, logs cut and changed at each byte,
+# Drives `sagas drive` (tests/drive.py): conversations, logs at the start, random requests, kills, power cuts, logs cut and changed at each byte,
 # writes and growths of memory refused in turn, the lock, and the booking services of examples/.
 #
 # SAGAS names another program; further words go to tests/drive.py.
@@ -9,7 +9,7 @@ work=$(mktemp -d)
 trap 'rm -rf "$work"' EXIT
 
 tests/need gcc gcc || exit 1
-for library in unwritten refusing; do
+for library in unwritten power refusing; do
   gcc -O2 -shared -fPIC -o "$work/$library.so" tests/$library.c || { echo "the library $library is not built"; exit 1; }
 done
 program=${SAGAS:-$(tests/program)} || exit

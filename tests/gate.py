@@ -6,7 +6,7 @@
 
 A check is a script `tests/NAME.sh`, which ends with status 0, or with 77 where the machine lacks what it is about. The checks that cost
 seconds run before the hour of proofs, so that a typing mistake shows at once. The last line on standard output is `N passed, M failed`, and
-`, K skipped` where something was; what everything cost stands before it, on standard error.
+`, K skipped` where something was; before it stands each thing that failed, and on standard error what everything cost.
 
 Without the kit (`rt`) nothing can be proved: then the checks run over the release, and each crate counts as skipped.
 """
@@ -14,10 +14,12 @@ Without the kit (`rt`) nothing can be proved: then the checks run over the relea
 from __future__ import annotations
 
 import argparse
+import contextlib
 import os
 import re
 import resource
 import shutil
+import signal
 import subprocess
 import sys
 import threading
@@ -33,8 +35,15 @@ SKIPPED = 77
 # The checks that take seconds, over the release where nothing is built.
 CHEAP = ("format", "definitions", "release", "pages", "errors", "pictures", "rows")
 
+# How much memory a proof may take, in KiB. Where there is so much for each processor, `rt ci` gives each proof one of them: a proof by several
+# jobs takes half as much again of the processors' time.
+MEMORY = 4 * 1024 * 1024
+
 # How often the processes of `rt ci` are looked at, in seconds.
 PAUSE = 0.5
+
+# What a check may take, in seconds of the clock: the longest took 10 minutes on two busy processors. One that hangs has failed.
+LIMIT = 50 * 60
 TICKS = os.sysconf("SC_CLK_TCK")
 
 
@@ -53,13 +62,15 @@ class Tally:
     passed: int = 0
     failed: int = 0
     skipped: int = 0
+    faults: list[str] = field(default_factory=list)
     costs: dict[str, Cost] = field(default_factory=dict)
     crates: dict[str, dict[str, float]] = field(default_factory=dict)
 
-    def last_line(self) -> str:
-        """The line that ends a run."""
+    def last_lines(self) -> str:
+        """The lines that end a run: what failed, and how many did what."""
+        faults = "".join(f"failed: {fault}\n" for fault in self.faults)
         skipped = f", {self.skipped} skipped" if self.skipped else ""
-        return f"{self.passed} passed, {self.failed} failed{skipped}"
+        return f"{faults}{self.passed} passed, {self.failed} failed{skipped}"
 
 
 def spent_by_children() -> float:
@@ -187,34 +198,56 @@ def below(top: str) -> set[str]:
     return found
 
 
+def lanes() -> dict[str, str]:
+    """What `rt ci` is told of how many proofs go side by side: as many as there are processors, where there is memory for them."""
+    found = re.search(r"MemAvailable:\s+(\d+)", Path("/proc/meminfo").read_text())
+    processors = len(os.sched_getaffinity(0))
+    return {"RT_JOBS": str(processors)} if found and int(found[1]) >= MEMORY * processors else {}
+
+
 def prove(tally: Tally) -> None:
     """Runs `rt ci`, and adds what it says to the tally."""
     began, spent = time.monotonic(), spent_by_children()
-    gate = subprocess.Popen(["rt", "ci"], cwd=TOP, stdout=subprocess.PIPE, stderr=subprocess.STDOUT, text=True, errors="replace")
+    how = {**lanes(), **os.environ}
+    gate = subprocess.Popen(["rt", "ci"], cwd=TOP, env=how, stdout=subprocess.PIPE, stderr=subprocess.STDOUT, text=True, errors="replace")
     watch = Watch(gate.pid, below("saga_tool"))
     last = ""
     assert gate.stdout
     for line in gate.stdout:
         print(line, end="", flush=True)
         last = line if re.fullmatch(r"\d+ passed, \d+ failed\n", line) else last
+        tally.faults += [f"rt ci: {line.removeprefix('rt: FAILED: ').strip()}"] if line.startswith("rt: FAILED: ") else []
     status = gate.wait()
     watch.stop()
     passed, failed = (int(number) for number in re.findall(r"\d+", last)) if last else (0, 1)
     tally.passed += passed
     tally.failed += failed if failed or status == 0 else 1
+    tally.faults += [f"rt ci: it ended with status {status}"] if status and not tally.faults else []
     tally.costs |= watch.costs()
     tally.crates = watch.crates()
     seen = sum(cost.processor for cost in tally.costs.values())
     tally.costs["rt itself"] = Cost(max(0.0, spent_by_children() - spent - seen), time.monotonic() - began)
 
 
+def status_of(script: Path, environment: dict[str, str] | None) -> int:
+    """Runs a script; gives its status. One that is not done in time is stopped, with all that it started."""
+    child = subprocess.Popen(["bash", str(script)], cwd=TOP, stdin=subprocess.DEVNULL, env=environment, start_new_session=True)
+    try:
+        return child.wait(LIMIT)
+    except subprocess.TimeoutExpired:
+        print(f"test: {script.name} is stopped after {LIMIT // 60} minutes", flush=True)
+        return 1
+    finally:
+        with contextlib.suppress(ProcessLookupError):
+            os.killpg(child.pid, signal.SIGKILL)
+        child.wait()
+
+
 def check(name: str, tally: Tally, is_quick: bool = False) -> None:
     """Runs one check, and adds it to the tally. Where it is to be quick it builds nothing, and may be skipped; in the gate nothing may."""
     began, spent = time.monotonic(), spent_by_children()
     print(f"== tests/{name}.sh", flush=True)
-    environment = {**os.environ, "QUICK": "1"} if is_quick else None
-    script = str(TOP / "tests" / f"{name}.sh")
-    status = subprocess.run(["bash", script], cwd=TOP, stdin=subprocess.DEVNULL, env=environment).returncode
+    status = status_of(TOP / "tests" / f"{name}.sh", {**os.environ, "QUICK": "1"} if is_quick else None)
     if status == 0:
         tally.passed += 1
     elif status == SKIPPED and is_quick:
@@ -222,6 +255,7 @@ def check(name: str, tally: Tally, is_quick: bool = False) -> None:
         print(f"skipped: tests/{name}.sh", flush=True)
     else:
         tally.failed += 1
+        tally.faults.append(f"tests/{name}.sh")
         print(f"failed: tests/{name}.sh", flush=True)
     tally.costs[f"tests/{name}.sh"] = Cost(spent_by_children() - spent, time.monotonic() - began)
 
@@ -274,6 +308,9 @@ def run(words: argparse.Namespace) -> Tally:
         return tally
     for name in [name for name in names if name in CHEAP]:
         check(name, tally)
+        if name == "release" and tally.failed:
+            print("test: the other checks go over the release, so nothing else is run before it is mended", flush=True)
+            return tally
     if tally.failed:
         print("test: nothing is proved before these are mended", flush=True)
         return tally
@@ -288,7 +325,7 @@ def main() -> int:
     """Runs the gate; gives its status."""
     tally = run(arguments())
     print(table(tally), file=sys.stderr, flush=True)
-    print(tally.last_line())
+    print(tally.last_lines())
     return 0 if tally.failed == 0 and tally.passed > 0 else 1
 
 

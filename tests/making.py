@@ -3,6 +3,7 @@
 from __future__ import annotations
 
 import json
+from collections.abc import Iterable
 
 
 def padded(content: str, size: int, with_: str) -> str:
@@ -98,6 +99,18 @@ def log(deeds: str, *answers: str, header: bool = False) -> str:
     return ('{"format":2}\n' if header or is_new else "") + "".join(lines)
 
 
+def committed(sagas: int, steps: int) -> str:
+    """Deeds of so many sagas, each of so many steps without needs, which are all committed one after the other."""
+    of_each = [[f"{saga}:{word} {step}" for step in range(steps) for word in ("start_run", "commit")] for saga in range(sagas)]
+    return ",".join(deed for saga, deeds in enumerate(of_each) for deed in [f"{saga}:open", *deeds])
+
+
+def given_up(sagas: int) -> str:
+    """Deeds of so many sagas of one step, which fails, and the plan of which is adopted, one after the other."""
+    words = ("open", "start_run 0", "fail 0", "start_plan", "adopt")
+    return ",".join(f"{saga}:{word}" for saga in range(sagas) for word in words)
+
+
 def changed(deeds: str, place: int, *others: str) -> str:
     """Deeds of which the one of that place gives way to others, or to none."""
     said = deeds.split(",")
@@ -129,3 +142,32 @@ def asked(talk: str, first: int = 0) -> str:
 def answered(talk: str, first: int = 0) -> str:
     """The replies of a talk, likewise."""
     return "".join(f"{line[4:]}\n" for line in [line for line in talk.splitlines() if line.startswith("    ")][first:])
+
+
+def replied(**value) -> str:
+    """A reply's line."""
+    return json.dumps(value, separators=(",", ":"), sort_keys=True) + "\n"
+
+
+def opened(saga: int) -> str:
+    """The reply to the opening of a saga by the first definition."""
+    return replied(event={"def": 0, "event": "open", "saga": saga}, phase="going")
+
+
+def ready(*sagas: int, steps: int = 60, more: int | None = None) -> str:
+    """The reply that the actions of all steps of these sagas may begin, whose definition is `alike`."""
+    tasks = [{"attempt": 1, "name": f"s{step}", "saga": saga, "step": step, "task": "run"} for saga in sagas for step in range(steps)]
+    return replied(ready=tasks, **({} if more is None else {"more": more}))
+
+
+def ended(sagas: int, steps: int) -> str:
+    """The report of a run of so many sagas, whose definition is `alike`, of which nothing failed."""
+    of_steps = "".join(f"{step:4} committed s{step}\n" for step in range(steps))
+    of_sagas = "".join(f"saga {saga} alike ended\n{of_steps}plans 0 cost none\n" for saga in range(sagas))
+    return f"{of_sagas}sagas {sagas} ended {sagas} stuck 0 events {sagas * (1 + 2 * steps)}\n"
+
+
+def listed(sagas: Iterable[int], more: int | None = None) -> str:
+    """The reply that these sagas, of the definition `two`, are going."""
+    told = [{"name": "two", "phase": "going", "saga": saga} for saga in sagas]
+    return replied(sagas=told, **({} if more is None else {"more": more}))

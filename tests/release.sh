@@ -1,5 +1,5 @@
 #!/usr/bin/env bash
-# Looks at the release, and at how ./sagas chooses the program that it runs. No proof, and no kit but a false one.
+# Looks at the release, its program, library and page, and at how ./sagas chooses the program that it runs. No proof, and no kit but a false one.
 #
 # First that the release in dist/ is whole, of these sources, and asks for no more of a machine than README.md says. Then, in copies of
 # this tree: that a copy answers at once without the kit; that it builds where a source was changed, and not where another file was; that a
@@ -50,19 +50,31 @@ path_without_kit() {
   echo "${path#:}"
 }
 
-# Where the release runs: Linux on x86-64, the C library and its own parts, and no instruction past x86-64-v2.
+# runs_where_it_should FILE: Linux on x86-64, the C library and its own parts, and no instruction past x86-64-v2.
 runs_where_it_should() {
   local needed newest beyond
-  needed=$(objdump -p dist/sagas | awk '$1 == "NEEDED" { print $2 }' | grep -vxE 'lib(c\.so\.6|m\.so\.6|gcc_s\.so\.1)|ld-linux-x86-64\.so\.2')
-  expect 'libraries beside the C library' '' "$needed"
-  newest=$(objdump -T dist/sagas | grep -oE 'GLIBC_[0-9.]+' | sort -uV | tail -n 1)
-  expect 'the newest libc asked for' "GLIBC_$most_libc" "$(printf '%s\n' "$newest" "GLIBC_$most_libc" | sort -V | tail -n 1)"
+  needed=$(objdump -p "$1" | awk '$1 == "NEEDED" { print $2 }' | grep -vxE 'lib(c\.so\.6|m\.so\.6|gcc_s\.so\.1)|ld-linux-x86-64\.so\.2')
+  expect "libraries beside the C library, of $1" '' "$needed"
+  newest=$(objdump -T "$1" | grep -oE 'GLIBC_[0-9.]+' | sort -uV | tail -n 1)
+  expect "the newest libc asked for, by $1" "GLIBC_$most_libc" "$(printf '%s\n' "$newest" "GLIBC_$most_libc" | sort -V | tail -n 1)"
   looked=$((looked + 1))
   # (AVX and what came with it begin with v; tzcnt is bsf where there is no BMI)
-  beyond=$(objdump -d --no-show-raw-insn dist/sagas | awk -F '\t' '
+  beyond=$(objdump -d --no-show-raw-insn "$1" | awk -F '\t' '
     NF > 1 { split($2, word, " "); seen[word[1]] = 1 }
     END { for (it in seen) print it }' | grep -E '^v|^(andn|bextr|bls[ir]|blsmsk|bzhi|mulx|pdep|pext|rorx|sarx|shlx|shrx|lzcnt|movbe|adcx|adox|sha(1|256).*|aes.*|pclmul.*|rdrand|rdseed|xsave.*|xgetbv)[lqwb]?$')
-  [ -z "$beyond" ] || fail "the release has instructions past x86-64-v2: $(tr '\n' ' ' <<<"$beyond")"
+  [ -z "$beyond" ] || fail "$1 has instructions past x86-64-v2: $(tr '\n' ' ' <<<"$beyond")"
+}
+
+# What the libraries show to others: the calls of sagas.h, and nothing else. What they ask for: the C library's memory.
+shows_what_it_should() {
+  local calls asked
+  calls=$(sed -n 's/^uint32_t \(sagas_[a-z_]*\)(.*/\1/p' dist/sagas.h | sort | tr '\n' ' ')
+  expect 'the calls of libsagas.so' "$calls" "$(nm -D --defined-only dist/libsagas.so | awk '{ print $3 }' | sort | tr '\n' ' ')"
+  expect 'the calls of libsagas.a' "$calls" "$(nm -g --defined-only dist/libsagas.a | awk 'NF == 3 { print $3 }' | sort | tr '\n' ' ')"
+  asked=$(nm -g --undefined-only dist/libsagas.a | awk '$1 == "U" { print $2 }' | grep -vxE 'malloc|realloc|free|mem(cpy|move|set|cmp|chr)|bcmp|strlen' | tr '\n' ' ')
+  expect 'what libsagas.a asks for beside memory' '' "$asked"
+  expect 'the name of libsagas.so' libsagas.so.1 "$(objdump -p dist/libsagas.so | awk '$1 == "SONAME" { print $2 }')"
+  expect 'a stack that runs, in libsagas.so' '' "$(objdump -p dist/libsagas.so | grep -A 1 STACK | grep -o rwx)"
 }
 
 # fresh NAME: a copy of this tree, as a clone has it; gives its path.
@@ -91,7 +103,9 @@ tests/need objdump binutils || exit 1
 said=$(./release --check 2>&1)
 expect 'the release in dist/' '' "$said"
 [ -x dist/sagas ] || { echo "release: $looked looks, $wrong wrong"; exit 1; }
-runs_where_it_should
+runs_where_it_should dist/sagas
+runs_where_it_should dist/libsagas.so
+shows_what_it_should
 
 mkdir "$work/tree" "$work/kit"
 tar -C "$top" --exclude=./.git --exclude=out --exclude=__pycache__ -cf - . | tar -C "$work/tree" -xf -
@@ -167,6 +181,20 @@ expect 'a start before a byte is changed' "$answer" "$(blocked "$tree")"
 printf 'X' | dd of="$tree/dist/sagas" bs=1 seek=5000 conv=notrunc status=none
 expect_piece './release --check of a changed byte' 'dist/sagas is not the program that dist/sagas.txt tells of' "$(check "$tree")"
 expect_piece 'a start with a changed byte' 'dist/sagas is not the program that dist/sagas.txt tells of' "$(blocked "$tree")"
+tree=$(fresh library)
+printf 'X' | dd of="$tree/dist/libsagas.so" bs=1 seek=5000 conv=notrunc status=none
+expect_piece './release --check of a changed byte of the library' 'dist/libsagas.so is not what dist/library.txt tells of' "$(check "$tree")"
+tree=$(fresh page)
+echo "/* changed */" >>"$tree/page/src/page.css"
+expect_piece './release --check of a changed page' 'dist/sagas.html is of other pages' "$(check "$tree")"
+(cd "$tree" && PATH=$bare ./release --page)
+expect 'a page that was made anew, by ./release --check' 0 "$(check "$tree")"
+echo "/* changed */" >>"$tree/library/sagas.h"
+expect_piece './release --check of a changed header' 'dist/sagas.h is not library/sagas.h' "$(check "$tree")"
+echo "// changed" >>"$tree/crates/saga_c/src/lib.rt"
+expect 'a start with a changed saga_c' "$answer" "$(blocked "$tree")"
+expect_piece './release --check of a changed saga_c' 'the library in dist/ is of other sources' "$(check "$tree")"
+tree=$work/byte
 rm -r "$tree/dist"
 expect_piece './release --check of none' 'there is no release in dist/' "$(check "$tree")"
 expect_piece 'a start with none' 'there is no release in dist/' "$(blocked "$tree")"

@@ -237,7 +237,7 @@ def look(row: Row, run: Run, paths: dict[str, list[str]], room: Path) -> None:
         checked = sagas(["check", paths["def"][0], paths["case"][0], str(room / "printed")], b"")
         run.compare("the check of it", checked.out + checked.err, row.text(keys["checked"]))
     if "audited" in keys:
-        audited = sagas(["audit", str(log), *paths["def"]], b"")
+        audited = sagas(["audit", str(log), *paths["def"] * keys.get("times", 1)], b"")
         run.compare("the audit of the log", audited.out + audited.err, row.text(keys["audited"]))
 
 

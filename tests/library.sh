@@ -1,0 +1,79 @@
+#!/usr/bin/env bash
+# The C library of dist/, as others use it: from C by both of its forms and under sanitizers, from C++, Rust, Python and, where it is there, Go;
+# with faults, each room, refused memory and 16 threads; and whether it gives the same bytes as the program. Takes no kit.
+set -uo pipefail
+cd "$(dirname "$0")/.." || exit 1
+top=$PWD
+work=$(mktemp -d)
+trap 'rm -rf "$work"' EXIT
+looked=0
+wrong=0
+
+fail() {
+  wrong=$((wrong + 1))
+  echo "wrong: $*"
+}
+
+# runs WHAT COMMAND..: whether it ends with status 0; what it says is shown where it does not.
+runs() {
+  local what=$1
+  shift
+  looked=$((looked + 1))
+  "$@" >"$work/said" 2>&1 || fail "$what: $(tail -n 20 "$work/said")"
+}
+
+# answers WHAT COMMAND..: whether an example that plans does so for a trip and for a licence, and tells a fault.
+answers() {
+  local what=$1 name wanted
+  shift
+  for name in trip licence; do
+    looked=$((looked + 1))
+    wanted=$([ "$name" = trip ] && echo 0 || echo 1)
+    found=$("$@" "$top/examples/$name.toml" "$top/examples/$name.case.json" 2>&1; echo "$?")
+    [ "$found" = "$(cat "examples/$name.answer.json")"$'\n'"$wanted" ] || fail "$what, $name: $found"
+  done
+  looked=$((looked + 1))
+  found=$("$@" "$top/examples/trip.case.json" "$top/examples/trip.case.json" 2>&1 >/dev/null; echo "$?")
+  [ "$found" = $'sagas: definition: not-toml\n3' ] || fail "$what, no definition: $found"
+}
+
+for it in cc,gcc c++,g++ pkg-config,pkg-config cargo,cargo; do
+  tests/need "${it%,*}" "${it#*,}" || exit 1
+done
+c=(-std=c99 -Wall -Wextra -Werror -pedantic -O1 -g -Idist)
+
+runs 'C, the archive' cc "${c[@]}" -o "$work/static" tests/library/calls.c dist/libsagas.a -lpthread
+runs 'calls of the archive' "$work/static" examples
+# shellcheck disable=SC2046 # (words)
+runs 'C, the shared library' cc "${c[@]}" -o "$work/shared" tests/library/calls.c $(PKG_CONFIG_PATH=dist pkg-config --cflags --libs sagas) -lpthread
+mkdir "$work/lib"
+ln -s "$top/dist/libsagas.so" "$work/lib/libsagas.so.1"
+runs 'calls of the shared library' env LD_LIBRARY_PATH="$work/lib" "$work/shared" examples
+runs 'C, under sanitizers' cc "${c[@]}" -fsanitize=address,undefined -fno-sanitize-recover=all -o "$work/sanitized" tests/library/calls.c dist/libsagas.a -lpthread
+runs 'calls under sanitizers' "$work/sanitized" examples
+runs 'C, memory refused' cc "${c[@]}" -o "$work/refusing" tests/library/refusing.c dist/libsagas.a -Wl,--wrap=malloc,--wrap=realloc,--wrap=free
+runs 'calls with memory refused' "$work/refusing" examples
+cat "$work/said"
+
+runs 'the example in C' cc "${c[@]}" -o "$work/plan" examples/library/plan.c dist/libsagas.a
+answers 'the example in C' "$work/plan"
+runs 'the example in C++' c++ -std=c++17 -Wall -Wextra -Werror -Idist -o "$work/plan++" examples/library/plan.cpp dist/libsagas.a
+answers 'the example in C++' "$work/plan++"
+answers 'the example in Python' env PYTHONDONTWRITEBYTECODE=1 PYTHONPATH=python/src /usr/bin/python3 examples/library/plan.py
+
+cp -r examples/library/rust "$work/rust"
+export SAGAS_LIBRARY_DIR=$top/dist CARGO_TARGET_DIR=$work/target
+runs 'the crate in Rust' env -C "$work/rust" cargo test --offline -q
+runs 'the example in Rust' env -C "$work/rust" cargo build --offline -q --example plan
+answers 'the example in Rust' "$work/target/debug/examples/plan"
+if command -v go >/dev/null; then
+  runs 'the example in Go' env -C examples/library GOCACHE="$work/go" GOFLAGS=-mod=mod CGO_ENABLED=1 go build -o "$work/plan-go" plan.go
+  answers 'the example in Go' "$work/plan-go"
+else
+  echo 'library: go is not on this machine, so its example is left out'
+fi
+
+PYTHONDONTWRITEBYTECODE=1 SAGAS_PROGRAM=$(tests/program) /usr/bin/python3 tests/library/same.py 500 || fail 'the library gives other bytes than the program'
+looked=$((looked + 1))
+echo "library: $looked looks, $wrong wrong"
+[ "$wrong" = 0 ]

@@ -1,0 +1,108 @@
+/* Refuses each growth of memory in turn, alone and with all behind it: refusing EXAMPLES. Each call then says SAGAS_NO_MEMORY and leaves the room as
+ * it was, or answers rightly; no block is lost, and the same call succeeds afterwards. To be linked with libsagas.a and
+ * -Wl,--wrap=malloc,--wrap=realloc,--wrap=free. */
+#include <stdio.h>
+#include <stdlib.h>
+#include <string.h>
+
+#include "sagas.h"
+
+void *__real_malloc(size_t size);
+void *__real_realloc(void *at, size_t size);
+void __real_free(void *at);
+
+/* How many growths are granted before one is refused (-1: all), whether those behind it are too, and how many blocks are held. */
+static long left = -1, held;
+static int and_the_rest;
+
+static int is_refused(void) {
+    if (left < 0) return 0;
+    if (left > 0) {
+        left--;
+        return 0;
+    }
+    if (!and_the_rest) left = -1;
+    return 1;
+}
+
+void *__wrap_malloc(size_t size) {
+    void *at = is_refused() ? NULL : __real_malloc(size);
+    held += at != NULL;
+    return at;
+}
+
+void *__wrap_realloc(void *at, size_t size) {
+    void *to = is_refused() ? NULL : __real_realloc(at, size);
+    held += at == NULL && to != NULL;
+    return to;
+}
+
+void __wrap_free(void *at) {
+    held -= at != NULL;
+    __real_free(at);
+}
+
+static uint8_t texts[4][16384];
+static size_t sizes[4];
+
+static uint32_t call(int which, uint8_t *room, size_t size, size_t *used) {
+    switch (which) {
+    case 0: return sagas_plan(texts[0], sizes[0], texts[1], sizes[1], room, size, used);
+    case 1: return sagas_check(texts[0], sizes[0], texts[1], sizes[1], texts[2], sizes[2], room, size, used);
+    case 2: return sagas_draw_answer(texts[0], sizes[0], texts[1], sizes[1], texts[2], sizes[2], room, size, used);
+    default: return sagas_audit(texts[3], sizes[3], texts[0], sizes[0], room, size, used);
+    }
+}
+
+/* How often a call was refused memory before it went through, or -1 where something is wrong. */
+static long tried(int which) {
+    static uint8_t room[4096], was[4096], right[4096];
+    size_t length = 0, used;
+    long most, refused = 0;
+    memset(was, 7, sizeof was);
+    if (call(which, right, sizeof right, &length) != SAGAS_YES) return -1;
+    for (most = 0;; most++) {
+        uint32_t status;
+        memset(room, 7, sizeof room);
+        used = 99, left = most, held = 0;
+        status = call(which, room, sizeof room, &used);
+        {
+            int is_through = left > 0;
+            left = -1;
+            if (held != 0) return -1;
+            if (status == SAGAS_YES) {
+                if (used != length || memcmp(room, right, length) != 0) return -1;
+                if (is_through) return refused;
+                continue;
+            }
+        }
+        if (status != SAGAS_NO_MEMORY || used != 0 || memcmp(room, was, sizeof room) != 0) return -1;
+        refused++;
+        if (call(which, room, sizeof room, &used) != SAGAS_YES) return -1;
+    }
+}
+
+int main(int count, char **given) {
+    static const char *names[] = {"trip.toml", "trip.case.json", "trip.answer.json", "trip.log"};
+    int i, which;
+    if (count != 2) return 2;
+    for (i = 0; i < 4; i++) {
+        char path[4096];
+        FILE *from;
+        snprintf(path, sizeof path, "%s/%s", given[1], names[i]);
+        from = fopen(path, "rb");
+        if (!from) return 2;
+        sizes[i] = fread(texts[i], 1, sizeof texts[i], from);
+        fclose(from);
+    }
+    printf("refused in turn:");
+    for (and_the_rest = 0; and_the_rest < 2; and_the_rest++) {
+        for (which = 0; which < 4; which++) {
+            long refused = tried(which);
+            printf(" %ld", refused);
+            if (refused < 10) return 1;
+        }
+    }
+    printf("\n");
+    return 0;
+}

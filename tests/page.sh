@@ -1,0 +1,10 @@
+#!/usr/bin/env bash
+# The page of dist/ in a real browser; its pictures go to out/page. Takes no kit.
+set -uo pipefail
+cd "$(dirname "$0")/.." || exit 1
+for it in chromium,chromium chromedriver,chromium-driver python:selenium,python3-selenium python:pytest,python3-pytest; do
+  tests/need "${it%,*}" "${it#*,}" || exit 1
+done
+export SAGAS_PROGRAM PYTHONDONTWRITEBYTECODE=1
+SAGAS_PROGRAM=$(tests/program) || exit 1
+timeout --kill-after=10 1800 /usr/bin/python3 -m pytest -q -s -p no:cacheprovider --rootdir=tests/page tests/page

@@ -1,0 +1,301 @@
+"""The page in a real browser: each example, faults, clicks and keys, hostile texts, the program's bytes, widths and colours."""
+
+from __future__ import annotations
+
+import http.server
+import json
+import os
+import random
+import sys
+import threading
+from collections.abc import Iterator
+from pathlib import Path
+
+import pytest
+from browsers import Browser
+from selenium.webdriver.common.keys import Keys
+
+TOP = Path(__file__).resolve().parent.parent.parent
+sys.path[:0] = [str(TOP / "tests"), str(TOP / "tests" / "library"), str(TOP / "python" / "src")]
+
+import making  # noqa: E402
+import same  # noqa: E402
+from sagas import library  # noqa: E402
+
+PAGE = TOP / "dist" / "sagas.html"
+PICTURES = Path(os.environ.get("PAGE_PICTURES") or TOP / "out" / "page")
+TRIP = (TOP / "examples" / "trip.toml").read_text()
+TRIP_CASE = (TOP / "examples" / "trip.case.json").read_text().strip()
+TRIP_ANSWER = (TOP / "examples" / "trip.answer.json").read_text().strip()
+HOSTILE = '<img src=x onerror="document.title=\'broken\'"></script><script>document.title="broken"</script>'
+
+
+@pytest.fixture(scope="session")
+def browser() -> Iterator[Browser]:
+    """One browser for all tests."""
+    made = Browser()
+    yield made
+    made.close()
+
+
+class Quiet(http.server.SimpleHTTPRequestHandler):
+    """Serves dist/, and says nothing."""
+
+    asked: list[str] = []
+
+    def __init__(self, *words: object, **more: object) -> None:
+        super().__init__(*words, directory=str(PAGE.parent), **more)  # type: ignore[arg-type]
+
+    def do_GET(self) -> None:
+        self.asked.append(self.path)
+        super().do_GET()
+
+    def log_message(self, *_: object) -> None:
+        pass
+
+
+@pytest.fixture(scope="session")
+def served() -> Iterator[str]:
+    """The page's address at a server of its own."""
+    server = http.server.ThreadingHTTPServer(("127.0.0.1", 0), Quiet)
+    thread = threading.Thread(target=server.serve_forever)
+    thread.start()
+    yield f"http://127.0.0.1:{server.server_port}/{PAGE.name}"
+    server.shutdown()
+    thread.join()
+    server.server_close()
+
+
+@pytest.fixture
+def page(browser: Browser) -> Iterator[Browser]:
+    """The page, opened anew from the disk; in the end nothing may stand in the browser's log, and the title is as it was."""
+    browser.look(1280, False)
+    browser.open(PAGE.as_uri())
+    browser.said()
+    yield browser
+    assert browser.said() == []
+    assert browser.driver.title == "sagas: how shall it end?"
+
+
+EXAMPLES: list[tuple[str, int, str, str, int, list[str]]] = [
+    ("plan", 0, "good", "Least plan, cost 38: keep flight, car", 2, ["stand", "stand", "be left out", "be left out"]),
+    ("plan", 1, "good", "Least plan, cost 8: keep nothing; undo reserve, charge, pack", 0, ["be undone", "be undone", "be undone", "be left out"]),
+    ("plan", 2, "good", "Least plan, cost 20: keep machine, disk", 2, ["stand", "stand", "be left out", "be left out"]),
+    ("plan", 3, "no", "No set of steps is allowed", 2, ["", ""]),
+    ("judge", 0, "good", "Right: a least plan, cost 38: keep flight, car", 2, ["stand", "stand", "be left out", "be left out"]),
+    ("judge", 3, "no", "Right: No set of steps is allowed", 2, ["", ""]),
+    ("judge", 4, "no", "This certificate is not right", 0, ["", "", "", ""]),
+    ("audit", 0, "good", "Yes: each event was allowed after those before it", 0, []),
+    ("audit", 1, "no", "No: event 2, in line 4, was not allowed", 0, []),
+    ("audit", 2, "bad", "The log cannot be read", 0, []),
+]
+
+
+@pytest.mark.parametrize("way", ["disk", "server"])
+def test_examples(page: Browser, served: str, way: str) -> None:
+    if way == "server":
+        page.open(served)
+    for mode, example, kind, verdict, marked, shall in EXAMPLES:
+        found = page.show(mode, example)
+        assert (found["kind"], found["verdict"], found["shall"]) == (kind, verdict, shall)
+        assert mode == "audit" or (found["marked"], found["nodes"]) == (marked, len(shall))
+    assert set(Quiet.asked) <= {f"/{PAGE.name}"}
+
+
+def test_the_certificate_is_the_programs(page: Browser) -> None:
+    assert page.show("plan", 0)["text"] == TRIP_ANSWER
+    judged = page.change("document.getElementById('judge').click()")
+    assert judged["verdict"].startswith("Right: a least plan, cost 38")
+    page.show("plan", 0)
+    page.run("document.getElementById('copy').click()")
+    assert page.until("return document.getElementById('copied').textContent").startswith("The certificate is")
+
+
+FAULTS = [
+    ({"definition": "name"}, "definition", "sagas: definition: not-toml"),
+    ({"definition": "", "case": ""}, "definition", "sagas: definition: bad-format"),
+    ({"definition": TRIP + '[[step]]\nname = "x"\nneeds = ["x"]\n'}, "definition", "sagas: definition: cycle"),
+    ({"definition": TRIP.replace("car", "c\u00e4r")}, "definition", "sagas: definition: bad-name"),
+    ({"definition": TRIP.replace("trip", HOSTILE)}, "definition", "sagas: definition: not-toml"),
+    ({"definition": f"format = 1\nname = 't'\nstep = [{{ name = {json.dumps(HOSTILE)} }}]"}, "definition", "sagas: definition: bad-name"),
+    ({"case": "{"}, "case", "sagas: case: not-json"),
+    ({"case": HOSTILE}, "case", "sagas: case: not-json"),
+    ({"case": '{"states":["failed"]}'}, "case", "sagas: case: wrong-length"),
+    ({"case": TRIP_CASE.replace("failed", "running")}, "case", "sagas: case: busy 2"),
+]
+
+
+@pytest.mark.parametrize(("texts", "field", "line"), FAULTS, ids=[f"{field} {number}" for number, (_, field, _) in enumerate(FAULTS)])
+def test_faults_are_told_where_they_stand(page: Browser, texts: dict[str, str], field: str, line: str) -> None:
+    page.show("plan", 0)
+    found = page.put(texts)
+    assert (found["kind"], found["faults"], found["checked"]) == ("bad", [field], line)
+    assert len(found["fault"]) > 20
+    # (where the definition is whole, its steps stay in sight, and a click mends the case)
+    if field == "case":
+        assert found["nodes"] == 4
+        mended = page.change("document.getElementById('waiting').click()")
+        assert json.loads(mended["case"])["states"] == ["waiting"] * 4 and mended["kind"] == "good"
+
+
+def test_a_line_that_is_no_toml_is_named(page: Browser) -> None:
+    """The first one, also behind a list over several lines, in the second of two definitions, and twice a key; whoever types keeps the place."""
+    page.show("plan", 0)
+    several = TRIP.replace('needs = ["flight"]', 'needs = [\n  "flight",\n]')
+    for text, wrong in ((TRIP, "undo = five"), (several, "undo = five"), (several, "keep = 3\nkeep = 4"), (TRIP, "undo = ")):
+        text = text.replace("keep = 3" if "keep" in wrong else "undo = 5", wrong)
+        line = wrong.split("\n")[-1]
+        found = page.put({"definition": text})
+        assert found["checked"] == "sagas: definition: not-toml" and f"line {text.split(chr(10)).index(line) + 1}:" in found["remedy"], found
+        assert found["fault"].endswith(f": {line}")
+    page.run("document.getElementById('definition').focus(); document.getElementById('definition').setSelectionRange(7, 7)")
+    page.change("document.getElementById('definition').dispatchEvent(new Event('input'))")
+    assert page.run("return document.getElementById('definition').selectionEnd") == 7
+    page.show("audit", 0)
+    found = page.put({"definition": TRIP + "---\n" + TRIP.replace("undo = 5", "undo = five")})
+    assert f"line {2 + TRIP.count(chr(10)) + TRIP.split(chr(10)).index('undo = 5')}:" in found["remedy"], found
+
+
+def test_faults_of_certificates_and_logs(page: Browser) -> None:
+    page.show("judge", 0)
+    for answer, kind, checked in (("[]", "bad", "sagas: answer: kind"), (HOSTILE, "bad", "sagas: answer: not-json"), (TRIP_ANSWER.replace("[0,1]", "[0]", 1), "no", "Judged here")):
+        found = page.put({"answer": answer})
+        assert (found["kind"], found["faults"]) == (kind, ["answer"]) and found["checked"].startswith(checked)
+    page.show("audit", 0)
+    found = page.put({"log": '{"format":2}\n{}\n'})
+    assert (found["kind"], found["faults"], found["checked"]) == ("bad", ["log"], "sagas: log: line 2: kind") and "2: {}" in found["fault"]
+    found = page.put({"definition": TRIP + "---\nname"})
+    assert found["checked"] == "sagas: log: line 2: kind"
+    found = page.put({"log": ""})
+    assert (found["faults"], found["checked"]) == (["definition"], "sagas: definition 1: not-toml")
+    found = page.put({"definition": TRIP + "---\n" + TRIP})
+    assert found["verdict"].startswith("Yes")
+
+
+def test_states_by_clicks_and_keys(page: Browser) -> None:
+    page.show("plan", 0)
+    found = page.change("document.querySelector('[data-step=\"2\"]').dispatchEvent(new MouseEvent('click', { bubbles: true }))")
+    assert json.loads(found["case"])["states"] == ["committed", "committed", "undone", "waiting"]
+    page.run("document.querySelector('.node[data-step=\"1\"]').focus()")
+    before = page.run("return document.body.dataset.rounds")
+    page.driver.switch_to.active_element.send_keys(Keys.ENTER)
+    page.until("return document.body.dataset.rounds !== arguments[0]", before)
+    assert json.loads(page.shown()["case"])["states"] == ["committed", "failed", "undone", "waiting"]
+    assert page.run("return document.activeElement.dataset.step") == "1"
+    found = page.change("const it = document.querySelector('select[data-step=\"0\"]'); it.value = 'waiting'; it.dispatchEvent(new Event('change'))")
+    assert json.loads(found["case"])["states"] == ["waiting", "failed", "undone", "waiting"]
+    found = page.change("document.getElementById('aborted').click()")
+    assert json.loads(found["case"]) == {"aborted": True, "states": ["waiting", "failed", "undone", "waiting"]}
+    assert found["shall"] == ["be left out"] * 4
+
+
+def test_by_the_keyboard_alone(page: Browser) -> None:
+    page.show("plan", 0)
+    page.run("document.activeElement.blur()")
+    seen = []
+    for _ in range(40):
+        page.driver.switch_to.active_element.send_keys(Keys.TAB)
+        seen.append(page.run("const it = document.activeElement; return it.id || it.name || it.dataset.step || it.tagName"))
+        if seen[-1] == "judge":
+            break
+    for wanted in ("mode", "example", "definition", "case", "aborted", "waiting", "0", "3", "copy", "judge"):
+        assert wanted in seen, seen
+    page.run("document.querySelector('input[name=mode]:checked').focus()")
+    before = page.run("return document.body.dataset.rounds")
+    page.driver.switch_to.active_element.send_keys(Keys.ARROW_RIGHT)
+    page.until("return document.body.dataset.rounds !== arguments[0]", before)
+    assert page.run("return document.body.dataset.mode") == "judge"
+
+
+def test_names_for_readers(page: Browser) -> None:
+    for mode in ("plan", "judge", "audit"):
+        page.show(mode, 0)
+        unnamed = page.run(
+            """return [...document.querySelectorAll('button, select, textarea, input, [tabindex="0"], table, section')].filter(it => it.getClientRects().length)
+            .filter(it => !(it.getAttribute('aria-label') || it.labels?.length || it.textContent.trim())).map(it => it.outerHTML.slice(0, 80));"""
+        )
+        assert unnamed == []
+    assert page.run("const it = document.getElementById('told'); return [it.getAttribute('role'), it.getAttribute('aria-live')]") == ["status", "polite"]
+
+
+def test_the_programs_bytes(page: Browser) -> None:
+    place = library.path()
+    loaded = library.loaded(place) if place else None
+    assert loaded is not None
+    questions: list[same.Question] = []
+    for number in range(int(os.environ.get("PAGE_SAGAS", "75"))):
+        questions += same.at_random(random.Random(f"page {number}"), loaded)
+    long = b" " * (1 << 20) + b"x"
+    questions += [("plan", [b"", b""]), ("plan", [b"\xff\0", b"{}"]), ("draw", [long]), ("check", [b"format=1", long, long]), ("audit_all", [b"\0\n\xff", b""])]
+    questions += [("plan", [TRIP.encode(), b"[" * 100000]), ("plan", [TRIP.encode(), b'{"states":[' + b"0," * 300000 + b"0]}"]), ("audit_all", [b"", *[b""] * 65])]
+    assert page.calls(questions) == [same.by_program(question) for question in questions]
+
+
+def test_prices_and_reasons(page: Browser) -> None:
+    page.show("plan", 0)
+    plans = 0
+    for number in range(30):
+        chance = random.Random(f"prices {number}")
+        definition, count = same.definition(chance)
+        found = page.put({"definition": definition, "case": same.case(chance, count)})
+        prices = page.run("return [...document.querySelectorAll('#steps td.price.taken')].map(it => it.textContent)")
+        reasons = page.run("return [...document.querySelectorAll('#steps td.why')].map(it => it.textContent)")
+        if found["kind"] == "good":
+            plans += 1
+            cost = found["checked"].removeprefix("Planned, then judged here by the proved checker: least ").rstrip(".")
+            assert sum(int(price.replace(",", "")) for price in prices) == int(cost)
+            assert len(reasons) == count and all(reasons)
+    assert plans > 5
+
+
+def test_the_longest_texts(page: Browser) -> None:
+    found = page.driver.execute_async_script(
+        """const [definition, done] = arguments;
+        (async () => { const told = [];
+          for (const size of [67108865, 67108864]) { const reply = await call('plan', [bytes_of(definition), new Uint8Array(size)]); told.push(text_of(reply.bytes) + (reply.error || '')); }
+          const reply = await call('draw', [bytes_of(definition)]); told.push(reply.status); return told; })().then(done, error => done(String(error)));""",
+        TRIP,
+    )
+    assert found == ["sagas: case: too-long\n", "sagas: case: not-json\n", 0]
+
+
+def test_a_saga_of_1024_steps(page: Browser) -> None:
+    page.show("plan", 0)
+    definition, case = making.named("s0", 8192), making.states(1024, "committed", "failed")
+    found = page.put({"definition": definition, "case": case})
+    assert found["kind"] == "good" and found["rows"] == 100 and found["nodes"] == 0
+    page.run("document.getElementById('all').click()")
+    assert page.shown()["rows"] == 1024
+    took = page.driver.execute_async_script(
+        """const done = arguments[0];
+        (async () => { let best = Infinity; for (let i = 0; i < 10; i++) { const began = performance.now(); await call('plan', [given('definition'), given('case')]);
+          best = Math.min(best, performance.now() - began); } return best; })().then(done);"""
+    )
+    print(f"a plan of 1,024 steps and 8,192 needs: {took:.0f} ms at best of ten")
+    page.run("document.getElementById('draw').click()")
+    assert page.shown()["nodes"] == 1024
+
+
+def test_a_browser_that_cannot(browser: Browser) -> None:
+    for script, why in (("delete window.WebAssembly;", "WebAssembly"), ("WebAssembly.compile = async () => { throw new WebAssembly.CompileError('memory64'); };", "memory64")):
+        added = browser.tell("Page.addScriptToEvaluateOnNewDocument", source=script)
+        try:
+            browser.open(PAGE.as_uri())
+            found = browser.shown()
+            assert (found["kind"], found["verdict"]) == ("bad", "This browser cannot run the page")
+            assert why in found["checked"] and "64 bits" in found["remedy"]
+        finally:
+            browser.tell("Page.removeScriptToEvaluateOnNewDocument", identifier=added["identifier"])
+
+
+@pytest.mark.parametrize("width", [360, 1280])
+@pytest.mark.parametrize("is_dark", [False, True], ids=["light", "dark"])
+def test_looks(page: Browser, width: int, is_dark: bool) -> None:
+    page.look(width, is_dark)
+    PICTURES.mkdir(parents=True, exist_ok=True)
+    for mode, example in (("plan", 0), ("plan", 3), ("judge", 4), ("audit", 1)):
+        page.show(mode, example)
+        assert page.run("return document.documentElement.scrollWidth") <= width
+        page.picture(PICTURES / f"{width}-{'dark' if is_dark else 'light'}-{mode}-{example}.png")
+    ground = page.run("return getComputedStyle(document.body).backgroundColor.match(/\\d+/g).map(Number)")
+    assert (max(ground) < 80) == is_dark

@@ -1,0 +1,19 @@
+#!/usr/bin/env bash
+# The Python package: its types, and its tests side by side, over the program that ./sagas starts.
+set -uo pipefail
+cd "$(dirname "$0")/.." || exit 1
+for it in python:pytest,python3-pytest python:xdist,python3-pytest-xdist python:hypothesis,python3-hypothesis python:mypy,mypy \
+  python:psycopg,python3-psycopg python:psycopg_pool,python3-psycopg-pool initdb,postgresql \
+  python:fastapi,python3-fastapi python:uvicorn,python3-uvicorn python:jinja2,python3-jinja2 python:prometheus_client,python3-prometheus-client \
+  python:httpx,python3-httpx python:selenium,python3-selenium chromium,chromium chromedriver,chromium-driver node,nodejs curl,curl \
+  python:celery,python3-celery python:redis,python3-redis redis-server,redis-server erl,rabbitmq-server; do
+  tests/need "${it%,*}" "${it#*,}" || exit 77
+done
+program=${SAGAS:-$(tests/program)} || exit 1
+room=$(mktemp -d)
+trap 'rm -rf "$room"' EXIT
+cd python || exit 1
+/usr/bin/python3 -m mypy --strict --cache-dir="$room/types" src || exit 1
+# (a test that hangs has its own limit; this one is for all)
+SAGAS_PROGRAM=$program PYTHONDONTWRITEBYTECODE=1 HYPOTHESIS_STORAGE_DIRECTORY="$room/hypothesis" \
+  timeout --kill-after=10 2700 /usr/bin/python3 -m pytest -q -p no:cacheprovider -n auto --dist load tests
