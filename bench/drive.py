@@ -7,12 +7,15 @@ transaction beside requests one at a time, and 64 a transaction beside 64 togeth
 `fdatasync`, says what the file system asks for by itself. All parts take turns in one folder (`--folder`), so that a ratio is one of
 one run on one file system. Prints events a second, in the middle of all turns, and ratios of times to those of SQLite's WAL; then the
 seconds of a start on a log of 1,001,000 events, of 1,000 sagas of 500 steps, beside an audit of that log and SQLite reading as many
-rows, and the greatest memory of the start. Ends with status 1 where requests with a log take longer than SQLite's WAL, one at a time
-or together, or a start takes more than 10 s.
+rows, and the greatest memory of the start. Last the milliseconds of `ready`, `list` and `status` over 1,000 sagas: of the README's trip, and of
+chains of 1,024 steps of which half are done; and the seconds of a processor that 10,000 tasks take, one and 64 by a request. Ends with
+status 1 where requests with a log take longer than SQLite's WAL, one at a time or together, a start takes more than 10 s, a `ready` over
+1,000 trips takes more than 1 ms, or tasks by 64 take more than a third.
 """
 import argparse
 import os
 import pathlib
+import resource
 import sqlite3
 import statistics
 import subprocess
@@ -215,6 +218,65 @@ def restart(program, folder, sagas):
     return start
 
 
+def chain(steps):
+    """The text of a definition of steps each of which needs the one before it."""
+    needs = [""] + [f'needs = ["s{step}"]\n' for step in range(steps - 1)]
+    return 'format = 1\nname = "chain"\n' + "".join(f'[[step]]\nname = "s{step}"\n{need}' for step, need in enumerate(needs))
+
+
+def halfway(sagas, steps):
+    """The text of a log of sagas of which the first half of the steps is done."""
+    deeds = []
+    for saga in range(sagas):
+        deeds.append(f'{{"def":0,"event":"open","saga":{saga}}}\n')
+        for step in range(steps // 2):
+            deeds += [f'{{"event":"{word}","saga":{saga},"step":{step}}}\n' for word in ["start_run", "commit"]]
+    return '{"format":2}\n' + "".join(deeds)
+
+
+def asked(program, file, log, question):
+    """The milliseconds of a question, a hundred of which are sent one at a time: the middle one."""
+    with subprocess.Popen([program, "drive", "--log", log, file], stdin=subprocess.PIPE, stdout=subprocess.PIPE) as child:
+        times = []
+        for _ in range(100):
+            begin = time.perf_counter()
+            exchanged(child, [question])
+            times.append(time.perf_counter() - begin)
+        child.stdin.close()
+    return 1000 * statistics.median(times)
+
+
+def questions(program, folder):
+    """Times the questions over 1,000 sagas; gives the milliseconds of `ready` over trips."""
+    ready = {}
+    for name, text, steps in [("trip", (ROOT / "examples" / "trip.toml").read_text(encoding="utf-8"), 0), ("chain", chain(1024), 1024)]:
+        file, log = runs.put(folder, f"{name}.toml", text), runs.put(folder, f"{name}.log", halfway(1000, steps))
+        took = {word: asked(program, file, log, b'{"do":"%s"}\n' % word.encode()) for word in ["ready", "list", "status"]}
+        ready[name] = took["ready"]
+        print(f"questions over 1,000 sagas, {name}: " + ", ".join(f"{word} {ms:.2f} ms" for word, ms in took.items()), flush=True)
+    return ready["trip"]
+
+
+def seconds_of(program, file, requests):
+    """The seconds of a processor that a run of these requests takes, without a log."""
+    before = resource.getrusage(resource.RUSAGE_CHILDREN)
+    subprocess.run([program, "drive", file], input=b"".join(requests), stdout=subprocess.DEVNULL, check=True)
+    after = resource.getrusage(resource.RUSAGE_CHILDREN)
+    return after.ru_utime + after.ru_stime - before.ru_utime - before.ru_stime
+
+
+def many(program, folder, turns):
+    """Times 10,000 tasks of 1,000 sagas, one and 64 by a request; gives the ratio of the seconds, without those of the start and the openings."""
+    file = runs.put(folder, "ten.toml", definition(10))
+    openings = [b'{"def":0,"do":"open"}\n'] * 1000
+    took = {}
+    for name, requests in [("none", []), ("one", [NEXT] * 10000), ("many", [b'{"do":"next","most":%d}\n' % TOGETHER] * (10000 // TOGETHER + 1))]:
+        took[name] = statistics.median(seconds_of(program, file, openings + requests) for _ in range(turns))
+    one, together = took["one"] - took["none"], took["many"] - took["none"]
+    print(f"10,000 tasks: {one:.3f} s of a processor one by one, {together:.3f} s by {TOGETHER}: {together / one:.2f}", flush=True)
+    return together / one
+
+
 def main():
     words = options()
     program = built(words)
@@ -229,7 +291,9 @@ def main():
             print(f"{part}: {events / took:,.0f} events a second, {took / peer:.2f} of SQLite's time with WAL", flush=True)
             good = good and (not part.startswith("drive with a log") or took <= peer)
         start = restart(program, folder, words.sagas)
-    sys.exit(0 if good and start <= 10 else 1)
+        ready = questions(program, folder)
+        ratio = many(program, folder, words.turns)
+    sys.exit(0 if good and start <= 10 and ready <= 1 and ratio <= 1 / 3 else 1)
 
 
 if __name__ == "__main__":

@@ -1,0 +1,383 @@
+#!/usr/bin/env python3
+"""Times the Python package beside the same written by hand, in one run.
+
+    PYTHONPATH=python/src python3 bench/python.py [--turns N] [--scale X] [--at 1,16,256,1000]
+    PYTHONPATH=python/src python3 bench/python.py --open N [--each M]
+    PYTHONPATH=python/src python3 bench/python.py --ended N
+
+Three steps in a row, each with a small result, on one SQLite file with durable defaults (WAL, synchronous=FULL). Three ways:
+
+- `sagas`: the package. It plans, compensates, tries again and gives tokens.
+- `by hand`: a state machine in a table, one transaction for each change of state: a saga's start, and each step's end, with which
+  the next step begins. Nothing is planned and nothing compensated.
+- `by hand, shared`: the same, and one commit takes all changes that wait.
+
+Each turn runs them all at each concurrency, so that a slower moment of the machine meets each. The table has the middle turn.
+CPU is that of the Python process, all its threads, a saga; that of the deciding child is not in it.
+
+`--open` starts so many sagas whose first step does not end, at most M of them in a log, kills the program with -9, and times the
+next one until the first function is called again, with the memory of all its processes. `--ended` runs so many sagas to their end, and
+tells how long a store that has them takes to open, and how much room each takes on the disk.
+"""
+
+from __future__ import annotations
+
+import argparse
+import asyncio
+import concurrent.futures
+import json
+import pathlib
+import shutil
+import sqlite3
+import statistics
+import subprocess
+import sys
+import tempfile
+import time
+from collections.abc import Awaitable, Callable
+from dataclasses import dataclass
+from typing import Any
+
+import sagas
+
+COUNTS = {1: 200, 16: 1_500, 256: 6_000, 1_000: 10_000}
+"""How many sagas are timed at a concurrency."""
+
+SCHEMA = """
+CREATE TABLE saga(id INTEGER PRIMARY KEY, key TEXT NOT NULL UNIQUE, input TEXT NOT NULL, step INTEGER NOT NULL, phase TEXT NOT NULL);
+CREATE TABLE result(saga INTEGER NOT NULL, step INTEGER NOT NULL, value TEXT, at REAL, PRIMARY KEY(saga, step)) WITHOUT ROWID;
+"""
+
+Step = Callable[[Any], Awaitable[Any]]
+One = Callable[[str, Any], Awaitable[None]]
+
+
+# -- by hand -----------------------------------------------------------------------------------------------------
+
+
+@dataclass(frozen=True)
+class Started:
+    """A saga is begun, and its first step with it."""
+
+    id: int
+    key: str
+    input: str
+
+    def write(self, db: sqlite3.Connection) -> None:
+        db.execute("INSERT INTO saga VALUES(?, ?, ?, 0, 'going')", (self.id, self.key, self.input))
+
+
+@dataclass(frozen=True)
+class Done:
+    """A step is done, and the next one begun."""
+
+    id: int
+    step: int
+    value: str
+    at: float
+    phase: str
+
+    def write(self, db: sqlite3.Connection) -> None:
+        db.execute("INSERT INTO result VALUES(?, ?, ?, ?)", (self.id, self.step, self.value, self.at))
+        db.execute("UPDATE saga SET step = ?, phase = ? WHERE id = ?", (self.step + 1, self.phase, self.id))
+
+
+Change = Started | Done
+
+
+class Table:
+    """The state machine's table: a thread that writes, one transaction for each change or for all that wait."""
+
+    def __init__(self, path: pathlib.Path, shared: bool) -> None:
+        self.shared = shared
+        self.db = sqlite3.connect(path, isolation_level=None, check_same_thread=False)
+        self.db.execute("PRAGMA journal_mode=WAL")
+        self.db.execute("PRAGMA synchronous=FULL")
+        self.db.executescript(SCHEMA)
+        self.thread = concurrent.futures.ThreadPoolExecutor(1)
+        self.loop = asyncio.get_running_loop()
+        self.queue: list[tuple[asyncio.Future[None], Change]] = []
+        self.draining: asyncio.Task[None] | None = None
+
+    def close(self) -> None:
+        self.thread.shutdown()
+        self.db.close()
+
+    def _commit(self, changes: list[Change]) -> None:
+        self.db.execute("BEGIN IMMEDIATE")
+        for change in changes:
+            change.write(self.db)
+        self.db.execute("COMMIT")
+
+    def write(self, change: Change) -> asyncio.Future[None]:
+        """Commits a change; done once it is durable."""
+        if not self.shared:
+            return self.loop.run_in_executor(self.thread, self._commit, [change])
+        future = self.loop.create_future()
+        self.queue.append((future, change))
+        if self.draining is None or self.draining.done():
+            self.draining = self.loop.create_task(self._drain())
+        return future
+
+    async def _drain(self) -> None:
+        while self.queue:
+            batch, self.queue = self.queue, []
+            await self.loop.run_in_executor(self.thread, self._commit, [change for _, change in batch])
+            for future, _ in batch:
+                future.set_result(None)
+
+
+class ByHand:
+    """Steps in a row, each kept before the next begins."""
+
+    def __init__(self, table: Table, steps: list[Step]) -> None:
+        self.table, self.steps, self.started = table, steps, 0
+
+    async def run(self, key: str, given: Any) -> None:
+        """One saga, from its start to its end."""
+        id, self.started = self.started, self.started + 1
+        await self.table.write(Started(id, key, json.dumps(given, sort_keys=True)))
+        for number, step in enumerate(self.steps):
+            value = await step(given)
+            phase = "ended" if number + 1 == len(self.steps) else "going"
+            await self.table.write(Done(id, number, json.dumps(value), time.time(), phase))
+
+
+async def small(given: Any) -> Any:
+    """A step that has nothing to do."""
+    return {"id": 17}
+
+
+# -- with the package ----------------------------------------------------------------------------------------------
+
+row = sagas.Saga("row")
+
+
+@row.step
+async def first(task: sagas.Task[Any]) -> dict[str, int]:
+    """The first of three."""
+    return {"id": 17}
+
+
+@row.step(needs=[first], undo=1, keep=2)
+async def second(task: sagas.Task[Any]) -> dict[str, int]:
+    """The one that could be undone."""
+    return {"id": 17}
+
+
+@second.compensation
+async def not_second(task: sagas.Task[Any]) -> None:
+    """Is never called here."""
+
+
+@row.step(needs=[second])
+async def third(task: sagas.Task[Any]) -> dict[str, int]:
+    """The last of three."""
+    return {"id": 17}
+
+
+# -- times ---------------------------------------------------------------------------------------------------------
+
+
+@dataclass(frozen=True)
+class Timing:
+    """What a run took."""
+
+    rate: float
+    """Sagas a second."""
+    middle: float
+    """Milliseconds from a saga's start to its end, the middle one."""
+    cpu: float
+    """Microseconds of this process's CPU, a saga."""
+
+
+async def timed(one: One, count: int, together: int) -> Timing:
+    """Runs so many sagas, so many of them at a time; a few before them to warm up."""
+    spent: list[float] = []
+
+    async def worker(keys: Any) -> None:
+        for key in keys:
+            began = time.perf_counter()
+            await one(f"key-{together}-{key}", {"n": 1})
+            spent.append(time.perf_counter() - began)
+
+    warm = iter([f"warm-{number}" for number in range(20)])
+    await asyncio.gather(*(worker(warm) for _ in range(4)))
+    spent.clear()
+    keys, cpu, began = iter(range(count)), time.process_time(), time.perf_counter()
+    await asyncio.gather(*(worker(keys) for _ in range(together)))
+    took, cpu = time.perf_counter() - began, time.process_time() - cpu
+    return Timing(count / took, statistics.median(spent) * 1e3, cpu / count * 1e6)
+
+
+async def with_package(folder: pathlib.Path, count: int, together: int) -> Timing:
+    """The package's turn."""
+    async with sagas.open(folder / "sagas.db", [row], concurrency=max(16, together)) as store:
+
+        async def one(key: str, given: Any) -> None:
+            run = await store.start(row, key=key, input=given)
+            await run.wait()
+
+        return await timed(one, count, together)
+
+
+async def by_hand(folder: pathlib.Path, count: int, together: int, shared: bool) -> Timing:
+    """The hand-written one's turn."""
+    table = Table(folder / "table.db", shared)
+    try:
+        return await timed(ByHand(table, [small] * 3).run, count, together)
+    finally:
+        table.close()
+
+
+def turn(way: str, count: int, together: int) -> Timing:
+    """One way, on a store of its own."""
+    folder = pathlib.Path(tempfile.mkdtemp(prefix="sagas-bench-"))
+    try:
+        if way == "sagas":
+            return asyncio.run(with_package(folder, count, together))
+        return asyncio.run(by_hand(folder, count, together, way.endswith("shared")))
+    finally:
+        shutil.rmtree(folder)
+
+
+# -- a store with many sagas -----------------------------------------------------------------------------------------
+
+MANY = """
+import asyncio, os, pathlib, signal, sys, time
+import sagas, sagas.kinds
+
+path, count, each, again = sys.argv[1], int(sys.argv[2]), int(sys.argv[3]), sys.argv[4] == "again"
+began = time.perf_counter()
+saga = sagas.Saga("open")
+
+@saga.step
+async def first(task):
+    if not called.is_set():
+        called.set()
+    await asyncio.sleep(3600)
+
+@saga.step(needs=[first])
+async def second(task): ...
+
+def memory(pid):
+    text = pathlib.Path(f"/proc/{pid}/smaps_rollup").read_text()
+    return next(int(line.split()[1]) for line in text.splitlines() if line.startswith("Pss:"))
+
+async def main():
+    sagas.kinds.MOST_LOG = each * sagas.kinds.most_bytes(saga.toml())
+    async with sagas.open(path, [saga]) as store:
+        if not again:
+            for place in range(0, count, 500):
+                await asyncio.gather(*(store.start(saga, key=f"k{n}") for n in range(place, min(place + 500, count))))
+            os.kill(os.getpid(), signal.SIGKILL)
+        opened = time.perf_counter() - began
+        await called.wait()
+        took = time.perf_counter() - began
+        await asyncio.sleep(1)  # until all logs have had their turn
+        tasks = f"/proc/{os.getpid()}/task/{os.getpid()}/children"
+        pids = [os.getpid(), *map(int, pathlib.Path(tasks).read_text().split())]
+        print(opened, took, len(pids) - 1, sum(map(memory, pids)) / 1024, flush=True)
+        os.kill(os.getpid(), signal.SIGKILL)
+
+called = asyncio.Event()
+asyncio.run(main())
+"""
+
+
+def open_again(count: int, each: int) -> None:
+    """How a program goes on with many open sagas, after kill -9."""
+    folder = pathlib.Path(tempfile.mkdtemp(prefix="sagas-bench-"))
+    try:
+        words = [sys.executable, "-c", MANY, str(folder / "sagas.db"), str(count), str(each)]
+        subprocess.run([*words, "fill"], check=False)
+        done = subprocess.run([*words, "again"], check=False, capture_output=True, text=True)
+        opened, called, children, memory = map(float, done.stdout.split())
+        logs = -(-count // each)
+        print(f"{count:,} open sagas in {logs} logs: open after {opened:.2f} s, the first step called again after {called:.2f} s,")
+        print(f"  {children:.0f} children, {memory:.0f} MB in all")
+    finally:
+        shutil.rmtree(folder)
+
+
+async def fill(path: pathlib.Path, count: int) -> None:
+    """Runs so many sagas to their end."""
+    async with sagas.open(path, [row], concurrency=256) as store:
+        for place in range(0, count, 1_000):
+
+            async def one(number: int) -> None:
+                run = await store.start(row, key=f"key-{number}", input={"n": number})
+                await run.wait()
+
+            await asyncio.gather(*(one(number) for number in range(place, min(place + 1_000, count))))
+
+
+async def opening(path: pathlib.Path) -> float:
+    """How long a store takes to open."""
+    began = time.perf_counter()
+    async with sagas.open(path, [row]):
+        return time.perf_counter() - began
+
+
+def ended(count: int) -> None:
+    """What ended sagas cost."""
+    folder = pathlib.Path(tempfile.mkdtemp(prefix="sagas-bench-"))
+    try:
+        path = folder / "sagas.db"
+        asyncio.run(fill(path, count))
+        took = statistics.median(asyncio.run(opening(path)) for _ in range(5))
+        size = sum(file.stat().st_size for file in folder.iterdir())
+        print(f"{count:,} ended sagas: open in {took * 1e3:.0f} ms, {size / count:,.0f} bytes each")
+    finally:
+        shutil.rmtree(folder)
+
+
+WAYS = ("sagas", "by hand", "by hand, shared")
+
+
+def middle(timings: list[Timing]) -> Timing:
+    """The turn with the middle rate."""
+    return sorted(timings, key=lambda timing: timing.rate)[len(timings) // 2]
+
+
+def main() -> int:
+    """The command."""
+    parser = argparse.ArgumentParser(description=__doc__, formatter_class=argparse.RawDescriptionHelpFormatter)
+    parser.add_argument("--turns", type=int, default=3)
+    parser.add_argument("--scale", type=float, default=1.0, help="more or fewer sagas than the usual")
+    parser.add_argument("--open", type=int, metavar="N", help="go on with so many open sagas, after kill -9")
+    parser.add_argument("--each", type=int, default=1_000, metavar="M", help="at most so many of them in a log")
+    parser.add_argument("--ended", type=int, metavar="N", help="open a store with so many ended sagas")
+    parser.add_argument("--at", default=",".join(map(str, COUNTS)), help="the concurrencies")
+    words = parser.parse_args()
+    if words.open:
+        open_again(words.open, words.each)
+    if words.ended:
+        ended(words.ended)
+    if words.open or words.ended:
+        return 0
+    compare(words)
+    return 0
+
+
+def compare(words: argparse.Namespace) -> None:
+    """The three ways, side by side."""
+    sizes = [int(size) for size in words.at.split(",")]
+    timings: dict[tuple[int, str], list[Timing]] = {(size, way): [] for size in sizes for way in WAYS}
+    for _ in range(words.turns):
+        for size in sizes:
+            for way in WAYS:
+                count = max(20, int(COUNTS.get(size, 6 * size) * words.scale))
+                timings[size, way].append(turn(way, min(count, 1_500) if way == "by hand" else count, size))
+    print(f"{'':>11}  {'':16} {'sagas/s':>8} {'(least, most)':>17} {'latency ms':>11} {'CPU us':>7}")
+    for (size, way), ones in timings.items():
+        one, rates = middle(ones), [timing.rate for timing in ones]
+        spread = f"({min(rates):,.0f}, {max(rates):,.0f})"
+        print(f"{size:>5} at once  {way:16} {one.rate:>8,.0f} {spread:>17} {one.middle:>11.1f} {one.cpu:>7,.0f}")
+        if way == WAYS[-1]:
+            rate = {name: middle(timings[size, name]).rate for name in WAYS}
+            print(f"{'':>11}  sagas is {rate['sagas'] / rate['by hand']:.2f} of by hand, {rate['sagas'] / rate[way]:.2f} of shared")
+
+
+if __name__ == "__main__":
+    sys.exit(main())
