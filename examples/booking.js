@@ -15,15 +15,11 @@ const TOP = path.dirname(__dirname);
 const PROGRAM = process.env.SAGAS || path.join(TOP, "sagas");
 const [TRIPS, SEATS] = [2, 1];
 
-// The service's own records: what was booked and cancelled, in order. To do a step twice changes nothing.
+// The service's own records: what was booked and cancelled, in order. To do a step twice, at whatever attempt, changes nothing.
 class Bookings {
   constructor(file) {
     this.file = file;
     this.entries = fs.existsSync(file) ? JSON.parse(fs.readFileSync(file)) : [];
-  }
-
-  has(what, trip, name) {
-    return this.entries.some((entry) => entry[0] === what && entry[1] === trip && entry[2] === name);
   }
 
   run(trip, name) { // whether the step is booked
@@ -31,13 +27,11 @@ class Bookings {
     return (name !== "tour" || others.length < SEATS) && this.note("booked", trip, name);
   }
 
-  undo(trip, name) { // whether it is cancelled
-    return this.note("cancelled", trip, name);
-  }
+  undo(trip, name) { return this.note("cancelled", trip, name); } // whether it is cancelled
 
-  note(what, trip, name) {
-    if (!this.has(what, trip, name)) { // else it was done before a restart
-      this.entries.push([what, trip, name]);
+  note(...entry) {
+    if (!this.entries.some((known) => `${known}` === `${entry}`)) { // else it was done before
+      this.entries.push(entry);
       fs.writeFileSync(`${this.file}.new`, JSON.stringify(this.entries));
       fs.renameSync(`${this.file}.new`, this.file); // all of it or nothing; in a true service, a transaction
     }
@@ -58,12 +52,17 @@ function started(log, ...definitions) {
   return { ask, end: () => child.stdin.end() };
 }
 
+// Whether a task was done. What is not answered in time may be done: it is asked again, and nothing is reported before there is an answer.
+function isDone(task, saga, name, bookings) {
+  for (;;) try { return bookings[task](saga, name); } catch (error) { if (error.code !== "ETIMEDOUT") throw error; }
+}
+
 // Does a task and reports how it went. A plan is adopted already, and asks for nothing.
-async function perform({ task, saga, step, name }, ask, bookings) {
+async function perform({ attempt, task, saga, step, name }, ask, bookings) {
   if (task === "plan") return;
-  const done = bookings[task](saga, name);
+  const done = isDone(task, saga, name, bookings);
   console.log(`trip ${saga}: ${task} ${name}: ${done ? "done" : "failed"}`);
-  await ask({ do: "report", saga, step, outcome: done ? "ok" : "fail" });
+  await ask({ do: "report", attempt, task, saga, step, outcome: done ? "ok" : "fail" });
 }
 
 async function main(folder) {
@@ -71,9 +70,7 @@ async function main(folder) {
   const { ask, end } = started(path.join(folder, "trips.log"), path.join(TOP, "examples", "booking.toml"));
   // Tasks that were begun before a restart: whether they were done, the records say.
   for (const task of (await ask({ do: "busy" })).busy) await perform(task, ask, bookings);
-  for (let saga = 0; saga < TRIPS; saga++) {
-    if ((await ask({ do: "show", saga })).refused) await ask({ do: "open", def: 0 }); // it was not opened yet
-  }
+  for (let saga = 0; saga < TRIPS; saga++) await ask({ do: "open", name: "trip", saga }); // refused where it was opened before
   for (let task; (task = await ask({ do: "next" })).task !== "none"; ) await perform(task, ask, bookings);
   for (let saga = 0; saga < TRIPS; saga++) {
     const { phase, states } = await ask({ do: "show", saga });
@@ -82,4 +79,5 @@ async function main(folder) {
   end();
 }
 
-main(process.argv[2]);
+if (require.main === module) main(process.argv[2]);
+module.exports = { Bookings, main };

@@ -1,12 +1,11 @@
 #!/usr/bin/env python3
 """A booking service that lets `sagas drive` decide: what is done next, and how a trip ends that failed.
 
-    python3 examples/booking.py FOLDER
-
-drives two trips. The tour has one seat, so the second trip fails there: its plan keeps the flight and cancels the hotel. FOLDER
-keeps trips.log, which `sagas drive` writes, and bookings.json, the service's own records. The service may be killed at any
-moment: started again, it goes on, and books nothing twice.
+`booking.py FOLDER` drives two trips. The tour has one seat, so the second trip fails there: its plan keeps the flight and cancels the
+hotel. FOLDER keeps trips.log, which `sagas drive` writes, and bookings.json, the service's own records. Killed at any moment and started
+again, it goes on, and books nothing twice.
 """
+import contextlib
 import json
 import os
 import pathlib
@@ -19,7 +18,7 @@ TRIPS, SEATS = 2, 1
 
 
 class Bookings:
-    """The service's own records: what was booked and cancelled, in order. To do a step twice changes nothing."""
+    """The service's own records: what was booked and cancelled, in order. To do a step twice, at whatever attempt, changes nothing."""
 
     def __init__(self, path):
         self.path = path
@@ -32,12 +31,16 @@ class Bookings:
     def undo(self, trip, name):  # whether it is cancelled
         return self.note("cancelled", trip, name)
 
+    def do(self, task):  # whether it is done; what is not answered in time may be, so it is asked again, and nothing is reported before
+        while True:
+            with contextlib.suppress(TimeoutError):
+                return getattr(self, task["task"])(task["saga"], task["name"])
+
     def note(self, *entry):
-        if list(entry) not in self.entries:  # else it was done before a restart
+        if list(entry) not in self.entries:  # else it was done before
             self.entries.append(list(entry))
-            new = self.path.with_suffix(".new")
-            new.write_text(json.dumps(self.entries))
-            new.replace(self.path)  # all of it or nothing; in a true service, a transaction
+            self.path.with_suffix(".new").write_text(json.dumps(self.entries))
+            self.path.with_suffix(".new").replace(self.path)  # all of it or nothing; in a true service, a transaction
         return True
 
 
@@ -45,8 +48,7 @@ class Drive:
     """`sagas drive` as a child process: a line is written to it, and a line comes back."""
 
     def __init__(self, log, *definitions):
-        pipes = {"stdin": subprocess.PIPE, "stdout": subprocess.PIPE}
-        self.child = subprocess.Popen([PROGRAM, "drive", "--log", log, *definitions], **pipes, text=True)
+        self.child = subprocess.Popen([PROGRAM, "drive", "--log", log, *definitions], stdin=subprocess.PIPE, stdout=subprocess.PIPE, text=True)
 
     def ask(self, request):
         print(json.dumps(request), file=self.child.stdin, flush=True)
@@ -56,9 +58,9 @@ class Drive:
 def perform(task, drive, bookings):
     """Does a task and reports how it went. A plan is adopted already, and asks for nothing."""
     if task["task"] != "plan":
-        done = getattr(bookings, task["task"])(task["saga"], task["name"])
+        done = bookings.do(task)
         print(f"trip {task['saga']}: {task['task']} {task['name']}: {'done' if done else 'failed'}", flush=True)
-        drive.ask({"do": "report", "saga": task["saga"], "step": task["step"], "outcome": "ok" if done else "fail"})
+        drive.ask({"do": "report", "outcome": "ok" if done else "fail"} | {key: task[key] for key in ("attempt", "saga", "step", "task")})
 
 
 def main(folder):
@@ -67,8 +69,7 @@ def main(folder):
     for task in drive.ask({"do": "busy"})["busy"]:  # begun before a restart: whether they were done, the records say
         perform(task, drive, bookings)
     for trip in range(TRIPS):
-        if "refused" in drive.ask({"do": "show", "saga": trip}):  # it was not opened yet
-            drive.ask({"do": "open", "def": 0})
+        drive.ask({"do": "open", "name": "trip", "saga": trip})  # refused where it was opened before a restart
     while (task := drive.ask({"do": "next"}))["task"] != "none":
         perform(task, drive, bookings)
     for trip in range(TRIPS):

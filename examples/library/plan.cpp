@@ -1,0 +1,41 @@
+// The same in C++: a call that makes room as it is needed.
+//   c++ -std=c++17 -I dist examples/library/plan.cpp dist/libsagas.a -o plan && ./plan examples/trip.toml examples/trip.case.json
+#include <cstdlib>
+#include <fstream>
+#include <iostream>
+#include <iterator>
+#include <string>
+#include <utility>
+
+#include "sagas.h"
+
+static const uint8_t *bytes(const std::string &text) { return reinterpret_cast<const uint8_t *>(text.data()); }
+
+static std::pair<uint32_t, std::string> plan(const std::string &definition, const std::string &saga_case) {
+    std::string room(4096, '\0');
+    for (;;) {
+        size_t used = 0;
+        uint32_t status = sagas_plan(bytes(definition), definition.size(), bytes(saga_case), saga_case.size(), reinterpret_cast<uint8_t *>(&room[0]), room.size(), &used);
+        room.resize(used);
+        if (status != SAGAS_NO_ROOM) return {status, room};
+    }
+}
+
+static std::string read_file(const char *path) {
+    std::ifstream file(path, std::ios::binary);
+    if (!file) {
+        std::cerr << path << ": it cannot be read\n";
+        std::exit(4);
+    }
+    return {std::istreambuf_iterator<char>(file), {}};
+}
+
+int main(int count, char **given) {
+    if (count != 3) {
+        std::cerr << "usage: plan DEFINITION CASE\n";
+        return 2;
+    }
+    auto [status, text] = plan(read_file(given[1]), read_file(given[2]));
+    (status == SAGAS_BAD ? std::cerr : std::cout) << text;
+    return static_cast<int>(status);
+}

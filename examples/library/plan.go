@@ -1,0 +1,63 @@
+// The same in Go, by cgo: cd examples/library && go run plan.go ../trip.toml ../trip.case.json
+package main
+
+/*
+#cgo CFLAGS: -I${SRCDIR}/../../dist
+#cgo LDFLAGS: ${SRCDIR}/../../dist/libsagas.a
+#include "sagas.h"
+*/
+import "C"
+
+import (
+	"errors"
+	"fmt"
+	"os"
+	"strings"
+	"unsafe"
+)
+
+func start(text []byte) *C.uint8_t {
+	if len(text) == 0 {
+		return nil
+	}
+	return (*C.uint8_t)(unsafe.Pointer(&text[0]))
+}
+
+// Plan gives the certificate, and whether it is a plan; else it is a chain, and nothing is allowed.
+func Plan(definition, sagaCase []byte) (text string, yes bool, err error) {
+	room := make([]byte, 4096)
+	for {
+		var used C.size_t
+		status := C.sagas_plan(start(definition), C.size_t(len(definition)), start(sagaCase), C.size_t(len(sagaCase)), start(room), C.size_t(len(room)), &used)
+		switch status {
+		case C.SAGAS_YES, C.SAGAS_NO:
+			return string(room[:used]), status == C.SAGAS_YES, nil
+		case C.SAGAS_NO_ROOM:
+			room = make([]byte, used)
+		case C.SAGAS_BAD:
+			return "", false, errors.New(string(room[:used]))
+		default:
+			return "", false, errors.New("sagas: no memory")
+		}
+	}
+}
+
+func main() {
+	definition, err := os.ReadFile(os.Args[1])
+	if err == nil {
+		var sagaCase []byte
+		if sagaCase, err = os.ReadFile(os.Args[2]); err == nil {
+			var text string
+			var yes bool
+			if text, yes, err = Plan(definition, sagaCase); err == nil {
+				fmt.Print(text)
+				if !yes {
+					os.Exit(1)
+				}
+				return
+			}
+		}
+	}
+	fmt.Fprintln(os.Stderr, strings.TrimSpace(err.Error()))
+	os.Exit(3)
+}

@@ -1,0 +1,32 @@
+#!/usr/bin/env bash
+# A worker in shell, with curl and python3 (for its JSON): the tour.
+#
+#     examples/service/worker.sh http://127.0.0.1:8080 [TOKEN]
+set -uo pipefail
+url=${1:?usage: examples/service/worker.sh URL [TOKEN]}
+token=${2:-}
+
+post() { # PATH BODY: until it is answered, since the service may be about to start again; status 1 where it is refused
+  local answer
+  until answer=$(curl --silent --retry 10 --retry-connrefused --retry-delay 1 --fail-with-body ${token:+-H "Authorization: Bearer $token"} \
+    -H 'Content-Type: application/json' -d "$2" "$url$1"); do
+    [ $? != 22 ] || { echo "$answer" >&2; return 1; }
+    echo "$url does not answer: asking again and again" >&2
+    sleep 1
+  done
+  echo "$answer"
+}
+first() { # the first task's token, lease and input
+  python3 -c 'import json, sys; task = (json.load(sys.stdin)["tasks"] or [{}])[0]; print(task.get("token", "none"), task.get("lease", 0), json.dumps(task.get("input")))'
+}
+
+while true; do
+  took=$(post /tasks/take '{"steps":["trip/tour"],"worker":"shell","wait":20,"lease":30}') || exit 1
+  read -r task lease input < <(first <<<"$took")
+  case $task:$input in # what is done here, with $task as its key
+    none:*) continue ;;
+    *'"sold-out"'*) post "/tasks/$task/failed" "{\"lease\":$lease,\"error\":\"the tour is sold out\"}" ;;
+    *'"hazy"'*) post "/tasks/$task/unknown" "{\"lease\":$lease,\"error\":\"the line went dead\"}" ;;
+    *) post "/tasks/$task/done" "{\"lease\":$lease,\"result\":\"booked\"}" ;;
+  esac >/dev/null
+done
