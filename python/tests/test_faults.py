@@ -67,6 +67,29 @@ def test_is_killed_with_the_program(tmp_path: pathlib.Path, place: str) -> None:
     assert sorted(then.splitlines()) == sorted([b, "started", "{'a': 1, 'b': 2}"])
 
 
+def test_serves_without_async_until_it_is_told_to_end(tmp_path: pathlib.Path) -> None:
+    """Then the store is closed, and what ran has ended before."""
+    program = f"""
+        import os, sagas, signal, time
+        saga = sagas.Saga("served")
+        @saga.step
+        def a(task):
+            while signal.getsignal(signal.SIGTERM) is signal.SIG_DFL:
+                time.sleep(0.01)
+            os.kill(os.getpid(), signal.SIGTERM)
+            time.sleep(0.2)
+            print("a has ended")
+        with sagas.open_sync({str(tmp_path / "store.db")!r}, [saga]) as store:
+            store.start(saga, "k")
+            store.serve()
+            print("serves no more")
+        print("is closed", signal.getsignal(signal.SIGTERM) is signal.SIG_DFL)
+    """
+    process = script(tmp_path / "serves.py", program)
+    told, _ = process.communicate(timeout=60)
+    assert told.splitlines() == ["serves no more", "a has ended", "is closed True"] and process.returncode == 0
+
+
 # -- two programs, forks, the child --------------------------------------------------------------------------------
 
 

@@ -251,7 +251,60 @@ def test_what_no_worker_takes(browser: Browser) -> None:
     browser.is_quiet()
 
 
-PATHS = ("/ui", "/ui/sagas", "/ui/sagas/failed-1", "/ui/sagas/stuck-2", "/ui/sagas/work-1", "/ui/workers", "/ui/sagas/work-1/abort", "/ui/sagas/nobody")
+def test_a_saga_is_started_by_hand(browser: Browser) -> None:
+    """By a form that says what is wrong with it, and keeps what was said in it."""
+    browser.go("/ui/sagas?definition=order")
+    browser.click("a.button", "Start one")
+    browser.has("Start a saga")
+    browser.type("[name=key]", "by-hand-1")
+    browser.type("[name=input]", "{to: Oslo}")
+    browser.click("button.primary")
+    browser.has("The input is no JSON")
+    assert browser.driver.find_element(By.CSS_SELECTOR, "[name=key]").get_attribute("value") == "by-hand-1"
+    browser.type("[name=input]", '{"to": "Oslo"}')
+    browser.click("button.primary")
+    browser.wait(lambda: browser.driver.current_url.endswith("/ui/sagas/by-hand-1"))
+    browser.has("Approve")
+    with browser.service.client() as client:
+        told = client.get("/sagas/by-hand-1").json()
+        assert (told["definition"], told["input"]) == ("order", {"to": "Oslo"})
+    browser.go("/ui/start?definition=trip")
+    browser.type("[name=key]", "by-hand-1")
+    browser.click("button.primary")
+    browser.has("by-hand-1")
+    browser.wait(lambda: browser.driver.find_elements(By.CSS_SELECTOR, ".fault"))
+    browser.driver.get_log("browser")  # it shows each answer that is no 200
+
+
+def test_the_first_page_shows_what_is_new_by_itself(browser: Browser) -> None:
+    """An approval that is asked for while somebody looks is there, and in the figures, without a click."""
+    browser.go("/ui")
+    with browser.service.client() as client:
+        for number in range(3):
+            start(client, "order", f"late-{number}")
+            browser.wait(lambda: browser.driver.find_elements(By.CSS_SELECTOR, f"[aria-label='Look at late-{number}']"))
+            asked = len(client.get("/sagas?phase=open&definition=order").json()["sagas"])
+            browser.wait(lambda: f"{asked} to approve" in browser.text)
+        for number in range(3):
+            assert client.post(f"/sagas/late-{number}/steps/review", json={"result": 1}).status_code == 200
+        browser.wait(lambda: not browser.driver.find_elements(By.CSS_SELECTOR, "[aria-label^='Look at late-']"))
+    browser.is_quiet()
+
+
+def test_those_that_ended_by_plan(browser: Browser) -> None:
+    """They have a list of their own."""
+    browser.go("/ui/sagas")
+    browser.click(".tabs a", "Ended by plan")
+    browser.has("failed-1")
+    found = {row.text for row in browser.driver.find_elements(By.CSS_SELECTOR, "tbody td .badge")}
+    assert found == {"Ended by plan"}
+    with browser.service.client() as client:
+        listed = client.get("/sagas?phase=planned").json()["sagas"]
+        assert "failed-1" in [one["key"] for one in listed] and all(one["planned"] and one["phase"] == "ended" for one in listed)
+    browser.is_quiet()
+
+
+PATHS = ("/ui", "/ui/sagas", "/ui/start", "/ui/sagas/failed-1", "/ui/sagas/stuck-2", "/ui/sagas/work-1", "/ui/workers", "/ui/sagas/work-1/abort", "/ui/sagas/nobody")
 
 
 @pytest.mark.parametrize("width, dark", [(1280, False), (1280, True), (360, False), (360, True)])
@@ -337,6 +390,6 @@ def test_a_hundred_thousand_sagas(tmp_path: pathlib.Path, shots: pathlib.Path) -
             browser.driver.quit()
         with service.client() as client:
             began = time.monotonic()
-            for path in ("/ui/sagas", "/ui/sagas?phase=ended&definition=licence", "/ui/sagas?search=99999", "/ui/sagas?before=1050000"):
+            for path in ("/ui/sagas", "/ui/sagas?phase=ended&definition=licence", "/ui/sagas?phase=planned", "/ui/sagas?search=99999", "/ui/sagas?before=1050000"):
                 assert client.get(path).status_code == 200
             assert time.monotonic() - began < LONG

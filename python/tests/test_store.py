@@ -713,6 +713,8 @@ def test_questions(place: str) -> None:
             assert end.phase == "stuck" and end.chain == ["must"]
             assert store.get("none") is None and store.get("b") is not None
             assert [one.key for one in store.list(phase="ended", saga=good)] == [f"g{number}" for number in range(5)]
+            assert [(one.key, one.phase, one.planned) for one in store.list(phase="planned")] == [("g1", "ended", True)]
+            assert [one.planned for one in store.list()] == [False, True, False, False, False, False]
             page = store.list(most=2)
             assert [one.key for one in store.list(most=2, after=page[-1].id)] == ["g2", "g3"]
             assert [one.key for one in store.stuck()] == ["b"]

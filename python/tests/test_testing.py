@@ -77,7 +77,7 @@ def test_all_goes_well() -> None:
     trial = run(trip(), "LH400")
     assert trial.phase == "ended" and set(trial.states.values()) == {"committed"}
     assert trial.results == {"flight": "flight LH400", "car": "car for flight LH400", "hotel": 1, "tour": "tour"}
-    assert (trial.cost, trial.chain, trial.aborted, trial.seconds) == (0, None, False, 0.0)
+    assert (trial.cost, trial.chain, trial.aborted, trial.seconds) == (None, None, False, 0.0)
     assert len(trial.calls) == 4 and not trial.undone
 
 

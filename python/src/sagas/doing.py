@@ -27,6 +27,7 @@ if TYPE_CHECKING:
 logger = logging.getLogger("sagas")
 LOOK = 30.0  # seconds: a clock may jump, so nobody sleeps longer without a look at it
 ASKED = ("approval", "elsewhere", "unknown", "wait")
+WAITS = ("approval", "unknown", "wait")
 """Why an attempt is held of which somebody may say how it ended."""
 COUNTED = ("backoff", "unknown")
 """Why an attempt is held for some seconds, which are counted here: to put the clock back does not make them more."""
@@ -180,6 +181,11 @@ class Doing:
         if pending and pending[2] and attempt.state == "held":
             pending[2]()
         attempt.changed()
+        if attempt.state == "held" and attempt.why in WAITS:
+            live = attempt.live
+            self.owner.teller.tell(
+                "step_waits", key=live.key, saga=live.kind.name, step=attempt.name, undo=attempt.kind == "undo", attempt=attempt.attempt, detail=attempt.why,
+            )  # fmt: skip
 
     # -- call
 

@@ -17,10 +17,11 @@ HERE = os.path.dirname(os.path.abspath(__file__)) + os.sep
 class Event:
     """Something that happened, told after it was committed.
 
-    `name` is one of `saga_started`, `step_begun`, `step_done`, `step_missed`, `step_failed`, `step_unknown`, `step_late`, `saga_planned`,
+    `name` is one of `saga_started`, `step_begun`, `step_done`, `step_missed`, `step_failed`, `step_unknown`, `step_waits`, `step_late`, `saga_planned`,
     `saga_aborted`, `saga_ended`, `saga_stuck`, `log_closed`, `logs_gone`, `audit_failed`, `child_died`, `commit_failed`, and over PostgreSQL `log_taken`,
     `log_lost`, `lease_lapsed`. `undo` says of a step that it is its compensation; `at` is wall time in seconds; `seconds` is how long the function took, None
-    where it was not called here; `detail` says what was raised, or what was planned."""
+    where it was not called here; `detail` says what was raised, what was planned, or of `step_waits` for what: `approval`, `wait` (for its time) or `unknown`
+    (for its back-off, or a person)."""
 
     name: str
     at: float

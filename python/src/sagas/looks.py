@@ -15,22 +15,15 @@ from typing import Any
 from .database import Reader
 from .histories import AFTER, STANDS
 from .plans import Plan
+from .questions import PHASES as WHERE
 from .questions import SAGA
 from .records import SagaRow
 from .runs import LogEvent, Summary
-from .schema import ROOM
+from .schema import PLANNED, ROOM
 
 Json = dict[str, Any]
 PHASES = ("open", "ended", "stuck", "resolved")
-WHERE = {
-    "open": "phase IS NULL",
-    "ended": "phase = 'ended'",
-    "stuck": "phase = 'stuck' AND note IS NULL",
-    "resolved": "phase = 'stuck' AND note IS NOT NULL",
-}
 SHORT = "id, key, saga, phase, at, ended, note"
-PLANNED = """CASE WHEN phase = 'ended' AND "end" LIKE ? THEN 1 ELSE 0 END"""
-PLAN = '%"kind":"plan"%'
 STUCK = WHERE["stuck"]
 PERSON = "(why = 'approval' OR (why = 'unknown' AND until IS NULL))"
 
@@ -158,12 +151,17 @@ class Looks:
 
     def asked(self) -> dict[str, int]:
         """How many things wait for a person: stuck sagas, outcomes that nobody knows, approvals."""
-        stuck = self._rows(f"SELECT count(*) FROM sagas WHERE {WHERE['stuck']}")[0][0]
+        stuck = self._rows(f"SELECT count(*) FROM sagas WHERE {STUCK}")[0][0]
         held: dict[str, int] = dict(self._rows(f"SELECT why, count(*) FROM held WHERE {PERSON} GROUP BY why"))  # type: ignore[arg-type]
         return {"stuck": stuck, "unknown": held.get("unknown", 0), "approval": held.get("approval", 0)}
 
+    def planned(self) -> int:
+        """How many have ended by a plan: they are among those that `counts` has as ended."""
+        return int(self._rows(f"SELECT count(*) FROM sagas WHERE {PLANNED}")[0][0])
+
     def page(self, *, phase: str | None = None, saga: str | None = None, search: str | None = None, before: int | None = None, after: int | None = None, most: int = 50) -> list[Summary]:
-        """A page of the list, newest first: those `before` an id; or oldest first, those `after` one. `search`: what the key contains."""
+        """A page of the list, newest first: those `before` an id; or oldest first, those `after` one. `search`: what the key contains;
+        `phase`: also `planned`, those of `ended` that ended by a plan."""
         wheres, words = ["1 = 1"], []
         if phase is not None:
             wheres.append(WHERE[phase])
@@ -178,7 +176,7 @@ class Looks:
                 wheres.append(condition)
                 words.append(id)  # type: ignore[arg-type]
         order = "DESC" if after is None else "ASC"
-        rows = self._rows(f"SELECT {SHORT}, {PLANNED} FROM sagas WHERE {' AND '.join(wheres)} ORDER BY id {order} LIMIT ?", PLAN, *words, most)
+        rows = self._rows(f"SELECT {SHORT}, CASE WHEN {PLANNED} THEN 1 ELSE 0 END FROM sagas WHERE {' AND '.join(wheres)} ORDER BY id {order} LIMIT ?", *words, most)
         return [Summary(id, key, name, phase_of(phase, note), at, ended, note, bool(planned)) for id, key, name, phase, at, ended, note, planned in rows]
 
     def waits(self, most: int = 100, *, person: bool = True, why: str | None = None) -> list[Waits]:

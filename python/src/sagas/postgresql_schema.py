@@ -7,6 +7,7 @@ from psycopg import errors, sql
 
 from .errors import StoreFault, StoreNewer
 from .links import RIGHTS
+from .schema import PLANNED
 
 LOCK = 5_777_001
 """The advisory lock under which tables are made and migrated."""
@@ -97,7 +98,12 @@ CREATE UNLOGGED TABLE sagas.calls(
   id text PRIMARY KEY, node text NOT NULL, what text NOT NULL, told text NOT NULL, at timestamptz NOT NULL DEFAULT now(), answer text);
 """
 
-MIGRATIONS = [FIRST, CLIENTS, REPORTS, PLACES, BETWEEN]
+ENDED = f"""
+-- the list of those that ended by a plan
+CREATE INDEX sagas_planned ON sagas.sagas(id) WHERE {PLANNED};
+"""
+
+MIGRATIONS = [FIRST, CLIENTS, REPORTS, PLACES, BETWEEN, ENDED]
 VERSION = len(MIGRATIONS)
 
 

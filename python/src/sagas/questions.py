@@ -7,7 +7,7 @@ from typing import Any
 
 from .errors import NoSuchSaga
 from .records import HeldRow, Loaded, LogRow, Result, SagaRow
-from .schema import ROOM
+from .schema import PLANNED, ROOM
 
 SAGA = 'id, key, saga, def, input, at, phase, "end", ended, note'
 RESULT = "r.id, r.step, r.kind, r.attempt, r.outcome, r.value, r.at"
@@ -23,6 +23,11 @@ OPEN_HELD = f"SELECT {HELD} FROM sagas s JOIN held h USING (id) WHERE {OPEN}"
 PLACES = f"SELECT DISTINCT def FROM sagas s WHERE {OPEN}"
 COUNT = "SELECT count(*) FROM sagas s WHERE s.id >= ? AND s.id < ?"
 FIND = f"SELECT {SAGA} FROM sagas WHERE key = ?"
+PHASES = {
+    "open": "phase IS NULL", "ended": "phase = 'ended'", "planned": PLANNED,
+    "stuck": "phase = 'stuck' AND note IS NULL", "resolved": "phase = 'stuck' AND note IS NOT NULL",
+}  # fmt: skip
+"""What a list may be asked for. `planned`: those of `ended` that ended by a plan, since a step had failed or they were aborted."""
 REQUESTS = "SELECT id, key, what, value FROM requests WHERE answer IS NULL ORDER BY id"
 
 

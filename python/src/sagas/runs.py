@@ -62,7 +62,7 @@ class End:
 class Summary:
     """A saga in a list. `phase`: `open`, `ended`, `stuck` or `resolved`; `id`: its place, to go on behind; times in seconds.
 
-    `planned`, where a list tells it: whether it has ended by a plan, since a step had failed or it was aborted."""
+    `planned`: whether it has ended by a plan, since a step had failed or it was aborted."""
 
     id: int
     key: str

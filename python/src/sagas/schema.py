@@ -5,6 +5,9 @@ from __future__ import annotations
 ROOM = 1000
 """A saga's id is its log's number times `ROOM`, and its number in that log."""
 
+PLANNED = """phase = 'ended' AND "end" <> replace("end", '"kind":"plan"', '')"""
+"""The sagas that have ended by a plan, since a step had failed or they were aborted: in words that both databases know, for queries and for their index."""
+
 FIRST = """
 -- the definitions of a log: a JSON list of TOML texts, sorted by name; `shelf` is their digest
 CREATE TABLE IF NOT EXISTS shelves(
@@ -67,13 +70,18 @@ CREATE TABLE places(
 CREATE INDEX requests_key ON requests(key);
 """
 
+ENDED = f"""
+-- the list of those that ended by a plan
+CREATE INDEX sagas_planned ON sagas(id) WHERE {PLANNED};
+"""
+
 
 def statements(text: str) -> list[str]:
     """The statements of a text; each ends with a semicolon and its line."""
     return [part for part in text.split(";\n") if part.strip()]
 
 
-MIGRATIONS = [statements(text) for text in (FIRST, TOKENS, REPORTS, PLACES)]
+MIGRATIONS = [statements(text) for text in (FIRST, TOKENS, REPORTS, PLACES, ENDED)]
 """What makes each version of the one before."""
 
 VERSION = len(MIGRATIONS)

@@ -373,7 +373,8 @@ class Store:
         return Run(self, key) if (live and live.committed) or inside.store.find_now(key) else None
 
     def list(self, *, phase: str | None = None, saga: Saga | str | None = None, after: int | None = None, most: int = 100) -> builtins.list[Summary]:
-        """Sagas in the order of their logs, `most` at once; `after` is the `id` of the last of the page before. `phase`: open, ended, stuck or resolved."""
+        """Sagas in the order of their logs, `most` at once; `after` is the `id` of the last of the page before. `phase`: open, ended, stuck or
+        resolved; or planned: those of ended that ended by a plan."""
         return histories.listed(self._inside, phase, saga.name if isinstance(saga, Saga) else saga, after, most)
 
     def stuck(self) -> builtins.list[End]:

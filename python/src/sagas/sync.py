@@ -4,6 +4,8 @@ from __future__ import annotations
 
 import builtins
 import datetime
+import signal
+import threading
 from collections.abc import Callable, Coroutine
 from types import TracebackType
 from typing import Any, TypeVar
@@ -110,6 +112,18 @@ class SyncStore:
     def get(self, key: str) -> SyncRun | None:
         """As `Store.get`."""
         return SyncRun(self, key) if self._ask(lambda: self._store.get(key)) else None
+
+    def serve(self) -> None:
+        """As `Store.serve`, in the program's main thread: waits for SIGTERM or SIGINT. Raises `RuntimeError` in another thread."""
+        if threading.current_thread() is not threading.main_thread():
+            raise RuntimeError("signals come to the main thread: call serve() there")
+        told = threading.Event()
+        before = {number: signal.signal(number, lambda *_: told.set()) for number in (signal.SIGTERM, signal.SIGINT)}
+        try:
+            told.wait()
+        finally:
+            for number, handler in before.items():
+                signal.signal(number, signal.SIG_DFL if handler is None else handler)
 
     def list(self, *, phase: str | None = None, saga: Saga | str | None = None, after: int | None = None, most: int = 100) -> builtins.list[Summary]:
         """As `Store.list`."""

@@ -82,8 +82,8 @@ class Trial:
     states: dict[str, str]
     results: dict[str, Any]
     """Of the steps that stand."""
-    cost: int
-    """What the last plan cost; 0 where nothing failed."""
+    cost: int | None
+    """What the last plan cost; None where none was made, since nothing failed, and where no plan was allowed."""
     chain: list[str] | None
     """Where it is stuck: steps that show that no plan is allowed."""
     aborted: bool
@@ -448,13 +448,13 @@ class _Player:
 
     def _trial(self) -> Trial:
         told, names = self.drive.ask(lines.show_line(0)), self.kind.names
-        plan = self.plan or {"cost": 0}
+        plan = self.plan or {}
         standing = [step for step, state in enumerate(told["states"]) if state in ("committed", "fixed")]
         return Trial(
             phase=told["phase"],
             states=dict(zip(names, told["states"])),
             results={names[step]: values.fitting(self.results[step], self.kind.decoders.get(names[step])) for step in standing},
-            cost=plan.get("cost", 0),
+            cost=plan.get("cost"),
             chain=[names[step] for step in plan["chain"]] if "chain" in plan else None,
             aborted=told["aborted"],
             calls=self.calls,

@@ -12,6 +12,7 @@ from collections.abc import Callable
 
 from .. import nodes_command
 from ..errors import SagasError
+from ..questions import PHASES
 from ..sources import Trouble
 from ..values import clean
 from .asks import abort, finish, resolve
@@ -40,7 +41,7 @@ def parser() -> argparse.ArgumentParser:
         return part
 
     part = add("list", list_sagas)
-    part.add_argument("--phase", choices=["open", "ended", "stuck", "resolved"])
+    part.add_argument("--phase", choices=[*PHASES], help="planned: those of ended that ended by a plan")
     part.add_argument("--saga", metavar="NAME", help="sagas of this name alone")
     part.add_argument("--after", metavar="KEY", help="go on behind this key")
     part.add_argument("--most", type=int, default=100, metavar="N", help="so many at most (100; 0 for all)")

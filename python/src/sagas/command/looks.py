@@ -7,6 +7,7 @@ import sys
 from collections.abc import Sequence
 
 from .. import program
+from ..questions import PHASES
 from .tables import GOOD, moment, short, show_json, table
 from .view import ALL, MISSES, PHASE, Json, SagaRow, View, plan_of, step_names, steps_of, was_called
 
@@ -17,17 +18,16 @@ def show_sagas(rows: Sequence[SagaRow], as_json: bool) -> None:
         show_json([{word: value for word, value in row._asdict().items() if word != "id"} for row in rows])
     else:
         print(table(["KEY", "SAGA", "PHASE", "STARTED", "ENDED"], [
-            (row.key, row.saga, row.phase, moment(row.at), moment(row.ended)) for row in rows
+            (row.key, row.saga, "ended by plan" if row.planned else row.phase, moment(row.at), moment(row.ended)) for row in rows
         ]))
 
 
 def list_sagas(path: str, words: argparse.Namespace) -> int:
     """Lists sagas, by phase and by name."""
-    wheres, given = ["TRUE"], []
-    for condition, value in ((f"{PHASE} = ?", words.phase), ("saga = ?", words.saga)):
-        if value:
-            wheres.append(condition)
-            given.append(value)
+    wheres, given = [PHASES[words.phase] if words.phase else "TRUE"], []
+    if words.saga:
+        wheres.append("saga = ?")
+        given.append(words.saga)
     with View(path) as view:
         if words.after:
             wheres.append("id > ?")

@@ -8,7 +8,7 @@ from typing import Any, NamedTuple
 
 from .. import sources
 from ..plans import Plan
-from ..schema import ROOM
+from ..schema import PLANNED, ROOM
 
 Row = tuple[Any, ...]
 Json = dict[str, Any]
@@ -38,6 +38,7 @@ class SagaRow(NamedTuple):
     at: float
     ended: float | None
     note: str | None
+    planned: bool
 
 
 class StepRow(NamedTuple):
@@ -49,7 +50,7 @@ class StepRow(NamedTuple):
     said: Any
 
 
-COLUMNS = f"id, key, saga, {PHASE}, at, ended, note"
+COLUMNS = f"id, key, saga, {PHASE}, at, ended, note, CASE WHEN {PLANNED} THEN 1 ELSE 0 END"
 
 
 class View:
@@ -72,7 +73,7 @@ class View:
     def sagas(self, where: str = "TRUE", *words: Any, most: int = ALL) -> list[SagaRow]:
         """The sagas for which a condition holds, in the order in which they were started."""
         rows = self.ask(f"SELECT {COLUMNS} FROM sagas WHERE {where} ORDER BY id LIMIT ?", *words, most)
-        return [SagaRow(*row) for row in rows]
+        return [SagaRow._make((*row[:-1], bool(row[-1]))) for row in rows]
 
     def saga(self, key: str) -> SagaRow:
         """The saga of a key."""

@@ -10,7 +10,7 @@ from starlette.exceptions import HTTPException
 from starlette.responses import Response
 
 from .. import errors
-from . import callers, operators, pages, workers
+from . import callers, operators, pages, starts, workers
 from .access import Json, Refused
 from .guards import Guard
 from .service import Service
@@ -81,7 +81,7 @@ def application(settings: Settings) -> tuple[FastAPI, Service]:
 
     app = FastAPI(title="sagas", version="1", description="Start sagas, take tasks, and see what stands.", docs_url=None, redoc_url=None)
     app.state.service = service
-    for router in (callers.router, workers.router, operators.router, pages.router):
+    for router in (callers.router, workers.router, operators.router, starts.router, pages.router):
         app.include_router(router)
     app.add_middleware(Guard, settings=settings, seen=service.request)
     for kind, handler in ((Refused, refused), (errors.SagasError, of_sagas), (HTTPException, of_http), (RequestValidationError, invalid)):

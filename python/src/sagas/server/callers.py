@@ -19,7 +19,7 @@ from .who import Who
 router = APIRouter(default_response_class=Json)
 CALLER = Depends(allow("caller"))
 LONGEST = 60.0  # seconds that a wait may take
-Phase = Literal["open", "ended", "stuck", "resolved"]
+Phase = Literal["open", "ended", "planned", "stuck", "resolved"]
 
 
 class Strict(BaseModel):
@@ -76,7 +76,7 @@ async def listed(
     after: Optional[str] = Query(None, max_length=20, regex="^[0-9]+$", description="the page before's `next`"), most: int = Query(100, ge=1, le=1000),
     who: Who = CALLER,
 ) -> Response:  # fmt: skip
-    """A page; `next` is null where there is no further one. `search`: what the key contains."""
+    """A page; `next` is null where there is no further one. `search`: what the key contains; `phase=planned`: those of `ended` that ended by a plan."""
     before = min(int(after), 2**62) if after else None
     found = await service_of(request).look(lambda looks: looks.page(phase=phase, saga=definition, search=search, before=before, most=most))
     return Json({"sagas": [shown.summary(one) for one in found], "next": str(found[-1].id) if len(found) == most else None})
@@ -163,10 +163,10 @@ async def events(request: Request, key: Optional[str] = Query(None, max_length=5
     return stream(request, key, definition)
 
 
-def stream(request: Request, key: Optional[str], definition: Optional[str]) -> Response:
-    """The stream of the hub. Raises `Refused` where there are too many."""
+def stream(request: Request, key: Optional[str], definition: Optional[str], since: Optional[str] = None) -> Response:
+    """The stream of the hub, behind the id `since` where the client names none. Raises `Refused` where there are too many."""
     service = service_of(request)
     if service.hub.listeners >= service.settings.most_streams:
         raise Refused(503, "TooMany", f"there are {service.settings.most_streams} event streams; close some")
-    last = request.headers.get("last-event-id")
+    last = request.headers.get("last-event-id") or since
     return StreamingResponse(service.hub.stream(key, definition, last), media_type="text/event-stream", headers={"X-Accel-Buffering": "no"})

@@ -44,6 +44,11 @@ class Hub:
     def listeners(self) -> int:
         return len(self._listeners)
 
+    @property
+    def now(self) -> str:
+        """The id of the last event: a stream that goes on behind it has all that happens from now on."""
+        return f"{self.boot}-{self.count}"
+
     def publish(self, event: Event) -> None:
         """Sends it to whoever wants it."""
         self.count += 1

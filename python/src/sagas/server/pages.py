@@ -171,6 +171,7 @@ async def overview(request: Request) -> Response:
     if answer := closed(request):
         return answer
     service = service_of(request)
+    since = service.hub.now
     counts, asked = await service.counts()
 
     def questions(looks: Looks) -> tuple[Any, list[Waits], Any]:
@@ -184,7 +185,7 @@ async def overview(request: Request) -> Response:
     for saga in service.settings.sagas:
         counts.setdefault(saga.name, dict.fromkeys(PHASES, 0))
     return shows(
-        request, "overview.html", here="overview", live="/ui/events", counts=counts, asked=asked, asked_all=sum(asked.values()), totals=totals, stuck=stuck,
+        request, "overview.html", here="overview", live="/ui/events", since=since, again=service.counts_lag(), counts=counts, asked=asked, asked_all=sum(asked.values()), totals=totals, stuck=stuck,
         waits=waits, shown=len(stuck) + len(waits), latest=latest, ready=sum(queue.ready for queue in queues), taken=sum(queue.taken for queue in queues), oldest=oldest,
     )  # fmt: skip
 
@@ -198,14 +199,14 @@ async def listed(
     if answer := closed(request):
         return answer
     service = service_of(request)
-    phase, search, definition = phase if phase in PHASES else None, search or None, definition or None
+    phase, search, definition = phase if phase in words.PHASES else None, search or None, definition or None
     counts, _ = await service.counts()
 
-    def question(looks: Looks) -> Any:
+    def question(looks: Looks) -> tuple[Any, int]:
         last = None if before is None else int(before)
-        return looks.page(phase=phase, saga=definition, search=search, before=last, after=None if after is None else int(after), most=LISTED + 1)
+        return looks.page(phase=phase, saga=definition, search=search, before=last, after=None if after is None else int(after), most=LISTED + 1), looks.planned()
 
-    found = await service.look(question)
+    found, planned = await service.look(question)
     more, found = len(found) > LISTED, found[:LISTED]
     if after is not None:
         found.reverse()
@@ -218,7 +219,8 @@ async def listed(
         return f"/ui/sagas?{urlencode(words)}" if words else "/ui/sagas"
 
     total = {name: sum(of[name] for of in counts.values()) for name in PHASES}
-    tabs = [(None, "All", sum(total.values())), *((name, words.PHASES[name], total[name]) for name in ("open", "stuck", "ended", "resolved"))]
+    shown_of = {**total, "planned": planned}
+    tabs = [(None, "All", sum(total.values())), *((name, words.PHASES[name], shown_of[name]) for name in ("open", "stuck", "ended", "planned", "resolved"))]
     return shows(
         request, "list.html", here="sagas", tabs=tabs, phase=phase, search=search, definition=definition, counts=counts, sagas=found, newer=newer, older=older, url=url,
     )  # fmt: skip
@@ -230,10 +232,11 @@ async def saga(request: Request, key: str) -> Response:
     if answer := closed(request):
         return answer
     service = service_of(request)
+    since = service.hub.now
     view = await service.saga(unslashed(key))
     if view is None:
         return shows(request, "fault.html", 404, title="There is no such saga", text=f"No saga has the key {unslashed(key)}.", back="/ui/sagas")
-    return shows(request, "saga.html", **told_of(view, await service.untaken(view)))
+    return shows(request, "saga.html", since=since, **told_of(view, await service.untaken(view)))
 
 
 def told_of(view: SagaView, untaken: set[str]) -> dict[str, Any]:
@@ -286,6 +289,7 @@ async def workers(request: Request) -> Response:
     if answer := closed(request):
         return answer
     service = service_of(request)
+    since = service.hub.now
     taken = await service.look(lambda looks: looks.waits(100, person=False, why="elsewhere"))
     now, seen = time.time(), (await service.seen())[:200]
     queues = []
@@ -295,15 +299,15 @@ async def workers(request: Request) -> Response:
         queues.append((queue, [one.name for one in able if now - one.at < LATELY], able[:1]))
     known = service.words()
     strange = {one.name: [step for step in one.steps if step not in known] for one in seen}
-    return shows(request, "workers.html", here="workers", live="/ui/events", queues=queues, workers=seen, strange=strange, taken=taken, now=now)
+    return shows(request, "workers.html", here="workers", live="/ui/events", since=since, queues=queues, workers=seen, strange=strange, taken=taken, now=now)
 
 
 @router.get("/ui/events")
-async def events(request: Request, key: Optional[str] = Query(None, max_length=512)) -> Response:
-    """The stream that keeps a page new."""
+async def events(request: Request, key: Optional[str] = Query(None, max_length=512), since: Optional[str] = Query(None, max_length=40)) -> Response:
+    """The stream that keeps a page new, from the moment on at which the page was asked for (`since`)."""
     if session_of(request) is None:
         raise Refused(403, "NoSession", "log in first")
-    return stream(request, key, None)
+    return stream(request, key, None, since)
 
 
 # -- what may be done

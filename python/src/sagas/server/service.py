@@ -45,6 +45,15 @@ class Seen:
     steps: list[str]
 
 
+@dataclasses.dataclass(frozen=True, slots=True)
+class Counted:
+    """Figures, until when they hold (of `time.monotonic`), and how many events the hub had had before them."""
+
+    found: tuple[dict[str, dict[str, int]], dict[str, int]]
+    until: float
+    seen: int
+
+
 class Service:
     """One store, served. `began` and `ended` are its life; all else is for between."""
 
@@ -64,7 +73,7 @@ class Service:
         self.stopping = asyncio.Event()
         self.workers: OrderedDict[str, Seen] = OrderedDict()
         self.unwritten: float | None = None
-        self._counts: tuple[float, float, tuple[dict[str, dict[str, int]], dict[str, int]]] | None = None
+        self._counts: Counted | None = None
         self._counting: asyncio.Task[None] | None = None
 
     # -- life
@@ -150,19 +159,25 @@ class Service:
 
     async def counts(self) -> tuple[dict[str, dict[str, int]], dict[str, int]]:
         """Sagas by name and phase, and what waits for a person. They are counted again at most each second, and less often where that takes long."""
-        now = time.monotonic()
-        if self._counts is None or now - self._counts[0] > max(1.0, 20 * self._counts[1]):
+        if self._counts is None or time.monotonic() > self._counts.until:
             if self._counting is None:
                 self._counting = asyncio.get_running_loop().create_task(self._count())
                 self._counting.add_done_callback(self._counted)
             await asyncio.shield(self._counting)
         assert self._counts
-        return self._counts[2]
+        return self._counts.found
 
     async def _count(self) -> None:
-        began = time.monotonic()
+        began, seen = time.monotonic(), self.hub.count
         found = await self.look(lambda looks: (looks.counts(), looks.asked()))
-        self._counts = time.monotonic(), time.monotonic() - began, found
+        now = time.monotonic()
+        self._counts = Counted(found, now + max(1.0, 20 * (now - began)), seen)
+
+    def counts_lag(self) -> float | None:
+        """Seconds until what `counts` tells is counted anew, where something has happened since it was counted; else None."""
+        if self._counts is None or self._counts.seen == self.hub.count:
+            return None
+        return max(0.0, self._counts.until - time.monotonic())
 
     def _counted(self, task: asyncio.Task[None]) -> None:
         self._counting = None

@@ -12,7 +12,7 @@ from ..runs import Summary
 
 def summary(one: Summary) -> dict[str, Any]:
     """A saga in a list."""
-    return {"key": one.key, "definition": one.saga, "phase": one.phase, "started": one.started, "ended": one.ended, "note": one.note}
+    return {"key": one.key, "definition": one.saga, "phase": one.phase, "started": one.started, "ended": one.ended, "planned": one.planned, "note": one.note}
 
 
 def plan(one: Plan | None) -> dict[str, Any] | None:

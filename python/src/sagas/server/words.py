@@ -9,7 +9,7 @@ from typing import Any
 STATES = {
     "waiting": "waiting", "running": "running", "committed": "done", "failed": "failed", "undoing": "being undone", "undone": "undone", "fixed": "cannot be undone",
 }  # fmt: skip
-PHASES = {"open": "Open", "ended": "Ended", "stuck": "Stuck", "resolved": "Resolved"}
+PHASES = {"open": "Open", "ended": "Ended", "planned": "Ended by plan", "stuck": "Stuck", "resolved": "Resolved"}
 EVENTS = {
     "open": "started", "start_run": "begins", "commit": "is done", "missed": "failed, and is tried again", "fail": "failed for good", "start_undo": "is being undone",
     "undone": "is undone", "undo_missed": "could not be undone, and is tried again", "undo_fail": "cannot be undone", "start_plan": "planning begins", "drop_plan": "plan dropped",

@@ -58,12 +58,19 @@ if (live) {
       }
     } catch { /* the service is about to start again */ }
     setTimeout(() => { busy = false; if (wanted) renew(); }, 1000);
+    againLater();
   };
-  const names = ["saga_started", "step_begun", "step_done", "step_missed", "step_failed", "step_unknown", "saga_planned", "saga_aborted", "saga_ended", "saga_stuck", "missed"];
-  let source = null;
+  const againLater = () => { // figures that are older than what has happened are counted anew in so many seconds
+    const seconds = document.querySelector("[data-again]")?.dataset.again;
+    if (seconds) setTimeout(renew, 1000 * seconds + 100);
+  };
+  againLater();
+  const names = ["saga_started", "step_begun", "step_done", "step_missed", "step_failed", "step_unknown", "step_waits", "saga_planned", "saga_aborted", "saga_ended", "saga_stuck", "missed"];
+  let source = null, since = document.body.dataset.since;
   const listen = () => { // a page that nobody sees has no stream: a browser has few connections
     source?.close();
-    source = document.hidden ? null : new EventSource(live);
+    source = document.hidden ? null : new EventSource(since ? `${live}${live.includes("?") ? "&" : "?"}since=${since}` : live);
+    since = ""; // what happened before the page was asked for is on it; later streams begin with a new page
     if (source) names.forEach((name) => source.addEventListener(name, renew));
   };
   listen();
