@@ -7,8 +7,6 @@ not counted in the book's time. Prints the time per event of the book, of `audit
 then how much longer an audit takes at ten times the sagas. Ends with status 1 where an event takes an audit more than twice
 the time of the book's calls, or ten times the sagas take it more than 12 times as long.
 """
-import os
-import subprocess
 import sys
 import tempfile
 
@@ -22,13 +20,8 @@ WORKERS = "4"
 
 def seconds(program, file, sagas, rest, turns):
     """How many events a load has, and the seconds of each part in the best of all runs."""
-    found = [[] for _ in PARTS]
-    for _ in range(turns):
-        command = [program, "audit", file, str(sagas), WORKERS, *rest]
-        done = subprocess.run(command, env=os.environ | runs.KEPT, capture_output=True, text=True, check=True)
-        for number, line in enumerate(done.stderr.split()):
-            found[number % len(PARTS)].append(float(line))
-    return int(done.stdout.split()[1]), [min(times) for times in found]
+    said, best = runs.best_of_parts([program, "audit", file, str(sagas), WORKERS, *rest], len(PARTS), turns)
+    return int(said[1]), best
 
 
 def main():

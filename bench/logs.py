@@ -9,8 +9,6 @@ the values alone, or writing longer than half of that.
 The allocator of the C library is told to keep the memory that a run gives back. Otherwise it takes each text of more than some 32
 MB from the system anew, page by page, which the smaller log is spared.
 """
-import os
-import subprocess
 import sys
 import tempfile
 
@@ -35,12 +33,7 @@ def log(events):
 
 def seconds(program, path, turns):
     """The seconds of each part in the best of all runs."""
-    found = [[] for _ in PARTS]
-    for _ in range(turns):
-        done = subprocess.run([program, "log", path], env=os.environ | runs.KEPT, capture_output=True, text=True, check=True)
-        for number, line in enumerate(done.stderr.split()):
-            found[number % len(PARTS)].append(float(line))
-    return [min(times) for times in found]
+    return runs.best_of_parts([program, "log", path], len(PARTS), turns)[1]
 
 
 def main():

@@ -7,8 +7,6 @@ the time per event of both in the best of all runs, and their ratio; and then ho
 the sagas. Ends with status 1 where a replay takes more than three times as long as the audit, or ten times the sagas take it
 more than 12 times as long.
 """
-import os
-import subprocess
 import sys
 import tempfile
 
@@ -29,13 +27,8 @@ def definition(steps):
 
 def seconds(program, file, sagas, fails, turns):
     """How many events a load has, and the seconds of each part in the best of all runs."""
-    found = [[] for _ in PARTS]
-    for _ in range(turns):
-        command = [program, "replay", file, str(sagas), *fails]
-        done = subprocess.run(command, env=os.environ | runs.KEPT, capture_output=True, text=True, check=True)
-        for number, line in enumerate(done.stderr.split()):
-            found[number % len(PARTS)].append(float(line))
-    return int(done.stdout.split()[1]), [min(times) for times in found]
+    said, best = runs.best_of_parts([program, "replay", file, str(sagas), *fails], len(PARTS), turns)
+    return int(said[1]), best
 
 
 def main():

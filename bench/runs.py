@@ -62,6 +62,17 @@ def timed(commands, turns, settings=None):
     return [(words, statistics.median(found)) for words, found in zip(said, times)]
 
 
+def best_of_parts(command, parts, turns):
+    """The words that a command printed, and of each of its parts the seconds in the best of all runs: the command prints them on standard error,
+    one part behind the other, again and again."""
+    found = [[] for _ in range(parts)]
+    for _ in range(turns):
+        done = subprocess.run(command, env=os.environ | KEPT, capture_output=True, text=True, check=True)
+        for number, line in enumerate(done.stderr.split()):
+            found[number % parts].append(float(line))
+    return done.stdout.split(), [min(times) for times in found]
+
+
 def compared(summary, command, kinds):
     """Compares a command of the program with the peer, and prints for each input both median times and their ratio, and then
     the ratios of each kind. A kind has a name, and makes of a seed the program's text and the network as the peer reads it.
