@@ -193,6 +193,25 @@ def test_any_bytes_leave_it_well(service: Served) -> None:
     is_well(service)
 
 
+@pytest.mark.parametrize("path", ["/", "/health", "/events"])
+def test_a_body_that_is_no_http(service: Served, path: str) -> None:
+    """Behind a request that needs none, at once and once its answer has begun: the connection ends, and nothing has failed."""
+    head = f"GET {path} HTTP/1.1\r\nHost: 127.0.0.1\r\nTransfer-Encoding: chunked\r\n\r\n".encode()
+    with connection(service) as one:
+        one.sendall(head + b"no chunk\r\n")
+        assert one.recv(65536).startswith(b"HTTP/1.1 400 ")
+        while one.recv(65536):
+            pass
+    with connection(service) as one:
+        one.sendall(head)
+        assert one.recv(65536).startswith(b"HTTP/1.1 ")
+        one.sendall(b"no chunk\r\n")
+        with contextlib.suppress(ConnectionResetError):
+            while one.recv(65536):
+                pass
+    is_well(service)
+
+
 def pieces(count: int, size: int) -> Iterator[bytes]:
     for _ in range(count):
         yield b"x" * size

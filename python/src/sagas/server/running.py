@@ -3,6 +3,7 @@
 from __future__ import annotations
 
 import asyncio
+import contextlib
 import importlib.util
 import resource
 import socket
@@ -11,6 +12,7 @@ from collections.abc import Callable
 from typing import Any
 
 import uvicorn  # type: ignore[import]
+from h11 import LocalProtocolError
 from uvicorn.protocols.http.h11_impl import H11Protocol  # type: ignore[import]
 
 from .app import application
@@ -85,6 +87,15 @@ def protocol(connections: Connections) -> type[Any]:
             else:
                 connections.works(self)
                 self.scope[ABORT] = self.transport.abort
+
+        def send_400_response(self, text: str) -> None:
+            """What came is no HTTP. A request of which it was to be the body has no other answer."""
+            if self.cycle is not None and not self.cycle.response_complete:
+                self.cycle.disconnected = True
+                self.cycle.message_event.set()
+            with contextlib.suppress(LocalProtocolError):  # its answer has begun
+                super().send_400_response(text)
+            self.transport.close()
 
     return Bounded
 
