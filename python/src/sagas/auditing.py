@@ -7,6 +7,7 @@ import json
 from typing import TYPE_CHECKING
 
 from . import lines, program
+from .errors import StoreUnwritable
 from .records import Batch
 
 if TYPE_CHECKING:
@@ -21,10 +22,15 @@ async def verdict(where: str, text: str, definitions: list[str]) -> tuple[bool, 
 
 
 async def close(owner: Coordinator, pump: Pump) -> None:
-    """Audits a settled log and marks it closed. Where it cannot be written now, the next opening does it."""
-    async with owner.auditing:  # one at a time: nobody waits for it
-        text, _ = owner.store.text(pump.log)
-        yes, said = await verdict(owner.program, text, pump.texts)
+    """Audits a settled log and marks it closed. Where it cannot be read or written now, the next opening does it."""
+    try:
+        async with owner.auditing:  # one at a time: nobody waits for it
+            text, _ = owner.store.text(pump.log)
+            yes, said = await verdict(owner.program, text, pump.texts)
+    except StoreUnwritable as fault:
+        owner.ending.discard(pump.log)
+        owner.teller.tell("commit_failed", detail=f"log {pump.name} is not closed yet: {fault}")
+        return
     if not yes:
         owner.teller.tell("audit_failed", detail=f"log {pump.name}: {said}")
     batch = Batch(pump.log, owner.clock(), epoch=pump.epoch, then=lambda fault: owner.ending.discard(pump.log), closed=(1 if yes else 2, said))
