@@ -15,6 +15,7 @@ Both nodes start the same sagas, and each is started again until it has seen the
 from __future__ import annotations
 
 import argparse
+import contextlib
 import pathlib
 import random
 import shutil
@@ -103,7 +104,8 @@ class NodeStriker(Striker):
         self.kills["sessions"] += 1
 
     def _lock(self, process: subprocess.Popen[bytes]) -> None:
-        with psycopg.connect(self.url) as link:
+        # One that waited for ever could hold up all: an eye that looks behind it, in its node's loop, and so a transaction of that node before it.
+        with psycopg.connect(self.url, options="-c lock_timeout=2s") as link, contextlib.suppress(psycopg.errors.LockNotAvailable):
             link.execute(f"LOCK TABLE sagas.{self.draw.choice(TABLES)} IN ACCESS EXCLUSIVE MODE")
             self._wait(process, self.draw.uniform(0.1, 2 * LEASE))
         self.kills["locks"] += 2
