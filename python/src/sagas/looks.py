@@ -15,8 +15,8 @@ from typing import Any
 from .database import Reader
 from .histories import AFTER, STANDS
 from .plans import Plan
+from .questions import ENDED_BY_PLAN, PHASE, SAGA
 from .questions import PHASES as WHERE
-from .questions import SAGA
 from .records import SagaRow
 from .runs import LogEvent, Summary
 from .schema import PLANNED, ROOM
@@ -144,8 +144,7 @@ class Looks:
     def counts(self) -> dict[str, dict[str, int]]:
         """How many sagas there are, by name and phase."""
         found: dict[str, dict[str, int]] = {}
-        query = "SELECT saga, CASE WHEN phase IS NULL THEN 'open' WHEN phase = 'stuck' AND note IS NOT NULL THEN 'resolved' ELSE phase END, count(*) FROM sagas GROUP BY 1, 2"
-        for saga, phase, count in self._rows(query):
+        for saga, phase, count in self._rows(f"SELECT saga, {PHASE}, count(*) FROM sagas GROUP BY 1, 2"):
             found.setdefault(saga, dict.fromkeys(PHASES, 0))[phase] = count
         return dict(sorted(found.items()))
 
@@ -176,7 +175,7 @@ class Looks:
                 wheres.append(condition)
                 words.append(id)  # type: ignore[arg-type]
         order = "DESC" if after is None else "ASC"
-        rows = self._rows(f"SELECT {SHORT}, CASE WHEN {PLANNED} THEN 1 ELSE 0 END FROM sagas WHERE {' AND '.join(wheres)} ORDER BY id {order} LIMIT ?", *words, most)
+        rows = self._rows(f"SELECT {SHORT}, {ENDED_BY_PLAN} FROM sagas WHERE {' AND '.join(wheres)} ORDER BY id {order} LIMIT ?", *words, most)
         return [Summary(id, key, name, phase_of(phase, note), at, ended, note, bool(planned)) for id, key, name, phase, at, ended, note, planned in rows]
 
     def waits(self, most: int = 100, *, person: bool = True, why: str | None = None) -> list[Waits]:

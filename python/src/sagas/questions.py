@@ -28,6 +28,8 @@ PHASES = {
     "stuck": "phase = 'stuck' AND note IS NULL", "resolved": "phase = 'stuck' AND note IS NOT NULL",
 }  # fmt: skip
 """What a list may be asked for. `planned`: those of `ended` that ended by a plan, since a step had failed or they were aborted."""
+PHASE = "CASE WHEN phase IS NULL THEN 'open' WHEN phase = 'stuck' AND note IS NOT NULL THEN 'resolved' ELSE phase END"
+ENDED_BY_PLAN = f"CASE WHEN {PLANNED} THEN 1 ELSE 0 END"
 REQUESTS = "SELECT id, key, what, value FROM requests WHERE answer IS NULL ORDER BY id"
 
 

@@ -5,9 +5,10 @@ to the commit is lost, the log is taken up again, and the record tells."""
 
 from __future__ import annotations
 
+import contextlib
 import dataclasses
 import threading
-from collections.abc import Callable
+from collections.abc import Callable, Iterator
 from typing import TYPE_CHECKING, Any
 
 import psycopg
@@ -47,6 +48,17 @@ class Record:
         """The server's own answer may say that all is rolled back: then the function had no effect. A double of the record is another run's."""
         if (error.sqlstate or "").startswith(ROLLED_BACK) and (self.written or not isinstance(error, psycopg.errors.UniqueViolation)):
             self.begun = False
+
+    @contextlib.contextmanager
+    def judged(self) -> Iterator[None]:
+        """Around the transaction: what the server says of it is looked at, and a connection that is lost is an outcome that nobody knows."""
+        try:
+            yield
+        except psycopg.Error as error:
+            self.refused(error)
+            if isinstance(error, psycopg.OperationalError):
+                raise Unknown(str(error)) from error
+            raise
 
     def words(self, value: Any) -> dict[str, Any]:
         """What is written of a result."""
@@ -95,7 +107,7 @@ class Transactions:
 
     def _in_loop(self, function: Callable[[Task[Any]], Any], record: Record) -> Callable[[Task[Any]], Any]:
         async def within(task: Task[Any]) -> Any:
-            try:
+            with record.judged():
                 async with self._pool.connection() as link, link.transaction():  # so that the function cannot commit it
                     task.enter(link)
                     value = await function(task)
@@ -104,12 +116,7 @@ class Transactions:
                         raise Lost(self._where)
                     record.written = True
                 record.done = True
-                return value
-            except psycopg.Error as error:
-                record.refused(error)
-                if isinstance(error, psycopg.OperationalError):
-                    raise Unknown(str(error)) from error
-                raise
+            return value
 
         return within
 
@@ -119,7 +126,7 @@ class Transactions:
                 if not self._open_threads:
                     self._threads.open()
                     self._open_threads = True
-            try:
+            with record.judged():
                 with self._threads.connection() as link, link.transaction():
                     task.enter(link)
                     value = function(task)
@@ -127,11 +134,6 @@ class Transactions:
                         raise Lost(self._where)
                     record.written = True
                 record.done = True
-                return value
-            except psycopg.Error as error:
-                record.refused(error)
-                if isinstance(error, psycopg.OperationalError):
-                    raise Unknown(str(error)) from error
-                raise
+            return value
 
         return within

@@ -7,9 +7,11 @@ import sys
 from collections.abc import Sequence
 
 from .. import program
-from ..questions import PHASES
+from ..histories import MISSES
+from ..looks import PHASES as COUNTED
+from ..questions import PHASE, PHASES
 from .tables import GOOD, moment, short, show_json, table
-from .view import ALL, MISSES, PHASE, Json, SagaRow, View, plan_of, step_names, steps_of, was_called
+from .view import ALL, Json, SagaRow, View, plan_of, step_names, steps_of, was_called
 
 
 def show_sagas(rows: Sequence[SagaRow], as_json: bool) -> None:
@@ -101,14 +103,13 @@ def counts(path: str, words: argparse.Namespace) -> int:
         rows = view.ask(f"SELECT saga, {PHASE}, count(*) FROM sagas GROUP BY 1, 2 ORDER BY 1")
         asks = "why = 'approval' OR why = 'unknown' AND until IS NULL"
         ((persons,),) = view.ask(f"SELECT count(*) FROM held WHERE {asks}")
-    phases = ("open", "ended", "stuck", "resolved")
     names = sorted({saga for saga, _, _ in rows})
     number = {(saga, phase): count for saga, phase, count in rows}
-    told = {saga: {phase: number.get((saga, phase), 0) for phase in phases} for saga in names}
+    told = {saga: {phase: number.get((saga, phase), 0) for phase in COUNTED} for saga in names}
     if words.json:
         show_json({"sagas": told, "wait for a person": persons})
         return GOOD
-    print(table(["SAGA", *map(str.upper, phases)], [(saga, *told[saga].values()) for saga in names]))
+    print(table(["SAGA", *map(str.upper, COUNTED)], [(saga, *told[saga].values()) for saga in names]))
     if persons:
         print(f"\n{persons} wait for a person: sagas store {path} waiting")
     return GOOD

@@ -7,25 +7,15 @@ import tomllib
 from typing import Any, NamedTuple
 
 from .. import sources
+from ..histories import AFTER, MISSES
 from ..plans import Plan
-from ..schema import PLANNED, ROOM
+from ..questions import ENDED_BY_PLAN, PHASE
+from ..schema import ROOM
 
 Row = tuple[Any, ...]
 Json = dict[str, Any]
 
 ALL = 1 << 60
-STATES = {
-    "start_run": "running",
-    "commit": "committed",
-    "missed": "waiting",
-    "fail": "failed",
-    "start_undo": "undoing",
-    "undone": "undone",
-    "undo_missed": "committed",
-    "undo_fail": "fixed",
-}
-MISSES = ("missed", "fail", "undo_missed", "undo_fail")
-PHASE = "CASE WHEN phase IS NULL THEN 'open' WHEN phase = 'stuck' AND note IS NOT NULL THEN 'resolved' ELSE phase END"
 
 
 class SagaRow(NamedTuple):
@@ -50,7 +40,7 @@ class StepRow(NamedTuple):
     said: Any
 
 
-COLUMNS = f"id, key, saga, {PHASE}, at, ended, note, CASE WHEN {PLANNED} THEN 1 ELSE 0 END"
+COLUMNS = f"id, key, saga, {PHASE}, at, ended, note, {ENDED_BY_PLAN}"
 
 
 class View:
@@ -144,8 +134,8 @@ def plan_of(view: View, row: SagaRow) -> Plan | None:
     states, aborted, plan = ["waiting"] * len(step_names(definition)), False, None
     for _, event in view.events(row.id):
         word = event["event"]
-        if word in STATES:
-            states[event["step"]] = STATES[word]
+        if word in AFTER:
+            states[event["step"]] = AFTER[word]
         elif word == "abort":
             aborted = True
         elif word == "adopt":
@@ -165,8 +155,8 @@ def steps_of(view: View, id: int) -> list[StepRow]:
     states, attempts = ["waiting"] * len(names), [0] * len(names)
     for _, event in view.events(id):
         word = event["event"]
-        if word in STATES:
-            states[event["step"]] = STATES[word]
+        if word in AFTER:
+            states[event["step"]] = AFTER[word]
             attempts[event["step"]] += word == "start_run"
     said: Json = {}
     results = view.results(id)
