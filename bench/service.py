@@ -5,7 +5,8 @@
 
 Each turn starts, one after the other: the bare route (over SQLite as an async function, and as a plain one in FastAPI's threads, and the faster one counts; over
 PostgreSQL as an async function over a pool), and `sagas serve` with its durable defaults, over PostgreSQL so many of them, among which the clients are divided. Clients keep their connections, and each asks again when it is answered. A task is taken and reported: each by itself,
-each with the report of the one before (`next`), and ten at a time. Last, the page's list over 100,000 sagas. The client is a process of its own beside the server, on the same machine.
+each with the report of the one before (`next`), and ten at a time. Last, the page's list over 100,000 sagas. The client is a process of its own beside the server, on the same machine. Beside requests a second stands the processor's time that the server
+takes for one, of all its threads. `TMPDIR=/dev/shm` puts SQLite's files into memory: there a commit waits for no disk, and the route is at its fastest.
 """
 
 from __future__ import annotations
@@ -14,13 +15,14 @@ import argparse
 import asyncio
 import contextlib
 import json
+import os
 import pathlib
 import statistics
 import subprocess
 import sys
 import tempfile
 import time
-from collections.abc import Awaitable, Callable
+from collections.abc import Callable, Coroutine
 from typing import Any
 
 from server import Server, serving
@@ -68,7 +70,7 @@ async def one(row: Row):
     return {"key": row.key}
 uvicorn.run(app, host=sys.argv[3], port=int(sys.argv[4]), log_level="warning", access_log=False, loop="asyncio")
 """
-Ask = Callable[[str, Any], Awaitable[Any]]
+Figure = tuple[float, float]
 
 
 class Client:
@@ -167,8 +169,21 @@ async def page(address: str) -> float:
     return statistics.median(times)
 
 
-def bare(folder: pathlib.Path, manner: str, count: int, together: int, server: Server | None) -> float:
-    """The bare route's requests a second."""
+def processor(pids: list[int]) -> float:
+    """Seconds that the processor has worked for these processes."""
+    parts = [pathlib.Path(f"/proc/{pid}/stat").read_text().rpartition(")")[2].split() for pid in pids]
+    return sum(int(part[11]) + int(part[12]) for part in parts) / os.sysconf("SC_CLK_TCK")
+
+
+def measured(pids: list[int], count: int, work: Coroutine[Any, Any, float]) -> Figure:
+    """What is done a second, and the processor's time of these processes for each, in microseconds."""
+    before = processor(pids)
+    rate = asyncio.run(work)
+    return rate, 1e6 * (processor(pids) - before) / count
+
+
+def bare(folder: pathlib.Path, manner: str, count: int, together: int, server: Server | None) -> Figure:
+    """The bare route."""
     (folder / "bare.py").write_text(BARE_SERVER if server else BARE)
     address = f"{host()}:8099"
     place = server.create() if server else str(folder / f"{manner}.db")
@@ -180,13 +195,13 @@ def bare(folder: pathlib.Path, manner: str, count: int, together: int, server: S
                 break
             except OSError:
                 time.sleep(0.1)
-        return asyncio.run(starts(address, "/row", count, together, lambda number: {"key": f"k{number}", "input": {"n": number}}))
+        return measured([process.pid], count, starts(address, "/row", count, together, lambda number: {"key": f"k{number}", "input": {"n": number}}))
     finally:
         process.kill()
         process.wait()
 
 
-def turn(folder: pathlib.Path, count: int, together: int, server: Server | None, services: int) -> dict[str, float]:
+def turn(folder: pathlib.Path, count: int, together: int, server: Server | None, services: int) -> dict[str, Figure]:
     """All figures once."""
     found = {f"bare, {manner}": bare(folder, manner, count, together, server) for manner in (("async",) if server else ("async", "plain"))}
     url = server.create() if server else None
@@ -196,11 +211,13 @@ def turn(folder: pathlib.Path, count: int, together: int, server: Server | None,
             (folder / str(number)).mkdir()
             more = ("--node", str(number)) if url else ()
             some.append(stack.enter_context(served(folder / str(number), {"one.toml": ONE}, "--log-level", "error", "--rate", "1000000", *more, store=url)))
-        all_of_them = " ".join(one.address for one in some)
-        found["POST /sagas"] = asyncio.run(starts(all_of_them, "/sagas", count, together, lambda number: {"definition": "one", "key": f"k{number}", "input": {"n": number}}))
-        found["tasks, each by itself"] = asyncio.run(tasks(all_of_them, count // 4, together, 1))
-        found["tasks, with the report"] = asyncio.run(chained(all_of_them, count // 4, together))
-        found["tasks, ten at a time"] = asyncio.run(tasks(all_of_them, count // 4, together, 10))
+        all_of_them, pids = " ".join(one.address for one in some), [one.process.pid for one in some if one.process]
+        begin = starts(all_of_them, "/sagas", count, together, lambda number: {"definition": "one", "key": f"k{number}", "input": {"n": number}})
+        found["POST /sagas"] = measured(pids, count, begin)
+        some_tasks = count // 4
+        found["tasks, each by itself"] = measured(pids, some_tasks, tasks(all_of_them, some_tasks, together, 1))
+        found["tasks, with the report"] = measured(pids, some_tasks, chained(all_of_them, some_tasks, together))
+        found["tasks, ten at a time"] = measured(pids, some_tasks, tasks(all_of_them, some_tasks, together, 10))
     return found
 
 
@@ -234,10 +251,10 @@ def main() -> None:
         for _ in range(words.turns):
             with tempfile.TemporaryDirectory() as name:
                 turns.append(turn(pathlib.Path(name), words.count, words.clients, server, words.services if server else 1))
-    middle = {name: statistics.median(one[name] for one in turns) for name in turns[0]}
-    base = max(value for name, value in middle.items() if name.startswith("bare"))
-    for name, value in middle.items():
-        print(f"{name:24} {value:8.0f} a second  {value / base:5.2f}")
+    middle = {name: [statistics.median(values) for values in zip(*(one[name] for one in turns))] for name in turns[0]}
+    base = max(rate for name, (rate, _) in middle.items() if name.startswith("bare"))
+    for name, (rate, time_each) in middle.items():
+        print(f"{name:24} {rate:8.0f} a second  {rate / base:5.2f}  {time_each:6.0f} us of the processor")
     if server is None:
         with tempfile.TemporaryDirectory() as name:
             print(f"{'list of 100,000':24} {listed(pathlib.Path(name)):8.1f} ms")

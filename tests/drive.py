@@ -611,7 +611,12 @@ def starts(state):
         found = state.ran(definitions, place, b"")
         state.expect(f"start on {str(definitions)[-80:]} {place}", found, (status, b"", f"{line}\n".encode()))
     log.unlink()
-    for words in [["drive"], ["drive", "--log", log], ["drive", "--lock", *pair]]:
+    torn = state.folder / "torn.log"
+    unfinished = torn.with_name(f"{torn.name}.definitions.new")
+    unfinished.write_bytes(file_of(pair)[:20])
+    state.expect("start beside unfinished definitions", state.ran(pair, torn, b""), (0, b"", b""))
+    state.expect("the definitions then", (beside(torn).read_bytes(), unfinished.exists()), (file_of(pair), False))
+    for words in [["drive"], ["drive", "--lines"], ["drive", "--lock", *pair]]:
         done = subprocess.run([state.program, *words], stdin=subprocess.DEVNULL, capture_output=True, check=False)
         state.expect(f"{words}", (done.returncode, done.stdout), (2, b""))
         state.expect(f"a log after {words}", log.exists(), False)
@@ -627,7 +632,7 @@ def starts(state):
         state.expect(f"with {stream}", (done.returncode, done.stderr.splitlines(True)[-1:]), (status, line))
         lines = HEADER + OPEN + (RUN if status == 0 else RUN[:7])
         state.expect(f"the log with {stream}", log.read_bytes(), lines)
-    return len(LOGS) + len(rows) + 7, "starts"
+    return len(LOGS) + len(rows) + 8, "starts"
 
 
 # ---- random conversations
@@ -793,12 +798,20 @@ class Disk:
 
     def note(self, kept):
         """So many bytes are on the disk; of a log that is there its name is, too."""
-        self.known.write_text(f"kept {kept:12} named {int(self.log.exists())}\n")
+        self.known.write_text(f"kept {kept:12} named {int(self.log.exists())} beside {int(beside(self.log).exists())} early 0\n")
         self.image.unlink(missing_ok=True)
 
     def settings(self, stop=0):
         """What lets a program note it, and end before a call."""
         return {"LD_PRELOAD": str(self.library), "LOG": str(self.log), "DISK": str(self.known), "STOP": str(stop)}
+
+    def beside_wrong(self, wanted):
+        """What is wrong with the file of definitions, which is there as a whole or not at all, and is on the disk before an event."""
+        words = self.known.read_text().split()
+        found = beside(self.log).read_bytes() if beside(self.log).exists() else None
+        if words[7] != "0":
+            return "it was not on the disk before an event, or got its name before its bytes"
+        return "" if found == wanted or found is None and words[5] == "0" else f"it is {found}"
 
     def may_be(self):
         """All that the log may be if power goes off now: what is on the disk, with each beginning of what was not synced; the same of
@@ -815,6 +828,17 @@ class Disk:
         else:
             self.log.write_bytes(text)
         self.note(len(text or b""))
+
+
+def beside(log):
+    """The file of definitions beside a log."""
+    return log.with_name(f"{log.name}.definitions")
+
+
+def file_of(definitions):
+    """What that file has."""
+    texts = [pathlib.Path(path).read_bytes() for path in definitions]
+    return b"".join(b"definition of %d bytes\n%b\n" % (len(text), text) for text in texts)
 
 
 # ---- kills
@@ -1012,6 +1036,7 @@ def power_at(state, case, stop):
     before = settled_lines(disk.log)
     sure = before if kept == len(text or b"") else []
     replies, was_stopped = stopped(state, disk, requests, stop)
+    state.expect(f"power: {name} at call {stop}: the file of definitions", disk.beside_wrong(file_of(state.defined("pair"))), "")
     sure = before + told(replies) if replies else sure
     count = left_whole(state, disk, f"power: {name} at call {stop}", sure)
     return count if was_stopped else 0
@@ -1143,10 +1168,14 @@ def story(state, log, settings, at_once):
     return replies, *driven.end()
 
 
-def refusal(log, kind, error):
-    """The line on a refused call: on the log, or a read of standard input."""
+# Which calls of a kind a first start makes for the file of definitions.
+DEFINING = {"write": [1], "half": [1], "sync": [1, 2], "folder": [1]}
+
+
+def refusal(log, kind, number, error):
+    """The line on a refused call: on the definitions beside the log, on the log, or a read of standard input."""
     if kind != "read":
-        return f"sagas: cannot write {log}\n"
+        return f"sagas: cannot write {beside(log) if number in DEFINING.get(kind, ()) else log}\n"
     return "sagas: out of memory\n" if error == errno.ENOMEM else "sagas: cannot read -\n"
 
 
@@ -1166,7 +1195,7 @@ def refused_once(state, kind, number, error, at_once, cut):
     state.expect(f"{name}: replies before a sync", early, 0)
     note = f"sagas: log: cut line taken away: {len(cut) - cut.rfind(LF) - 1} bytes\n" if cut else ""
     if refusals != 0:
-        state.expect(name, (refusals > 0, status, said_then.removeprefix(note)), (True, 4, refusal(log, kind, error)))
+        state.expect(name, (refusals > 0, status, said_then.removeprefix(note)), (True, 4, refusal(log, kind, number, error)))
         if cut and not replies and log.read_bytes() == cut:
             return True
     else:
@@ -1186,8 +1215,9 @@ def refused_once(state, kind, number, error, at_once, cut):
 
 LF = b"\n"
 
-# How many calls of a kind there are, by whether all requests come at once: then the header, its folder and all events have one sync each.
-CALLS = {("folder", False): 1, ("sync", True): 3}
+# How many calls of a kind there are, by whether all requests come at once: then the definitions, their folder, the header, its folder and all
+# events have one sync each.
+CALLS = {("folder", False): 2, ("sync", True): 5}
 
 
 def writes(state):

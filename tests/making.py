@@ -171,3 +171,8 @@ def listed(sagas: Iterable[int], more: int | None = None) -> str:
     """The reply that these sagas, of the definition `two`, are going."""
     told = [{"name": "two", "phase": "going", "saga": saga} for saga in sagas]
     return replied(sagas=told, **({} if more is None else {"more": more}))
+
+
+def kept(*texts: str) -> str:
+    """The file of definitions beside a log."""
+    return "".join(f"definition of {len(text.encode())} bytes\n{text}\n" for text in texts)

@@ -32,7 +32,7 @@ SECONDS = 60
 FILES = ("def", "case", "answer", "log", "script")
 KEYS = {
     *FILES, "name", "args", "options", "status", "stdin", "stdout", "out", "has", "err", "err_has", "writes", "absent", "checked", "audited",
-    "times",
+    "times", "beside", "defines",
 }  # fmt: skip
 
 
@@ -125,6 +125,8 @@ def write_files(row: Row, room: Path) -> dict[str, list[str]]:
             path = room / (f"{key}{number}" if len(texts) > 1 else key)
             path.write_bytes(row.text(text))
             paths.setdefault(key, []).append(str(path))
+    if "beside" in row.keys:
+        (room / "log.definitions").write_bytes(row.text(row.keys["beside"]))
     return paths
 
 
@@ -145,7 +147,7 @@ def words_of(row: Row, paths: dict[str, list[str]], room: Path) -> list[str]:
                 words += ["--log", str(room / "log")]
             words += definitions
         case "drive":
-            if {"log", "writes", "audited"} & set(row.keys):
+            if {"log", "writes", "audited", "beside", "defines"} & set(row.keys):
                 words += ["--log", str(room / "log")]
             words += definitions
         case "audit":
@@ -230,6 +232,9 @@ def look(row: Row, run: Run, paths: dict[str, list[str]], room: Path) -> None:
     log = room / "log"
     if "writes" in keys:
         run.compare("the log", log.read_bytes() if log.exists() else b"", row.text(keys["writes"]))
+    if "defines" in keys:
+        beside = room / "log.definitions"
+        run.compare("the definitions beside it", beside.read_bytes() if beside.exists() else b"", row.text(keys["defines"]))
     if keys.get("absent") and Path(keys["absent"].format(room=room)).exists():
         run.wrong.append(f"{keys['absent']} was written")
     if "checked" in keys:

@@ -227,6 +227,7 @@ async def main(world: World, store: str, count: int) -> None:
             return await work_on(world, opened, count)
         finally:
             await opened.close()
+            asyncio.get_running_loop().remove_signal_handler(signal.SIGTERM)  # a loop that closes would complain of one that comes now
 
 
 async def work_on(world: World, opened: sagas.Store, count: int) -> None:

@@ -254,6 +254,30 @@ def test_beside_the_running_program(place: str, capsys: pytest.CaptureFixture[st
     run(main())
 
 
+def test_many_stuck_sagas_are_resolved_at_once(place: str, capsys: pytest.CaptureFixture[str]) -> None:
+    """By their keys, or each that nobody has resolved; those that are not stuck are told, and the others are resolved all the same."""
+    shell = Shell(place, capsys)
+
+    async def main() -> None:
+        async with sagas.open(place, [kind := shop()]) as store:
+            for number in range(5):
+                await store.start(kind, key=f"bad-{number}", input="fails")
+            await store.start(kind, key="good")
+            for key in ("good", *(f"bad-{number}" for number in range(5))):
+                await store.wait(key)
+
+    asyncio.run(main())
+    assert shell("resolve", "bad-0", "good", "bad-1", "--note", "paid in cash", status=1) == "bad-0: resolved\nbad-1: resolved\n"
+    assert shell("resolve", "--all", "--saga", "another", "--note", "x") == ""
+    assert shell.json("resolve", "--all", "--saga", "shop", "--note", "the terminal was broken") == [
+        {"key": f"bad-{number}", "note": "the terminal was broken"} for number in (2, 3, 4)
+    ]
+    assert shell.json("counts")["sagas"]["shop"] == {"open": 0, "ended": 1, "stuck": 0, "resolved": 5}
+    assert "paid in cash" in shell("show", "bad-0")
+    for words in ([], ["bad-0", "--all"]):
+        shell("resolve", *words, "--note", "x", status=2)
+
+
 def test_without_a_program(place: str, capsys: pytest.CaptureFixture[str]) -> None:
     """What is asked while no program has the store open is done by the next one."""
     path, kinds = place, [shop(), signed()]

@@ -182,7 +182,8 @@ def test_a_rate_holds_over_all_nodes(url: str) -> None:
 
     began = time.monotonic()
     run(main())
-    assert sum(count.by.values()) == 20 and count.most <= 2 and time.monotonic() - began >= 3 * PERIOD
+    assert sum(count.by.values()) == 20 and count.most <= 2
+    assert time.monotonic() - began >= 2.75 * PERIOD  # three of them by the server's clock, which may be set a little meanwhile
 
 
 def test_a_clock_that_jumped_back_stops_no_rate(place: str) -> None:

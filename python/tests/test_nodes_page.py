@@ -48,7 +48,8 @@ def test_two_nodes_and_a_client(url: str, postgresql: Server, tmp_path: pathlib.
         until = time.monotonic() + 120
         while owner is None and time.monotonic() < until:
             said = subprocess.run([sys.executable, "-m", "sagas", "store", url, "nodes"], env=environment, capture_output=True, text=True, check=True).stdout
-            owner = next((line.split()[0] for line in said.splitlines()[1:] if line.split()[-1] == "1"), None)
+            table, _, _ = said.partition("\n\n")  # a start that no node has taken yet stands below it
+            owner = next((line.split()[0] for line in table.splitlines()[1:] if line.split()[-1] == "1"), None)
         assert owner
         nodes[owner].send_signal(signal.SIGKILL)
         out, _ = client.communicate(timeout=200)

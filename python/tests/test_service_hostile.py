@@ -2,6 +2,7 @@
 
 from __future__ import annotations
 
+import asyncio
 import contextlib
 import json
 import pathlib
@@ -15,10 +16,15 @@ from urllib.parse import quote, urlencode
 
 import httpx
 import pytest
+import uvicorn
 from hypothesis import HealthCheck, given, settings
 from hypothesis import strategies as st
+from uvicorn.server import ServerState
 
-from serving import DEFINITIONS, LONG, Served, served, start, take
+from driving import program
+from sagas.server import definitions, running
+from sagas.server.settings import Settings
+from serving import DEFINITIONS, LONG, Served, host, served, start, take
 
 MANY = settings(max_examples=120, deadline=None, suppress_health_check=list(HealthCheck))
 MEGA = 1 << 20
@@ -281,3 +287,70 @@ def test_clients_that_never_read(service: Served) -> None:
             assert client.get("/sagas/there").status_code == 200
     assert memory(service) - before < 200 * MEGA
     is_well(service)
+
+
+def test_whoever_does_not_read_is_cut_off() -> None:
+    """A connection ends whose client takes nothing of its answer for too long; one that takes it slowly has all of it."""
+
+    async def long(scope: Any, receive: Any, send: Any) -> None:
+        await send({"type": "http.response.start", "status": 200, "headers": [(b"content-length", str(32 * MEGA).encode())]})
+        await send({"type": "http.response.body", "body": bytes(32 * MEGA)})
+
+    async def main() -> None:
+        counted = running.Connections(10, LONG)
+        config = uvicorn.Config(long, http=running.protocol(counted, 1.0), timeout_keep_alive=int(LONG), log_config=None, log_level="error")
+        config.load()
+        state = ServerState()
+        listening = await asyncio.get_running_loop().create_server(lambda: config.http_protocol_class(config=config, server_state=state), host(), 0)
+        address = listening.sockets[0].getsockname()[:2]
+        (slow, ask), (_, stands) = await asyncio.open_connection(*address, limit=MEGA), await asyncio.open_connection(*address)
+        for one in (ask, stands):
+            one.write(b"GET / HTTP/1.1\r\nHost: 127.0.0.1\r\n\r\n")
+        assert (await slow.readuntil(b"\r\n\r\n")).startswith(b"HTTP/1.1 200 ")
+        for _ in range(64):
+            await slow.readexactly(MEGA // 2)
+            await asyncio.sleep(0.04)
+        while len(counted.all) > 1:
+            await asyncio.sleep(0.1)
+        ask.write(b"GET / HTTP/1.1\r\nHost: 127.0.0.1\r\n\r\n")
+        assert (await slow.readuntil(b"\r\n\r\n")).startswith(b"HTTP/1.1 200 ")
+        for one in (ask, stands):
+            one.close()
+        listening.close()
+
+    asyncio.run(asyncio.wait_for(main(), LONG))
+
+
+def test_a_body_that_does_not_come(tmp_path: pathlib.Path, monkeypatch: pytest.MonkeyPatch) -> None:
+    """Once its time has passed that is answered with 408, and the connection ends; a body that comes in parts is taken."""
+    monkeypatch.setenv("SAGAS_PROGRAM", program())
+    Served(tmp_path)
+    told = Settings(str(tmp_path / "store.db"), definitions.read(tmp_path / "definitions"), body_time=1.0)
+    body = json.dumps({"definition": "trip", "key": "parted"}).encode()
+    head = f"POST /sagas HTTP/1.1\r\nHost: 127.0.0.1\r\nContent-Type: application/json\r\nContent-Length: {len(body)}\r\n\r\n".encode()
+
+    async def asked(address: tuple[str, int], *parts: bytes) -> bytes:
+        back, there = await asyncio.open_connection(*address)
+        for part in parts:
+            there.write(part)
+            await asyncio.sleep(0.05)
+        answer = await back.readuntil(b"\r\n\r\n")
+        if answer.startswith(b"HTTP/1.1 408 "):
+            assert b"TooSlow" in await back.read()  # to the connection's end
+        there.close()
+        return answer[:13]
+
+    async def main() -> None:
+        opened = asyncio.Event()
+        with socket.create_server((host(), 0)) as listening:
+            at_work = asyncio.create_task(running.run(told, listening, opened.set))
+            await opened.wait()
+            address = listening.getsockname()
+            assert await asked(address, head) == b"HTTP/1.1 408 "
+            assert await asked(address, head, body[:-1]) == b"HTTP/1.1 408 "
+            assert await asked(address, head + body[:5], body[5:20], body[20:]) == b"HTTP/1.1 201 "
+            assert await asked(address, head + body) == b"HTTP/1.1 200 "
+            at_work.cancel()
+            await asyncio.wait([at_work])
+
+    asyncio.run(asyncio.wait_for(main(), LONG))

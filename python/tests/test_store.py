@@ -23,7 +23,7 @@ import records
 import sagas
 from cases import HOUR, Task, ended, run, simple, until
 from kills import children
-from sagas import lines, program
+from sagas import lines, program, pump, sqlite_writer
 
 
 def row(gate: asyncio.Event | None = None) -> sagas.Saga:
@@ -648,6 +648,45 @@ def test_a_file_is_synced_at_each_commit(tmp_path: pathlib.Path) -> None:
             inside: Any = store._coordinator
             assert inside.store._db.execute("PRAGMA journal_mode").fetchone() == ("wal",)
             assert inside.store._db.execute("PRAGMA synchronous").fetchone() == (2,)  # FULL
+
+    run(main())
+
+
+@pytest.mark.parametrize("at_once", [0.0, 60.0])
+def test_commits_in_the_loop_and_in_the_thread(tmp_path: pathlib.Path, monkeypatch: pytest.MonkeyPatch, at_once: float) -> None:
+    """All commits are made in the thread, or most where they are asked for: the same is kept, and the WAL is moved into the file now and then."""
+    monkeypatch.setattr(sqlite_writer, "AT_ONCE", at_once)
+    saga, most = row(), 0
+
+    async def main() -> None:
+        nonlocal most
+        async with sagas.open(tmp_path / "store.db", [saga], concurrency=600) as store:
+            ends = await asyncio.gather(*(ended(store, saga, f"k{number}") for number in range(2 * pump.LOT + 100)))
+            for number in range(400):
+                ends.append(await ended(store, saga, f"one-{number}"))
+                most = max(most, (tmp_path / "store.db-wal").stat().st_size)
+            assert all(end.ok for end in ends)
+            assert all(said.startswith("yes") for said in (await store.audit()).values())
+
+    run(main())
+    assert most < 16 << 20
+
+
+def test_a_commit_in_the_loop_waits_for_nobody(tmp_path: pathlib.Path, monkeypatch: pytest.MonkeyPatch) -> None:
+    """While another program writes the file, the loop goes on, and the commit is made when that is over."""
+    monkeypatch.setattr(sqlite_writer, "AT_ONCE", 60.0)
+    saga = simple(lambda task: 1)
+
+    async def main() -> None:
+        async with sagas.open(tmp_path / "store.db", [saga]) as store:
+            for number in range(3):
+                await ended(store, saga, f"k{number}")
+            with locked(str(tmp_path / "store.db")):
+                going = asyncio.ensure_future(ended(store, saga, "more"))
+                before = time.perf_counter()
+                done, _ = await asyncio.wait([going], timeout=0.3)
+                assert not done and time.perf_counter() - before < 2
+            assert (await going).ok
 
     run(main())
 

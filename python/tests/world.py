@@ -294,6 +294,7 @@ async def main(words: argparse.Namespace) -> None:
         except asyncio.CancelledError:
             print("closing", flush=True)
         approving.cancel()
+    asyncio.get_running_loop().remove_signal_handler(signal.SIGTERM)  # a loop that closes would complain of one that comes now
 
 
 def is_unexpected(record: logging.LogRecord) -> bool:

@@ -1,6 +1,7 @@
 -- Cases, prices, sets of steps, and right answers.
 pub mod States
 pub mod Amounts
+pub mod Limits
 pub mod Prices
 pub mod Situation
 pub mod Faults

@@ -5,7 +5,7 @@ use Rattle.saga_def.specs.declared.steps.Price.TheVariants.{Of, Never}
 use Rattle.saga_def.specs.declared.steps.Step.{Step}
 use Rattle.saga_case.specs.declared.states.StepState.{StepState}
 use Rattle.saga_case.specs.declared.states.StepState.TheVariants.{Waiting, Running, Committed, Failed, Undoing, Undone, Fixed}
-use Rattle.saga_case.specs.declared.prices.TheConstants.{MAX_STEP_PRICE}
+use Rattle.saga_case.specs.Limits.{max_step_price}
 
 -- a sum that has a never is never
 abbrev pub plus : Price → Price → Price
@@ -34,7 +34,7 @@ leave_of Undoing step = Never
 leave_of Undone step = step.skip
 leave_of Fixed step = Never
 
--- a price that is a number is at most MAX_STEP_PRICE
+-- a price that is a number is at most max_step_price
 abbrev pub IsBounded : Price → Type 0
-IsBounded (Of amount) = amount ≤ MAX_STEP_PRICE
+IsBounded (Of amount) = amount ≤ max_step_price
 IsBounded Never = Unit {0}

@@ -1,15 +1,17 @@
-//! Laws of least sets, of faults and of first busy steps, over the definitions alone.
+//! Laws of least sets, of faults and of first busy steps, over the definitions alone; and the number that the limit is.
 ghost use Rattle.std.specs.Prelude.{◌≡◌, ◌<◌, ℕ, length, slice_get, slice_index_or, IfSome, IsTrue, false};
 ghost use Rattle.saga_def.specs.declared.steps.Price.TheVariants.{Never};
 ghost use Rattle.saga_def.specs.Contents.{Contents};
 ghost use Rattle.saga_def.specs.Order.{Steps};
 ghost use Rattle.saga_case.specs.Free.{IsFree, none};
 ghost use Rattle.saga_case.specs.Laws.{HasNoBusy, HasNoFault, HasNoLeast, HasOneFault, HasOneFirstBusy, HasOneLeastCost};
+ghost use Rattle.saga_case.specs.Limits.{max_step_price};
 ghost use Rattle.saga_case.specs.Members.{AllowedSets, HasEach, HasNone};
 ghost use Rattle.saga_case.specs.Terms.{Terms, terms_of, IsAllowed, IsLeast};
 ghost use Rattle.saga_case.specs.declared.states.StepState.TheVariants.{Committed, Failed, Fixed, Undone, Waiting};
 
 use crate::cases::Case;
+use crate::prices::MAX_STEP_PRICE;
 use crate::states::StepState;
 
 /// Backward recovery: where no price is above 0 or never and no compensation failed for good, the empty set is least.
@@ -62,4 +64,9 @@ pub fn fault_laws(states: &Vec<StepState>)
 pub fn least_laws()
     ensures cost { (t : Terms) → HasOneLeastCost t }
     ensures none { (t : Terms) → HasNoLeast t }
+{}
+
+/// The constant is the number that the bound on prices names.
+pub fn limit_laws()
+    ensures { MAX_STEP_PRICE ≡ max_step_price }
 {}

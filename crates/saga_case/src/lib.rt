@@ -34,7 +34,7 @@ pub use answers::{Answer, Plan};
 pub use cases::{Case, CaseFault};
 pub use laws::{
     begins_nothing_once_aborted, fault_laws, keeps_to_the_states, keeps_what_cannot_be_undone,
-    least_laws, leaves_all_out_for_free,
+    least_laws, leaves_all_out_for_free, limit_laws,
 };
 pub use lists::{Chain, Marks};
 pub use prices::MAX_STEP_PRICE;

@@ -1,3 +1,4 @@
 pub mod KeptLemmas
 pub mod FaultLemmas
 pub mod FormLemmas
+pub mod LawLemmas

@@ -4,3 +4,4 @@ pub mod Answers
 pub mod Cases
 pub mod WrittenCases
 pub mod Reads
+pub mod Laws

@@ -8,11 +8,13 @@
 mod answers;
 mod cases;
 mod kept;
+mod laws;
 mod states;
 mod texts;
 mod written_answers;
 mod written_cases;
 
 pub use answers::answer_of_value;
+pub use laws::reading_laws;
 pub use texts::{read_answer, read_case, write_answer, write_case};
 pub use written_answers::value_of_answer;

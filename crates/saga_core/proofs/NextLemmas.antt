@@ -18,7 +18,7 @@ use Rattle.saga_rows.specs.declared.tasks.RowTask.TheVariants as row
 use Rattle.saga_rows.specs.Row.{IsFirstOfRow, Row, RowAllows, RowAllowsNone, task_step}
 use Rattle.saga_rows.specs.Rows.{IsNext, row_at}
 use Rattle.saga_rows.proofs.FollowLemmas.{may_from, plan_from, plan_into}
-use Rattle.saga_rows.specs.declared.rows.TheConstants.{MAX_ROWS}
+use Rattle.saga_rows.specs.Limits.{max_rows}
 use Rattle.saga_core.specs.Book.{IsBook, number}
 use Rattle.saga_core.specs.Journal.{Journal}
 use Rattle.saga_core.specs.Tasks.{AllRest, IsFirstTask, IsFirstTaskFrom, NoTaskIsAllowed, NoTaskIsAllowedFrom, row_task, saga_of_task, step_of_task, task_of}
@@ -139,11 +139,11 @@ module _ (shelf : List Contents) (first stride : ℕ) (rows : List Row) (j : Jou
         ];
   }
 
-  pub from_small : (k : ℕ) (t : RowTask) → k < length rows → saga_of_task (task_of (number first stride k) t) < 16 * (MAX_ROWS + 1)
+  pub from_small : (k : ℕ) (t : RowTask) → k < length rows → saga_of_task (task_of (number first stride k) t) < 16 * (max_rows + 1)
   from_small k t lt =
       let own = saga_same t (number first stride k) in
-      let few : k ≤ MAX_ROWS = omega (arith, lt, b.few) in
-      let many : k * stride ≤ MAX_ROWS * 16 = mul-le-mul few b.near in
+      let few : k ≤ max_rows = omega (arith, lt, b.few) in
+      let many : k * stride ≤ max_rows * 16 = mul-le-mul few b.near in
       omega (arith, own.0, many, b.begins, b.near)
 
   -- a task is allowed where its row allows it, and none is of a saga without a row

@@ -14,7 +14,7 @@ use Rattle.saga_history.specs.Turns.{opened_with}
 use Rattle.saga_rows.specs.Follows.{Follows}
 use Rattle.saga_rows.specs.Row.{Row}
 use Rattle.saga_rows.specs.Rows.{row_at}
-use Rattle.saga_rows.specs.declared.rows.TheConstants.{MAX_ROWS}
+use Rattle.saga_rows.specs.Limits.{max_rows}
 use Rattle.saga_core.specs.Journal.{Journal}
 
 -- the definitions on its shelf, how it numbers its sagas, and what happened
@@ -60,6 +60,6 @@ pub record IsBook (shelf : List Contents) (first stride : ℕ) (rows : List Row)
   pub numbered : IsNumbered first stride journal.history
   pub room : sum_by busy_in rows ≤ journal.owed
   pub room_for_plans : sum_by plans_in rows ≤ journal.plans
-  pub few : length rows ≤ MAX_ROWS
+  pub few : length rows ≤ max_rows
   pub begins : first < stride
   pub near : stride ≤ 16

@@ -13,7 +13,7 @@ use Rattle.saga_history.specs.Rules.{definition, IsAllowed, SagaMay, StepMay}
 use Rattle.saga_history.specs.States.{state}
 use Rattle.saga_history.specs.Tasks.{IsEndOf}
 use Rattle.saga_history.specs.Turns.{opened_with, present_case, turn}
-use Rattle.saga_rows.specs.declared.rows.TheConstants.{MAX_ROWS}
+use Rattle.saga_rows.specs.Limits.{max_rows}
 use Rattle.saga_core.specs.Book.{Book, sagas_in, with_event}
 use Rattle.saga_core.specs.declared.refusals.AdoptRefusal.{AdoptRefusal}
 use Rattle.saga_core.specs.declared.refusals.AdoptRefusal.TheVariants as adopt
@@ -39,8 +39,8 @@ OfSaga shelf h i P = IsSomeAnd (definition shelf (changes i h)) (λ d. P d (chan
 -- why no saga is opened; the first cause that applies
 abbrev pub OpenRefused : List Contents → List Event → ℕ → OpenRefusal → Type 0
 OpenRefused shelf h k opening.NoSuchDefinition = length shelf ≤ k
-OpenRefused shelf h k opening.Full = (k < length shelf) × (sagas_in h ≡ MAX_ROWS)
-OpenRefused shelf h k opening.OutOfMemory = (k < length shelf) × (sagas_in h < MAX_ROWS)
+OpenRefused shelf h k opening.Full = (k < length shelf) × (sagas_in h ≡ max_rows)
+OpenRefused shelf h k opening.OutOfMemory = (k < length shelf) × (sagas_in h < max_rows)
 
 -- why a step does not make a transition that begins something
 abbrev pub TakeRefused : List Contents → List Event → ℕ → ℕ → Transition → TakeRefusal → Type 0

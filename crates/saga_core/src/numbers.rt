@@ -3,7 +3,7 @@ ghost use Rattle.std.specs.Prelude.{ℕ, ◌≡◌, ◌<◌, ◌≤◌, ◌↔�
 ghost use Rattle.saga_core.specs.Book.{number};
 ghost use Rattle.saga_core.specs.Tasks as tasks;
 ghost use Rattle.saga_rows.specs.Row.{RowAllows};
-ghost use Rattle.saga_rows.specs.declared.rows.TheConstants.{MAX_ROWS};
+ghost use Rattle.saga_rows.specs.Limits.{max_rows};
 
 use saga_history::Task;
 use saga_rows::{Row, RowTask, Rows};
@@ -31,7 +31,7 @@ pub fn place_of(rows: &Rows, first: u32, stride: u32, saga: u32) -> Option<usize
 pub fn number_of(first: u32, stride: u32, place: usize) -> u32
     requires begins { first < stride }
     requires near { stride ≤ 16 }
-    requires few { place ≤ MAX_ROWS }
+    requires few { place ≤ max_rows }
     ensures { result ≡ number first stride place }
 {
     first + place as u32 * stride

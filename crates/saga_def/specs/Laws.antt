@@ -1,7 +1,9 @@
 -- What holds of the faults of a definition, whatever its contents.
-use Rattle.std.specs.Prelude.{◌≡◌, ◌≢◌}
+use Rattle.std.specs.Prelude.{ℕ, List, length, AllPairs, ◌≡◌, ◌≢◌, ◌≤◌}
 use Rattle.saga_def.specs.Contents.{Contents}
 use Rattle.saga_def.specs.Faults.{IsFirstFault, word_of}
+use Rattle.saga_def.specs.Order.{IsCycle}
+use Rattle.saga_def.specs.Rules.{HasKnownNeeds}
 use Rattle.saga_def.specs.Sound.{IsSound}
 use Rattle.saga_def.specs.declared.faults.DefFault.{DefFault}
 use Rattle.saga_def.specs.declared.faults.DefFault.TheVariants.{OutOfMemory}
@@ -14,3 +16,11 @@ HasOneFault c =
 -- sound contents have no fault but want of memory
 abbrev pub HasNoFault : Contents → Type 0
 HasNoFault c = IsSound c → (f : DefFault) → IsFirstFault c f → f ≡ OutOfMemory
+
+-- a cycle passes no step twice
+abbrev pub CyclesRepeatNone : Contents → Type 0
+CyclesRepeatNone c = (steps : List ℕ) → IsCycle c.needs steps → AllPairs (λ (a b : ℕ). a ≢ b) steps
+
+-- and so it has at most as many steps as there are
+abbrev pub CyclesAreShort : Contents → Type 0
+CyclesAreShort c = HasKnownNeeds c → (steps : List ℕ) → IsCycle c.needs steps → length steps ≤ length c.steps

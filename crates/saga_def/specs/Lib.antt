@@ -1,4 +1,5 @@
 -- What a definition is.
+pub mod Limits
 pub mod Contents
 pub mod Order
 pub mod Rules

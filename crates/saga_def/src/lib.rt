@@ -43,7 +43,7 @@ mod texts;
 
 pub use definitions::Definition;
 pub use faults::DefFault;
-pub use laws::fault_laws;
+pub use laws::{fault_laws, limit_laws};
 pub use limits::{MAX_NAME, MAX_NEEDS, MAX_PRICE, MAX_STEPS, MAX_TRIES};
 pub use rules::is_name;
 pub use steps::{Need, Price, Step};

@@ -2,13 +2,15 @@
 use Rattle.std.specs.Prelude.{◌≡◌, ◌≢◌, ℕ, ◌<◌, List, [], Some, length, map, slice_get}
 use Rattle.saga_def.specs.Contents.{Contents}
 use Rattle.saga_history.specs.declared.events.Event.{Event}
-use Rattle.saga_history.specs.Changes.{past}
+use Rattle.saga_history.specs.declared.events.Mark.{Mark}
+use Rattle.saga_history.specs.Changes.{mark_of, past}
 use Rattle.saga_history.specs.Headline.{Headline}
 use Rattle.saga_history.specs.Merges.{IsMergeOf, IsNumbered}
 use Rattle.saga_history.specs.Rules.{IsLegal}
 use Rattle.saga_core.specs.Book.{Book}
-use Rattle.saga_desk.specs.Agreement.{Agree}
+use Rattle.saga_desk.specs.Agreement.{Agree, receipts_of}
 use Rattle.saga_desk.specs.Desk.{Desk}
+use Rattle.saga_desk.specs.Merges.{IsMerge}
 use Rattle.saga_desk.specs.Seat.{Seat}
 use Rattle.saga_desk.specs.declared.desks.finish.FinishRefused.{FinishRefused}
 use Rattle.saga_desk.specs.declared.desks.finish.FinishRefused.TheVariants.{Stranger, Missing, OutOfMemory, Torn}
@@ -56,6 +58,18 @@ MergesAreLegal shelf books = (m : List Event) → IsMergeOf (events_of books) m 
 
 abbrev pub HeadlineHolds : List Contents → List Book → Type 0
 HeadlineHolds shelf books = (m : List Event) → IsMergeOf (events_of books) m → Headline shelf (past m)
+
+-- the marks of the receipts of each seat
+abbrev pub marks_told : List Seat → List (List Mark)
+marks_told seats = map (map (λ r. r.mark)) (receipts_of seats)
+
+-- what the seats did is one legal history: a merge of the books' histories, whose marks are a merge of those that the seats'
+-- receipts tell
+pub record DidOneHistory (shelf : List Contents) (books : List Book) (seats : List Seat) : Type 0 where
+  pub history : List Event
+  pub of_books : IsMergeOf (events_of books) history
+  pub of_seats : IsMerge (marks_told seats) (map mark_of history)
+  pub legal : IsLegal shelf (past history)
 
 -- a book for each shard, of which each has a legal history, whose sagas are numbered as the book says
 pub record AreBooks (shards : ℕ) (books : List Book) : Type 0 where

@@ -6,5 +6,6 @@ pub mod Effects
 pub mod Refusals
 pub mod Merges
 pub mod Agreement
+pub mod Laws
 pub mod Rests
 pub mod Finish

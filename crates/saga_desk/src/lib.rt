@@ -21,12 +21,14 @@
 mod agreement;
 mod desks;
 mod jobs;
+mod laws;
 mod receipts;
 mod refusals;
 mod shards;
 
 pub use desks::{Desk, FinishRefused};
 pub use jobs::{Claim, Job, PlanJob};
+pub use laws::merge_law;
 pub use receipts::Receipt;
 pub use refusals::{AdoptionRefused, EndRefusal, GiveBackRefused, ReportRefused};
 pub use shards::{Seat, Shard};

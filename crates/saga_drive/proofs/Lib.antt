@@ -8,3 +8,8 @@ pub mod ReportLemmas
 pub mod PairLemmas
 pub mod LogLemmas
 pub mod StartLemmas
+pub mod DropLemmas
+pub mod RestartLawLemmas
+pub mod LegalLemmas
+pub mod ReadyLawLemmas
+pub mod QuietLemmas

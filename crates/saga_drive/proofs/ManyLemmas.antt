@@ -11,7 +11,7 @@ use Rattle.saga_drive.specs.declared.replies.Reply.{Reply}
 use Rattle.saga_drive.specs.declared.requests.Request.TheVariants as request
 use Rattle.saga_drive.specs.declared.tellings.Telling.{Telling}
 use Rattle.saga_drive.specs.Answers.{IsMet}
-use Rattle.saga_drive.specs.Begins.{AreReadBack, Begins, Begun, NextIsBegun, after}
+use Rattle.saga_drive.specs.Begins.{AreReadBack, Begins, NextIsBegun, after}
 use Rattle.saga_drive.specs.Many.{BeginInTurn}
 use Rattle.saga_drive.specs.Replies.{last_tasks_front, lines_of, text_of}
 use Rattle.saga_views.specs.Words.{listed}
@@ -50,7 +50,7 @@ in_turn_more (u ∷ tasks) t book gained more told text (one, a, rest, texts, is
       ap (λ l. l ++ text ∷ []) all_told,
     )
 
-back_both : (first rest : List Event) → AreReadBack first → AreReadBack rest → AreReadBack (first ++ rest)
+pub back_both : (first rest : List Event) → AreReadBack first → AreReadBack rest → AreReadBack (first ++ rest)
 back_both [] rest one other = other
 back_both (e ∷ first) rest one other = (one.0, back_both first rest one.1 other)
 

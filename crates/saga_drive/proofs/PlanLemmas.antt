@@ -27,7 +27,7 @@ use Rattle.saga_drive.specs.Tellings.{TellsMore, TellsSame}
 case_stays : (d : Contents) (l : List Change) → present_case d (starts_plan ∷ l) ≡ present_case d l
 case_stays d l = refl
 
-begun : (i : ℕ) (h : List Event) → changes i (past (h ++ event.StartPlan i ∷ [])) ≡ starts_plan ∷ changes i (past h)
+pub begun : (i : ℕ) (h : List Event) → changes i (past (h ++ event.StartPlan i ∷ [])) ≡ starts_plan ∷ changes i (past h)
 begun i h = ap (changes i) (past_push h (event.StartPlan i)) ∙ changes_own i (event.StartPlan i) (past h) (eq-eqb i i refl)
 
 pub holds_plan : (shelf : List Contents) (h : List Event) (i : ℕ) (case : Situation)
@@ -39,7 +39,7 @@ holds_plan shelf h i case present = rw (begun i h) (at_definition (definition sh
     at_definition None none = none
     at_definition (Some d) same = (refl, same)
 
-both : (P Q : Contents → Type 0) → ((d : Contents) → P d → Q d → ⊥) → (o : Option Contents) → IsSomeAnd o P → IsSomeAnd o Q → ⊥
+pub both : (P Q : Contents → Type 0) → ((d : Contents) → P d → Q d → ⊥) → (o : Option Contents) → IsSomeAnd o P → IsSomeAnd o Q → ⊥
 both P Q apart None p q = absurd p
 both P Q apart (Some d) p q = apart d p q
 

@@ -1,5 +1,5 @@
 -- How a task begins: which events the history gains, and what is told of it.
-use Rattle.std.specs.Prelude.{◌≡◌, ℕ, ◌∷◌, ◌++◌, [], List, Bool, true, false, codes, flat_map}
+use Rattle.std.specs.Prelude.{◌≡◌, ℕ, ◌∷◌, ◌++◌, [], List, Bool, true, false, flat_map}
 use Rattle.saga_def.specs.Contents.{Contents}
 use Rattle.saga_case.specs.Right.{IsRight}
 use Rattle.saga_case.specs.Situation.{Situation}

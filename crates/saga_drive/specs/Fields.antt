@@ -1,5 +1,5 @@
 -- What stands at the keys that a request may have.
-use Rattle.std.specs.Prelude.{ℕ, List, Bool, true, false, ◌<◌, nat_lt, Option, Some, None, Result, Ok, Err, codes, if◌then◌else◌}
+use Rattle.std.specs.Prelude.{ℕ, List, nat_lt, Option, Some, None, Result, Ok, Err, codes, if◌then◌else◌}
 use Rattle.std.specs.Str.{bytes_eq}
 use Rattle.serde_json.specs.Data.{Data, string}
 use Rattle.saga_history.specs.declared.tasks.Kind.{Kind}

@@ -11,3 +11,5 @@ pub mod Begins
 pub mod Many
 pub mod Answers
 pub mod Restarts
+pub mod Drops
+pub mod Laws

@@ -21,8 +21,10 @@
 mod answers;
 mod attempts;
 mod beginnings;
+mod drops;
 mod fields;
 mod happenings;
+mod laws;
 mod many;
 mod openings;
 mod phases;
@@ -37,6 +39,8 @@ mod verbs;
 
 pub use answers::answer;
 pub use attempts::Attempt;
+pub use drops::drop_plans;
+pub use laws::{answer_laws, restart_laws};
 pub use openings::Wanted;
 pub use replies::Reply;
 pub use requests::{MAX_REQUEST, Request, RequestFault, read_request};

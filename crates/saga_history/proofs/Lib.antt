@@ -15,3 +15,5 @@ pub mod PartLemmas
 pub mod QuestionLemmas
 pub mod LawLemmas
 pub mod TaskLemmas
+pub mod DeciderLemmas
+pub mod BoundLemmas

@@ -1,18 +1,18 @@
 -- The places of a history, one event more, and sagas by their numbers.
 use Rattle.std.proofs.Common.{◌≡◌, ℕ, suc, ◌+◌, ◌*◌, ◌%◌, ◌<◌, Bool, true, false, ◌||◌, List, [], ◌∷◌, ◌++◌, Some, None, length, take, drop, get_or, eqb, refl, sym, ap, ◌∙◌, subst, inl, inr, arith}
 use Rattle.std.specs.Prelude.{slice_get, slice_index}
-use Rattle.std.proofs.lemmas.Bool.{cases_Bool, cases_lt, ne_eqb, eqb-true}
+use Rattle.std.proofs.lemmas.Bool.{cases_Bool, cases_lt, cases_order, ne_eqb, eqb-true}
 use Rattle.std.proofs.lemmas.Nat.{mod-mul-add}
-use Rattle.std.proofs.lemmas.List.{take_more, take-append-drop}
+use Rattle.std.proofs.lemmas.List.{take_more, take-append-drop, take-take}
 use Rattle.std.proofs.lemmas.Option.{slice_get-get_or, slice_get_past}
 use Rattle.saga_def.specs.Contents.{Contents}
 use Rattle.saga_history.specs.declared.events.Event.{Event}
 use Rattle.saga_history.specs.Changes.{Change, opens, moves, starts_plan, drops_plan, adopts, aborts, saga_of, change_of, past, changes}
 use Rattle.saga_history.specs.States.{state}
 use Rattle.saga_history.specs.Turns.{opened_with, in_goal}
-use Rattle.saga_history.specs.Rules.{HasPhase, definition, IsLegal}
+use Rattle.saga_history.specs.Rules.{HasPhase, definition, IsAllowed, IsLegal}
 use Rattle.saga_history.specs.Merges.{names_saga, is_opening, opened_sagas, IsNumbered}
-use Rattle.saga_history.specs.Parts.{EachWasAllowed, GrowsByAllowed, LeavesOtherSagas, NumberedApart}
+use Rattle.saga_history.specs.Parts.{EachWasAllowed, HasOneFirst, HasNoFirst, GrowsByAllowed, LeavesOtherSagas, NumberedApart}
 use Rattle.saga_history.proofs.SagaLemmas.{changes_own, changes_other, saga_is_legal, unopened}
 use Rattle.saga_history.proofs.MergeLemmas.{or_parts, past_push, past_append, each_below, legal_push, changes_push_other, changes_first}
 
@@ -41,6 +41,25 @@ pub each_was_allowed : (shelf : List Contents) (events : List Event) → IsLegal
 each_was_allowed shelf events legal = λ place event here.
     let both : IsLegal shelf (event ∷ past (take place events)) = subst (IsLegal shelf) (past_more events place event here) (legal_below shelf events (place + 1) legal) in
     record { allowed = both.0; before = both.1 }
+
+-- of a legal beginning each event was allowed
+allowed_below : (shelf : List Contents) (events : List Event) (p q : ℕ) (e : Event) → p < q → slice_get events p ≡ Some e → IsLegal shelf (past (take q events)) → IsAllowed shelf (past (take p events)) e
+allowed_below shelf events p q e below here legal =
+    let shorter : IsLegal shelf (past (take (p + 1) (take q events))) = legal_below shelf (take q events) (p + 1) legal in
+    let same : take (p + 1) (take q events) ≡ take (p + 1) events = take-take (p + 1) q events (omega (arith, below)) in
+    let grown : past (take (p + 1) (take q events)) ≡ e ∷ past (take p events) = ap past same ∙ past_more events p e here in
+    let both : IsLegal shelf (e ∷ past (take p events)) = subst (IsLegal shelf) grown shorter in
+    both.0
+
+pub has_one_first : (shelf : List Contents) (events : List Event) → HasOneFirst shelf events
+has_one_first shelf events = λ p q first other. elim (cases_order p q) [
+  | inl same ↦ same
+  | inr (inl below) ↦ absurd (first.refused (allowed_below shelf events p q first.event below first.here other.before))
+  | inr (inr below) ↦ absurd (other.refused (allowed_below shelf events q p other.event below other.here first.before))
+]
+
+pub has_no_first : (shelf : List Contents) (events : List Event) → HasNoFirst shelf events
+has_no_first shelf events = λ legal p first. let was = each_was_allowed shelf events legal p first.event first.here in first.refused was.allowed
 
 pub grows_by_allowed : (shelf : List Contents) (events : List Event) → GrowsByAllowed shelf events
 grows_by_allowed shelf events = λ e legal allowed. legal_push shelf events e legal allowed

@@ -13,3 +13,5 @@ pub mod Plans
 pub mod Parts
 pub mod Follower
 pub mod Laws
+pub mod Deciders
+pub mod Bounds

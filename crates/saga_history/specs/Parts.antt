@@ -26,6 +26,15 @@ pub record IsFirstNotAllowed (shelf : List Contents) (events : List Event) (plac
   pub before : IsLegal shelf (past (take place events))
   pub refused : IsAllowed shelf (past (take place events)) event → ⊥
 
+-- no two places are the first one
+abbrev pub HasOneFirst : List Contents → List Event → Type 0
+HasOneFirst shelf events =
+    (p q : ℕ) → IsFirstNotAllowed shelf events p → IsFirstNotAllowed shelf events q → p ≡ q
+
+-- a legal history has no such place
+abbrev pub HasNoFirst : List Contents → List Event → Type 0
+HasNoFirst shelf events = IsLegal shelf (past events) → (p : ℕ) → IsFirstNotAllowed shelf events p → ⊥
+
 -- a legal history and an event that is allowed after it make a legal history
 abbrev pub GrowsByAllowed : List Contents → List Event → Type 0
 GrowsByAllowed shelf events =

@@ -6,11 +6,13 @@ ghost use Rattle.saga_history.specs.Rules.{IsLegal};
 ghost use Rattle.saga_history.specs.Headline.{Headline};
 ghost use Rattle.saga_history.specs.Tallies.{AllAreTallied};
 ghost use Rattle.saga_history.specs.Counts.{AllHaveFewEvents};
+ghost use Rattle.saga_history.specs.Bounds.{BoundsAreReached};
 ghost use Rattle.saga_history.specs.Progress.{AllEndedOrWait};
 ghost use Rattle.saga_history.specs.Plans.{PlansLeaveAWay};
 ghost use Rattle.saga_history.specs.Parts as parts;
 ghost use Rattle.saga_def.specs.Contents.{Contents};
 ghost use Rattle.saga_history.specs.Changes.{Change};
+ghost use Rattle.saga_history.specs.Deciders as deciders;
 ghost use Rattle.saga_history.specs.Laws.{AdoptionsSettle, GoalIsClosed, GoalIsKept, HasOnePhase, OthersAreUndone, UndoneInOrder};
 
 use crate::events::Event;
@@ -35,8 +37,9 @@ pub fn headline(shelf: &[Definition], history: &[Event])
     are_sound(shelf);
 }
 
-/// What else holds of each saga of a legal history: what its states tell of its events; how many events it has; where
-/// it stands when nothing may begin in it; and that a compensation that fails for good does not by itself make it stuck.
+/// What else holds of each saga of a legal history: what its states tell of its events; how many events it has, with an
+/// example in which each bound is reached; where it stands when nothing may begin in it; and that a compensation that
+/// fails for good does not by itself make it stuck.
 #[tactic(auto, using(crate::proofs::TallyLemmas::all_are_tallied, crate::proofs::CountLemmas::all_have_few_events, crate::proofs::ProgressLemmas::all_ended_or_wait, crate::proofs::PlanLemmas::plans_leave_a_way))]
 pub fn saga_laws(shelf: &[Definition], history: &[Event])
     ensures tallied { IsLegal shelf.now (past history.now)
@@ -47,13 +50,15 @@ pub fn saga_laws(shelf: &[Definition], history: &[Event])
         → AllEndedOrWait shelf.now (past history.now) }
     ensures goes_on { IsLegal shelf.now (past history.now)
         → PlansLeaveAWay shelf.now (past history.now) }
+    ensures reached { BoundsAreReached }
 {
     are_sound(shelf);
 }
 
 /// How a history is made of its events: the event at each place of a legal one was allowed after those before it, which
 /// are a legal history too; and with an event that is allowed it stays legal. An event adds one change to its saga and
-/// leaves every other one as it was, and the history is legal exactly where each saga's part of it is.
+/// leaves every other one as it was, and the history is legal exactly where each saga's part of it is. At most one place
+/// is the first whose event is not allowed, and of a legal history none is.
 #[tactic(auto, using(crate::proofs::PartLemmas::grows_by_allowed, crate::proofs::PartLemmas::leaves_other_sagas, crate::proofs::MergeLemmas::adds_one_change))]
 pub fn history_laws(shelf: &[Definition], history: &[Event])
     ensures places { IsLegal shelf.now (past history.now)
@@ -62,6 +67,18 @@ pub fn history_laws(shelf: &[Definition], history: &[Event])
     ensures grows { parts.GrowsByAllowed shelf.now history.now }
     ensures others { parts.LeavesOtherSagas shelf.now history.now }
     ensures sagas { parts.IsLegalBySagas shelf.now history.now }
+    ensures first { parts.HasOneFirst shelf.now history.now }
+    ensures none { parts.HasNoFirst shelf.now history.now }
+{}
+
+/// What decides, whatever came after: whose turn it is, the last change that decides a turn; what the goal is, the last
+/// plan that was adopted; what a saga was opened with, its last opening. And the sagas that a history opens are those of
+/// its openings, in order.
+pub fn change_laws(history: &[Event])
+    ensures turn { deciders.LastDecidesTurn }
+    ensures goal { deciders.LastDecidesGoal }
+    ensures opened { deciders.LastOpens }
+    ensures openings { deciders.OpensByOpenings history.now }
 {}
 
 /// What histories have to do with each other: what is allowed in a saga depends on its own changes alone; a merge of

@@ -19,7 +19,9 @@ mod turns;
 pub use adopted::Adopted;
 pub use events::{Event, Mark};
 pub use follower::{first_not_allowed, phase_of};
-pub use laws::{are_sound, headline, headline_parts, history_laws, merge_laws, saga_laws};
+pub use laws::{
+    are_sound, change_laws, headline, headline_parts, history_laws, merge_laws, saga_laws,
+};
 pub use questions::{
     goal_contains, is_aborted, is_in_goal, next_aborted, next_opened, next_turn, opened_with,
     state_of, times, turn_of,

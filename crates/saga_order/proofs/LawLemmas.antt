@@ -9,7 +9,7 @@ use Rattle.saga_def.specs.Contents.{Contents}
 use Rattle.saga_def.specs.Sound.{IsSound}
 use Rattle.saga_order.specs.Shape.{Shape, shape_of, IsOrdered}
 use Rattle.saga_order.specs.Rank.{IsRank}
-use Rattle.saga_order.specs.Laws.{StepsAreRanked, RanksRise, SetsHaveFirst, SetsHaveLast}
+use Rattle.saga_order.specs.Laws.{StepsAreRanked, RanksRise, SetsHaveFirst, SetsHaveLast, FirstsShareRank, LastsShareRank}
 use Rattle.saga_order.specs.TopologicalOrder.{is_marked}
 use Rattle.saga_order.proofs.ListLemmas.{none_in, contains_head, contains_tail, contains_cases}
 use Rattle.saga_order.proofs.RankLemmas.{longer, none_on}
@@ -278,6 +278,18 @@ sets_have_last shape ordered chosen s below in_set =
       needed_by_none = λ b direct member.
           found.2 b (known_step shape.needs shape.count b found.0 ordered.known direct, member) (lower_direct shape ordered b found.0 direct);
     }
+
+pub firsts_share_rank : (shape : Shape) → FirstsShareRank shape
+firsts_share_rank shape chosen one other i j of_one of_other =
+    let up : i ≤ j = one.lowest other.first i j other.within other.in_set of_one of_other in
+    let down : j ≤ i = other.lowest one.first j i one.within one.in_set of_other of_one in
+    omega arith
+
+pub lasts_share_rank : (shape : Shape) → LastsShareRank shape
+lasts_share_rank shape chosen one other i j of_one of_other =
+    let up : i ≤ j = other.highest one.last i j one.within one.in_set of_one of_other in
+    let down : j ≤ i = one.highest other.last j i other.within other.in_set of_other of_one in
+    omega arith
 
 -- the order of a sound definition
 pub ordered_from_sound : (c : Contents) → IsSound c → IsOrdered (shape_of c)

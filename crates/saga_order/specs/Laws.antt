@@ -1,5 +1,5 @@
 -- What holds of ranks and of sets of steps, whatever the definition.
-use Rattle.std.specs.Prelude.{ℕ, IsTrue, ◌<◌, ◌≤◌}
+use Rattle.std.specs.Prelude.{ℕ, IsTrue, ◌≡◌, ◌<◌, ◌≤◌}
 use Rattle.saga_def.specs.Order.{NeedsDirectly, Steps}
 use Rattle.saga_order.specs.Shape.{Shape}
 use Rattle.saga_order.specs.Rank.{IsRank}
@@ -35,3 +35,13 @@ SetsHaveFirst shape = (set : Steps) (s : ℕ) → s < shape.count → IsTrue (se
 
 abbrev pub SetsHaveLast : Shape → Type 0
 SetsHaveLast shape = (set : Steps) (s : ℕ) → s < shape.count → IsTrue (set s) → HasLast shape set
+
+-- of one set of steps, all first members have one rank
+abbrev pub FirstsShareRank : Shape → Type 0
+FirstsShareRank shape =
+    (set : Steps) (one other : HasFirst shape set) (i j : ℕ) → IsRank shape.needs one.first i → IsRank shape.needs other.first j → i ≡ j
+
+-- and so have all last ones
+abbrev pub LastsShareRank : Shape → Type 0
+LastsShareRank shape =
+    (set : Steps) (one other : HasLast shape set) (i j : ℕ) → IsRank shape.needs one.last i → IsRank shape.needs other.last j → i ≡ j

@@ -1,6 +1,6 @@
 -- What an order knows of a definition.
 use Rattle.std.specs.Prelude.{ℕ, List, length, ◌≤◌}
-use Rattle.saga_def.specs.declared.limits.TheConstants.{MAX_STEPS}
+use Rattle.saga_def.specs.Limits.{max_steps}
 use Rattle.saga_def.specs.declared.steps.Need.{Need}
 use Rattle.saga_def.specs.Contents.{Contents}
 use Rattle.saga_def.specs.Order.{IsAcyclic}
@@ -20,6 +20,6 @@ shape_of c = shape (length c.steps) c.needs
 
 -- what each definition keeps: few steps, needs between these alone, and none that precedes itself
 pub record IsOrdered (s : Shape) : Type 0 where
-  pub few : s.count ≤ MAX_STEPS
+  pub few : s.count ≤ max_steps
   pub known : AreKnown s.needs s.count
   pub acyclic : IsAcyclic s.needs

@@ -5,7 +5,7 @@ use Rattle.std.specs.List.{count_by}
 use Rattle.std.proofs.lemmas.Bool.{cases_eq, cases_lt, eq-eqb, eqb-true, false≢true}
 use Rattle.std.proofs.lemmas.List.{length-set, get_or-set_same, get_or-set_other, get_or_past, length_push, get_or_push, get_or_append_left}
 use Rattle.std.proofs.lemmas.List.Sums.{sum_by-cons, sum_by-set, sum_by_push, get_or-le-sum_by, count_by-le-length}
-use Rattle.saga_rows.specs.declared.rows.TheConstants.{MAX_ROWS}
+use Rattle.saga_rows.specs.Limits.{max_rows}
 use Rattle.saga_rows.specs.Row.{Row, RowAllowsNone, mark_at, one_if}
 use Rattle.saga_rows.specs.Rows.{AreMarked, AreRows, IsCountBut, IsMarkOf, is_open, is_over, no_row, row_at}
 
@@ -32,7 +32,7 @@ but_one rows marks i row old =
       past = λ k le. old.past k (omega (arith, le, long));
     }
 
-pub but_new : (rows : List Row) (marks : List Bool) (row : Row) → length rows < MAX_ROWS → length rows < length marks → AreMarked rows marks (length rows) → AreMarked (rows ++ row ∷ []) marks (length rows)
+pub but_new : (rows : List Row) (marks : List Bool) (row : Row) → length rows < max_rows → length rows < length marks → AreMarked rows marks (length rows) → AreMarked (rows ++ row ∷ []) marks (length rows)
 but_new rows marks row few room old =
     let long : length (rows ++ row ∷ []) ≡ length rows + 1 = length_push rows row in
     record {
@@ -112,7 +112,7 @@ one_if_few : (b : Bool) → one_if b ≤ 1
 one_if_few true = omega arith
 one_if_few false = omega arith
 
-pub count_room : (rows : List Row) (i : ℕ) (was : Bool) (count : ℕ) → IsCountBut rows i was count → length rows ≤ MAX_ROWS → count ≤ 65535
+pub count_room : (rows : List Row) (i : ℕ) (was : Bool) (count : ℕ) → IsCountBut rows i was count → length rows ≤ max_rows → count ≤ 65535
 count_room rows i was count but few = omega (arith, but, one_if_few was, count_by-le-length is_open rows)
 
 pub count_push : (rows : List Row) (row : Row) → count_by is_open (rows ++ row ∷ []) ≡ count_by is_open rows + one_if (is_open row)

@@ -4,7 +4,7 @@ use Rattle.std.specs.List.{count_by}
 use Rattle.saga_history.specs.declared.turns.Turn.{Turn}
 use Rattle.saga_history.specs.declared.turns.Turn.TheVariants.{Going, Draining, Planning, Stuck}
 use Rattle.saga_rows.specs.declared.tasks.RowTask.{RowTask}
-use Rattle.saga_rows.specs.declared.rows.TheConstants.{MAX_ROWS}
+use Rattle.saga_rows.specs.Limits.{max_rows}
 use Rattle.saga_rows.specs.Row.{Row, RowAllows, RowAllowsNone, IsFirstOfRow, mark_at, one_if}
 use Rattle.saga_rows.specs.Tables.{unfinished_in}
 
@@ -35,8 +35,8 @@ pub record IsMarkOf (row : Row) (mark : Bool) : Type 0 where
 -- the marks of all rows but one are right, and there is none past them; there is room for one row more at most
 pub record AreMarked (rows : List Row) (marks : List Bool) (but : ℕ) : Type 0 where
   pub sized : length rows ≤ length marks
-  pub tight : length marks ≤ MAX_ROWS + 1
-  pub few : length rows ≤ MAX_ROWS
+  pub tight : length marks ≤ max_rows + 1
+  pub few : length rows ≤ max_rows
   pub each : (i : ℕ) → i < length rows → (i ≡ but → ⊥) → IsMarkOf (row_at rows i) (mark_at marks i)
   pub past : (i : ℕ) → length rows ≤ i → mark_at marks i ≡ false
 

@@ -7,10 +7,12 @@
 mod bit_sets;
 mod counts;
 mod decisions;
+mod laws;
 mod row;
 mod rows;
 mod tasks;
 
+pub use laws::limit_laws;
 pub use row::Row;
 pub use rows::{MAX_ROWS, Rows};
 pub use tasks::RowTask;

@@ -1,6 +1,7 @@
 //! The rows of several sagas, and the first task of all.
 ghost use Rattle.std.specs.Prelude.{ℕ, Bool, List, ◌≡◌, ◌<◌, ◌≤◌, ◌++◌, ◌∷◌, [], ◌↔◌, true, IsTrue, IfOk, IfErr, MatchOption, length, slice_set};
 ghost use Rattle.std.specs.List.{count_by};
+ghost use Rattle.saga_rows.specs.Limits.{max_rows};
 ghost use Rattle.saga_rows.specs.Row.{Row, RowAllowsNone, new_row, row_turning, row_after, row_adopting, row_aborting, HasRoom, FitsIn};
 ghost use Rattle.saga_rows.specs.Rows.{AreMarked, IsCountBut, IsMarkOf, IsNext, is_open, is_over, row_at};
 
@@ -58,7 +59,7 @@ fn mark(rows: &[Row], tasks: &mut BitSet, i: usize)
 /// The count of open rows after one row changed.
 fn recount(rows: &[Row], open_rows: usize, i: usize, was: bool) -> usize
     requires within { i < length rows.now }
-    requires few { length rows.now ≤ MAX_ROWS }
+    requires few { length rows.now ≤ max_rows }
     requires counted { IsCountBut rows.now i was open_rows }
     ensures { result ≡ count_by is_open rows.now }
 {
@@ -93,7 +94,7 @@ impl<'d> Rows<'d> {
     /// A row more, for a saga in which nothing has happened. All its memory is taken here; where some is refused, the
     /// rows are as before.
     pub fn open(&mut self, alloc: Global, definition: &'d Definition) -> Result<(), AllocError>
-        requires { length self.old < MAX_ROWS }
+        requires { length self.old < max_rows }
         ensures ok { IfOk result (λ _. self.new ≡ self.old ++ new_row definition.now ∷ []) }
         ensures err { IfErr result (λ _. self.new ≡ self.old) }
     {

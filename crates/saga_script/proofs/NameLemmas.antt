@@ -5,7 +5,7 @@ use Rattle.std.specs.List.{list_all}
 use Rattle.std.proofs.lemmas.Bool.{false≢true, false_from_ne_true, cases_lt}
 use Rattle.std.proofs.lemmas.List.{get_or_past}
 use Rattle.std.proofs.lemmas.List.Sums.{AllPass-from_list_all, list_all-from_AllPass}
-use Rattle.saga_def.specs.declared.limits.TheConstants.{MAX_NAME}
+use Rattle.saga_def.specs.Limits.{max_name}
 use Rattle.std.proofs.lemmas.Bool.Decides.{nat_tests}
 use Rattle.std.proofs.lemmas.Str.{IsUtf8-from_ascii}
 use Rattle.saga_def.specs.Rules.{IsName, is_letter, is_name_byte}
@@ -23,7 +23,7 @@ pub name-test : (text : List ℕ) → IsName text → is_name text ≡ true
 unfolding is_name
 name-test text name =
     let some : nat_lt 0 (length text) ≡ true = (let h = name.some in grind (arith, nat_tests)) in
-    let short : nat_le (length text) MAX_NAME ≡ true = (let h = name.short in grind (arith, nat_tests)) in
+    let short : nat_le (length text) max_name ≡ true = (let h = name.short in grind (arith, nat_tests)) in
     let first : is_letter (slice_index text 0) ≡ true = name.first in
     let bytes : list_all is_name_byte text ≡ true = list_all-from_AllPass is_name_byte text name.bytes in
     rw (some, short, first, bytes) refl
@@ -32,10 +32,10 @@ pub test-name : (text : List ℕ) → is_name text ≡ true → IsName text
 unfolding is_name
 test-name text test =
     let some = both (nat_lt 0 (length text)) test in
-    let short = both (nat_le (length text) MAX_NAME) some.1 in
+    let short = both (nat_le (length text) max_name) some.1 in
     let first = both (is_letter (slice_index text 0)) short.1 in
     let is_some : nat_lt 0 (length text) ≡ true = some.0 in
-    let is_short : nat_le (length text) MAX_NAME ≡ true = short.0 in
+    let is_short : nat_le (length text) max_name ≡ true = short.0 in
     record {
       some = grind (arith, nat_tests);
       short = grind (arith, nat_tests);

@@ -10,7 +10,7 @@ use Rattle.saga_script.specs.declared.endings.Ending.{Ending}
 use Rattle.saga_script.specs.declared.endings.Ending.TheVariants.{Done}
 use Rattle.saga_script.specs.declared.faults.ScriptFault.{ScriptFault}
 use Rattle.saga_script.specs.declared.faults.ScriptFault.TheVariants.{TooLong, BadLine, OutOfMemory}
-use Rattle.saga_script.specs.declared.limits.TheConstants.{MAX_SCRIPT}
+use Rattle.saga_script.specs.Limits.{max_script}
 use Rattle.saga_script.specs.declared.scripts.Script.{Script}
 use Rattle.saga_script.specs.Statements.{Statement, statement_of}
 use Rattle.saga_script.specs.Questions.{Question, question, names, ending_or_done, ending_of}
@@ -94,13 +94,13 @@ fault_there text fault h = by (said_in text) (sym (told-text any_question text) 
     by (Ok statements) e = absurd (ok_apart (sym e))
     by (Err other) e = let same : other ≡ fault = cc in ap Err same
 
-within_limit : (text : List ℕ) → length text ≤ MAX_SCRIPT → statements_of text ≡ said_in text
+within_limit : (text : List ℕ) → length text ≤ max_script → statements_of text ≡ said_in text
 within_limit text short =
-    let test : nat_lt MAX_SCRIPT (length text) ≡ false = grind (arith, nat_tests) in
+    let test : nat_lt max_script (length text) ≡ false = grind (arith, nat_tests) in
     rw test refl
 
 -- where the table tells what the lines tell of each question, the script is that of the text
-pub reads : (text : List ℕ) (result : Result Script ScriptFault) → length text ≤ MAX_SCRIPT
+pub reads : (text : List ℕ) (result : Result Script ScriptFault) → length text ≤ max_script
     → IfOk result (λ s. (q : Question) → told_from q text ≡ Ok (ending_told s.table q))
     → IfErr result (λ fault. (q : Question) → Fails fault (told_from q text)) → ReadsScript text result
 reads text (Ok script) short ok err =

@@ -1,4 +1,5 @@
 -- Scripts, and what they tell.
+pub mod Limits
 pub mod Endings
 pub mod Statements
 pub mod Questions

@@ -3,7 +3,7 @@ use Rattle.std.specs.Prelude.{ℕ, ◌+◌, ◌≡◌, List, [], ◌∷◌, leng
 use Rattle.saga_bytes.specs.Lines.{lines_of}
 use Rattle.saga_script.specs.declared.faults.ScriptFault.{ScriptFault}
 use Rattle.saga_script.specs.declared.faults.ScriptFault.TheVariants.{TooLong, BadLine, OutOfMemory}
-use Rattle.saga_script.specs.declared.limits.TheConstants.{MAX_SCRIPT}
+use Rattle.saga_script.specs.Limits.{max_script}
 use Rattle.saga_script.specs.declared.scripts.Script.{Script}
 use Rattle.saga_script.specs.Statements.{Statement, statement_of}
 use Rattle.saga_script.specs.Questions.{Question, ending_of}
@@ -24,7 +24,7 @@ statements_from number ((byte ∷ line) ∷ lines) =
 
 -- what a text says, or the first fault
 abbrev pub statements_of : List ℕ → Result (List Statement) ScriptFault
-statements_of text = if nat_lt MAX_SCRIPT (length text) then Err TooLong else statements_from 1 (lines_of text)
+statements_of text = if nat_lt max_script (length text) then Err TooLong else statements_from 1 (lines_of text)
 
 -- the script tells of each question what the last statement that names it says
 abbrev pub Tells : Script → List Statement → Type 0

@@ -3,7 +3,7 @@ use Rattle.std.specs.Prelude.{ℕ, ◌+◌, ◌-◌, ◌*◌, ◌==◌, List, []
 use Rattle.std.specs.List.{list_all, slice_split}
 use Rattle.std.specs.Str.{bytes_eq}
 use Rattle.saga_def.specs.Rules.{is_letter, is_name_byte}
-use Rattle.saga_def.specs.declared.limits.TheConstants.{MAX_NAME}
+use Rattle.saga_def.specs.Limits.{max_name}
 use Rattle.saga_script.specs.declared.endings.Ending.{Ending}
 use Rattle.saga_script.specs.declared.endings.Ending.TheVariants.{Done, Failed, DoneThenAbort}
 use Rattle.saga_script.specs.declared.statements.Statement.{Statement as Declared}
@@ -38,7 +38,7 @@ saga_of part = if nat_lt 0 (length part) && nat_lt (length part) 10 then number_
 -- the test of saga_def's `IsName`
 unfoldable pub is_name : List ℕ → Bool
 is_name part =
-    nat_lt 0 (length part) && (nat_le (length part) MAX_NAME
+    nat_lt 0 (length part) && (nat_le (length part) max_name
     && (is_letter (slice_index part 0) && list_all is_name_byte part))
 
 abbrev pub name_of : List ℕ → Option (List ℕ)

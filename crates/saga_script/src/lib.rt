@@ -7,10 +7,12 @@
 mod actors;
 mod endings;
 mod faults;
+mod laws;
 mod limits;
 mod scripts;
 mod statements;
 
 pub use faults::ScriptFault;
+pub use laws::limit_laws;
 pub use limits::MAX_SCRIPT;
 pub use scripts::Script;

@@ -1,7 +1,8 @@
 //! How a drive ends, and what is said of it.
-ghost use Rattle.std.specs.Prelude.{◌≡◌, [], IfOk, option_map};
+ghost use Rattle.std.specs.Prelude.{◌≡◌, ◌++◌, [], IfOk, option_map};
 ghost use Rattle.std.specs.String.{string_bytes};
-ghost use Rattle.saga_serve.specs.Drives.{cut_line, err_of, history_line, path_of, place_line, status_of};
+ghost use Rattle.saga_serve.specs.Drives.{cut_line, err_of, history_line, path_of, place_line, status_of, suffix_of};
+ghost use Rattle.saga_texts.specs.Lines.{line_feed};
 ghost use Rattle.saga_texts.specs.Outputs.{IsOutputWith};
 
 use saga_core::ReplayRefusal;
@@ -16,6 +17,8 @@ pub enum Stream {
     /// Standard input, or standard output.
     Standard,
     Log,
+    /// The file of definitions beside the log.
+    Beside,
 }
 
 /// How a drive ends.
@@ -27,6 +30,10 @@ pub enum Ending {
     /// The first definition with a fault, from 0.
     Definition { place: usize, why: TextFault },
     LogTooLong,
+    /// The first place, from 0, where the definitions are not those that are kept beside the log.
+    OtherDefinition(usize),
+    /// What stands beside the log is no file of definitions.
+    BadDefinitions,
     /// The log has lines, and does not begin with the header.
     NoHeader,
     /// The first faulty line of the log, from 1.
@@ -44,9 +51,36 @@ fn path_of<'a>(log: Option<&'a str>, stream: Stream) -> &'a str
     ensures { result.now ≡ path_of (option_map (λ s. s.now) log.entry) stream }
 {
     match (log, stream) {
-        (Some(path), Stream::Log) => path,
+        (Some(path), Stream::Log | Stream::Beside) => path,
         _ => "-",
     }
+}
+
+/// What is told behind the path.
+fn suffix_of(stream: Stream) -> &'static str
+    ensures { result.now ≡ suffix_of stream }
+{
+    match stream {
+        Stream::Beside => ".definitions",
+        _ => "",
+    }
+}
+
+/// A line on a stream.
+fn stream_line(
+    alloc: Global,
+    start: &str,
+    log: Option<&str>,
+    stream: Stream,
+) -> Result<String, AllocError>
+    ensures { IfOk result (λ text. string_bytes text
+        ≡ start.now ++ path_of (option_map (λ s. s.now) log.entry) stream ++ suffix_of stream ++ line_feed) }
+{
+    let mut line = String::from_str(alloc, start)?;
+    line.push_str(path_of(log, stream))?;
+    line.push_str(suffix_of(stream))?;
+    line.push_str("\n")?;
+    Ok(line)
 }
 
 /// A word for the event of a place.
@@ -92,20 +126,18 @@ fn err(alloc: Global, log: Option<&str>, ending: &Ending) -> Result<String, Allo
             numbered_line(alloc, "sagas: definition ", *place, ": ", why.word())
         }
         Ending::LogTooLong => String::from_str(alloc, "sagas: log: too-long\n"),
+        Ending::OtherDefinition(place) => {
+            format!(in alloc; "sagas: log: other-definition {place}\n")
+        }
+        Ending::BadDefinitions => String::from_str(alloc, "sagas: log: bad-definitions\n"),
         Ending::NoHeader => String::from_str(alloc, "sagas: log: no-header\n"),
         Ending::Line { line, why } => {
             numbered_line(alloc, "sagas: log: line ", *line, ": ", why.word())
         }
         Ending::History(why) => history_line(alloc, *why),
         Ending::Locked => String::from_str(alloc, "sagas: log: locked\n"),
-        Ending::Unreadable(stream) => {
-            let path = path_of(log, *stream);
-            format!(in alloc; "sagas: cannot read {path}\n")
-        }
-        Ending::Unwritable(stream) => {
-            let path = path_of(log, *stream);
-            format!(in alloc; "sagas: cannot write {path}\n")
-        }
+        Ending::Unreadable(stream) => stream_line(alloc, "sagas: cannot read ", log, *stream),
+        Ending::Unwritable(stream) => stream_line(alloc, "sagas: cannot write ", log, *stream),
     }
 }
 

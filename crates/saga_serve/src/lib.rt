@@ -5,6 +5,7 @@
 //! told survives. [`drive_lines`] writes no log: it shows the lines of each reply before it, for a program that keeps them.
 #![tactic(auto)]
 
+mod besides;
 mod endings;
 mod limits;
 mod lines;
@@ -17,9 +18,9 @@ mod stops;
 mod talks;
 
 pub use endings::{Ending, Stream};
-pub use limits::MAX_KEPT;
+pub use limits::{MAX_BESIDE, MAX_KEPT};
 pub use lines::drive_lines;
 pub use outside::{FileFault, KeepFault, Outside};
 pub use sides::Ahead;
-pub use starts::{drive_log, drive_texts};
+pub use starts::{LogOf, drive_log, drive_texts};
 pub use stops::Halt;

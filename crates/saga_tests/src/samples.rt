@@ -29,6 +29,8 @@ pub enum Needs {
     InARow,
     /// Each but the first needs the first.
     First,
+    /// Behind the first, each two need the last one before them.
+    Pairs,
 }
 
 /// A shelf of one definition, of so many steps, each of which, and its compensation, is tried so often.
@@ -46,6 +48,7 @@ pub fn shelf_of<R: Abort + Alloc<A = Global>>(
         let on = match needs_of {
             Needs::InARow if place > 0 => Some(place - 1),
             Needs::First if place > 0 => Some(0),
+            Needs::Pairs if place > 0 => Some((place - 1) / 2 * 2),
             _ => None,
         };
         if let Some(on) = on {

@@ -2,19 +2,21 @@
 //! there is not.
 use crate::samples::{Needs, lengths, shelf_of, told, within};
 use saga_def::Definition;
-use saga_desk::Job;
+use saga_desk::{Desk, Job, Seat};
 use saga_history::Outcome;
-use saga_work::{Actor, run_all};
+use saga_work::{Actor, Bell, Stop, run_all, work};
 use std::alloc::{Alloc, Global};
 use std::process::Abort;
 use std::sync::Wait;
 use std::sync::atomic::{AtomicU64, Ordering};
 use std::test::Fail;
 use std::thread::{self, Threads};
+use std::time::{Clock, Duration};
 
 /// Actions that wait.
 #[derive(Drop)]
-struct Waiting {
+struct Waiting<'a, R: Abort + Clock> {
+    rt: &'a R,
     /// How many actions have begun; where two sagas cross, compensations of saga 1.
     begun: AtomicU64,
     /// Each action waits until so many have begun.
@@ -26,9 +28,11 @@ struct Waiting {
     /// In place of all that, the first action of saga 0 waits until a compensation of saga 1 has begun, whose second action
     /// fails.
     crosses: bool,
+    /// Or the actions of saga 0 wait for each other in pairs, and those of other sagas last until all of them have begun.
+    in_pairs: bool,
 }
 
-impl Waiting {
+impl<R: Abort + Clock> Waiting<'_, R> {
     /// Waits until so many have begun, and answers whether they did, after so many turns at most.
     fn waits(&self, wanted: u64) -> bool {
         for _ in 0..1_000_000u32 {
@@ -39,9 +43,37 @@ impl Waiting {
         }
         false
     }
+
+    /// A step's action in pairs. The second of a pair, on which the next one rests, lasts a little longer than the first, each
+    /// time another while; so who did the first looks for something to do while the second is reported.
+    fn pair(&self, saga: u32, step: u16) {
+        if saga > 0 {
+            for _ in 0..50_000u32 {
+                if self.begun.load(Ordering::SeqCst) >= self.wanted {
+                    return;
+                }
+                thread::sleep(self.rt, Duration::from_micros(200));
+            }
+            return;
+        }
+        self.begun.fetch_add(1, Ordering::SeqCst);
+        let is_second = step % 2 == 0;
+        let wanted = step as u64 + if is_second { 1 } else { 2 };
+        for _ in 0..50_000u32 {
+            if self.begun.load(Ordering::SeqCst) >= wanted {
+                break;
+            }
+        }
+        assert!(self.rt; self.waits(wanted), "nobody comes to step {step}'s pair");
+        if is_second {
+            for _ in 0..step as u64 * 61 % 2048 {
+                self.begun.load(Ordering::SeqCst);
+            }
+        }
+    }
 }
 
-impl Actor for Waiting {
+impl<R: Abort + Clock> Actor for Waiting<'_, R> {
     ghost may = { λ a j o. Unit {0} };
 
     ghost may_abort = { λ a j. Unit {0} };
@@ -50,6 +82,10 @@ impl Actor for Waiting {
 
     fn run(&self, job: &Job<'_>) -> Outcome {
         let fails = match (self.crosses, job.saga(), job.step()) {
+            (_, saga, step) if self.in_pairs => {
+                self.pair(saga, step);
+                false
+            }
             (true, 0, 0) => !self.waits(1),
             (true, 1, 1) => true,
             (true, _, _) => false,
@@ -97,6 +133,9 @@ struct Row {
     fails: bool,
     first_alone: bool,
     crosses: bool,
+    in_pairs: bool,
+    /// How often it is run.
+    times: u32,
     ends: &'static str,
     /// How many actions have begun in the end.
     begun: u64,
@@ -115,6 +154,8 @@ const ONE: Row = Row {
     fails: false,
     first_alone: false,
     crosses: false,
+    in_pairs: false,
+    times: 1,
     ends: "books 3 0",
     begun: 1,
 };
@@ -175,6 +216,24 @@ const CROSSING: Row = Row {
     ..ONE
 };
 
+/// Two workers need each other twenty times, while the others hold an action each on shards of their own. So one of the two that finds
+/// nothing on the first shard looks at all the others before it waits, and what is reported on the first one meanwhile has to keep it
+/// from that. Where it waits all the same, the other one is left alone.
+const PAIRS: Row = Row {
+    name: "actions in pairs, each of which begins where another worker has just found nothing",
+    steps: 41,
+    needs: Needs::Pairs,
+    sagas: 15,
+    workers: 16,
+    shards: 15,
+    wanted: 41,
+    in_pairs: true,
+    times: 100,
+    ends: "books 83 83",
+    begun: 41,
+    ..ONE
+};
+
 const ROWS: &[Row] = &[
     ONE,
     TWO,
@@ -192,6 +251,7 @@ const ROWS: &[Row] = &[
     WOKEN,
     Row { shards: 2, ..WOKEN },
     WOKEN,
+    PAIRS,
     CROSSING,
     Row {
         shards: 2,
@@ -229,13 +289,16 @@ const ROWS: &[Row] = &[
     },
 ];
 
+/// How many sagas are aborted while they are planned.
+const LATE: u32 = 32;
+
 /// How a run ends.
-fn end_of<R: Abort + Threads + Wait + Sync + Alloc<A = Global>>(
+fn end_of<R: Abort + Clock + Threads + Wait + Sync + Alloc<A = Global>>(
     rt: &R,
     shelf: &[Definition],
     asks: &[u32],
     row: &Row,
-    actor: &Waiting,
+    actor: &Waiting<'_, R>,
 ) -> String {
     let workers = within(row.workers);
     let shards = within(row.shards);
@@ -246,18 +309,83 @@ fn end_of<R: Abort + Threads + Wait + Sync + Alloc<A = Global>>(
     }
 }
 
-fn check<R: Abort + Threads + Wait + Sync + Alloc<A = Global>>(rt: &R, row: &Row) {
+/// Aborts each saga that a worker has begun, a little later.
+fn abort_all<R: Abort + Clock + Wait>(
+    rt: &R,
+    desk: &Desk<'_>,
+    seat: Seat,
+    actor: &Waiting<'_, R>,
+) -> Seat {
+    let mut seat = seat;
+    for saga in 0..LATE {
+        if !actor.waits(saga as u64 + 1) {
+            break;
+        }
+        for _ in 0..saga % 16 {
+            thread::yield_now();
+        }
+        let _ = desk.abort(rt, &mut seat, saga);
+    }
+    seat
+}
+
+/// A worker runs sagas whose first action fails, and plans each of them, while the other seat aborts it: a plan that comes too
+/// late is given back, and made again.
+fn abort_while_planned<R: Abort + Clock + Threads + Wait + Sync + Alloc<A = Global>>(rt: &R) {
+    let alloc = rt.alloc();
+    let shelf = shelf_of(rt, 512, 1, Needs::InARow);
+    let (desk, mut seats) = Desk::open(alloc, &shelf, 2, 1).expect(rt, "a desk");
+    let first = seats.first_mut().expect(rt, "a seat");
+    for _ in 0..LATE {
+        let _ = desk.open_saga(rt, first, 0, 0).expect(rt, "a saga");
+    }
+    let bell = Bell::new();
+    let actor = Waiting {
+        rt,
+        begun: AtomicU64::new(0),
+        wanted: 0,
+        fails: true,
+        first_alone: false,
+        crosses: false,
+        in_pairs: false,
+    };
+    let done = thread::map_vec(
+        rt,
+        seats,
+        &|seat: Seat| -> (Seat, Option<Stop>) {
+            if seat.number() == 0 {
+                work(rt, alloc, &desk, &bell, seat, &actor)
+            } else {
+                (abort_all(rt, &desk, seat, &actor), None)
+            }
+        },
+    )
+    .expect(rt, "memory");
+    let mut back = Vec::new(alloc);
+    for (seat, stop) in done {
+        assert_eq!(rt; stop, None);
+        back.push(seat).expect(rt, "room");
+    }
+    let books = desk.finish(back).ok().expect(rt, "books");
+    for book in &books {
+        assert!(rt; book.settled());
+    }
+}
+
+fn check<R: Abort + Clock + Threads + Wait + Sync + Alloc<A = Global>>(rt: &R, row: &Row) {
     let shelf = shelf_of(rt, row.steps, 1, row.needs);
     let mut asks = vec![in rt.alloc(); 0u32; row.sagas].expect(rt, "sagas");
     if row.unknown {
         asks.push(1).expect(rt, "a saga");
     }
     let actor = Waiting {
+        rt,
         begun: AtomicU64::new(0),
         wanted: row.wanted,
         fails: row.fails,
         first_alone: row.first_alone,
         crosses: row.crosses,
+        in_pairs: row.in_pairs,
     };
     let end = end_of(rt, &shelf, &asks, row, &actor);
     assert_eq!(rt; end.as_str(), row.ends, "{}", row.name);
@@ -272,7 +400,10 @@ fn check<R: Abort + Threads + Wait + Sync + Alloc<A = Global>>(rt: &R, row: &Row
 #[test]
 fn runs(rt: HostRuntime) -> Result<(), Fail> {
     for row in ROWS {
-        check(&rt, row);
+        for _ in 0..row.times {
+            check(&rt, row);
+        }
     }
+    abort_while_planned(&rt);
     Ok(())
 }

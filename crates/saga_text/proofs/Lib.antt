@@ -2,3 +2,4 @@ pub mod Outcomes
 pub mod TreeLemmas
 pub mod NumberLemmas
 pub mod FaultLemmas
+pub mod AnswerLemmas

@@ -6,4 +6,6 @@ pub mod Format
 pub mod Faults
 pub mod Drafts
 pub mod Numbers
+pub mod Limits
 pub mod Reads
+pub mod Laws

@@ -5,7 +5,7 @@ use Rattle.saga_def.specs.Contents.{Contents}
 use Rattle.saga_def.specs.Faults.{IsFirstFault}
 use Rattle.saga_def.specs.Sound.{IsSound}
 use Rattle.saga_def.specs.declared.faults.DefFault.TheVariants.{OutOfMemory as NoMemory}
-use Rattle.saga_text.specs.declared.limits.TheConstants.{MAX_DEFINITION}
+use Rattle.saga_text.specs.Limits.{max_definition}
 use Rattle.saga_text.specs.declared.faults.TextFault.{TextFault}
 use Rattle.saga_text.specs.declared.faults.TextFault.TheVariants.{TooLong, NotToml, Def, OutOfMemory}
 use Rattle.saga_text.specs.Trees.{IsTextOf}
@@ -13,13 +13,13 @@ use Rattle.saga_text.specs.Format.{contents_of}
 
 -- the text is short enough, and holds what this reading of a tree gives
 abbrev pub Holds : List ℕ → Result Contents TextFault → Type 0
-Holds text outcome = (length text ≤ MAX_DEFINITION) × ((top : Members) × IsTextOf top text × (contents_of top ≡ outcome))
+Holds text outcome = (length text ≤ max_definition) × ((top : Members) × IsTextOf top text × (contents_of top ≡ outcome))
 
 -- the definition that the text holds, which is sound; or else the first fault, want of memory apart
 abbrev pub Reads : List ℕ → Result Contents TextFault → Type 0
 Reads text (Ok c) = Holds text (Ok c) × IsSound c
-Reads text (Err TooLong) = MAX_DEFINITION < length text
-Reads text (Err NotToml) = (length text ≤ MAX_DEFINITION) × ((top : Members) → IsTextOf top text → ⊥)
+Reads text (Err TooLong) = max_definition < length text
+Reads text (Err NotToml) = (length text ≤ max_definition) × ((top : Members) → IsTextOf top text → ⊥)
 Reads text (Err (Def NoMemory)) = ⊥
 Reads text (Err (Def fault)) = (c : Contents) × Holds text (Ok c) × IsFirstFault c fault
 Reads text (Err OutOfMemory) = Unit {0}

@@ -23,10 +23,12 @@ mod drafts;
 mod faults;
 mod keys;
 mod kinds;
+mod laws;
 mod limits;
 mod numbers;
 mod steps;
 
 pub use definitions::read_definition;
 pub use faults::TextFault;
+pub use laws::reading_laws;
 pub use limits::MAX_DEFINITION;

@@ -2,3 +2,4 @@ pub mod ListLemmas
 pub mod RunLemmas
 pub mod ShelfLemmas
 mod AuditLemmas
+mod BesideLemmas

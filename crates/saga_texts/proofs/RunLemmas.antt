@@ -1,12 +1,20 @@
--- What a script tells of the events of books.
-use Rattle.std.proofs.Common.{◌∙◌, ℕ, List, ap, sym}
+-- What a script tells of the events of books, and what their log tells.
+use Rattle.std.proofs.Common.{◌≡◌, ◌∙◌, ◌++◌, ℕ, List, [], ◌∷◌, Ok, ap, refl, sym}
+use Rattle.std.specs.List.{flat_map}
+use Rattle.saga_def.specs.Contents.{Contents}
+use Rattle.saga_history.specs.declared.events.Event.{Event}
 use Rattle.saga_history.specs.declared.events.Mark.{Mark}
 use Rattle.saga_history.specs.declared.events.Mark.TheVariants as mark
 use Rattle.saga_history.specs.declared.tasks.Outcome.{Outcome}
 use Rattle.saga_history.specs.declared.tasks.Outcome.TheVariants.{Done}
 use Rattle.saga_history.specs.declared.transitions.Transition.{Transition}
+use Rattle.saga_history.specs.Changes.{past}
+use Rattle.saga_history.specs.Merges.{IsMerge, IsMergeOf, nothing, from_first, from_second}
+use Rattle.saga_history.specs.Rules.{IsLegal}
 use Rattle.saga_core.specs.Book.{Book}
+use Rattle.saga_desk.specs.Finish.{HeadlineHolds, MergesAreLegal, events_of}
 use Rattle.saga_desk.specs.Job.{Job}
+use Rattle.saga_log.specs.Logs.{log_of as history_of}
 use Rattle.saga_script.specs.declared.scripts.Script.{Script}
 use Rattle.saga_script.specs.Endings.{outcome_of, asks_abort}
 use Rattle.saga_script.specs.Jobs.{MayAnswer, AsksAbort, IsTold, IsAbortTold, question_of}
@@ -14,6 +22,7 @@ use Rattle.saga_script.specs.Scripts.{Tells}
 use Rattle.saga_script.specs.Statements.{Statement}
 use Rattle.saga_work.specs.Answered.{IsAnswered, MayEnd, MayAbort}
 use Rattle.saga_work.specs.Asked.{AreAnswered}
+use Rattle.saga_texts.specs.Runs.{IsHeadlineLog}
 
 -- an end that may be answered, by one relation and by a weaker one
 ended : (may told : Job → Outcome → Type 0) → ((job : Job) (o : Outcome) → may job o → told job o) → (i s : ℕ) (t : Transition)
@@ -49,3 +58,23 @@ answered_told script statements books tells h = λ i b lt k e here.
     answered (MayAnswer script) (IsTold statements) (AsksAbort script) (IsAbortTold statements)
     (λ job o is. is ∙ ap outcome_of (tells (question_of job)))
     (λ job is. sym (ap asks_abort (tells (question_of job))) ∙ is) _ (h i b lt k e here)
+
+-- ---- one history after the other
+
+one_after_the_other : (a b : List Event) → IsMerge a b (a ++ b)
+one_after_the_other [] [] = nothing
+one_after_the_other [] (e ∷ b) = from_second e [] b b (one_after_the_other [] b)
+one_after_the_other (e ∷ a) b = from_first e a b (a ++ b) (one_after_the_other a b)
+
+is_merge : (books : List Book) → IsMergeOf (events_of books) (flat_map (λ (b : Book). b.history) books)
+is_merge [] = refl
+is_merge (b ∷ books) = (flat_map (λ (b : Book). b.history) books, is_merge books, one_after_the_other b.history (flat_map (λ (b : Book). b.history) books))
+
+-- the log of a run's books is read back as a legal history, of which the headline holds
+pub headline_log : (shelf : List Contents) (books : List Book) (log : List ℕ) → MergesAreLegal shelf books → HeadlineHolds shelf books
+    → (IsLegal shelf (past (flat_map (λ (b : Book). b.history) books)) → history_of log ≡ Ok (flat_map (λ (b : Book). b.history) books))
+    → IsHeadlineLog shelf log
+headline_log shelf books log legal headline back =
+    let all : List Event = flat_map (λ (b : Book). b.history) books in
+    let merge = is_merge books in
+    record { history = all; read_back = back (legal all merge); legal = legal all merge; headline = headline all merge }

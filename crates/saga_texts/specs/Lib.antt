@@ -1,6 +1,7 @@
 -- What is answered to texts.
 pub mod Texts
 pub mod Audits
+pub mod Beside
 pub mod Limits
 pub mod Lines
 pub mod Outcomes

@@ -1,5 +1,5 @@
 -- When an output shows an outcome.
-use Rattle.std.specs.Prelude.{ℕ, List, [], Ok, ◌≡◌}
+use Rattle.std.specs.Prelude.{ℕ, List, Ok, ◌≡◌}
 use Rattle.std.specs.String.{string_bytes}
 use Rattle.serde_json.specs.Written.{compact_text}
 use Rattle.saga_cert.specs.Answers.{answer_form, IsPaired}

@@ -6,7 +6,11 @@ use Rattle.saga_def.specs.Contents.{Contents}
 use Rattle.saga_text.specs.Faults.{word_of as text_word_of}
 use Rattle.saga_core.specs.Book.{Book}
 use Rattle.saga_desk.specs.Finish.{AreOfShards, HeadlineHolds, MergesAreLegal, events_of}
-use Rattle.saga_log.specs.Logs.{log_text}
+use Rattle.saga_history.specs.declared.events.Event.{Event}
+use Rattle.saga_history.specs.Changes.{past}
+use Rattle.saga_history.specs.Headline.{Headline}
+use Rattle.saga_history.specs.Rules.{IsLegal}
+use Rattle.saga_log.specs.Logs.{log_of as history_of, log_text}
 use Rattle.saga_report.specs.Reports.{IsCountedReport}
 use Rattle.saga_script.specs.declared.faults.ScriptFault.{ScriptFault}
 use Rattle.saga_script.specs.declared.faults.ScriptFault.TheVariants as bad
@@ -45,6 +49,13 @@ pub record IsRunOf (shelf : List Contents) (statements : List Statement) (shards
   pub legal : MergesAreLegal shelf books
   pub headline : HeadlineHolds shelf books
 
+-- the log is read back as a legal history, of which the headline holds
+pub record IsHeadlineLog (shelf : List Contents) (log : List ℕ) : Type 0 where
+  pub history : List Event
+  pub read_back : history_of log ≡ Ok history
+  pub legal : IsLegal shelf (past history)
+  pub headline : Headline shelf (past history)
+
 -- the texts hold a script and a shelf, they were run, and this is what the books tell
 pub record IsRan (definitions : List (List ℕ)) (script : List ℕ) (shards : ℕ) (account : Account) : Type 0 where
   pub few : length definitions ≤ max_shelf
@@ -55,6 +66,7 @@ pub record IsRan (definitions : List (List ℕ)) (script : List ℕ) (shards : �
   pub books : List Book
   pub run : IsRunOf shelf statements shards account.stopped books
   pub tells : TellsOf shelf books account.stopped account
+  pub written : IsHeadlineLog shelf (string_bytes account.log)
 
 -- a script and a shelf could be read
 pub record AreReady (definitions : List (List ℕ)) (script : List ℕ) : Type 0 where

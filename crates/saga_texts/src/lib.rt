@@ -5,6 +5,7 @@
 #![tactic(auto)]
 
 mod audits;
+mod beside;
 mod drawings;
 mod limits;
 mod outcomes;
@@ -14,6 +15,7 @@ mod shelves;
 mod texts;
 
 pub use audits::numbered_line;
+pub use beside::{definitions_file, definitions_of, first_other};
 pub use drawings::Scene;
 pub use limits::{MAX_CERTIFICATE, MAX_LOG, MAX_SHELF};
 pub use outputs::Output;

@@ -1,8 +1,11 @@
 //! What a run of texts comes to, and what is shown of it.
-ghost use Rattle.std.specs.Prelude.{◌≡◌, ◌<◌, ◌≤◌, ◌++◌, IfOk, length, map, option_map};
+ghost use Rattle.std.specs.Prelude.{◌≡◌, ◌<◌, ◌≤◌, ◌++◌, IfOk, Ok, length, map, option_map};
 ghost use Rattle.std.specs.List.{flat_map, range_with_len};
 ghost use Rattle.std.specs.String.{string_bytes};
 ghost use Rattle.saga_desk.specs.Finish.{events_of};
+ghost use Rattle.saga_history.specs.Changes.{past};
+ghost use Rattle.saga_history.specs.Rules.{IsLegal};
+ghost use Rattle.saga_log.specs.Logs.{log_of as history_of};
 ghost use Rattle.saga_report.specs.Reports.{IsCountedReport};
 ghost use Rattle.saga_texts.specs.Lines.{line_feed};
 ghost use Rattle.saga_texts.specs.Runs.{RunsTo, TellsOf, ShowsRun, err_of, log_of, out_of, script_line, status_of, status_told, stop_line};
@@ -98,7 +101,11 @@ fn report_of(
 
 /// What the books of a run tell.
 fn account_of(alloc: Global, shelf: &[Definition], run: Run<'_>) -> Result<Account, AllocError>
-    ensures { IfOk result (TellsOf shelf.now run.entry.books.items run.entry.stopped) }
+    ensures tells { IfOk result (TellsOf shelf.now run.entry.books.items run.entry.stopped) }
+    ensures read_back { IfOk result (λ account.
+        IsLegal shelf.now (past (flat_map (λ b. b.history) run.entry.books.items))
+        → history_of (string_bytes account.log)
+        ≡ Ok (flat_map (λ b. b.history) run.entry.books.items)) }
 {
     let Run { books, stopped } = run;
     let CountedReport { text, stuck } = report_of(alloc, shelf, &books)?;

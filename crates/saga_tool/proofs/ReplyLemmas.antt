@@ -1,6 +1,6 @@
 -- A command replies to its files.
 use Rattle.std.proofs.Common.{◌≡◌, ℕ, ◌-◌, ◌<◌, ◌≤◌, List, [], ◌∷◌, length, map, take, drop, get_or, slice_index_or, inl, inr, sym, subst, arith, length-drop}
-use Rattle.std.specs.Prelude.{Bool, true, false, codes, Option, Some, Result, Err}
+use Rattle.std.specs.Prelude.{Bool, true, false, codes, Option, Some, None, Result, Err}
 use Rattle.std.specs.Borrow.{Bor}
 use Rattle.std.proofs.lemmas.List.{take_all}
 use Rattle.saga_tool.specs.declared.arguments.Given.{Given}
@@ -11,12 +11,13 @@ use Rattle.saga_tool.specs.declared.files.Unread.{Unread}
 use Rattle.saga_tool.specs.declared.files.Unread.TheVariants.{Unreadable, OutOfMemory}
 use Rattle.saga_serve.specs.declared.outside.FileFault.TheVariants as file
 use Rattle.saga_texts.specs.declared.runs.RunOutput.{RunOutput}
-use Rattle.saga_serve.specs.Limits.{max_kept}
+use Rattle.saga_serve.specs.Limits.{max_beside, max_kept}
+use Rattle.saga_serve.specs.Outside.{beside}
 use Rattle.saga_tool.specs.Limits.{max_definition, max_script}
 use Rattle.saga_tool.specs.Outside.{Text, FileGives, World}
 use Rattle.saga_texts.specs.Runs.{IsRunOutput}
 use Rattle.saga_tool.specs.Responses.{IsAlone}
-use Rattle.saga_tool.specs.Program.{AreGiven, IsFirstUnreadable, IsUnreadable, RunsFiles, AuditsFiles, DrivesFiles, IsOptional, IsOptionalUnreadable, ShowsFiles, IsMisused, DrivesBy, CommandReplies, Ends, IsResponseOf, StopsBy}
+use Rattle.saga_tool.specs.Program.{AreFor, AreGiven, IsFirstUnreadable, IsKeptUnread, IsUnreadFor, IsUnreadable, RunsFiles, AuditsFiles, DrivesFiles, IsOptional, IsOptionalUnreadable, ShowsFiles, IsMisused, DrivesBy, CommandReplies, Ends, IsResponseOf, StopsBy}
 use Rattle.saga_texts.proofs.ListLemmas.{text_here}
 
 abbrev Files : Type 0
@@ -63,18 +64,18 @@ run_unread world script lines defs shards log (Unreadable response) is stops = i
 run_unread world script lines defs shards log OutOfMemory is stops = tt
 
 -- a drive, one of whose definitions cannot be read
-pub drive_unread : (world : World) (log : Option Text) (defs : List Text) (stop : Unread) → StopsBy (IsFirstUnreadable world.file_gives max_definition defs) stop
+pub drive_unread : (world : World) (log : Option Text) (defs : List Text) (stop : Unread) → StopsBy (IsUnreadFor world.file_gives log defs) stop
     → Ends (DrivesFiles world log defs) (Err stop)
 drive_unread world log defs (Unreadable response) stops = inr stops
 drive_unread world log defs OutOfMemory stops = tt
 
 -- the same where lines are shown; and one whose log cannot be read
-pub show_unread : (world : World) (from : Option Text) (defs : List Text) (stop : Unread) → StopsBy (IsFirstUnreadable world.file_gives max_definition defs) stop
+pub show_unread : (world : World) (from : Option Text) (defs : List Text) (stop : Unread) → StopsBy (IsUnreadFor world.file_gives None defs) stop
     → Ends (ShowsFiles world from defs) (Err stop)
 show_unread world from defs (Unreadable response) stops = inr stops
 show_unread world from defs OutOfMemory stops = tt
 
-pub show_unread_from : (world : World) (from : Option Text) (defs texts : List Text) (stop : Unread) → AreGiven world.file_gives max_definition defs texts
+pub show_unread_from : (world : World) (from : Option Text) (defs texts : List Text) (stop : Unread) → AreFor world.file_gives None defs texts
     → StopsBy (IsOptionalUnreadable world.file_gives from max_kept) stop → Ends (ShowsFiles world from defs) (Err stop)
 show_unread_from world from defs texts (Unreadable response) given stops = inl (texts, given, inr stops)
 show_unread_from world from defs texts OutOfMemory given stops = tt
@@ -138,3 +139,25 @@ its_response Replies ended response ends is = elim is [
   | inl e ↦ subst (Ends Replies) e ends
   | inr e ↦ subst (Ends Replies) e ends
 ]
+
+-- ---- definitions that are given, or kept beside a log
+
+pub given_for : (gives : FileGives) (log : Option Text) (defs texts : List Text) → 0 < length defs → AreGiven gives max_definition defs texts → AreFor gives log defs texts
+given_for gives None [] texts some given = absurd (omega (arith, some))
+given_for gives (Some path) [] texts some given = absurd (omega (arith, some))
+given_for gives None (def ∷ more) texts some given = given
+given_for gives (Some path) (def ∷ more) texts some given = given
+
+pub unread_for : (gives : FileGives) (log : Option Text) (defs : List Text) (response : Response) → 0 < length defs
+    → IsFirstUnreadable gives max_definition defs response → IsUnreadFor gives log defs response
+unread_for gives None [] response some unread = absurd (omega (arith, some))
+unread_for gives (Some path) [] response some unread = absurd (omega (arith, some))
+unread_for gives None (def ∷ more) response some unread = unread
+unread_for gives (Some path) (def ∷ more) response some unread = unread
+
+-- what stands beside a log cannot be read
+pub kept_unread : (gives : FileGives) (log path : Text) (stop : Unread) → path ≡ beside log
+    → StopsBy (λ response. gives path max_beside (Err file.Unreadable) × IsAlone (IsUnreadable path) response) stop → StopsBy (IsKeptUnread gives log) stop
+kept_unread gives log path (Unreadable response) is stops =
+    inl (subst (λ (p : Text). gives p max_beside (Err file.Unreadable) × IsAlone (IsUnreadable p) response) is stops)
+kept_unread gives log path OutOfMemory is stops = tt

@@ -1,6 +1,6 @@
 -- Which command words give, or which fault.
 use Rattle.std.specs.List.{starts_with}
-use Rattle.std.specs.Prelude.{Bool, List, [], ◌∷◌, true, nat_eq, if◌then◌else◌, codes, take, length, ◌≡◌, ◌≢◌, ◌<◌, ◌⊎◌}
+use Rattle.std.specs.Prelude.{Bool, List, [], ◌∷◌, true, nat_eq, if◌then◌else◌, codes, take, ◌≡◌, ◌≢◌, ◌⊎◌}
 use Rattle.clap.specs.Words.{App, Kinds, IsAmong, HasKind, fault_of, kind_of, new_app, with_rule}
 use Rattle.clap.specs.Kinds.{or_else}
 use Rattle.clap.specs.Walk.{Text}
@@ -15,12 +15,11 @@ use Rattle.saga_tool.specs.declared.words.Words.{Words}
 use Rattle.saga_tool.specs.Forms.{app_by, outline_for, word_for, rule_by}
 use Rattle.saga_tool.specs.Given.{IsGiven}
 
--- the first word names the command, and the others give its files, of which there is one at least, and its options
+-- the first word names the command, and the others give its files and its options
 pub record IsCommand (words : List Text) (found : Words) : Type 0 where
   pub rest : List Text
   pub named : words ≡ word_for found.name ∷ rest
   pub given : IsGiven (outline_for found.name) rest found.given
-  pub some : 0 < length found.given.files.items
 
 -- the first word names a command, and `clap` finds no fault among the others
 pub record IsTaken (words : List Text) : Type 0 where

@@ -85,7 +85,7 @@ outline_for Run = record {
 }
 outline_for Audit = record {
   title = codes "sagas audit";
-  arguments = argument File (codes "LOG") ∷ argument File (codes "DEF") ∷ argument Files (codes "MORE") ∷ [];
+  arguments = argument File (codes "LOG") ∷ argument Files (codes "DEF") ∷ [];
 }
 outline_for Draw = record {
   title = codes "sagas draw";
@@ -94,5 +94,5 @@ outline_for Draw = record {
 outline_for Drive = record {
   title = codes "sagas drive";
   arguments = argument Path (codes "log") ∷ argument Flag (codes "lines") ∷ argument Path (codes "from")
-      ∷ argument File (codes "DEF") ∷ argument Files (codes "MORE") ∷ [];
+      ∷ argument Files (codes "DEF") ∷ [];
 }

@@ -71,6 +71,8 @@ IsWithin limit given = IfOk given (λ text. length text ≤ limit + 1)
 abbrev pub drive_world : DriveWorld
 drive_world = record {
   log_gives = λ path limit given. IsWithin limit given;
+  beside_gives = λ path limit given. ⊤;
+  beside_made = λ path text made. ⊤;
   complains = λ text. ⊤;
 }
 

@@ -24,7 +24,9 @@ use Rattle.saga_texts.specs.Texts.{IsCheckOutput, IsPlanOutput, IsDrawOutput}
 use Rattle.saga_tool.specs.Input.{AnswersInput}
 use Rattle.saga_texts.specs.Audits.{IsAuditOutput}
 use Rattle.saga_serve.specs.Drives.{IsDriveOutput, IsLinesOutput}
-use Rattle.saga_serve.specs.Limits.{max_kept}
+use Rattle.saga_serve.specs.Limits.{max_beside, max_kept}
+use Rattle.saga_serve.specs.Outside.{beside}
+use Rattle.saga_texts.specs.Beside.{HoldsDefinitions, HoldsNone}
 use Rattle.saga_tool.specs.Responses.{IsAlone, IsLogFor}
 use Rattle.saga_texts.specs.Runs.{IsRunOutput}
 use Rattle.saga_tool.specs.Command.{IsCommand, IsWordsFault}
@@ -63,6 +65,45 @@ pub record IsFirstUnreadable (gives : FileGives) (limit : ℕ) (paths : List Tex
 abbrev pub AfterFiles : FileGives → List Text → ℕ → (List Text → Response → Type 0) → Response → Type 0
 AfterFiles gives paths limit Follows response =
     ((texts : List Text) × AreGiven gives limit paths texts × Follows texts response) ⊎ IsFirstUnreadable gives limit paths response
+
+-- one line on standard error, and status 2
+pub record IsMisused (line : Text) (output : Output) : Type 0 where
+  pub out : string_bytes output.out ≡ []
+  pub err : string_bytes output.err ≡ line ++ line_feed
+  pub status : output.status ≡ 2
+
+-- one line on standard error, and status 3
+pub record IsNoDefinitions (output : Output) : Type 0 where
+  pub out : string_bytes output.out ≡ []
+  pub err : string_bytes output.err ≡ codes "sagas: log: bad-definitions" ++ line_feed
+  pub status : output.status ≡ 3
+
+-- the file beside a log has these definitions
+abbrev pub AreKept : FileGives → Text → List Text → Type 0
+AreKept gives log texts = (found : Text) × gives (beside log) max_beside (Ok found) × HoldsDefinitions found texts
+
+-- the file beside a log cannot be read, or has no definitions, and the output says so
+abbrev pub IsKeptUnread : FileGives → Text → Response → Type 0
+IsKeptUnread gives log response =
+    (gives (beside log) max_beside (Err file.Unreadable) × IsAlone (IsUnreadable (beside log)) response)
+    ⊎ ((found : Text) × gives (beside log) max_beside (Ok found) × HoldsNone found × IsAlone IsNoDefinitions response)
+
+-- the definitions of these files; or without any, those that are kept beside the log, where there is one
+abbrev pub AreFor : FileGives → Option Text → List Text → List Text → Type 0
+AreFor gives None [] texts = ⊥
+AreFor gives (Some log) [] texts = AreKept gives log texts
+AreFor gives log (def ∷ more) texts = AreGiven gives max_definition (def ∷ more) texts
+
+-- there are none that can be read, and the output says so
+abbrev pub IsUnreadFor : FileGives → Option Text → List Text → Response → Type 0
+IsUnreadFor gives None [] response = IsAlone (IsMisused (codes "error: the argument '<DEF>' is required where no '--log <F>' is given")) response
+IsUnreadFor gives (Some log) [] response = IsKeptUnread gives log response
+IsUnreadFor gives log (def ∷ more) response = IsFirstUnreadable gives max_definition (def ∷ more) response
+
+-- the output follows from the definitions
+abbrev pub AfterDefinitions : FileGives → Option Text → List Text → (List Text → Response → Type 0) → Response → Type 0
+AfterDefinitions gives log defs Follows response =
+    ((texts : List Text) × AreFor gives log defs texts × Follows texts response) ⊎ IsUnreadFor gives log defs response
 
 -- the text of a file that may be left out: then it is empty
 abbrev pub IsOptional : FileGives → Option Text → ℕ → Text → Type 0
@@ -105,7 +146,7 @@ DrawsAnswer gives def case answer =
 -- the log before the definitions
 abbrev pub AuditsFiles : FileGives → Text → List Text → Response → Type 0
 AuditsFiles gives log defs =
-    AfterFile gives log max_log (λ history. AfterFiles gives defs max_definition (λ texts. IsAlone (IsAuditOutput history texts)))
+    AfterFile gives log max_log (λ history. AfterDefinitions gives (Some log) defs (λ texts. IsAlone (IsAuditOutput history texts)))
 
 -- the output to a run of texts, and its log, where it has one, for the file of a path, where there is one
 pub record IsRunResponse (definitions : List Text) (script : Text) (shards : ℕ) (path : Option Text) (response : Response) : Type 0 where
@@ -144,19 +185,13 @@ RunsFiles world script defs shards log =
 -- the definitions before the log, which is opened once they hold a shelf
 abbrev pub DrivesFiles : World → Option Text → List Text → Response → Type 0
 DrivesFiles world log defs =
-    AfterFiles world.file_gives defs max_definition (λ texts. IsAlone (IsDriveOutput world.drive log texts))
+    AfterDefinitions world.file_gives log defs (λ texts. IsAlone (IsDriveOutput world.drive log texts))
 
 -- the definitions before the log that is only read
 abbrev pub ShowsFiles : World → Option Text → List Text → Response → Type 0
 ShowsFiles world from defs =
-    AfterFiles world.file_gives defs max_definition (λ texts.
+    AfterDefinitions world.file_gives None defs (λ texts.
     AfterOptional world.file_gives from max_kept (λ text. IsAlone (IsLinesOutput world.drive text texts)))
-
--- one line on standard error, and status 2
-pub record IsMisused (line : Text) (output : Output) : Type 0 where
-  pub out : string_bytes output.out ≡ []
-  pub err : string_bytes output.err ≡ line ++ line_feed
-  pub status : output.status ≡ 2
 
 -- whether lines are shown, the log that is written, and that which is only read: lines are shown where no log is written, and a log is
 -- only read where lines are shown

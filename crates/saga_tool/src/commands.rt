@@ -2,10 +2,10 @@
 ghost use Rattle.std.specs.Prelude.{◌≡◌, ◌<◌, ◌≤◌, ◌^◌, IfErr, IfOk, false, map, option_map, true};
 ghost use Rattle.saga_tool.specs.Command.{IsCommand};
 ghost use Rattle.saga_tool.specs.Limits.{max_number};
-ghost use Rattle.saga_tool.specs.Program.{ChecksFiles, PlansFiles, DrawsDefinition, DrawsCase, DrawsAnswer, RunsFiles, IsFree, IsHeld, IsLocked, AuditsFiles, DrivesFiles, DrivesBy, ShowsFiles, IsMisused, IsOptional, IsOptionalUnreadable, CommandReplies, Ends, StopsBy};
+ghost use Rattle.saga_tool.specs.Program.{ChecksFiles, PlansFiles, DrawsDefinition, DrawsCase, DrawsAnswer, RunsFiles, IsFree, IsHeld, IsLocked, AuditsFiles, DrivesFiles, DrivesBy, ShowsFiles, IsOptional, IsOptionalUnreadable, CommandReplies, Ends, StopsBy};
 
 use crate::arguments::Given;
-use crate::files::{Unread, text_of, texts_of};
+use crate::files::{Unread, misused, text_of, texts_for, texts_of};
 use crate::forms::Name;
 use crate::outside::{Locked, Outside};
 use crate::responses::{Response, alone, log_for};
@@ -116,10 +116,10 @@ fn audit<R: Threads + Wait + Sync, W: Outside>(
     ensures { Ends (AuditsFiles (W.world outside.now).file_gives log.now
         (map (λ s. s.now) definitions.now)) result }
 {
-    let log = text_of(outside, alloc, log, MAX_LOG)?;
-    let texts = texts_of(outside, alloc, definitions, MAX_DEFINITION)?;
+    let history = text_of(outside, alloc, log, MAX_LOG)?;
+    let texts = texts_for(outside, alloc, Some(log), definitions)?;
     let definitions = slices_of(alloc, &texts)?;
-    Ok(alone(audit_text(rt, alloc, &log, &definitions)?))
+    Ok(alone(audit_text(rt, alloc, &history, &definitions)?))
 }
 
 /// The text of a file that may be left out: then it is empty.
@@ -213,7 +213,7 @@ fn drive_sagas<R: Wait, W: Outside>(
     ensures { Ends (DrivesFiles (W.world outside.now) (option_map (λ s. s.now) given.now.log)
         (map (λ s. s.now) given.now.files.items)) result }
 {
-    let texts = texts_of(outside, alloc, &given.files, MAX_DEFINITION)?;
+    let texts = texts_for(outside, alloc, given.log, &given.files)?;
     let definitions = slices_of(alloc, &texts)?;
     let output = drive_texts(rt, outside.drive(), alloc, &definitions, given.log)?;
     Ok(alone(output))
@@ -229,22 +229,11 @@ fn show_sagas<R: Wait, W: Outside>(
     ensures { Ends (ShowsFiles (W.world outside.now) (option_map (λ s. s.now) given.now.from)
         (map (λ s. s.now) given.now.files.items)) result }
 {
-    let texts = texts_of(outside, alloc, &given.files, MAX_DEFINITION)?;
+    let texts = texts_for(outside, alloc, None, &given.files)?;
     let definitions = slices_of(alloc, &texts)?;
     let text = text_if_any(outside, alloc, given.from, MAX_KEPT)?;
     let output = drive_lines(rt, outside.drive(), alloc, &definitions, text)?;
     Ok(alone(output))
-}
-
-/// What is told where options do not go together.
-fn misused(alloc: Global, line: &str) -> Result<Output, AllocError>
-    ensures { IfOk result (IsMisused line.now) }
-{
-    Ok(Output {
-        out: String::new(alloc),
-        err: format!(in alloc; "{line}\n")?,
-        status: 2,
-    })
 }
 
 /// What is replied to a command that drives sagas, by what its words give.

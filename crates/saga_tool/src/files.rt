@@ -1,13 +1,16 @@
 //! The texts of files, read in order.
-ghost use Rattle.std.specs.Prelude.{◌<◌, ◌^◌, Ok, Err, IfErr, IfOk, map};
-ghost use Rattle.saga_tool.specs.Program.{IsUnreadable, AreGiven, IsFirstUnreadable, StopsBy, IsOutOfMemory, IsResponseOf};
+ghost use Rattle.std.specs.Prelude.{◌≡◌, ◌<◌, ◌^◌, Ok, Err, IfErr, IfOk, map, option_map};
+ghost use Rattle.saga_tool.specs.Program.{IsUnreadable, AreFor, AreGiven, AreKept, IsFirstUnreadable, IsKeptUnread, IsMisused, IsNoDefinitions, IsUnreadFor, StopsBy, IsOutOfMemory, IsResponseOf};
 ghost use Rattle.saga_tool.specs.Responses.{IsAlone};
 
 use crate::outside::Outside;
 use crate::responses::{Response, alone};
-use saga_serve::FileFault;
-use saga_texts::Output;
+use saga_serve::{FileFault, MAX_BESIDE};
+use saga_text::MAX_DEFINITION;
+use saga_texts::{Output, definitions_of};
 use std::alloc::{AllocError, AllocFailed, Global};
+
+const NO_DEFINITION: &str = "error: the argument '<DEF>' is required where no '--log <F>' is given";
 
 /// Why files give no texts: one of them cannot be read, and the output says so, or want of memory.
 #[derive(Drop)]
@@ -86,6 +89,75 @@ pub fn texts_of<W: Outside>(
         texts.push(text)?;
     }
     Ok(texts)
+}
+
+/// The output where options do not go together.
+pub fn misused(alloc: Global, line: &str) -> Result<Output, AllocError>
+    ensures { IfOk result (IsMisused line.now) }
+{
+    Ok(Output {
+        out: String::new(alloc),
+        err: format!(in alloc; "{line}\n")?,
+        status: 2,
+    })
+}
+
+/// The output where a file beside a log has no definitions.
+fn no_definitions(alloc: Global) -> Result<Output, AllocError>
+    ensures { IfOk result IsNoDefinitions }
+{
+    Ok(Output {
+        out: String::new(alloc),
+        err: String::from_str(alloc, "sagas: log: bad-definitions\n")?,
+        status: 3,
+    })
+}
+
+/// The texts, each on its own.
+fn owned(alloc: Global, texts: &[&[u8]]) -> Result<Vec<Vec<u8>>, AllocError>
+    ensures { IfOk result (λ owned. map (λ t. t.items) owned.items ≡ map (λ t. t.now) texts.now) }
+{
+    let mut owned = Vec::new(alloc);
+    for text in texts {
+        owned.push(text.to_vec(alloc)?)?;
+    }
+    Ok(owned)
+}
+
+/// The texts of the definitions that are kept beside a log.
+fn texts_kept<W: Outside>(outside: &W, alloc: Global, log: &str) -> Result<Vec<Vec<u8>>, Unread>
+    ensures texts { IfOk result (λ texts. AreKept (W.world outside.now).file_gives log.now
+        (map (λ t. t.items) texts.items)) }
+    ensures stop { IfErr result (StopsBy (IsKeptUnread (W.world outside.now).file_gives log.now)) }
+{
+    let path = format!(in alloc; "{log}.definitions")?;
+    let file = text_of(outside, alloc, path.as_str(), MAX_BESIDE)?;
+    let Some(kept) = definitions_of(alloc, &file)? else {
+        return Err(Unread::Unreadable(alone(no_definitions(alloc)?)));
+    };
+    Ok(owned(alloc, &kept)?)
+}
+
+/// The texts of definitions: those of the files, or without any, those that are kept beside the log, where there is one.
+pub fn texts_for<W: Outside>(
+    outside: &W,
+    alloc: Global,
+    log: Option<&str>,
+    paths: &[&str],
+) -> Result<Vec<Vec<u8>>, Unread>
+    ensures texts { IfOk result (λ texts. AreFor (W.world outside.now).file_gives
+        (option_map (λ s. s.now) log.entry) (map (λ s. s.now) paths.now)
+        (map (λ t. t.items) texts.items)) }
+    ensures stop { IfErr result (StopsBy (IsUnreadFor (W.world outside.now).file_gives
+        (option_map (λ s. s.now) log.entry) (map (λ s. s.now) paths.now))) }
+{
+    if !paths.is_empty() {
+        return texts_of(outside, alloc, paths, MAX_DEFINITION);
+    }
+    match log {
+        Some(log) => texts_kept(outside, alloc, log),
+        None => Err(Unread::Unreadable(alone(misused(alloc, NO_DEFINITION)?))),
+    }
 }
 
 /// The response, also where a file cannot be read.

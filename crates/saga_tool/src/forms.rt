@@ -135,7 +135,7 @@ const KEPT: Parameter<'static> = Parameter {
     kind: Kind::Path,
     name: "log",
     shown: "F",
-    help: "the file in which each event is kept before it is told, and from which the program goes on",
+    help: "the file in which each event is kept before it is told, and from which the program goes on; F.definitions keeps the definitions",
 };
 
 const LINES: Parameter<'static> = Parameter {
@@ -157,6 +157,14 @@ const FIRST: Parameter<'static> = Parameter {
     name: "DEF",
     shown: "DEF",
     help: "the first definition of the shelf, a TOML file",
+};
+
+/// For a log, beside which they may be kept.
+const ANY: Parameter<'static> = Parameter {
+    kind: Kind::Files,
+    name: "DEF",
+    shown: "DEF",
+    help: "the definitions of the shelf, TOML files, 64 at most; without any, those that are kept beside the log",
 };
 
 const MORE: Parameter<'static> = Parameter {
@@ -198,7 +206,7 @@ pub fn form_of(name: Name) -> Form<'static>
             title: "sagas audit",
             brief: "judges the log of a run",
             about: "Audits the log of a run: prints `yes sagas A ended B stuck C events D`, or `no P REASON` for the event of place P, from 0, that was not allowed",
-            parameters: &[LOG, FIRST, MORE],
+            parameters: &[LOG, ANY],
         },
         Name::Draw => Form {
             word: "draw",
@@ -212,7 +220,7 @@ pub fn form_of(name: Name) -> Form<'static>
             title: "sagas drive",
             brief: "drives sagas for another program",
             about: "Drives sagas for another program, which does the actions: reads one JSON request a line from standard input, and prints one output a line",
-            parameters: &[KEPT, LINES, FROM, FIRST, MORE],
+            parameters: &[KEPT, LINES, FROM, ANY],
         },
     }
 }

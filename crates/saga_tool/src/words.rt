@@ -54,7 +54,11 @@ fn push_line(lines: &mut String, form: &Form<'_>) -> Result<(), AllocError> {
     lines.push_str(form.word)?;
     for parameter in form.parameters {
         match parameter.kind {
-            Kind::Files => lines.push_str("..")?,
+            Kind::Files => {
+                lines.push_str(" [")?;
+                lines.push_str(parameter.shown)?;
+                lines.push_str("..]")?;
+            }
             Kind::File => {
                 lines.push_str(" ")?;
                 lines.push_str(parameter.shown)?;

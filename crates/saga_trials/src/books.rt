@@ -16,8 +16,8 @@ use std::alloc::Global;
 ///
 /// A call is a word, with a number behind a colon: `open` a saga of that number; `run` or `undo` a step, which `did`, `miss`,
 /// `undid` or `lost`; `plan` (which gives the example's case, as `present` does), `adopt` (of another definition: `stale`), `drop`;
-/// `abort` a saga. `no-run`, `no-step`, `no-saga` and `no-plan` are refused. Then so many `events` there are, and `to-run`, `to-undo`
-/// or `to-plan` is next, or `none`.
+/// plan and drop so often: `drops`; `abort` a saga. `no-run`, `no-step`, `no-saga` and `no-plan` are refused. Then so many `events`
+/// there are, and `to-run`, `to-undo` or `to-plan` is next, or `none`.
 #[derive(Clone, Copy)]
 pub struct Script(Sample, &'static str, &'static str);
 
@@ -49,6 +49,9 @@ const ADOPTS: &str = "plan stale adopt no-plan events:9 to-undo:1";
 
 const END: &str = "plan adopt undo:1 undid:1 undo:0 undid:0 events:13 none";
 
+/// The last plan is dropped, and then adopted, and compensations are reported, behind more than 4,096 events.
+const LONG_END: &str = "drops:2050 plan adopt undo:1 undid:1 undo:0 undid:0 events:4113 none";
+
 pub const OPEN: Script = Script(FAILED, "", OPENS);
 
 pub const RUN: Script = Script(RETRIED, "open", MISSES);
@@ -72,6 +75,8 @@ pub const ADOPT: Script = Script(FAILED, FAIL, ADOPTS);
 pub const NEXT: Script = Script(FAILED, FAIL, "to-plan");
 
 pub const HISTORY: Script = Script(FAILED, FAIL, END);
+
+pub const LONG: Script = Script(FAILED, FAIL, LONG_END);
 
 /// A call and its number, by the word of a script.
 pub fn call_of(word: &str) -> Result<(&str, u16)> {
@@ -227,6 +232,16 @@ fn make<'d>(
             }
             "adopt" => offer(trial, book, on.definition, on.texts)?.is_none(),
             "stale" => offer(trial, book, on.other, FREE)? == Some(AdoptRefusal::Stale),
+            "drops" => {
+                let mut right = true;
+                for _ in 0..number {
+                    right = right && book.take_plan(0).is_ok();
+                    trial.none();
+                    right = right && book.drop_plan(0).is_ok();
+                    trial.ample();
+                }
+                right
+            }
             _ => {
                 trial.none();
                 ends(book, verb, number)

@@ -1,5 +1,5 @@
 //! Trials of the calls that no command of the program makes. Each has to give what is expected.
-use crate::samples::{self, TRIP, TRIP_ANSWER, TRIP_CASE, TRIP_LOG, TRIP_REPORT};
+use crate::samples::{self, DROPPED_LOG, TRIP, TRIP_ANSWER, TRIP_CASE, TRIP_LOG, TRIP_REPORT};
 use crate::trial::Trial;
 use anyhow::{Result, ensure};
 use saga_audit::AuditAnswer;
@@ -24,6 +24,8 @@ pub enum Call {
     WriteCase,
     Report,
     NotAllowed,
+    /// The same of a history without an adopted plan.
+    NoneAdopted,
     AuditText,
     Trail,
     Laws,
@@ -40,14 +42,18 @@ struct On<'a, 'd> {
     book: &'a Book<'d>,
 }
 
-/// Makes a trial of a call.
+/// Makes a trial of a call: each growth may be refused in turn, or where it takes no memory each is.
 pub fn run(trial: &mut Trial<'_>, call: Call) -> Result<()> {
     let alloc = trial.alloc();
     let shelf = samples::shelf(alloc, TRIP)?;
     let definition = samples::first(&shelf)?;
     let case = samples::case(alloc, definition, TRIP_CASE)?;
     let answer = samples::answer(alloc, TRIP_ANSWER)?;
-    let events = samples::events(alloc, TRIP_LOG)?;
+    let log = match call {
+        Call::NoneAdopted => DROPPED_LOG,
+        _ => TRIP_LOG,
+    };
+    let events = samples::events(alloc, log)?;
     let book = samples::book(alloc, &shelf, TRIP_LOG)?;
     let on = On {
         shelf: &shelf,
@@ -57,7 +63,11 @@ pub fn run(trial: &mut Trial<'_>, call: Call) -> Result<()> {
         events: &events,
         book: &book,
     };
-    trial.each();
+    if trial.refuses {
+        trial.each();
+    } else {
+        trial.none();
+    }
     let mut right = is_right(alloc, on, call);
     trial.ample();
     if right.is_err() {
@@ -82,7 +92,9 @@ fn is_right(alloc: Global, on: On<'_, '_>, call: Call) -> Result<bool, AllocErro
         Call::Order => is_line(&Order::of(alloc, on.definition)?),
         Call::WriteCase => write_case(alloc, on.case)?.as_str() == TRIP_CASE,
         Call::Report => report(alloc, on.shelf, &[on.events])?.as_str() == TRIP_REPORT,
-        Call::NotAllowed => first_not_allowed(alloc, on.shelf, on.events)?.is_none(),
+        Call::NotAllowed | Call::NoneAdopted => first_not_allowed(
+            alloc, on.shelf, on.events,
+        )?.is_none(),
         Call::AuditText => {
             let output = audit_text_alone(alloc, TRIP_LOG.as_bytes(), &[TRIP.as_bytes()])?;
             output.status == 0 && output.out.as_str() == "yes sagas 1 ended 1 stuck 0 events 13\n"
@@ -107,6 +119,10 @@ fn is_line(order: &Order<'_>) -> bool {
 /// The laws, which look at nothing.
 fn laws(on: On<'_, '_>) -> bool {
     saga_def::fault_laws();
+    saga_def::limit_laws();
+    saga_text::reading_laws();
+    saga_cert::reading_laws();
+    saga_case::limit_laws();
     saga_order::order_laws(on.definition);
     saga_case::least_laws();
     leaves_all_out_for_free(on.case);
@@ -123,7 +139,14 @@ fn laws(on: On<'_, '_>) -> bool {
     saga_history::headline_parts(on.shelf, on.events);
     saga_history::saga_laws(on.shelf, on.events);
     saga_history::history_laws(on.shelf, on.events);
+    saga_history::change_laws(on.events);
     saga_history::merge_laws(on.shelf, on.events, on.events);
+    saga_rows::limit_laws();
     saga_core::refusal_laws(on.shelf, on.events);
+    saga_desk::merge_law();
+    saga_script::limit_laws();
+    saga_views::limit_laws();
+    saga_drive::answer_laws();
+    saga_drive::restart_laws();
     true
 }

@@ -18,7 +18,7 @@ use std::sync::Wait;
 ///
 /// A call is a word, with a number behind a colon: `open` a saga (of a definition that is not there: `other`); claim an action or a
 /// compensation, which `did` or `miss`; claim a plan and `give-back`, or `adopt` the example's answer; claim nothing, since all is
-/// `settled`; `abort` a saga, which cannot be done `again`. Then so many `events` there are.
+/// `settled`; each of these so often; `abort` a saga, which cannot be done `again`. Then so many `events` there are.
 #[derive(Clone, Copy)]
 pub struct Script(Sample, bool, &'static str, &'static str);
 
@@ -31,6 +31,9 @@ const ABORTS: &str =
 const CLAIMS: &str = "did did miss give-back adopt did did settled events:15";
 
 const MISSES: &str = "miss miss miss miss miss miss miss miss miss events:19";
+
+/// The same, with a plan that is given back so often that what follows stands behind more than 4,096 events.
+const LONG_CLAIMS: &str = "open did did miss give-back:2050 adopt did did settled events:4113";
 
 const REPORTS: &str = "settled other open did did did settled events:7";
 
@@ -55,6 +58,8 @@ pub const REPORT: Script = Script(FAILED, false, "", REPORTS);
 pub const ADOPT: Script = Script(STUCK, false, "", STOPS);
 
 pub const GIVE_BACK: Script = Script(STUCK, false, "", PLANS);
+
+pub const LONG: Script = Script(FAILED, false, "", LONG_CLAIMS);
 
 pub const SHARD: Script = Script(STUCK, true, "", STOPS);
 
@@ -244,7 +249,13 @@ fn make<R: Wait>(
             "other" => open_at(rt, at, 1) == Err(OpenRefusal::NoSuchDefinition),
             "again" => abort_at(rt, at, saga) == Err(SagaRefusal::NotNow),
             "events" => at.seat.receipts().len() == number as usize,
-            _ => claim_and_end(rt, trial, at, texts, verb)?,
+            _ => {
+                let mut right = true;
+                for _ in 0..number.max(1) {
+                    right = right && claim_and_end(rt, trial, at, texts, verb)?;
+                }
+                right
+            }
         };
         ensure!(right, "another answer to {word}");
     }

@@ -74,6 +74,20 @@ plans 1 cost 3
 sagas 1 ended 1 stuck 0 events 13
 ";
 
+/// Where no plan is adopted.
+pub const DROPPED_LOG: &str = "\
+{\"format\":2}
+{\"def\":0,\"event\":\"open\",\"saga\":0}
+{\"event\":\"start_run\",\"saga\":0,\"step\":0}
+{\"event\":\"commit\",\"saga\":0,\"step\":0}
+{\"event\":\"start_run\",\"saga\":0,\"step\":1}
+{\"event\":\"fail\",\"saga\":0,\"step\":1}
+{\"event\":\"start_plan\",\"saga\":0}
+{\"event\":\"drop_plan\",\"saga\":0}
+{\"event\":\"abort\",\"saga\":0}
+{\"event\":\"start_plan\",\"saga\":0}
+";
+
 /// One step that must not be left out.
 pub const FORCED: &str =
     "format = 1\nname = \"one\"\nstep = [{ name = \"a\", skip = \"never\" }]\n";

@@ -9,7 +9,7 @@ use Rattle.saga_core.specs.Book.{Book, number}
 use Rattle.saga_core.specs.Tasks.{StandsAt}
 use Rattle.saga_views.specs.Lists.{is_told_at, text_at, text_if, told_up_to}
 use Rattle.saga_views.specs.Phases.{AreFirstPhases}
-use Rattle.saga_views.specs.declared.lists.TheConstants.{MOST_SAGAS}
+use Rattle.saga_views.specs.Limits.{most_sagas}
 use Rattle.saga_views.proofs.RangeLemmas.{flat_more}
 
 pub told_more : (book : Book) (from : ℕ) (wanted : Option Phase) (phases : List Phase) (k : ℕ)
@@ -17,11 +17,11 @@ pub told_more : (book : Book) (from : ℕ) (wanted : Option Phase) (phases : Lis
 told_more book from wanted phases k = flat_more (λ k. text_if (is_told_at book from wanted phases k) (text_at book phases k)) [] k
 
 -- there were fewer where one is added
-pub few_more : (told : Bool) (text : List ℕ) (old new : List (List ℕ)) → new ≡ old ++ text_if told text → length old ≤ MOST_SAGAS
-    → (told ≡ true → length old < MOST_SAGAS) → length new ≤ MOST_SAGAS
-few_more true text old new is few less = subst (λ (ts : List (List ℕ)). length ts ≤ MOST_SAGAS) (sym is)
+pub few_more : (told : Bool) (text : List ℕ) (old new : List (List ℕ)) → new ≡ old ++ text_if told text → length old ≤ most_sagas
+    → (told ≡ true → length old < most_sagas) → length new ≤ most_sagas
+few_more true text old new is few less = subst (λ (ts : List (List ℕ)). length ts ≤ most_sagas) (sym is)
     (let lt = less refl in omega (arith, lt, length-append old (text ∷ [])))
-few_more false text old new is few less = subst (λ (ts : List (List ℕ)). length ts ≤ MOST_SAGAS) (sym (is ∙ append-nil old)) few
+few_more false text old new is few less = subst (λ (ts : List (List ℕ)). length ts ≤ most_sagas) (sym (is ∙ append-nil old)) few
 
 -- one phase more
 pub phase_more : (book : Book) (k : ℕ) (phases : List Phase) (p : Phase) → AreFirstPhases book k phases

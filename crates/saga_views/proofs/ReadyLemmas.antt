@@ -16,7 +16,7 @@ use Rattle.saga_history.specs.Turns.{opened_with}
 use Rattle.saga_history.proofs.SagaLemmas.{holds_at}
 use Rattle.saga_core.specs.Tasks.{IsFirstTaskFrom, IsNotAfter, NoTaskIsAllowedFrom, saga_of_task, step_of_task}
 use Rattle.saga_views.specs.Ready.{AddsOf, IsAdded, IsNotCut, IsReady, IsReadyUpTo, IsUpTo, ListsAll, place_of}
-use Rattle.saga_views.specs.declared.ready.TheConstants.{ENOUGH_TASKS}
+use Rattle.saga_views.specs.Limits.{enough_tasks}
 
 -- ---- lists of all that passes
 
@@ -175,12 +175,12 @@ adds_one shelf h i t ts old new own (added, is, all) (inl (may, grown)) =
     (added ++ t ∷ [], grown ∙ ap (λ (v : List Task). v ++ t ∷ []) is ∙ append_assoc ts added (t ∷ []), All-push (λ t. saga_of_task t ≡ i) added t all own)
 adds_one shelf h i t ts old new own (added, is, all) (inr (not, same)) = (added, same ∙ is, all)
 
-pub few_not_cut : (ts : List Task) → length ts < ENOUGH_TASKS → IsNotCut ts
+pub few_not_cut : (ts : List Task) → length ts < enough_tasks → IsNotCut ts
 few_not_cut ts few k d many within = absurd (omega (arith, few, many, within))
 
-pub adds_not_cut : (i : ℕ) (old new : List Task) → length old < ENOUGH_TASKS → AddsOf i old new → IsNotCut new
+pub adds_not_cut : (i : ℕ) (old new : List Task) → length old < enough_tasks → AddsOf i old new → IsNotCut new
 adds_not_cut i old new few (added, is, all) = subst IsNotCut (sym is) (λ k d many within.
-    at k d (omega (arith, few, many)) within ∙ sym (at (ENOUGH_TASKS - 1) d (omega (arith, few)) (omega (arith, many, within))))
+    at k d (omega (arith, few, many)) within ∙ sym (at (enough_tasks - 1) d (omega (arith, few)) (omega (arith, many, within))))
   where
     at : (k : ℕ) (d : Task) → length old ≤ k → k < length (old ++ added) → saga_of_task (get_or (old ++ added) k d) ≡ i
     at k d far within =

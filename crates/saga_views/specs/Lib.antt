@@ -1,4 +1,5 @@
 -- What a book tells without a change.
+pub mod Limits
 pub mod Words
 pub mod Tasks
 pub mod Busy

@@ -11,7 +11,7 @@ use Rattle.saga_core.specs.Book.{Book, number, sagas_in}
 use Rattle.saga_views.specs.Phases.{ArePhases, same_phase}
 use Rattle.saga_views.specs.Ready.{more_text}
 use Rattle.saga_views.specs.Words.{listed, phase_word}
-use Rattle.saga_views.specs.declared.lists.TheConstants.{MOST_SAGAS}
+use Rattle.saga_views.specs.Limits.{most_sagas}
 
 -- any phase is wanted, or that one alone
 abbrev pub is_wanted : Option Phase → Phase → Bool
@@ -60,12 +60,12 @@ abbrev pub GoesTo : Book → ℕ → Option Phase → List Phase → ℕ → Opt
 GoesTo book from wanted phases count None = count ≡ sagas_in book.history
 GoesTo book from wanted phases count (Some m) =
     (count < sagas_in book.history) × (m ≡ number_at book count) × (is_told_at book from wanted phases count ≡ true)
-    × (length (told_up_to book from wanted phases count) ≡ MOST_SAGAS)
+    × (length (told_up_to book from wanted phases count) ≡ most_sagas)
 
 -- the texts are of the sagas of that phase, from a number on, at most 100; with where to go on, if there are more
 pub record AreTold (book : Book) (from : ℕ) (wanted : Option Phase) (phases : List Phase) (texts : List (List ℕ)) (more : Option ℕ) : Type 0 where
   pub count : ℕ
-  pub few : length texts ≤ MOST_SAGAS
+  pub few : length texts ≤ most_sagas
   pub texts_are : texts ≡ told_up_to book from wanted phases count
   pub goes : GoesTo book from wanted phases count more
 

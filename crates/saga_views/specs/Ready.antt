@@ -12,7 +12,7 @@ use Rattle.saga_core.specs.Book.{Book}
 use Rattle.saga_core.specs.Tasks.{IsNotAfter, saga_of_task}
 use Rattle.saga_views.specs.Tasks.{TakenTask, run_task, task_text, undo_task}
 use Rattle.saga_views.specs.Words.{listed}
-use Rattle.saga_views.specs.declared.ready.TheConstants.{ENOUGH_TASKS}
+use Rattle.saga_views.specs.Limits.{enough_tasks}
 
 -- each task that passes, once, by saga and then by step
 pub record ListsAll (P : Task → Type 0) (tasks : List Task) : Type 0 where
@@ -32,12 +32,12 @@ IsReady shelf h from end t = TaskIsAllowed shelf h t × (from ≤ saga_of_task t
 -- no saga is begun once there are enough: what comes behind them is of the saga of the last of them
 abbrev pub IsNotCut : List Task → Type 0
 IsNotCut tasks =
-    (k : ℕ) (d : Task) → ENOUGH_TASKS ≤ k → k < length tasks
-    → saga_of_task (slice_index_or tasks k d) ≡ saga_of_task (slice_index_or tasks (ENOUGH_TASKS - 1) d)
+    (k : ℕ) (d : Task) → enough_tasks ≤ k → k < length tasks
+    → saga_of_task (slice_index_or tasks k d) ≡ saga_of_task (slice_index_or tasks (enough_tasks - 1) d)
 
 -- there are enough, and a task of that saga may begin too
 pub record GoesOnAt (shelf : List Contents) (h : List Event) (tasks : List Task) (m : ℕ) : Type 0 where
-  pub enough : ENOUGH_TASKS ≤ length tasks
+  pub enough : enough_tasks ≤ length tasks
   pub task : Task
   pub allowed : TaskIsAllowed shelf h task
   pub saga : saga_of_task task ≡ m

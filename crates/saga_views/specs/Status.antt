@@ -5,7 +5,7 @@ use Rattle.saga_def.specs.Contents.{Contents}
 use Rattle.saga_history.specs.declared.tasks.Phase.{Phase}
 use Rattle.saga_history.specs.declared.tasks.Phase.TheVariants.{Ended, Stuck}
 use Rattle.saga_core.specs.Book.{Book, sagas_in}
-use Rattle.saga_rows.specs.declared.rows.TheConstants.{MAX_ROWS}
+use Rattle.saga_rows.specs.Limits.{max_rows}
 use Rattle.saga_views.specs.Phases.{ArePhases, same_phase}
 use Rattle.saga_views.specs.Words.{listed}
 
@@ -25,7 +25,7 @@ abbrev pub status_text : Book → ℕ → ℕ → List ℕ
 status_text book ended stuck =
     concat (codes "{\"definitions\":[" ∷ names_text book.shelf ∷ codes "],\"ended\":" ∷ decimal ended ∷ codes ",\"events\":"
     ∷ decimal (length book.history) ∷ codes ",\"opened\":" ∷ decimal (sagas_in book.history) ∷ codes ",\"room\":"
-    ∷ decimal (MAX_ROWS - sagas_in book.history) ∷ codes ",\"stuck\":" ∷ decimal stuck ∷ codes "}\n" ∷ [])
+    ∷ decimal (max_rows - sagas_in book.history) ∷ codes ",\"stuck\":" ∷ decimal stuck ∷ codes "}\n" ∷ [])
 
 -- that is told, by the phase of each saga
 pub record TellsStatus (book : Book) (text : List ℕ) : Type 0 where

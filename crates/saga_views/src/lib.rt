@@ -5,6 +5,7 @@
 #![tactic(auto)]
 
 mod busy;
+mod laws;
 mod lists;
 mod phases;
 mod ready;
@@ -14,6 +15,7 @@ mod tasks;
 mod words;
 
 pub use busy::busy_text;
+pub use laws::limit_laws;
 pub use lists::list_text;
 pub use ready::ready_text;
 pub use shown::show_text;

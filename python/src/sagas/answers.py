@@ -7,7 +7,7 @@ import json
 from collections.abc import Callable
 from typing import TYPE_CHECKING, Any
 
-from . import lines
+from . import lines, values
 from .live import Attempt, Live
 from .records import Batch, Wanted
 from .schema import ROOM
@@ -18,6 +18,7 @@ if TYPE_CHECKING:
 Abort = tuple[Live, "asyncio.Future[bool] | None", Wanted]
 Act = tuple[Callable[[Any], object], Any]
 FULL = '{"refused":"full"}'
+OVER = ("ended", "stuck")
 
 
 def dumps(value: Any) -> str:
@@ -45,7 +46,7 @@ class Answers:
     _over_odd: dict[int, None]
 
     def _told_next(self, batch: Batch, acts: list[Act], about: None, reply: str) -> None:
-        told = json.loads(reply)
+        told = values.read(reply)
         self.hungry = "settled" not in told
         begun: list[Attempt] = []
         for task in told["tasks"]:
@@ -53,7 +54,8 @@ class Answers:
             if word == "plan":
                 live.odd, live.draining, live.answer = True, False, task["answer"]
                 acts.append((self.owner.doing.planned, live))
-                self._is_over(batch, acts, live, task["phase"])
+                if task["phase"] in OVER:
+                    self._is_over(batch, acts, live)
                 continue
             attempt = Attempt(live, task["step"], word, task["attempt"], fresh=True)
             live.busy[attempt.word] = attempt
@@ -70,10 +72,10 @@ class Answers:
     def _told_report(self, batch: Batch, acts: list[Act], attempt: Attempt, reply: str) -> None:
         if not reply.startswith(lines.EVENT):  # it is not what is on its way: it is over, or was another's
             raise Disagrees(f"saga {attempt.live.number}, step {attempt.step}, attempt {attempt.attempt}: {reply}")
-        event = lines.event_word(reply)
+        event, phase = lines.event_and_phase(reply)
         live, outcome = attempt.live, attempt.outcome
         assert outcome
-        batch.results.append((live.id, attempt.step, attempt.kind, attempt.attempt, event, outcome.value, attempt.at))
+        batch.results.append((self.log * ROOM + live.number, attempt.step, attempt.kind, attempt.attempt, event, outcome.value, attempt.at))
         if attempt.has_row and not (attempt.why == "wait" and event == "missed"):
             batch.freed.append(attempt.row)
         if attempt.request is not None:
@@ -91,12 +93,11 @@ class Answers:
             elif outcome.called:
                 live.rare.missed_at[attempt.word] = attempt.at
         self._reported.append((attempt, event))
-        self._is_over(batch, acts, live, lines.phase_word(reply))
+        if phase in OVER:
+            self._is_over(batch, acts, live)
 
-    def _is_over(self, batch: Batch, acts: list[Act], live: Live, phase: str) -> None:
-        """Where the saga is over, that is in the batch too: all went well, or the child is asked how it ended."""
-        if phase != "ended" and phase != "stuck":
-            return
+    def _is_over(self, batch: Batch, acts: list[Act], live: Live) -> None:
+        """That the saga is over is in the batch too: all went well, or the child is asked how it ended."""
         if live.odd:
             self._over_odd[live.number] = None
         else:

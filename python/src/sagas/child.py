@@ -14,6 +14,7 @@ from .forks import private
 from .program import memory_file
 
 PIPE = 1 << 20  # bytes
+READ = 1 << 16  # bytes that are read at once: what is larger is mapped, and given back, at each read
 Reply = str
 Answered = Callable[[list[Reply], str], None]
 """What is called with the replies to a batch, and the lines of the log that they came to."""
@@ -94,7 +95,7 @@ class Child:
 
     def _readable(self) -> None:
         try:
-            data = os.read(self._back, PIPE)
+            data = os.read(self._back, READ)
         except BlockingIOError:
             return
         except OSError:

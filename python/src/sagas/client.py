@@ -188,7 +188,7 @@ class Client:
         return await self._asker.read(query, **words)
 
     async def _find(self, key: str) -> SagaRow | None:
-        rows = [SagaRow(*row) for row in await self._ask(postgresql.FIND, keys=[key])]
+        rows = [SagaRow(*row) for row in await self._ask(postgresql.FIND, keys=json.dumps([values.clean(key)]))]
         return max(rows, key=lambda row: row.id) if rows else None
 
     async def _row(self, key: str) -> SagaRow:

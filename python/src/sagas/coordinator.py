@@ -52,7 +52,7 @@ class Coordinator:
         self.closed: SagasError | None = None
         self.jobs: set[asyncio.Task[None]] = set()
         self._queue: list[Batch] = []
-        self._writing = self._scheduled = self._feeding = False
+        self._writing = self._feeding = False
         self._opening: asyncio.Future[None] | None = None
         self._loading: set[Pump] = set()
         self._rested: asyncio.Event = asyncio.Event()
@@ -152,16 +152,13 @@ class Coordinator:
     def enqueue(self, batch: Batch) -> None:
         """Goes into the next transaction."""
         self._queue.append(batch)
-        if not self._writing and not self._scheduled:
-            self._scheduled = True
-            self.loop.call_soon(self._write)
+        self._write()
 
     def empty_batch(self, log: int, then: Callable[[BaseException | None], None]) -> Batch:
         """One of no pump's."""
         return Batch(log, self.clock(), then=then)
 
     def _write(self) -> None:
-        self._scheduled = False
         if self._queue and not self._writing:
             batches, self._queue = self._queue, []
             self._writing = True
@@ -205,7 +202,7 @@ class Coordinator:
                 return
         pump.reserved += 1
         pump.opens.append(live)
-        pump.poke()
+        pump.poke(now=len(self.lives) == 1)
 
     def _new_pump(self) -> Pump:
         before = self.current

@@ -62,10 +62,12 @@ class Database(Protocol):
 
     path: str
     """Its name in messages: the file, or the URL without its password."""
-    commits: int
-    """How many transactions were written."""
     shared: bool
     """Whether other nodes may have logs of it."""
+
+    @property
+    def commits(self) -> int:
+        """How many transactions were written."""
 
     # -- opening and closing
 
@@ -84,6 +86,9 @@ class Database(Protocol):
 
     def commit(self, batches: Sequence[Batch], then: Then) -> None:
         """One transaction for all; `then` is called in the loop. One at a time: not again before `then`."""
+
+    def settle(self) -> None:
+        """Calls `then` of a commit that is over already, and not only in the loop's next turn: for who is in the middle of nothing."""
 
     def new_log(self) -> int:
         """The number of a log that is to be born (`Batch.born`)."""

@@ -267,7 +267,7 @@ class Doing:
             live.pump.fail(fault)
         elif outcome is not None:
             if function and outcome.kind == "done":
-                self.outcome(attempt, outcome)
+                self.outcome(attempt, outcome, now=True)
             else:
                 self._sort(attempt, outcome)
 
@@ -335,8 +335,8 @@ class Doing:
 
     # -- end
 
-    def outcome(self, attempt: Attempt, outcome: Outcome) -> None:
-        """How it ended: reported, and in the store with its event."""
+    def outcome(self, attempt: Attempt, outcome: Outcome, now: bool = False) -> None:
+        """How it ended: reported, and in the store with its event. `now`: nothing else of its log is in the middle of something."""
         attempt.outcome, attempt.state = outcome, "done"
         attempt.at = self.owner.clock()
         if attempt.timer:
@@ -347,15 +347,15 @@ class Doing:
             attempt.changed()
         if attempt.live.kind.has_remote and attempt.is_remote:
             self.owner.reports.forget(attempt.token())
-        self._report(attempt)
+        self._report(attempt, now)
 
-    def _report(self, attempt: Attempt) -> None:
+    def _report(self, attempt: Attempt, now: bool = False) -> None:
         if attempt.outcome and attempt.outcome.kind == "final":  # also where an earlier report of it was not kept
             attempt.live.rare.final.add(attempt.word)
         pump = attempt.live.pump
         assert pump
         pump.reports[attempt] = None
-        pump.poke()
+        pump.poke(now)
 
     def reported(self, reports: list[tuple[Attempt, str]]) -> None:
         """The reports are in the store, with these events."""

@@ -142,6 +142,8 @@ class Fleet:
 
     def gate(self, attempt: Attempt) -> Gate | None:
         """The gate of a step's function, where it has one. Its compensation has none."""
+        if not attempt.live.kind.has_bounds:
+            return None
         step = attempt.live.kind.steps[attempt.step]
         if step is None or step.bounds is None or attempt.kind == "undo":
             return None

@@ -8,7 +8,6 @@ HEADER = '{"format":2}\n'
 NEXT = '{"do":"next"}'
 BUSY = '{"do":"busy"}'
 EVENT = '{"event":{'
-WORD = len('{"event":{"event":"')
 
 
 def open_line(place: int, number: int) -> str:
@@ -34,14 +33,10 @@ def next_line(most: int) -> str:
     return f'{{"do":"next","most":{most}}}'
 
 
-def event_word(reply: str) -> str:
-    """The word of the event that a report or an abort came to."""
-    return reply[WORD : reply.index('"', WORD)]
-
-
-def phase_word(reply: str) -> str:
-    """The phase of the saga after the event."""
-    return reply[reply.rindex('"', 0, -2) + 1 : -2]
+def event_and_phase(reply: str) -> tuple[str, str]:
+    """The word of the event that a report came to, and that of the saga's phase after it."""
+    parts = reply.split('"')
+    return parts[5], parts[-2]
 
 
 def number_in(reply: str) -> int:

@@ -150,7 +150,7 @@ class Asker:
         with faults(self.where):
             async with asyncio.timeout(PATIENCE + 1), self.pool.connection() as link:
                 cursor = await link.execute(text, words)
-                return await cursor.fetchall() if cursor.description else []
+                return await cursor.fetchall() if cursor.pgresult and cursor.pgresult.nfields else []
 
     async def read(self, text: str, **words: Any) -> list[Row]:
         """As `ask`, for what may be asked twice: connections that broke unnoticed are tried past."""

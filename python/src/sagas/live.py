@@ -192,4 +192,4 @@ class Attempt:
         undo = self.kind == "undo"
         hint = (kind.undo_inputs if undo else kind.inputs)[step]
         own = live.results.get(step) if undo else None
-        return Task(kind.name, live.key, kind.names[step], undo, self.attempt, self.saga_token(), live.text, results, own, hint, kind.decoders)
+        return Task(kind.name, live.key, kind.names[step], undo, self.attempt, live.token or self.saga_token(), live.text, results, own, hint, kind.decoders)

@@ -11,7 +11,8 @@ import psycopg
 from . import links
 
 CHANNEL = "sagas"
-SAY = f"SELECT pg_notify('{CHANNEL}', v) FROM unnest(%(words)s::text[]) AS v"
+SAY = f"SELECT set_config('synchronous_commit', 'off', true), pg_notify('{CHANNEL}', v) FROM unnest(%(words)s::text[]) AS v"
+"""It waits for no disk: a crash forgets who listened, and commits behind it need not wait for it either."""
 MOST = 400  # ids a word: PostgreSQL takes 8,000 bytes
 FIRST_LOOK, MOST_LOOK = 0.5, 30.0  # seconds
 RECENT = 10_000

@@ -29,9 +29,10 @@ NONE: frozenset[int] = frozenset()
 NUMBERS = 64  # of logs to be born, that are kept at hand
 MANY = 64  # starts of clients that are taken at once
 
+KEYS = "key = ANY(ARRAY(SELECT json_array_elements_text(%(keys)s::json)))"
 FIND = f"""
-SELECT {questions.SAGA} FROM sagas WHERE key = ANY(%(keys)s::text[])
-UNION ALL SELECT -id, key, saga, -1, input, at, NULL, NULL, NULL, NULL FROM inbox WHERE key = ANY(%(keys)s::text[])
+SELECT {questions.SAGA} FROM sagas WHERE {KEYS}
+UNION ALL SELECT -id, key, saga, -1, input, at, NULL, NULL, NULL, NULL FROM inbox WHERE {KEYS}
 """
 WAKE = """
 SELECT NOT EXISTS (SELECT 1 FROM logs WHERE log = %(log)s AND (owner IS DISTINCT FROM %(node)s OR epoch <> %(epoch)s OR closed <> 0)), l.first, l.text
@@ -210,6 +211,9 @@ class PostgreSQL(questions.Questions):
         self._jobs.add(job)
         job.add_done_callback(self._jobs.discard)
 
+    def settle(self) -> None:
+        """Nothing: a commit's task calls its `then`."""
+
     async def _commit(self, batches: Sequence[Batch], then: Then) -> None:
         fault: BaseException | None = None
         lost = NONE
@@ -300,7 +304,7 @@ class PostgreSQL(questions.Questions):
             fault: StoreUnwritable | None = None
             found: dict[str, SagaRow] = {}
             try:
-                for row in map(SagaRow._make, await self.asker.read(FIND, keys=[clean(key) for key in wanted])):
+                for row in map(SagaRow._make, await self.asker.read(FIND, keys=json.dumps([clean(key) for key in wanted]))):
                     if row.key not in found or row.id >= 0:
                         found[row.key] = row
             except StoreUnwritable as error:

@@ -2,10 +2,11 @@
 
 from __future__ import annotations
 
+import itertools
 import json
 import logging
 from collections import deque
-from collections.abc import Callable
+from collections.abc import Callable, Sequence
 from typing import TYPE_CHECKING, Any
 
 from . import lines, restoring
@@ -21,8 +22,10 @@ if TYPE_CHECKING:
 
 logger = logging.getLogger("sagas")
 MOST_NEXT = 1000
-Asked = tuple[Callable[..., None], Any]
-"""What reads a reply, and what it was about."""
+LOT = 256
+"""Reports and opens that go to the child at once: while it decides on one lot, functions of another run."""
+Asked = tuple[Callable[..., None], Sequence[Any]]
+"""What reads a reply, and what each of some replies is about."""
 TURN = 0.1  # seconds that a log keeps its child while others wait for one
 
 
@@ -61,13 +64,13 @@ class Pump(Answers):
 
     # -- to the child
 
-    def poke(self) -> None:
-        """Something is to be sent."""
+    def poke(self, now: bool = False) -> None:
+        """Something is to be sent, with what else comes meanwhile. `now`: where no function runs that might bring more, or there is a lot, at once."""
         if self.state == "up":
-            if self._scheduled:
-                return
             assert self.child
-            if not self.child.asked:
+            if now and (not self.owner.slots.running or len(self.reports) >= LOT):
+                self._send()
+            elif not self._scheduled and not self.child.asked:
                 self._scheduled = True
                 self.owner.loop.call_soon(self._send)
         elif self.state == "asleep":
@@ -137,55 +140,61 @@ class Pump(Answers):
             if not self.unwritten:
                 return
         requests: list[str] = []
-        asked: list[Asked] = []
-        self._ask_reports(requests, asked)
-        for abort in self.aborts:
-            requests.append(lines.abort_line(abort[0].number))
-            asked.append((self._told_abort, abort))
+        asked: list[Asked] = [(self._told_report, self._ask_reports(requests)), (self._told_abort, self.aborts)]
+        requests += [lines.abort_line(live.number) for live, _, _ in self.aborts]
         self.aborting += self.aborts
         self.aborts = []
-        number = self.opened
-        while self.opens:
-            live = self.opens.popleft()
-            if self.owner.lives.get(live.key) is not live:  # another log has it
-                self.reserved -= 1
-                continue
-            self.sent[live], live.pump = None, self
-            requests.append(lines.open_line(live.place, number))
-            asked.append((self._told_open, live))
-            number += 1
+        asked.append((self._told_open, self._ask_opens(requests)))
         if requests:
             self.hungry = True
-        self._ask_next(len(requests), requests, asked)
+        if self._ask_next(requests):
+            asked.append((self._told_next, (None,)))
         if requests:
             self.used = self.owner.loop.time()
             child.ask(requests, lambda replies, text: self._answered(asked, replies, text))
         else:
             self.offer()
 
-    def _ask_reports(self, requests: list[str], asked: list[Asked]) -> None:
-        reports, self.reports = self.reports, {}
-        for attempt in reports:
+    def _ask_reports(self, requests: list[str]) -> list[Attempt]:
+        """A lot of them, the first first."""
+        lot = list(itertools.islice(self.reports, LOT))
+        self.reports = {} if len(lot) == len(self.reports) else dict.fromkeys(itertools.islice(self.reports, LOT, None))
+        for attempt in lot:
             live, outcome = attempt.live, attempt.outcome
             assert outcome
             ok = outcome.kind == "done"
             requests.append(lines.report_line(live.number, attempt.step, attempt.kind, attempt.attempt, ok))
-            asked.append((self._told_report, attempt))
             live.busy.pop(attempt.word, None)
             self.reporting[attempt] = None
-            live.odd = live.odd or not ok or attempt.kind == "undo"
+            if not ok or attempt.kind == "undo":
+                live.odd = True
+        return lot
 
-    def _ask_next(self, wanted: int, requests: list[str], asked: list[Asked]) -> None:
+    def _ask_opens(self, requests: list[str]) -> list[Live]:
+        """As many as the lot has room for."""
+        lot: list[Live] = []
+        while self.opens and len(requests) < LOT:
+            live = self.opens.popleft()
+            if self.owner.lives.get(live.key) is not live:  # another log has it
+                self.reserved -= 1
+                continue
+            self.sent[live], live.pump = None, self
+            requests.append(lines.open_line(live.place, self.opened + len(lot)))
+            lot.append(live)
+        return lot
+
+    def _ask_next(self, requests: list[str]) -> bool:
+        """Whether tasks are asked for: as many as there may be, and as there are slots for."""
         if not self.hungry or self.owner.closed:
-            return
-        count = min(max(wanted + 1, self.more), self.owner.slots.free())
+            return False
+        count = min(max(len(requests) + 1, self.more), self.owner.slots.free())
         if count <= 0:
             self.owner.starved[self] = None
-            return
+            return False
         self.outstanding = count
         self.owner.slots.reserve(count)
         requests.append(lines.next_line(count))
-        asked.append((self._told_next, None))
+        return True
 
     # -- from the child
 
@@ -195,8 +204,10 @@ class Pump(Answers):
         self._text, self._reported, self._took, self._over_odd = text, [], 0, {}
         acts.append((self.owner.doing.reported, self._reported))
         try:
-            for (then, about), reply in zip(asked, replies):
-                then(batch, acts, about, reply)
+            told = iter(replies)
+            for then, abouts in asked:
+                for about, reply in zip(abouts, told):
+                    then(batch, acts, about, reply)
         except Exception as error:
             self._misunderstood(error)
             return
@@ -237,6 +248,7 @@ class Pump(Answers):
             self._send()
         else:
             self.offer()
+        self.owner.store.settle()
 
     def commit(self, batch: Batch, acts: list[Act]) -> None:
         """Acts once the batch is in the store."""

@@ -59,9 +59,12 @@ class Batch:
 
     def __bool__(self) -> bool:
         """Whether it holds anything."""
-        return bool(
-            self.text or self.opened or self.results or self.ended or self.held or self.freed or self.answers or self.asked or self.begun or self.closed
-        )
+        return bool(self.text or self.opened or self.results or self.ended or self.is_rare or self.begun)
+
+    @property
+    def is_rare(self) -> bool:
+        """Whether it holds what most do not."""
+        return bool(self.held or self.freed or self.answers or self.asked or self.notes or self.settled or self.closed)
 
     def answer(self, request: Wanted, answer: str) -> None:
         """The answer to a request, as JSON."""

@@ -1,4 +1,4 @@
-"""A store in one SQLite file, for one program at a time: one thread writes, what waits goes into one transaction."""
+"""A store in one SQLite file, for one program at a time."""
 
 from __future__ import annotations
 
@@ -8,11 +8,9 @@ import fcntl
 import functools
 import os
 import pathlib
-import queue
 import sqlite3
-import threading
 import time
-from collections.abc import Iterable, Sequence
+from collections.abc import Sequence
 from typing import Any
 
 from . import places_sqlite, questions
@@ -22,26 +20,16 @@ from .errors import MissingHandler, StoreFault, StoreLocked, StoreNewer, StoreUn
 from .forks import private
 from .records import Batch, Grant, Loaded, LogRow, Request, SagaRow, Start
 from .schema import MIGRATIONS, VERSION
-from .values import clean, cleaned
+from .sqlite_writer import BUSY, Writer
+from .values import cleaned
 
-BUSY = 5000  # ms: an operator's command may be writing
 LOOK = 0.2  # seconds: another program's commit makes no event here
 MOST_LOOK = 30.0
-NONE: frozenset[int] = frozenset()
-
-LOTS = (128, 32, 8, 1)  # few, so that their statements are kept
-ENDED = "UPDATE sagas SET phase = v.column1, end = v.column2, ended = v.column3 FROM (VALUES {}) v WHERE id = v.column4"
-
-SETTLED = "INSERT INTO reports(token, log, outcome) VALUES(?, ?, 'taken') ON CONFLICT(token) DO UPDATE SET outcome = 'taken', value = NULL"
-
-
-class Gap(Exception):
-    """A batch does not join on to its log: a fault of this package, and nothing is written."""
 
 
 def connect(path: str, synchronous: str = "FULL") -> sqlite3.Connection:
     """A connection that commits where it is told to."""
-    db = sqlite3.connect(path, isolation_level=None, check_same_thread=False, cached_statements=64, timeout=BUSY / 1000)
+    db = sqlite3.connect(path, isolation_level=None, check_same_thread=False, cached_statements=128, timeout=BUSY / 1000)
     db.execute(f"PRAGMA synchronous={synchronous}")
     return db
 
@@ -94,18 +82,21 @@ class Reader:
 
 
 class Sqlite(questions.Questions):
-    """The file and its lock. Reads happen in the loop, writes in a thread of their own."""
+    """The file and its lock. Reads happen in the loop; a `Writer` writes."""
 
     shared = False
 
     def __init__(self, path: str | os.PathLike[str]) -> None:
         self.path = os.fspath(path)
-        self.commits = 0
-        self._events: dict[int, int] = {}
-        self._jobs: queue.SimpleQueue[tuple[Sequence[Batch], asyncio.AbstractEventLoop] | None] = queue.SimpleQueue()
         self._lock: int | None = None
         self._timer: asyncio.Handle | None = None
         self._next_log = 0
+        self._writer: Writer | None = None
+
+    @property
+    def commits(self) -> int:
+        """How many transactions were written."""
+        return self._writer.commits if self._writer else 0
 
     # -- opening and closing
 
@@ -113,8 +104,7 @@ class Sqlite(questions.Questions):
         """Takes the lock and makes the tables. Raises `StoreLocked`, `StoreUnwritable`, `StoreFault` or `MissingHandler`."""
         self._take_lock()
         self._make()
-        self._thread = threading.Thread(target=self._write, name="sagas-writer", daemon=True)
-        self._thread.start()
+        self._writer = Writer(self._db)
         self._next_log = int(self.rows("SELECT coalesce(max(log) + 1, 0) FROM logs")[0][0])
         rows = self.open_logs()
         for row in rows:
@@ -188,8 +178,8 @@ class Sqlite(questions.Questions):
             self._timer.cancel()
         if self._lock is None:
             return
-        self._jobs.put(None)
-        self._thread.join()
+        if self._writer:
+            self._writer.close()
         with contextlib.suppress(sqlite3.Error):
             self._reader.close()
             self._db.close()
@@ -217,64 +207,13 @@ class Sqlite(questions.Questions):
 
     def commit(self, batches: Sequence[Batch], then: Then) -> None:
         """One transaction for all; `then` is called in the loop with None, or with what kept it from being."""
-        self._then = then
-        self._jobs.put((batches, asyncio.get_running_loop()))
+        assert self._writer
+        self._writer.commit(batches, then)
 
-    def _write(self) -> None:
-        while (job := self._jobs.get()) is not None:
-            batches, loop = job
-            fault: BaseException | None = None
-            try:
-                self._transaction(batches)
-            except Exception as error:  # told to the loop, which begins again from the database
-                fault = error
-            with contextlib.suppress(RuntimeError):  # the loop is closed
-                loop.call_soon_threadsafe(self._then, batches, fault, NONE)
-
-    def _transaction(self, batches: Sequence[Batch]) -> None:
-        db = self._db
-        try:
-            db.execute("BEGIN IMMEDIATE")
-            events = self._put(db, batches)
-            db.execute("COMMIT")
-        except BaseException:
-            if db.in_transaction:
-                with contextlib.suppress(sqlite3.Error):
-                    db.execute("ROLLBACK")
-            raise
-        self.commits += 1
-        self._events.update(events)
-
-    def _put(self, db: sqlite3.Connection, batches: Sequence[Batch]) -> dict[int, int]:
-        """Writes the rows of all; gives how many events the logs have now."""
-        chunks: dict[int, tuple[int, list[str]]] = {}
-        events: dict[int, int] = {}
-        for batch in batches:
-            if batch.born:
-                name, shelf, texts = batch.born
-                db.execute("INSERT OR IGNORE INTO shelves VALUES(?, ?)", (shelf, texts))
-                db.execute("INSERT OR IGNORE INTO logs(log, name, shelf) VALUES(?, ?, ?)", (batch.log, name, shelf))
-            if batch.text:
-                had = events.get(batch.log, self._events.get(batch.log, 0))
-                if batch.first != had:
-                    raise Gap(f"log {batch.log}: event {batch.first} behind {had}")
-                events[batch.log] = had + batch.text.count("\n")
-                chunks.setdefault(batch.log, (had, []))[1].append(batch.text)
-        if chunks:
-            at = _now(batches)
-            db.executemany("INSERT INTO lines VALUES(?, ?, ?, ?)", [(log, first, at, "".join(texts)) for log, (first, texts) in chunks.items()])
-        _lots(db, "INSERT INTO sagas(id, key, saga, def, input, at) VALUES {}", 6, (b.opened for b in batches))
-        _lots(db, "INSERT INTO results VALUES {}", 7, (b.results for b in batches))
-        _lots(db, ENDED, 4, (b.ended for b in batches))
-        _many(db, "INSERT OR REPLACE INTO held VALUES(?, ?, ?, ?, ?, ?, ?, ?, ?)", ([cleaned(row) for row in b.held] for b in batches))
-        _many(db, "DELETE FROM held WHERE id = ? AND step = ? AND kind = ? AND attempt <= ?", (b.freed for b in batches))
-        _many(db, SETTLED, (b.settled for b in batches))
-        _many(db, "DELETE FROM reports WHERE log = ?", ([(b.log,)] for b in batches if b.closed))
-        _many(db, "UPDATE requests SET answer = ? WHERE id = ?", (b.answers for b in batches))
-        _many(db, "INSERT INTO requests(key, what, value, at, answer) VALUES(?, ?, ?, ?, ?)", ([(*row, answer) for row, answer in b.asked] for b in batches))
-        _many(db, "UPDATE sagas SET note = ? WHERE id = ?", ([(clean(note), id) for note, id in b.notes] for b in batches))
-        _many(db, "UPDATE logs SET closed = ?, audit = ? WHERE log = ?", ([(*b.closed, b.log)] for b in batches if b.closed))
-        return events
+    def settle(self) -> None:
+        """Calls `then` of a commit that is over."""
+        assert self._writer
+        self._writer.settle()
 
     async def call(self, *words: Any) -> Any:
         """A file has no transactions of others: a store with such steps was refused."""
@@ -295,8 +234,9 @@ class Sqlite(questions.Questions):
 
     async def take_up(self, log: int, epoch: int) -> tuple[str, int]:
         """As `text`, for who will write behind it: nobody else writes this file. No lines of it may be on their way."""
-        text, self._events[log] = self.text(log)
-        return text, self._events[log]
+        assert self._writer
+        text, self._writer.events[log] = self.text(log)
+        return text, self._writer.events[log]
 
     async def load(self, log: int, epoch: int, unborn: bool) -> Loaded:
         """A log as a pump takes it up. No batch of it may be on its way."""
@@ -325,23 +265,3 @@ class Sqlite(questions.Questions):
     async def news(self, id: int, turn: int) -> None:
         """Nobody else ends a saga of a file."""
         raise NotImplementedError
-
-
-def _many(db: sqlite3.Connection, statement: str, lists: Iterable[Sequence[Sequence[Any]]]) -> None:
-    rows = [row for rows in lists for row in rows]
-    if rows:
-        db.executemany(statement, rows)
-
-
-def _lots(db: sqlite3.Connection, statement: str, width: int, lists: Iterable[Sequence[Sequence[Any]]]) -> None:
-    """As `_many`, many rows a statement: each statement gives up the interpreter's lock once, and waits for it again."""
-    rows = [row for rows in lists for row in rows]
-    marks, place = f"({', '.join('?' * width)})", 0
-    for lot in LOTS:
-        while len(rows) - place >= lot:
-            db.execute(statement.format(", ".join([marks] * lot)), [word for row in rows[place : place + lot] for word in row])
-            place += lot
-
-
-def _now(batches: Sequence[Batch]) -> float:
-    return max(batch.at for batch in batches)

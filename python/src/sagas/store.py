@@ -128,7 +128,7 @@ class Store:
         if not isinstance(key, str) or not 0 < len(key) <= MOST_KEY or not key.isprintable():
             raise NotJson(f"key={key!r}: a key is a text of 1 to {MOST_KEY} printable characters")
         place, text = self._shelf.place(saga), values.write(input)
-        row = None if key in inside.lives else await self._find(key)
+        row = None if key in inside.lives else await self._find(key) if inside.store.shared else inside.store.find_now(key)
         live = inside.lives.get(key)  # another start of it may have come meanwhile
         there = (live.kind.name, live.text) if live else (row.saga, row.input) if row else None
         if there:
@@ -145,10 +145,8 @@ class Store:
         return Run(self, key, new=there is None and live is not None and live.committed)  # else another node was first
 
     async def _find(self, key: str) -> SagaRow | None:
-        """Looks whether a key that is to be started is there."""
+        """Looks whether a key that is to be started is there, where that takes a while."""
         inside = self._inside
-        if not inside.store.shared:
-            return inside.store.find_now(key)
         finding = self._finding.setdefault(key, inside.loop.create_future())
         try:
             return await inside.store.find(key)
@@ -167,23 +165,23 @@ class Store:
 
     async def over(self, key: str) -> Live | SagaRow:
         """As `wait`, for who reads the end by himself: a saga that was driven here, or its row."""
-        turn = 0
-        self._here()
+        turn, inside = 0, self._here()
         while True:
-            live = self._inside.lives.get(key)
+            live = inside.lives.get(key)
             if live is None:
                 row = await moving.surely(lambda: self._row(key))
                 if row.phase is not None:
                     return row
                 if key not in self._inside.lives:
-                    await self._inside.store.news(row.id, turn)
+                    await inside.store.news(row.id, turn)
                     turn += 1
-                continue
-            try:
-                await live.ended()
-                return live
-            except Moved:
-                continue
+            else:
+                try:
+                    await live.ended()
+                    return live
+                except Moved:
+                    pass
+            inside = self._inside
 
     async def _end(self, row: SagaRow) -> End:
         return histories.end(self._inside, row)

@@ -41,7 +41,8 @@ def _is_old_model(kind: type) -> bool:
 
 
 _encoder = json.JSONEncoder(sort_keys=True, separators=(",", ":"), allow_nan=False, default=_default)
-_decode = json.JSONDecoder().decode
+_decoder = json.JSONDecoder()
+_scan: Callable[[str, int], tuple[Any, int]] = getattr(_decoder, "scan_once")
 
 
 def _encode() -> Callable[[Any], str]:
@@ -63,8 +64,19 @@ _BY_TEXT: dict[type, Decoder] = {
 }
 
 
+def _decode(text: str) -> Any:
+    """What the decoder does; of a text with nothing around its value, as `write` makes it, by the part in C alone."""
+    try:
+        value, end = _scan(text, 0)
+    except StopIteration:
+        end = -1
+    return value if end == len(text) else _decoder.decode(text)
+
+
 def clean(text: str) -> str:
     """A text that a database can keep: it has no zeros and no halves of pairs."""
+    if text.isprintable():
+        return text
     return text.replace("\0", "\\0").encode("utf-8", "backslashreplace").decode()
 
 

@@ -128,9 +128,9 @@ class Worker:
             raise ValueError("a worker has to be able to do something: @worker.step(saga, step)")
         threads = [threading.Thread(target=self._work, name=f"sagas-worker-{number}", daemon=True) for number in range(self.concurrency)]
         threads.append(threading.Thread(target=self._beat, name="sagas-worker-beat", daemon=True))
-        for thread in threads:
-            thread.start()
         try:
+            for thread in threads:
+                thread.start()
             for thread in threads:
                 while thread.is_alive():
                     thread.join(0.2)  # so that a signal is heard

@@ -1,6 +1,6 @@
 //! What a book tells of its sagas. No reader takes memory, and none goes over steps or sagas.
 ghost use Rattle.std.specs.Prelude.{◌≡◌, ◌<◌, ◌≤◌, ◌+◌, ◌*◌, ◌↔◌, IfSome, IsTrue, MatchOption, Some};
-ghost use Rattle.saga_rows.specs.declared.rows.TheConstants.{MAX_ROWS};
+ghost use Rattle.saga_rows.specs.Limits.{max_rows};
 ghost use Rattle.saga_history.specs.Changes.{past};
 ghost use Rattle.saga_history.specs.Tasks.{TaskIsAllowed};
 ghost use Rattle.saga_core.specs.Book as book;
@@ -123,7 +123,7 @@ impl<'d> Book<'d> {
     /// How many sagas were opened.
     pub fn sagas(&self) -> usize
         ensures count { result ≡ book.sagas_in self.now.history }
-        ensures few { result ≤ MAX_ROWS }
+        ensures few { result ≤ max_rows }
     {
         self.rows.len()
     }
@@ -149,7 +149,7 @@ impl<'d> Book<'d> {
         ensures first { MatchOption result
             (NoTaskIsAllowedFrom self.now.shelf (past self.now.history) saga)
             (λ t. IsFirstTaskFrom self.now.shelf (past self.now.history) saga t) }
-        ensures small { IfSome result (λ t. saga_of_task t < 16 * (MAX_ROWS + 1)) }
+        ensures small { IfSome result (λ t. saga_of_task t < 16 * (max_rows + 1)) }
     {
         for place in 0..self.rows.len() {
             let number = number_of(self.first_number, self.apart, place);

@@ -2,7 +2,7 @@
 ghost use Rattle.std.specs.Prelude.{◌≡◌, ◌≢◌, ℕ, ◌<◌, ◌↔◌, IsTrue, IfOk, IfErr, Some, length, slice_get};
 ghost use Rattle.saga_desk.specs.Agreement.{Agree, AreSameReceipts};
 ghost use Rattle.saga_desk.specs.Seat.{Seat};
-ghost use Rattle.saga_desk.specs.Finish.{AreAll, AreOfShards, AreOwn, FinishIsRefused, HeadlineHolds, IsOfShard, KeepLegalHistories, MergesAreLegal};
+ghost use Rattle.saga_desk.specs.Finish.{AreAll, AreOfShards, AreOwn, DidOneHistory, FinishIsRefused, HeadlineHolds, IsOfShard, KeepLegalHistories, MergesAreLegal};
 
 use crate::agreement::agree;
 use crate::desks::Desk;
@@ -33,6 +33,8 @@ impl<'d> Desk<'d> {
             (λ books. AreOfShards self.entry.shelf self.entry.shards books.items) }
         ensures agree { IfOk result (λ books. Agree books.items seats.items) }
         ensures named { IfOk result (λ books. AreSameReceipts books.items seats.items) }
+        ensures history { IfOk result
+            (λ books. DidOneHistory self.entry.shelf books.items seats.items) }
         ensures legal { IfOk result (λ books. MergesAreLegal self.entry.shelf books.items) }
         ensures headline { IfOk result (λ books. HeadlineHolds self.entry.shelf books.items) }
         ensures why { IfErr result (λ refused. FinishIsRefused self.entry seats.items refused) }

@@ -1,7 +1,7 @@
 """The operators' command over a store: `sagas store STORE ..`, also beside the programs that have it open.
 
 What only looks changes nothing. `abort` and `finish` leave a request in the store, which the program that
-has it open (or the next one that opens it) takes up; `resolve` marks a stuck saga as seen to by a person.
+has it open (or the next one that opens it) takes up; `resolve` marks stuck sagas as seen to by a person.
 """
 
 from __future__ import annotations
@@ -59,7 +59,10 @@ def parser() -> argparse.ArgumentParser:
     outcome.add_argument("--failed", metavar="WHY", help="it had no effect")
     part.add_argument("--undo", action="store_true", help="the step's compensation is meant")
     add_patience(part)
-    part = add("resolve", resolve, key=True)
+    part = add("resolve", resolve)
+    part.add_argument("key", metavar="KEY", nargs="*", help="the sagas' keys")
+    part.add_argument("--all", action="store_true", help="each stuck saga that nobody has resolved, in place of KEYs")
+    part.add_argument("--saga", metavar="NAME", help="with --all: sagas of this name alone")
     part.add_argument("--note", required=True, metavar="TEXT", help="what was done about it")
     add("audit", audit)
     add("nodes", nodes)

@@ -71,14 +71,30 @@ def finish(path: str, words: argparse.Namespace) -> int:
 
 
 def resolve(path: str, words: argparse.Namespace) -> int:
-    """Marks a stuck saga as seen to by a person, with a note."""
+    """Marks stuck sagas as seen to by a person, with a note."""
+    if bool(words.key) == words.all:
+        raise Trouble("resolve takes the keys of the sagas, or --all for each stuck one that nobody has resolved", 2)
     with sources.writing(path) as link:
-        changed = link.changed("UPDATE sagas SET note = ? WHERE key = ? AND phase = 'stuck'", words.note, words.key)
-    if not changed:
-        with View(path) as view:
-            raise Trouble(f"{words.key} is not stuck: it is {view.saga(words.key).phase}")
+        keys: list[str] = words.key or stuck_keys(link, words.saga)
+        done = [key for key in keys if link.changed("UPDATE sagas SET note = ? WHERE key = ? AND phase = 'stuck'", words.note, key)]
     if words.json:
-        show_json({"key": words.key, "note": words.note})
+        told = [{"key": key, "note": words.note} for key in done]
+        show_json(told[0] if len(words.key) == 1 and told else told)
     else:
-        print(f"{words.key}: resolved")
+        for key in done:
+            print(f"{key}: resolved")
+    if len(done) < len(keys):
+        raise Trouble(why_not_stuck(path, [key for key in keys if key not in done]))
     return GOOD
+
+
+def stuck_keys(link: sources.Source, saga: str | None) -> list[str]:
+    """The stuck sagas that nobody has resolved, of that name or of any."""
+    named, name = (" AND saga = ?", (saga,)) if saga is not None else ("", ())
+    return [key for (key,) in link.ask(f"SELECT key FROM sagas WHERE phase = 'stuck' AND note IS NULL{named} ORDER BY key", *name)]
+
+
+def why_not_stuck(path: str, keys: list[str]) -> str:
+    """What is said of sagas that are not stuck."""
+    with View(path) as view:
+        return "; ".join(f"{key} is not stuck: it is {view.saga(key).phase}" for key in keys)

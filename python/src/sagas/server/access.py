@@ -9,7 +9,7 @@ from typing import Any
 from fastapi import Request
 from starlette.responses import Response
 
-from .guards import SLASH
+from .guards import SERVICE, SLASH
 from .service import Service
 from .who import LOCAL, Who
 
@@ -32,7 +32,7 @@ class Json(Response):
 
 
 def service_of(request: Request) -> Service:
-    found: Service = request.app.state.service
+    found: Service = request.scope[SERVICE]
     return found
 
 

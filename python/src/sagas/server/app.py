@@ -80,10 +80,9 @@ def application(settings: Settings) -> tuple[FastAPI, Service]:
     service = Service(settings)
 
     app = FastAPI(title="sagas", version="1", description="Start sagas, take tasks, and see what stands.", docs_url=None, redoc_url=None)
-    app.state.service = service
     for router in (callers.router, workers.router, operators.router, starts.router, pages.router):
         app.include_router(router)
-    app.add_middleware(Guard, settings=settings, seen=service.request)
+    app.add_middleware(Guard, service=service)
     for kind, handler in ((Refused, refused), (errors.SagasError, of_sagas), (HTTPException, of_http), (RequestValidationError, invalid)):
         app.add_exception_handler(kind, handler)
     return app, service

@@ -14,6 +14,7 @@ from ..errors import NoSuchSaga
 from ..looks import SagaView
 from . import pictures, rendering, shown
 from .access import Json, Refused, allow, service_of, unslashed
+from .guards import GONE
 from .who import Who
 
 router = APIRouter(default_response_class=Json)
@@ -99,21 +100,15 @@ async def wait(request: Request, key: str, seconds: float = Query(30.0, ge=0.0, 
 
 async def first(request: Request, work: "asyncio.Future[Any]", seconds: float) -> bool:
     """Waits for a piece of work, but no longer than the client or the service is there. Whether it is done; else it is cancelled, to its end."""
-    others = [asyncio.ensure_future(gone(request)), asyncio.ensure_future(service_of(request).stopping.wait())]
+    others = request.scope[GONE], service_of(request).stopping
     try:
-        await asyncio.wait([work, *others], timeout=seconds, return_when=asyncio.FIRST_COMPLETED)
+        await asyncio.wait((work, *others), timeout=seconds, return_when=asyncio.FIRST_COMPLETED)
         return work.done()
     finally:
-        for one in (*others, *(() if work.done() else (work,))):
-            one.cancel()
+        if not work.done():
+            work.cancel()
             with contextlib.suppress(asyncio.CancelledError, Exception):
-                await one
-
-
-async def gone(request: Request) -> None:
-    """Returns when the client is gone."""
-    while (await request.receive())["type"] != "http.disconnect":
-        pass
+                await work
 
 
 @router.post("/sagas/{key}/abort", summary="Abort a saga")

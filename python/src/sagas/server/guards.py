@@ -3,14 +3,18 @@
 from __future__ import annotations
 
 import asyncio
+import functools
 import json
 import logging
 import time
 from collections.abc import Awaitable, Callable, MutableMapping
-from typing import Any
+from typing import TYPE_CHECKING, Any
 from urllib.parse import unquote_to_bytes, urlsplit
 
-from .settings import Settings, is_loopback
+from .settings import is_loopback
+
+if TYPE_CHECKING:
+    from .service import Service
 
 Scope = MutableMapping[str, Any]
 Message = MutableMapping[str, Any]
@@ -20,8 +24,12 @@ App = Callable[[Scope, Receive, Send], Awaitable[None]]
 
 SLASH = "\ue02f"
 """Stands for a slash within a part of a path; it is not printable, so that no key has it."""
-ABORT = "sagas.abort"
-"""In a scope: what ends the connection at once."""
+SERVICE = "sagas.service"
+"""In a scope: the `Service`."""
+GONE = "sagas.gone"
+"""In a scope: a future that is done once the client is gone."""
+WHOLE = "sagas.whole"
+"""In a scope: whether all of the body had come when the request was begun."""
 CONTENT = "default-src 'none'; style-src 'self'; script-src 'self'; img-src 'self'; connect-src 'self'; form-action 'self'; frame-ancestors 'none'; base-uri 'none'"
 HEADERS = [
     (b"content-security-policy", CONTENT.encode()),
@@ -30,7 +38,9 @@ HEADERS = [
     (b"x-frame-options", b"DENY"),
     (b"cross-origin-opener-policy", b"same-origin"),
     (b"cross-origin-resource-policy", b"same-origin"),
+    (b"cache-control", b"no-store"),
 ]
+"""Where an answer has no other of the name."""
 logger = logging.getLogger("sagas.http")
 
 
@@ -38,21 +48,22 @@ class Refusal(Exception):
     """The body is too long or too slow, and that is answered: whatever the application says of it is not."""
 
 
-class Gone(Exception):
-    """The client takes nothing, or gives nothing, for too long."""
+def headers(scope: Scope) -> dict[bytes, str]:
+    """The headers' values; of one that is there more than once, the first."""
+    return {name: value.decode("latin-1") for name, value in reversed(scope["headers"])}
 
 
-def header(scope: Scope, name: bytes) -> str | None:
-    """A header's value, if it is there once or more: the first."""
-    for key, value in scope["headers"]:
-        if key == name:
-            return str(value.decode("latin-1"))
-    return None
+@functools.lru_cache(16)  # few: a header may be long
+def names_loopback(host: str) -> bool:
+    """Whether a header `Host` names this machine's loopback. Raises `ValueError`."""
+    return is_loopback(urlsplit(f"//{host}").hostname or "")
 
 
 def parted(raw: bytes) -> str | None:
     """A path whose parts are decoded each by itself; None where one is no UTF-8."""
     try:
+        if b"%" not in raw:
+            return raw.decode("utf-8")
         parts = [unquote_to_bytes(part).decode("utf-8") for part in raw.split(b"/")]
     except UnicodeDecodeError:
         return None
@@ -62,13 +73,14 @@ def parted(raw: bytes) -> str | None:
 class Guard:
     """The outermost of the application."""
 
-    def __init__(self, app: App, settings: Settings, seen: Callable[[Scope, int, float], None]) -> None:
-        self.app, self.settings, self._seen = app, settings, seen
+    def __init__(self, app: App, service: Service) -> None:
+        self.app, self.service, self.settings = app, service, service.settings
 
     async def __call__(self, scope: Scope, receive: Receive, send: Send) -> None:
         if scope["type"] != "http":
             await self.app(scope, receive, send)
             return
+        scope[SERVICE] = self.service
         await Passage(self, scope, receive, send).run()
 
     def refusal(self, scope: Scope) -> tuple[int, str, str] | None:
@@ -77,14 +89,15 @@ class Guard:
         if path is None:
             return 400, "BadPath", "a part of the path is no UTF-8"
         scope["path"] = path
-        host = header(scope, b"host") or ""
-        if self.settings.tokens is None and not is_loopback(urlsplit(f"//{host}").hostname or ""):
+        told = headers(scope)
+        host = told.get(b"host", "")
+        if self.settings.tokens is None and not names_loopback(host):
             return 403, "BadHost", "without a token file only the loopback's own names are answered to"
         if scope["method"] not in ("GET", "HEAD", "OPTIONS"):
-            origin, site = header(scope, b"origin"), header(scope, b"sec-fetch-site")
+            origin, site = told.get(b"origin"), told.get(b"sec-fetch-site")
             if site in ("cross-site", "same-site") or (origin is not None and urlsplit(origin).netloc != host):
                 return 403, "OtherOrigin", "another page's request changes nothing here"
-        length = header(scope, b"content-length")
+        length = told.get(b"content-length")
         if length is not None and (not length.isdigit() or len(length) > 12 or int(length) > self.settings.most_body):
             return 413, "TooLong", f"a body has at most {self.settings.most_body} bytes"
         return None
@@ -106,11 +119,8 @@ class Passage:
                 await self._refuse(*refusal)
             else:
                 await self._through()
-        except Gone:
-            self.status = self.status or 408
-            self.scope.get(ABORT, str)()
         finally:
-            self.guard._seen(self.scope, self.status, time.monotonic() - self.began)
+            self.guard.service.request(self.scope, self.status, time.monotonic() - self.began)
 
     def _refusal(self) -> tuple[int, str, str] | None:
         try:
@@ -121,8 +131,6 @@ class Passage:
     async def _through(self) -> None:
         try:
             await self.guard.app(self.scope, self.receive, self.send)
-        except (Gone, asyncio.CancelledError):
-            raise
         except Exception:
             if self._refused:
                 return
@@ -134,12 +142,7 @@ class Passage:
         """The next part of the body, in time and within its size; then that the client is gone."""
         if self._whole:
             return await self._receive()
-        try:
-            async with asyncio.timeout(self.settings.body_time):
-                message = await self._receive()
-        except TimeoutError:
-            await self._refuse(408, "TooSlow", "the body did not come in time")
-            raise Refusal from None
+        message = await (self._receive() if self.scope.get(WHOLE) else self._in_time())
         if message["type"] == "http.request":
             self._size += len(message.get("body", b""))
             self._whole = not message.get("more_body", False)
@@ -148,24 +151,27 @@ class Passage:
                 raise Refusal
         return message
 
+    async def _in_time(self) -> Message:
+        """The next part of a body that is still to come."""
+        try:
+            async with asyncio.timeout(self.settings.body_time):
+                return await self._receive()
+        except TimeoutError:
+            await self._refuse(408, "TooSlow", "the body did not come in time")
+            raise Refusal from None
+
     async def send(self, message: Message) -> None:
         """Sends what the application answers."""
         if not self._refused:
             await self._say(message)
 
     async def _say(self, message: Message) -> None:
-        """Sends, to whoever reads."""
+        """Sends, with the headers that every answer has."""
         if message["type"] == "http.response.start":
             self.status = message["status"]
             there = {name.lower() for name, _ in message["headers"]}
             message["headers"] = [*message["headers"], *(pair for pair in HEADERS if pair[0] not in there)]
-            if b"cache-control" not in there:
-                message["headers"].append((b"cache-control", b"no-store"))
-        try:
-            async with asyncio.timeout(self.settings.send_time):
-                await self._send(message)
-        except TimeoutError:
-            raise Gone from None
+        await self._send(message)
 
     async def _refuse(self, status: int, name: str, text: str) -> None:
         if self.status:

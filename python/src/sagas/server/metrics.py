@@ -2,6 +2,7 @@
 
 from __future__ import annotations
 
+import functools
 import time
 from collections.abc import Callable, Iterator
 from typing import TYPE_CHECKING
@@ -31,33 +32,39 @@ class Metrics:
         self.counts: dict[str, dict[str, int]] = {}
         self.asked: dict[str, int] = {}
         self._began: dict[tuple[str | None, str | None, bool, int | None], float] = {}
-        self.started = Counter("sagas_started", "Sagas that were started", ["saga"], registry=self.registry)
-        self.ended = Counter("sagas_ended", "Sagas that ended, by how", ["saga", "phase"], registry=self.registry)
-        self.aborted = Counter("sagas_aborted", "Sagas that were aborted", ["saga"], registry=self.registry)
-        self.plans = Counter("sagas_plans", "Plans that were adopted", ["saga"], registry=self.registry)
-        self.steps = Counter("sagas_steps", "Outcomes of steps; a missed one is tried again", ["saga", "step", "kind", "outcome"], registry=self.registry)
-        self.step_seconds = Histogram("sagas_step_seconds", "From a task's begin to its report", ["saga", "step", "kind"], buckets=SECONDS, registry=self.registry)
-        self.faults = Counter("sagas_faults", "What went wrong inside: child_died, commit_failed, audit_failed, lease_lapsed, log_lost", ["what"], registry=self.registry)
+        self.started = self._counter("sagas_started", "Sagas that were started", "saga")
+        self.ended = self._counter("sagas_ended", "Sagas that ended, by how", "saga", "phase")
+        self.aborted = self._counter("sagas_aborted", "Sagas that were aborted", "saga")
+        self.plans = self._counter("sagas_plans", "Plans that were adopted", "saga")
+        self.steps = self._counter("sagas_steps", "Outcomes of steps; a missed one is tried again", "saga", "step", "kind", "outcome")
+        seconds = Histogram("sagas_step_seconds", "From a task's begin to its report", ["saga", "step", "kind"], buckets=SECONDS, registry=self.registry)
+        self.step_seconds = functools.cache(seconds.labels)
+        self.faults = self._counter("sagas_faults", "What went wrong inside: child_died, commit_failed, audit_failed, lease_lapsed, log_lost", "what")
         self.logs_taken = Counter("sagas_logs_taken", "Logs of other nodes that this one took over", registry=self.registry)
-        self.requests = Counter("sagas_http_requests", "Requests, by what they came to", ["method", "status"], registry=self.registry)
-        self.request_seconds = Histogram("sagas_http_request_seconds", "Time that requests took; long waits are counted apart", ["waits"], registry=self.registry)
+        self.requests = self._counter("sagas_http_requests", "Requests, by what they came to", "method", "status")
+        took = Histogram("sagas_http_request_seconds", "Time that requests took; long waits are counted apart", ["waits"], registry=self.registry)
+        self.request_seconds = functools.cache(took.labels)
         self.up = Gauge("sagas_up_since_seconds", "When this service was started", registry=self.registry)
         self.up.set(time.time())
         self.registry.register(Now(self))  # type: ignore[arg-type]
+
+    def _counter(self, name: str, told: str, *labels: str) -> Callable[..., Counter]:
+        """A counter's children by their labels, each of which is looked up in a dictionary."""
+        return functools.cache(Counter(name, told, labels, registry=self.registry).labels)
 
     def event(self, event: Event) -> None:
         """Something happened."""
         saga, outcome = event.saga or "", TOLD.get(event.name)
         if event.name == "saga_started":
-            self.started.labels(saga).inc()
+            self.started(saga).inc()
         elif event.name in ("saga_ended", "saga_stuck"):
-            self.ended.labels(saga, event.name[5:]).inc()
+            self.ended(saga, event.name[5:]).inc()
         elif event.name == "saga_aborted":
-            self.aborted.labels(saga).inc()
+            self.aborted(saga).inc()
         elif event.name == "saga_planned":
-            self.plans.labels(saga).inc()
+            self.plans(saga).inc()
         elif event.name in FAULTS:
-            self.faults.labels(event.name).inc()
+            self.faults(event.name).inc()
         elif event.name == "log_taken":
             self.logs_taken.inc()
         elif event.name == "step_begun":
@@ -65,16 +72,16 @@ class Metrics:
                 self._began[event.key, event.step, event.undo, event.attempt] = event.at
         elif outcome:
             kind = "undo" if event.undo else "run"
-            self.steps.labels(saga, event.step, kind, outcome).inc()
+            self.steps(saga, event.step, kind, outcome).inc()
             began = self._began.pop((event.key, event.step, event.undo, event.attempt), None)
             if began is not None:
-                self.step_seconds.labels(saga, event.step, kind).observe(max(0.0, event.at - began))
+                self.step_seconds(saga, event.step, kind).observe(max(0.0, event.at - began))
 
     def request(self, method: str, status: int, seconds: float, waits: bool) -> None:
         """A request is over."""
         known = method if method in ("GET", "POST", "HEAD") else "other"
-        self.requests.labels(known, str(status)).inc()
-        self.request_seconds.labels("yes" if waits else "no").observe(seconds)
+        self.requests(known, str(status)).inc()
+        self.request_seconds("yes" if waits else "no").observe(seconds)
 
     async def text(self) -> bytes:
         """All figures, as Prometheus reads them."""

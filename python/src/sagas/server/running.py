@@ -16,7 +16,7 @@ from h11 import LocalProtocolError
 from uvicorn.protocols.http.h11_impl import H11Protocol  # type: ignore[import]
 
 from .app import application
-from .guards import ABORT
+from .guards import GONE, WHOLE
 from .service import Service
 from .settings import Settings
 
@@ -62,42 +62,84 @@ class Connections:
         connection.transport.abort()
 
 
-def protocol(connections: Connections) -> type[Any]:
+class Bounded(asyncio.Protocol):
+    """What is added to a protocol of uvicorn's: its connections are counted, and whoever does not read is cut off."""
+
+    counted: Connections
+    send_time: float
+    app: Any
+    cycle: Any
+    transport: Any
+
+    def __init__(self, *words: Any, **more: Any) -> None:
+        super().__init__(*words, **more)
+        self._answers, self.app = self.app, self._begin
+        self._gone = asyncio.get_running_loop().create_future()
+        self._unread: asyncio.TimerHandle | None = None
+
+    def _begin(self, scope: Any, receive: Any, send: Any) -> Any:
+        """A request is begun. `receive` is of its cycle."""
+        scope[GONE], scope[WHOLE] = self._gone, not receive.__self__.more_body
+        return self._answers(scope, receive, send)
+
+    def connection_made(self, transport: Any) -> None:
+        super().connection_made(transport)
+        self.counted.came(self)
+
+    def connection_lost(self, error: Exception | None) -> None:
+        self.counted.went(self)
+        self._reads()
+        if not self._gone.done():
+            self._gone.set_result(None)
+        super().connection_lost(error)
+
+    def data_received(self, data: bytes) -> None:
+        super().data_received(data)
+        if self.cycle is None or self.cycle.response_complete:
+            if not self.transport.is_closing():
+                self.counted.idles(self)
+        else:
+            self.counted.works(self)
+
+    def pause_writing(self) -> None:
+        super().pause_writing()
+        self._wait_for_reader()
+
+    def resume_writing(self) -> None:
+        super().resume_writing()
+        self._reads()
+
+    def _wait_for_reader(self, before: int | None = None) -> None:
+        """More is to be sent than the client reads now. Where it reads nothing for too long, the connection ends."""
+        left = self.transport.get_write_buffer_size()
+        if before is not None and left >= before:
+            self.transport.abort()
+        else:
+            self._unread = asyncio.get_running_loop().call_later(self.send_time, self._wait_for_reader, left)
+
+    def _reads(self) -> None:
+        if self._unread:
+            self._unread.cancel()
+            self._unread = None
+
+    def send_400_response(self, text: str) -> None:
+        """What came is no HTTP. A request of which it was to be the body has no other answer."""
+        if self.cycle is not None and not self.cycle.response_complete:
+            self.cycle.disconnected = True
+            self.cycle.message_event.set()
+        with contextlib.suppress(LocalProtocolError):  # its answer has begun
+            super().send_400_response(text)  # type: ignore[misc]
+        self.transport.close()
+
+
+def protocol(connections: Connections, send_time: float) -> type[Any]:
     """A protocol of uvicorn's whose connections are counted. `httptools` is used where it is there."""
     base: type[Any] = H11Protocol
     if importlib.util.find_spec("httptools"):
         from uvicorn.protocols.http.httptools_impl import HttpToolsProtocol  # type: ignore[import]
 
         base = HttpToolsProtocol
-
-    class Bounded(base):  # type: ignore[misc]
-        def connection_made(self, transport: Any) -> None:
-            super().connection_made(transport)
-            connections.came(self)
-
-        def connection_lost(self, error: Exception | None) -> None:
-            connections.went(self)
-            super().connection_lost(error)
-
-        def data_received(self, data: bytes) -> None:
-            super().data_received(data)
-            if self.cycle is None or self.cycle.response_complete:
-                if not self.transport.is_closing():
-                    connections.idles(self)
-            else:
-                connections.works(self)
-                self.scope[ABORT] = self.transport.abort
-
-        def send_400_response(self, text: str) -> None:
-            """What came is no HTTP. A request of which it was to be the body has no other answer."""
-            if self.cycle is not None and not self.cycle.response_complete:
-                self.cycle.disconnected = True
-                self.cycle.message_event.set()
-            with contextlib.suppress(LocalProtocolError):  # its answer has begun
-                super().send_400_response(text)
-            self.transport.close()
-
-    return Bounded
+    return type("Connection", (Bounded, base), {"counted": connections, "send_time": send_time})
 
 
 class Server(uvicorn.Server):  # type: ignore[misc]
@@ -142,8 +184,8 @@ async def run(settings: Settings, listening: socket.socket, opened: Callable[[],
     await service.begin()
     try:
         config = uvicorn.Config(
-            app, http=protocol(Connections(most, settings.head_time)), loop="asyncio", ws="none", lifespan="off", access_log=False, log_config=None,
-            server_header=False, timeout_keep_alive=15, backlog=2048, forwarded_allow_ips="127.0.0.1,::1",
+            app, http=protocol(Connections(most, settings.head_time), settings.send_time), loop="asyncio", ws="none", lifespan="off", access_log=False, log_config=None,
+            log_level="error", server_header=False, timeout_keep_alive=15, backlog=2048, forwarded_allow_ips="127.0.0.1,::1",
         )  # fmt: skip
         await Server(config, service, opened).serve(sockets=[listening])
     finally:

@@ -27,7 +27,7 @@ if TYPE_CHECKING:
     from ..between import Between
 
 T = TypeVar("T")
-logger = logging.getLogger("sagas.server")
+logger, http = logging.getLogger("sagas.server"), logging.getLogger("sagas.http")
 LOOKERS = 2
 MOST_WORKERS = 1000
 SHARED = 200
@@ -70,7 +70,6 @@ class Service:
         )
         self.store.leased = True
         self._between: Between | None = None
-        self.stopping = asyncio.Event()
         self.workers: OrderedDict[str, Seen] = OrderedDict()
         self.unwritten: float | None = None
         self._counts: Counted | None = None
@@ -80,6 +79,7 @@ class Service:
 
     async def begin(self) -> None:
         """Opens the store. Raises what `Store` raises."""
+        self.stopping: asyncio.Future[None] = asyncio.get_running_loop().create_future()
         await self.store.__aenter__()
         self._meet()
         self._threads = ThreadPoolExecutor(LOOKERS, "sagas-look")
@@ -89,7 +89,8 @@ class Service:
 
     def stop(self) -> None:
         """Ends what waits long: streams and takers."""
-        self.stopping.set()
+        if not self.stopping.done():
+            self.stopping.set_result(None)
         self.hub.close()
 
     async def end(self) -> None:
@@ -127,7 +128,7 @@ class Service:
 
     def ready(self) -> str | None:
         """None where it takes requests; else why not."""
-        if self.stopping.is_set():
+        if self.stopping.done():
             return "it is about to stop"
         if self.unwritten is not None:
             return "the store could not be written"
@@ -239,7 +240,6 @@ class Service:
         waits = path.endswith(("/wait", "/take", "/events"))
         self.metrics.request(scope["method"], status, seconds, waits)
         level = logging.ERROR if status >= 500 else logging.INFO
-        http = logging.getLogger("sagas.http")
         if http.isEnabledFor(level):
             told = {"method": scope["method"], "path": path, "status": status, "ms": round(seconds * 1000, 1), "from": (scope.get("client") or ["?"])[0]}
             if "sagas.who" in scope:

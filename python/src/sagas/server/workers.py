@@ -115,7 +115,7 @@ async def taken(request: Request, who: Who, body: Take) -> list[dict[str, Any]]:
 @router.post("/take", summary="Take tasks")
 async def take(request: Request, body: Take, who: Who = WORKER) -> Response:
     """Those that have waited longest; an empty list where none came in time. The leases are kept before they are answered."""
-    if service_of(request).stopping.is_set():
+    if service_of(request).stopping.done():
         raise Refused(503, "Stopping", "the service is about to stop: ask again in a while")
     return Json({"tasks": await taken(request, who, body)})
 
@@ -134,7 +134,7 @@ async def _report(request: Request, token: str, who: Who, body: Done | Failed | 
     kept = await service_of(request).store.report(unslashed(token), body.lease, **outcome)
     told: dict[str, Any] = {"kept": True, "repeated": not kept}
     if body.next is not None:
-        told["tasks"] = [] if service_of(request).stopping.is_set() else await taken(request, who, body.next)
+        told["tasks"] = [] if service_of(request).stopping.done() else await taken(request, who, body.next)
     return Json(told)
 
 

@@ -1,4 +1,4 @@
-use Rattle.std.proofs.Common.{◌∙◌, ap, subst, sym}
+use Rattle.std.proofs.Common.{◌∙◌, ap, subst}
 use Rattle.saga_log.specs.Back.{IsReadBack}
 use Rattle.saga_log.specs.Logs.{event_line}
 use Rattle.saga_drive.specs.Replies.{event_front}

@@ -3,9 +3,8 @@ use Rattle.std.specs.Prelude.{Err}
 use Rattle.std.specs.Borrow.{Bor}
 use Rattle.saga_serve.specs.Drives.{IsDriveOutput}
 use Rattle.saga_tool.specs.declared.responses.Response.{Response}
-use Rattle.saga_tool.specs.Limits.{max_definition}
 use Rattle.saga_tool.specs.Responses.{IsAlone}
-use Rattle.saga_tool.specs.Program.{AreGiven, IsFirstUnreadable, StopsBy}
+use Rattle.saga_tool.specs.Program.{AreFor, IsUnreadFor, StopsBy}
 use Rattle.saga_tool.proofs.ReplyLemmas.{drive_unread}
 use Rattle.saga_tool.proofs.commands.drive_sagas.Goals as goal
 
@@ -13,7 +12,7 @@ pub returns-in_err-texts : goal.returns-in_err-texts
 returns-in_err-texts g c =
     let world = g.W.Outside.world c.args.outside.now in
     let is : c.from_residual.result ≡ Err c.in_err-texts.field-0.0 = search rules in
-    let stops = subst (λ (fs : List (Bor (List ℕ))). StopsBy (IsFirstUnreadable world.file_gives max_definition (map (λ s. s.now) fs)) c.in_err-texts.field-0.0)
+    let stops = subst (λ (fs : List (Bor (List ℕ))). StopsBy (IsUnreadFor world.file_gives (option_map (λ s. s.now) c.args.given.now.log) (map (λ s. s.now) fs)) c.in_err-texts.field-0.0)
     c.deref.ensures.value c.in_err-texts.ensures.stop in
     rw is (drive_unread world _ _ c.in_err-texts.field-0.0 stops)
 
@@ -24,7 +23,7 @@ returns g c =
     let texts = map (λ t. t.items) c.in_ok-texts.texts.items in
     inl (
       texts,
-      subst (λ (fs : List (Bor (List ℕ))). AreGiven world.file_gives max_definition (map (λ s. s.now) fs) texts) c.deref.ensures.value c.in_ok-texts.ensures.texts,
+      subst (λ (fs : List (Bor (List ℕ))). AreFor world.file_gives (option_map (λ s. s.now) c.args.given.now.log) (map (λ s. s.now) fs) texts) c.deref.ensures.value c.in_ok-texts.ensures.texts,
       subst (λ (r : Response). IsAlone (IsDriveOutput world.drive log texts) r) (sym c.alone.ensures) (record {
         replies = c.drive.ensures.keeps log texts c.in_ok-output.output (search rules);
         none = refl;

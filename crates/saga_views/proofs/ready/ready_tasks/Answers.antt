@@ -1,7 +1,7 @@
 use Rattle.std.proofs.Common.{ℕ, ◌<◌, ◌≤◌, Some, arith, length, subst, sym}
 use Rattle.saga_history.specs.Changes.{past}
 use Rattle.saga_views.specs.Ready.{IsReady, ListsAll}
-use Rattle.saga_views.specs.declared.ready.TheConstants.{ENOUGH_TASKS}
+use Rattle.saga_views.specs.Limits.{enough_tasks}
 use Rattle.saga_views.proofs.ReadyLemmas.{adds_not_cut, up_to_next}
 use Rattle.saga_views.proofs.ready.ready_tasks.Goals as goal
 
@@ -13,7 +13,7 @@ loop-task-preserved c =
     let old = c.loop-task.tasks.items in
     let first = c.in-Some.ensures.first in
     let far : from ≤ c.saga_of-found.result = omega (arith, c.saga_of-found.ensures, first.within, c.loop-task.invariant.far) in
-    let few : length old < ENOUGH_TASKS = omega arith in
+    let few : length old < enough_tasks = omega arith in
     let here : ListsAll (IsReady shelf h from (Some c.saga_of-found.result)) old = subst (λ (m : ℕ). ListsAll (IsReady shelf h from (Some m)) old) (sym c.saga_of-found.ensures)
     (up_to_next shelf h from c.loop-task.saga c.in-Some.task old c.loop-task.invariant.far first c.loop-task.invariant.each) in
     record {

@@ -6,6 +6,7 @@ use Rattle.saga_history.proofs.HeadlineLemmas.{headline_holds}
 use Rattle.saga_desk.specs.Agreement.{Agree, histories_of, receipts_of}
 use Rattle.saga_desk.specs.Desk.{Desk}
 use Rattle.saga_desk.specs.Finish.{AreAll, AreBooks, AreOfShards, KeepLegalHistories}
+use Rattle.saga_desk.proofs.BridgeLemmas.{did_one_history}
 use Rattle.saga_desk.proofs.FinishLemmas.{merges_legal}
 use Rattle.saga_desk.proofs.MergeLemmas.{all_of-common}
 use Rattle.saga_desk.proofs.desks.Desk.finish.Goals as goal
@@ -14,6 +15,13 @@ pub returns-clause-named : goal.returns-clause-named
 returns-clause-named c =
     let agree : Agree c.loop-slot.books.items c.args.seats.items = search rules in
     all_of-common (histories_of c.loop-slot.books.items) (receipts_of c.args.seats.items) agree
+
+pub returns-clause-history : goal.returns-clause-history
+returns-clause-history c =
+    let agree : Agree c.loop-slot.books.items c.args.seats.items = search rules in
+    let of : AreOfShards c.args.self.shelf c.args.self.shards c.loop-slot.books.items = search rules in
+    let keep : KeepLegalHistories c.loop-slot.books.items = rw c.as_slice-2.ensures.value at c.see_histories.ensures in
+    did_one_history c.args.self.shelf c.loop-slot.books.items c.args.seats.items agree (merges_legal c.args.self.shelf c.args.self.shards c.loop-slot.books.items of keep)
 
 pub returns-clause-legal : goal.returns-clause-legal
 returns-clause-legal c =

@@ -1,0 +1,18 @@
+//! What holds of answers and of restarts. The functions do nothing: their contracts are the laws.
+ghost use Rattle.std.specs.Prelude.{ℕ, List};
+ghost use Rattle.saga_def.specs.Contents.{Contents};
+ghost use Rattle.saga_core.specs.Book.{Book};
+ghost use Rattle.saga_drive.specs.declared.replies.Reply.{Reply};
+ghost use Rattle.saga_drive.specs.Laws.{HasOneRestart, HasOneText, IsNotRefused, KeepsLegal};
+
+/// A log leads to one restart at most; where it leads to one, it is refused for want of memory alone.
+pub fn restart_laws()
+    ensures one { (shelf : List Contents) (log : List ℕ) → HasOneRestart shelf log }
+    ensures alone { (shelf : List Contents) (log : List ℕ) → IsNotRefused shelf log }
+{}
+
+/// An answer keeps a legal history legal. Where nothing happens, and memory does not lack, it is settled what is replied.
+pub fn answer_laws()
+    ensures legal { (old new : Book) (line : List ℕ) (reply : Reply) → KeepsLegal old new line reply }
+    ensures one_text { (book : Book) (line : List ℕ) → HasOneText book line }
+{}

@@ -1,0 +1,96 @@
+//! The definitions beside a log: what was read there is compared, and where nothing stands there the file is made.
+ghost use Rattle.std.specs.Prelude.{◌≡◌, ◌≢◌, ◌≤◌, ◌↔◌, IfErr, IfOk, IsTrue, Ok, OnOk, Some, None, length, map};
+ghost use Rattle.saga_texts.specs.Beside.{definitions_file};
+ghost use Rattle.saga_serve.specs.Drives.{BesideEnds, HaltsAs, IsDefined, IsDiffering};
+ghost use Rattle.saga_serve.specs.Limits.{max_beside, max_kept};
+
+use crate::endings::{Ending, Stream};
+use crate::limits::MAX_BESIDE;
+use crate::outside::{FileFault, Outside};
+use crate::starts::halt_of;
+use crate::stops::Halt;
+use saga_def::Definition;
+use saga_drive::restart_from;
+use saga_texts::{definitions_file, definitions_of, first_other};
+use std::alloc::{AllocError, Global};
+
+fn is_same(one: &[u8], other: &[u8]) -> bool
+    ensures { IsTrue result ↔ (one.now ≡ other.now) }
+{
+    one == other
+}
+
+/// How a file that is not that of the definitions differs from it.
+fn difference(alloc: Global, found: &[u8], definitions: &[&[u8]]) -> Result<Ending, AllocError>
+    requires { found.now ≢ definitions_file (map (λ t. t.now) definitions.now) }
+    ensures { IfOk result (IsDiffering found.now (map (λ t. t.now) definitions.now)) }
+{
+    let Some(kept) = definitions_of(alloc, found)? else {
+        return Ok(Ending::BadDefinitions);
+    };
+    match first_other(&kept, definitions) {
+        Some(place) => Ok(Ending::OtherDefinition(place)),
+        None => unreachable!(),
+    }
+}
+
+/// Compares what was read beside a log.
+fn compare(alloc: Global, found: &[u8], definitions: &[&[u8]]) -> Result<(), Halt>
+    ensures same { IfOk result (λ _. found.now ≡ definitions_file (map (λ t. t.now) definitions.now)) }
+    ensures other { IfErr result (HaltsAs (IsDiffering found.now (map (λ t. t.now) definitions.now))) }
+{
+    let file = definitions_file(alloc, definitions)?;
+    if is_same(found, &file) {
+        return Ok(());
+    }
+    Err(Halt::Early(difference(alloc, found, definitions)?))
+}
+
+/// Makes the file beside a log of which that was read, once that is found good over the definitions.
+fn make<W: Outside>(
+    outside: &W,
+    alloc: Global,
+    shelf: &[Definition],
+    text: &[u8],
+    path: &str,
+    definitions: &[&[u8]],
+) -> Result<(), Halt>
+    requires short { length text.now ≤ max_kept }
+    requires none { (W.world outside.now).beside_gives path.now max_beside (Ok None) }
+    ensures defined { OnOk result (IsDefined (W.world outside.now) path.now (map (λ t. t.now) definitions.now)) }
+    ensures stop { IfErr result (HaltsAs (BesideEnds (W.world outside.now) path.now
+        (map (λ t. t.now) definitions.now) shelf.now text.now)) }
+{
+    if let Err(why) = restart_from(alloc, shelf, text) {
+        return Err(halt_of(why));
+    }
+    let file = definitions_file(alloc, definitions)?;
+    if outside.make_beside(alloc, path, &file)? {
+        Ok(())
+    } else {
+        Err(Halt::Early(Ending::Unwritable(Stream::Beside)))
+    }
+}
+
+/// Sees to it that the definitions are on the disk beside a log of which that was read: those that stand there are the same, or none
+/// stand there and the file is made.
+pub fn define<W: Outside>(
+    outside: &W,
+    alloc: Global,
+    shelf: &[Definition],
+    text: &[u8],
+    path: &str,
+    definitions: &[&[u8]],
+) -> Result<(), Halt>
+    requires short { length text.now ≤ max_kept }
+    ensures defined { OnOk result (IsDefined (W.world outside.now) path.now (map (λ t. t.now) definitions.now)) }
+    ensures stop { IfErr result (HaltsAs (BesideEnds (W.world outside.now) path.now
+        (map (λ t. t.now) definitions.now) shelf.now text.now)) }
+{
+    match outside.read_beside(alloc, path, MAX_BESIDE) {
+        Ok(Some(found)) => compare(alloc, &found, definitions),
+        Ok(None) => make(outside, alloc, shelf, text, path, definitions),
+        Err(FileFault::OutOfMemory) => Err(Halt::OutOfMemory),
+        Err(FileFault::Unreadable) => Err(Halt::Early(Ending::Unreadable(Stream::Beside))),
+    }
+}

@@ -1,0 +1,6 @@
+-- The limit of a definition file.
+use Rattle.std.specs.Prelude.{ℕ}
+
+-- the most bytes
+abbrev pub max_definition : ℕ
+max_definition = 1048576

@@ -1,0 +1,192 @@
+"""The one writer of a store's file: what waits goes into one transaction. A small one is made where it was asked for, others in a thread."""
+
+from __future__ import annotations
+
+import asyncio
+import bisect
+import contextlib
+import functools
+import itertools
+import queue
+import sqlite3
+import threading
+import time
+from collections.abc import Iterable, Sequence
+from typing import Any
+
+from .database import Then
+from .records import Batch
+from .values import clean, cleaned
+
+BUSY = 5000  # ms: an operator's command may be writing
+CHECKPOINT = 1000
+"""Pages: a WAL of so many is moved into the file, which takes longer than a commit, and happens in the thread."""
+ROWS = (1, 2, 3, 4, 6, 8, 12, 16, 24, 32, 48, 64, 96, 128, 192, 256, 384, 512)
+"""Of a statement: few numbers, so that their statements are kept, and close, since those that are too many are written as nothing."""
+FEW_ROWS = 1000
+"""So many results and sagas are written in the loop, if the disk is fast: a thread gets the interpreter's lock when the loop has nothing to do, and that
+is later than the commit takes."""
+AT_ONCE = 0.002
+"""Seconds: where the disk took longer for a commit of the loop's, those behind it are made in the thread. That cannot tell how long the disk takes, since
+it also waits for the interpreter's lock: so after some of them the loop tries again."""
+FORGET = 0.97  # of what the disk took, a commit
+NONE: frozenset[int] = frozenset()
+
+OPENED = "INSERT INTO sagas(id, key, saga, def, input, at) SELECT * FROM (VALUES {}) WHERE column1 IS NOT NULL"
+RESULTS = "INSERT INTO results SELECT * FROM (VALUES {}) WHERE column1 IS NOT NULL"
+ENDED = "UPDATE sagas SET phase = v.column1, end = v.column2, ended = v.column3 FROM (VALUES {}) v WHERE id = v.column4"
+SETTLED = "INSERT INTO reports(token, log, outcome) VALUES(?, ?, 'taken') ON CONFLICT(token) DO UPDATE SET outcome = 'taken', value = NULL"
+
+
+class Gap(Exception):
+    """A batch does not join on to its log: a fault of this package, and nothing is written."""
+
+
+class Writer:
+    """Has the connection that writes. `events`: how many each log has, by what was read or written last."""
+
+    def __init__(self, db: sqlite3.Connection) -> None:
+        self._db = db
+        self.commits = 0
+        self.events: dict[int, int] = {}
+        self._jobs: queue.SimpleQueue[tuple[Sequence[Batch], Then, asyncio.AbstractEventLoop] | None] = queue.SimpleQueue()
+        self._took = AT_ONCE  # seconds, by the slowest of the last commits
+        self._patient: bool | None = None
+        self._pages = 0  # that the loop wrote into the WAL, about
+        self._over: tuple[Then, Sequence[Batch], BaseException | None] | None = None  # a commit of the loop's, whose `then` is to be called
+        self._thread = threading.Thread(target=self._work, name="sagas-writer", daemon=True)
+        self._thread.start()
+
+    def close(self) -> None:
+        """Ends behind what it was given."""
+        self._jobs.put(None)
+        self._thread.join()
+
+    def commit(self, batches: Sequence[Batch], then: Then) -> None:
+        """As `Database.commit`."""
+        loop = asyncio.get_running_loop()
+        rows = sum(len(batch.results) + len(batch.opened) for batch in batches)
+        if self._took < AT_ONCE and self._pages < CHECKPOINT and rows <= FEW_ROWS:
+            self._pages += 6 + rows // 8
+            loop.call_soon(self.settle)
+            if self._here(batches, then):
+                return
+        self._pages = 0
+        self._jobs.put((batches, then, loop))
+
+    def _here(self, batches: Sequence[Batch], then: Then) -> bool:
+        """Commits them here, unless somebody else writes just now."""
+        try:
+            fault = self._try(batches, patient=False)
+        except BaseException as error:  # Ctrl-C, say: nobody knows how far it came
+            self._over = then, batches, error
+            raise
+        if isinstance(fault, sqlite3.OperationalError) and fault.sqlite_errorcode & 0xFF == sqlite3.SQLITE_BUSY:
+            return False
+        self._over = then, batches, fault
+        return True
+
+    def settle(self) -> None:
+        """As `Database.settle`."""
+        if self._over:
+            (then, batches, fault), self._over = self._over, None
+            then(batches, fault, NONE)
+
+    def _work(self) -> None:
+        while (job := self._jobs.get()) is not None:
+            batches, then, loop = job
+            fault = self._try(batches, patient=True)
+            self._took *= FORGET
+            with contextlib.suppress(RuntimeError):  # the loop is closed
+                loop.call_soon_threadsafe(then, batches, fault, NONE)
+
+    def _try(self, batches: Sequence[Batch], patient: bool) -> Exception | None:
+        """One transaction, or what kept it from being: that is told to the coordinator, which begins again from the database."""
+        try:
+            self._wait(patient)
+            took = self._transaction(batches)
+        except Exception as fault:
+            return fault
+        if not patient:
+            self._took = max(took, FORGET * self._took)
+        return None
+
+    def _wait(self, patient: bool) -> None:
+        """Whether it may take a while: to wait for another program's commit, and to move the WAL into the file."""
+        if patient != self._patient:
+            self._patient = None
+            self._db.execute(f"PRAGMA busy_timeout = {BUSY if patient else 0}")
+            self._db.execute(f"PRAGMA wal_autocheckpoint = {CHECKPOINT if patient else 0}")
+            self._patient = patient
+
+    def _transaction(self, batches: Sequence[Batch]) -> float:
+        """Gives how many seconds the disk took."""
+        db = self._db
+        try:
+            db.execute("BEGIN IMMEDIATE")
+            events = self._put(batches)
+            began = time.perf_counter()
+            db.execute("COMMIT")
+        except BaseException:
+            if db.in_transaction:
+                with contextlib.suppress(sqlite3.Error):
+                    db.execute("ROLLBACK")
+            raise
+        self.commits += 1
+        self.events.update(events)
+        return time.perf_counter() - began
+
+    def _put(self, batches: Sequence[Batch]) -> dict[int, int]:
+        """Writes the rows of all; gives how many events the logs have now."""
+        chunks: dict[int, tuple[int, list[str]]] = {}
+        events: dict[int, int] = {}
+        for batch in batches:
+            if batch.born:
+                name, shelf, texts = batch.born
+                self._db.execute("INSERT OR IGNORE INTO shelves VALUES(?, ?)", (shelf, texts))
+                self._db.execute("INSERT OR IGNORE INTO logs(log, name, shelf) VALUES(?, ?, ?)", (batch.log, name, shelf))
+            if batch.text:
+                had = events.get(batch.log, self.events.get(batch.log, 0))
+                if batch.first != had:
+                    raise Gap(f"log {batch.log}: event {batch.first} behind {had}")
+                events[batch.log] = had + batch.text.count("\n")
+                chunks.setdefault(batch.log, (had, []))[1].append(batch.text)
+        at = max(batch.at for batch in batches)
+        self._many("INSERT INTO lines VALUES(?, ?, ?, ?)", ([(log, first, at, "".join(texts))] for log, (first, texts) in chunks.items()))
+        self._lots(OPENED, 6, (b.opened for b in batches))
+        self._lots(RESULTS, 7, (b.results for b in batches))
+        self._lots(ENDED, 4, (b.ended for b in batches))
+        self._put_rare([batch for batch in batches if batch.is_rare])
+        return events
+
+    def _put_rare(self, batches: Sequence[Batch]) -> None:
+        if not batches:
+            return
+        self._many("INSERT OR REPLACE INTO held VALUES(?, ?, ?, ?, ?, ?, ?, ?, ?)", ([cleaned(row) for row in b.held] for b in batches))
+        self._many("DELETE FROM held WHERE id = ? AND step = ? AND kind = ? AND attempt <= ?", (b.freed for b in batches))
+        self._many(SETTLED, (b.settled for b in batches))
+        self._many("DELETE FROM reports WHERE log = ?", ([(b.log,)] for b in batches if b.closed))
+        self._many("UPDATE requests SET answer = ? WHERE id = ?", (b.answers for b in batches))
+        self._many("INSERT INTO requests(key, what, value, at, answer) VALUES(?, ?, ?, ?, ?)", ([(*row, answer) for row, answer in b.asked] for b in batches))
+        self._many("UPDATE sagas SET note = ? WHERE id = ?", ([(clean(note), id) for note, id in b.notes] for b in batches))
+        self._many("UPDATE logs SET closed = ?, audit = ? WHERE log = ?", ([(*b.closed, b.log)] for b in batches if b.closed))
+
+    def _many(self, statement: str, lists: Iterable[Sequence[Sequence[Any]]]) -> None:
+        rows = [row for rows in lists for row in rows]
+        if rows:
+            self._db.executemany(statement, rows)
+
+    def _lots(self, statement: str, width: int, lists: Iterable[Sequence[Sequence[Any]]]) -> None:
+        """As `_many`, by a statement for many rows: one for each row takes longer, and gives up the interpreter's lock each time."""
+        rows = [row for rows in lists for row in rows]
+        for place in range(0, len(rows), ROWS[-1]):
+            lot = rows[place : place + ROWS[-1]]
+            count = ROWS[bisect.bisect_left(ROWS, len(lot))]
+            nothing = itertools.repeat(None, width * (count - len(lot)))
+            self._db.execute(_statement(statement, width, count), [*itertools.chain.from_iterable(lot), *nothing])
+
+
+@functools.lru_cache(maxsize=64)
+def _statement(statement: str, width: int, count: int) -> str:
+    """The statement with marks for so many rows."""
+    return statement.format(", ".join([f"({', '.join('?' * width)})"] * count))
