@@ -4,9 +4,11 @@
     PYTHONPATH=python/src:python/tests python3 bench/service.py [--store sqlite|postgresql] [--services N] [--turns N] [--count N] [--clients N]
 
 Each turn starts, one after the other: the bare route (over SQLite as an async function, and as a plain one in FastAPI's threads, and the faster one counts; over
-PostgreSQL as an async function over a pool), and `sagas serve` with its durable defaults, over PostgreSQL so many of them, among which the clients are divided. Clients keep their connections, and each asks again when it is answered. A task is taken and reported: each by itself,
-each with the report of the one before (`next`), and ten at a time. Last, the page's list over 100,000 sagas. The client is a process of its own beside the server, on the same machine. Beside requests a second stands the processor's time that the server
-takes for one, of all its threads. `TMPDIR=/dev/shm` puts SQLite's files into memory: there a commit waits for no disk, and the route is at its fastest.
+PostgreSQL as an async function over a pool), and `sagas serve` with its durable defaults, over PostgreSQL so many of them, among which the clients are divided. Clients
+keep their connections, and each asks again when it is answered. A task is taken and reported: each by itself, each with the report of the one before (`next`), ten at a
+time, and ten with the report of the last of ten, as `sagas.Worker` takes short ones. Last, the page's list over 100,000 sagas. The client is a process of its own beside
+the server, on the same machine. Beside requests a second stands the processor's time that the server takes for one, of all its threads. `TMPDIR=/dev/shm` puts SQLite's
+files into memory: there a commit waits for no disk, and the route is at its fastest.
 """
 
 from __future__ import annotations
@@ -70,7 +72,10 @@ async def one(row: Row):
     return {"key": row.key}
 uvicorn.run(app, host=sys.argv[3], port=int(sys.argv[4]), log_level="warning", access_log=False, loop="asyncio")
 """
+Done = tuple[int, float]
+"""How many, in how many seconds."""
 Figure = tuple[float, float]
+"""How many a second, and microseconds of the processor for each."""
 
 
 class Client:
@@ -100,8 +105,8 @@ async def clients(addresses: str, count: int) -> list[Client]:
     return found
 
 
-async def starts(address: str, path: str, count: int, together: int, body: Callable[[int], Any]) -> float:
-    """Requests a second, of so many clients."""
+async def starts(address: str, path: str, count: int, together: int, body: Callable[[int], Any]) -> Done:
+    """So many requests, of so many clients."""
     left = iter(range(count))
 
     async def work(client: Client) -> None:
@@ -112,11 +117,11 @@ async def starts(address: str, path: str, count: int, together: int, body: Calla
     some = await clients(address, together)
     began = time.perf_counter()
     await asyncio.gather(*(work(client) for client in some))
-    return count / (time.perf_counter() - began)
+    return count, time.perf_counter() - began
 
 
-async def tasks(address: str, count: int, together: int, most: int) -> float:
-    """Tasks a second that are taken and reported."""
+async def tasks(address: str, count: int, together: int, most: int) -> Done:
+    """So many tasks at least, taken and reported."""
     done = 0
 
     async def work(client: Client) -> None:
@@ -131,30 +136,32 @@ async def tasks(address: str, count: int, together: int, most: int) -> float:
     some = await clients(address, together)
     began = time.perf_counter()
     await asyncio.gather(*(work(client) for client in some))
-    return done / (time.perf_counter() - began)
+    return done, time.perf_counter() - began
 
 
-async def chained(address: str, count: int, together: int) -> float:
-    """Tasks a second, each report taking the next one."""
+async def chained(address: str, count: int, together: int, most: int) -> Done:
+    """The same, where the report of the last task in hand takes so many."""
     done = 0
-    wanted = {"steps": ["one/a"], "lease": 600}
+    wanted = {"steps": ["one/a"], "lease": 600, "most": most}
 
     async def work(client: Client) -> None:
         nonlocal done
         tasks: list[Any] = []
-        while done < count:
+        while done < count or tasks:
             if not tasks:
                 _, text = await client.ask("POST", "/tasks/take", {**wanted, "wait": 1})
             else:
-                status, text = await client.ask("POST", f"/tasks/{tasks[0]['token']}/done", {"lease": tasks[0]["lease"], "result": None, "next": wanted})
+                task = tasks.pop(0)
+                more = {} if tasks or done + 1 >= count else {"next": wanted}
+                status, text = await client.ask("POST", f"/tasks/{task['token']}/done", {"lease": task["lease"], "result": None, **more})
                 assert status == 200, text
                 done += 1
-            tasks = json.loads(text)["tasks"]
+            tasks += json.loads(text).get("tasks", [])
 
     some = await clients(address, together)
     began = time.perf_counter()
     await asyncio.gather(*(work(client) for client in some))
-    return done / (time.perf_counter() - began)
+    return done, time.perf_counter() - began
 
 
 async def page(address: str) -> float:
@@ -175,11 +182,11 @@ def processor(pids: list[int]) -> float:
     return sum(int(part[11]) + int(part[12]) for part in parts) / os.sysconf("SC_CLK_TCK")
 
 
-def measured(pids: list[int], count: int, work: Coroutine[Any, Any, float]) -> Figure:
-    """What is done a second, and the processor's time of these processes for each, in microseconds."""
+def measured(pids: list[int], work: Coroutine[Any, Any, Done]) -> Figure:
+    """What is done a second, and the processor's time of these processes for each."""
     before = processor(pids)
-    rate = asyncio.run(work)
-    return rate, 1e6 * (processor(pids) - before) / count
+    done, seconds = asyncio.run(work)
+    return done / seconds, 1e6 * (processor(pids) - before) / done
 
 
 def bare(folder: pathlib.Path, manner: str, count: int, together: int, server: Server | None) -> Figure:
@@ -195,7 +202,7 @@ def bare(folder: pathlib.Path, manner: str, count: int, together: int, server: S
                 break
             except OSError:
                 time.sleep(0.1)
-        return measured([process.pid], count, starts(address, "/row", count, together, lambda number: {"key": f"k{number}", "input": {"n": number}}))
+        return measured([process.pid], starts(address, "/row", count, together, lambda number: {"key": f"k{number}", "input": {"n": number}}))
     finally:
         process.kill()
         process.wait()
@@ -212,12 +219,17 @@ def turn(folder: pathlib.Path, count: int, together: int, server: Server | None,
             more = ("--node", str(number)) if url else ()
             some.append(stack.enter_context(served(folder / str(number), {"one.toml": ONE}, "--log-level", "error", "--rate", "1000000", *more, store=url)))
         all_of_them, pids = " ".join(one.address for one in some), [one.process.pid for one in some if one.process]
-        begin = starts(all_of_them, "/sagas", count, together, lambda number: {"definition": "one", "key": f"k{number}", "input": {"n": number}})
-        found["POST /sagas"] = measured(pids, count, begin)
-        some_tasks = count // 4
-        found["tasks, each by itself"] = measured(pids, some_tasks, tasks(all_of_them, some_tasks, together, 1))
-        found["tasks, with the report"] = measured(pids, some_tasks, chained(all_of_them, some_tasks, together))
-        found["tasks, ten at a time"] = measured(pids, some_tasks, tasks(all_of_them, some_tasks, together, 10))
+
+        def begin(name: str, count: int) -> Coroutine[Any, Any, Done]:
+            return starts(all_of_them, "/sagas", count, together, lambda number: {"definition": "one", "key": f"{name}{number}", "input": {"n": number}})
+
+        found["POST /sagas"] = measured(pids, begin("k", count))
+        manners: dict[str, tuple[Callable[[str, int, int, int], Coroutine[Any, Any, Done]], int]] = {
+            "each by itself": (tasks, 1), "with the report": (chained, 1), "ten at a time": (tasks, 10), "as sagas.Worker takes short ones": (chained, 10),
+        }  # fmt: skip
+        for name, (work, most) in manners.items():
+            asyncio.run(begin(name, count // 2 + 2 * most * together))  # so that there is enough until the last is reported
+            found[f"tasks, {name}"] = measured(pids, work(all_of_them, count // 2, together, most))
     return found
 
 
@@ -254,10 +266,10 @@ def main() -> None:
     middle = {name: [statistics.median(values) for values in zip(*(one[name] for one in turns))] for name in turns[0]}
     base = max(rate for name, (rate, _) in middle.items() if name.startswith("bare"))
     for name, (rate, time_each) in middle.items():
-        print(f"{name:24} {rate:8.0f} a second  {rate / base:5.2f}  {time_each:6.0f} us of the processor")
+        print(f"{name:39} {rate:8.0f} a second  {rate / base:5.2f}  {time_each:6.0f} us of the processor")
     if server is None:
         with tempfile.TemporaryDirectory() as name:
-            print(f"{'list of 100,000':24} {listed(pathlib.Path(name)):8.1f} ms")
+            print(f"{'list of 100,000':39} {listed(pathlib.Path(name)):8.1f} ms")
 
 
 if __name__ == "__main__":

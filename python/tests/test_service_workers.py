@@ -11,8 +11,10 @@ import subprocess
 import sys
 import threading
 import time
-from collections.abc import Iterator
+from collections.abc import Callable, Iterator
+from typing import Any
 
+import httpx
 import pytest
 
 import sagas
@@ -41,6 +43,7 @@ undo = "never"
 skip = 10
 tries = 9
 """
+ONE = 'format = 2\nname = "one"\n[[step]]\nname = "a"\nundo = "never"\n'
 SERVICE = "[step.flaky]\nbackoff = { first = 0.01 }\n[step.hazy]\nbackoff = { first = 0.01 }\n"
 
 
@@ -167,6 +170,100 @@ def test_a_worker_that_may_not(tmp_path: pathlib.Path) -> None:
         caller.close()
     with pytest.raises(ValueError):
         sagas.Worker("http://127.0.0.1:1").run()
+
+
+class Asking(sagas.Worker):
+    """It counts what each answer gave it."""
+
+    def __init__(self, url: str, **more: Any) -> None:
+        super().__init__(url, wait=0.2, **more)
+        self.given: list[int] = []
+
+    def _until_told(self, path: str, body: dict[str, Any], giving_up: bool = False) -> dict[str, Any] | None:
+        told = super()._until_told(path, body, giving_up)
+        if told and told.get("tasks"):
+            self.given.append(len(told["tasks"]))
+        return told
+
+
+class Calls:
+    """Who was called for which saga. One worker holds a task, where others stand in its queue."""
+
+    def __init__(self) -> None:
+        self.all: list[tuple[str, str]] = []
+        self._came = threading.Condition()
+        self.held, self.hold = threading.Event(), threading.Event()
+
+    def of(self, name: str, seconds: float = 0.0, holds: Asking | None = None) -> Callable[[sagas.Task[None]], None]:
+        def function(task: sagas.Task[None]) -> None:
+            with self._came:
+                self.all.append((name, task.key))
+                self._came.notify_all()
+            if holds and sum(holds.given) - self.count(name) > 1 and not self.held.is_set():
+                self.held.set()
+                self.hold.wait(LONG)
+            elif seconds:
+                threading.Event().wait(seconds)
+
+        return function
+
+    def count(self, name: str) -> int:
+        return len([one for one, _ in self.all if one == name])
+
+    def until(self, count: int, seconds: float = LONG) -> None:
+        with self._came:
+            assert self._came.wait_for(lambda: len(self.all) >= count, seconds), self.all
+
+
+@pytest.fixture(scope="module")
+def ones(tmp_path_factory: pytest.TempPathFactory) -> Iterator[tuple[Served, httpx.Client]]:
+    """A service for sagas of one step."""
+    with served(tmp_path_factory.mktemp("ones"), {"one.toml": ONE}) as service, service.client() as client:
+        yield service, client
+
+
+def test_a_worker_takes_short_ones_ahead(ones: tuple[Served, httpx.Client]) -> None:
+    """As many in one question as it does in a short time, and long ones one at a time."""
+    service, client = ones
+    for seconds, count in ((0.0, 40), (0.15, 4)):
+        calls = Calls()
+        worker = Asking(service.url, concurrency=2)
+        worker.step("one", "a")(calls.of("it", seconds))
+        for number in range(count):
+            start(client, "one", f"{seconds}-{number}")
+        with working(worker):
+            calls.until(count)
+        assert len(set(calls.all)) == count
+        if seconds:
+            assert worker.given == [1] * count
+        else:
+            assert worker.given[0] == 1 and max(worker.given) == 10 and len(worker.given) < 20, worker.given
+    assert not client.get("/sagas?phase=open").json()["sagas"]
+
+
+def test_what_a_worker_took_ahead(ones: tuple[Served, httpx.Client]) -> None:
+    """Where a function is slow, or the worker is stopped, what stands in its queue is soon another's, long before its lease is over; each is done once."""
+    service, client = ones
+    for stopped in (False, True):
+        calls, before = Calls(), service.told().count("/beat 200")
+        slow, other = Asking(service.url, concurrency=1, lease=600.0), Asking(service.url)
+        slow.step("one", "a")(calls.of("slow", holds=slow))
+        other.step("one", "a")(calls.of("other"))
+        for number in range(20):
+            start(client, "one", f"{stopped}-{number}")
+        with working(slow):
+            assert calls.held.wait(LONG)
+            count = calls.count("slow")
+            if stopped:
+                slow.stop()
+            try:
+                with working(other):
+                    calls.until(20, 15.0)
+            finally:
+                calls.hold.set()
+        assert calls.count("slow") == count and len(set(calls.all)) == 20
+        assert service.told().count("/beat 200") - before >= sum(slow.given) - count
+        assert not client.get("/sagas?phase=open").json()["sagas"] and "sagas_takeovers_total 0.0" in client.get("/metrics").text
 
 
 class Workers:

@@ -55,6 +55,11 @@ pub record IsJob (book : Book) (k i s : ℕ) (undo : Bool) (job : Job) : Type 0 
   pub name : OfSaga book.shelf (past book.history) i (λ d l. IsNamed d s job.name)
   pub attempt : job.attempt ≡ missed (kind_of undo) (changes i (past book.history)) s + 1
 
+-- after these events the job is the next attempt at its step, and has the step's name
+pub record IsNextAttempt (shelf : List Contents) (h : List Event) (job : Job) : Type 0 where
+  pub name : OfSaga shelf h job.saga (λ d l. IsNamed d job.step job.name)
+  pub attempt : job.attempt ≡ missed (kind_of job.is_undo) (changes job.saga h) job.step + 1
+
 -- of the tasks of the book the first was claimed, and nothing else happened
 abbrev pub ClaimsFirst : Book → Book → Seat → Seat → Claim → Type 0
 ClaimsFirst old new before after (Run job) =
@@ -87,8 +92,9 @@ Serves old new before after Settled = AllAreOver old.shelf (past old.history) ×
 abbrev pub IsSettled : Claim → Type 0
 IsSettled claim = claim ≡ Settled
 
--- the job ended by its outcome, with a transition that was allowed
+-- the job, which was the next attempt at its step, ended by its outcome, with a transition that was allowed
 pub record EndsBy (old new : Book) (before after : Seat) (job : Job) (outcome : Outcome) (t : Transition) : Type 0 where
+  pub next : IsNextAttempt old.shelf (past old.history) job
   pub ends : IsEndOf (kind_of job.is_undo) outcome t
   pub allowed : IsAllowed old.shelf (past old.history) (step_event job.saga job.step t)
   pub records : Records old new before after (step_event job.saga job.step t) (before.claims - 1)

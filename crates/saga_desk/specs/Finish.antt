@@ -78,7 +78,7 @@ pub record AreBooks (shards : ℕ) (books : List Book) : Type 0 where
 
 -- why a desk is not finished; what was handed in comes back, where the books do not fit in place of the desk: those that lay
 -- under its locks
-abbrev pub FinishIsRefused : Desk → List Seat → FinishRefused → Type 0
+abbrev pub FinishIsRefused : {P : Type 0} → Desk → List Seat → FinishRefused P → Type 0
 FinishIsRefused desk seats (Stranger d ss) = (d ≡ desk) × (ss.items ≡ seats) × (AreOwn desk seats → ⊥)
 FinishIsRefused desk seats (Missing d ss) = (d ≡ desk) × (ss.items ≡ seats) × AreOwn desk seats × (length seats ≢ desk.seats)
 FinishIsRefused desk seats (OutOfMemory d ss) = (d ≡ desk) × (ss.items ≡ seats) × AreAll desk seats

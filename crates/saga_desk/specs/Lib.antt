@@ -3,6 +3,7 @@ pub mod Seat
 pub mod Job
 pub mod Desk
 pub mod Effects
+pub mod Told
 pub mod Refusals
 pub mod Merges
 pub mod Agreement

@@ -1,13 +1,17 @@
 //! The desk: shards under locks of their own, which seats share.
-ghost use Rattle.std.specs.Prelude.{◌≡◌, ◌<◌, ◌≤◌, ◌-◌, ◌%◌, IfOk, IfErr, OnOk, OnErr, length};
+ghost use Rattle.std.specs.Prelude.{◌≡◌, ◌<◌, ◌≤◌, ◌-◌, ◌%◌, [], IfOk, IfErr, OnOk, OnErr, length};
+ghost use Rattle.saga_history.specs.declared.events.Event.TheVariants as event;
 ghost use Rattle.saga_history.specs.declared.events.Mark.TheVariants as mark;
-ghost use Rattle.saga_desk.specs.Effects.{Claims, Gains, GainsEnd, GainsOn};
+ghost use Rattle.saga_core.specs.Refusals.{OpenRefused};
+ghost use Rattle.saga_desk.specs.Effects.{Claims, Ends, Gains, GainsEnd, GainsOn, Records, Serves};
 ghost use Rattle.saga_desk.specs.Finish.{AreFirstSeats};
-ghost use Rattle.saga_desk.specs.Refusals.{EndIsRefused, HasClaimed, OpenIsRefused};
+ghost use Rattle.saga_desk.specs.Refusals.{AdoptionIsRefused, EndIsRefused, GivingBackIsRefused, HasClaimed, OpenIsRefused, ReportIsRefused};
+ghost use Rattle.saga_desk.specs.Told.{HoldsTold};
 
 mod finish;
 
 use crate::jobs::{Claim, Job, PlanJob};
+use crate::policies::Policy;
 use crate::refusals::{AdoptionRefused, GiveBackRefused, ReportRefused};
 use crate::shards::{Seat, Shard};
 pub use finish::FinishRefused;
@@ -16,26 +20,159 @@ use saga_core::{Book, OpenRefusal, SagaRefusal};
 use saga_def::Definition;
 use saga_history::Outcome;
 use std::alloc::{AllocError, Global};
-use std::marker::Model;
+use std::marker::{Brand, Model, PhantomData};
 use std::sync::atomic::{AtomicBool, Ordering};
 use std::sync::{Mutex, Wait};
+
+/// A shard that holds nothing but what may be told.
+///
+/// Its methods are those of [`Shard`], as far as a desk says what they do.
+#[derive(Drop)]
+struct Ruled<'d, P: Policy> {
+    shard: Shard<'d>,
+    of: PhantomData<P>,
+}
+
+impl<'d, P: Policy> Model for Ruled<'d, P> {
+    ghost use Rattle.saga_core.specs.Book.{Book};
+    ghost use Rattle.saga_desk.specs.Told.{HoldsTold};
+
+    ghost Value = { Book };
+
+    ghost view = { λ r. r.shard };
+
+    ghost invariant = { λ r. HoldsTold P.may P.may_abort r.shard };
+}
+
+impl<'d, P: Policy> Ruled<'d, P> {
+    /// A shard without sagas.
+    fn new(alloc: Global, shelf: &'d [Definition], first: u32, stride: u32) -> Ruled<'d, P>
+        requires begins { first < stride }
+        requires near { stride ≤ 16 }
+        ensures { result
+            ≡ record { shelf = shelf.entry.now; first = first; stride = stride; history = [] } }
+    {
+        Ruled {
+            shard: Shard::new(alloc, shelf, first, stride),
+            of: PhantomData,
+        }
+    }
+
+    fn open_saga(&mut self, seat: &mut Seat, definition: u32) -> Result<u32, OpenRefusal>
+        ensures known { OnOk result (definition < length self.old.shelf) }
+        ensures ok { IfOk result
+            (λ saga. Records self.old self.new seat.old seat.new
+            (event.Open saga definition) seat.old.claims) }
+        ensures err { OnErr result (seat.new ≡ seat.old) }
+        ensures why { IfErr result
+            (λ why. OpenRefused self.old.shelf self.old.history definition why) }
+    {
+        self.shard.open_saga(seat, definition)
+    }
+
+    fn serve(&mut self, seat: &mut Seat) -> Result<Claim<'d>, AllocError>
+        ensures ok { IfOk result (λ claim. Serves self.old self.new seat.old seat.new claim) }
+        ensures err { OnErr result (seat.new ≡ seat.old) }
+    {
+        self.shard.serve(seat)
+    }
+
+    fn report(
+        &mut self,
+        seat: &mut Seat,
+        job: Job<'d>,
+        outcome: Outcome,
+    ) -> Result<(), ReportRefused<'d>>
+        requires { P.may job outcome }
+        ensures own { OnOk result (HasClaimed job.entry.seat seat.old) }
+        ensures ok { OnOk result (Ends self.old self.new seat.old seat.new job.entry outcome) }
+        ensures err { IfErr result (λ refused. seat.new ≡ seat.old) }
+        ensures back { IfErr result (λ refused. refused.job ≡ job.entry) }
+        ensures why { IfErr result
+            (λ refused. ReportIsRefused self.old seat.old job.entry refused.why) }
+    {
+        self.shard.report(seat, job, outcome)
+    }
+
+    fn adopt(
+        &mut self,
+        seat: &mut Seat,
+        job: PlanJob,
+        verdict: Verdict<'d>,
+    ) -> Result<(), AdoptionRefused<'d>>
+        ensures own { OnOk result (HasClaimed job.seat seat.old) }
+        ensures ok { OnOk result
+            (Records self.old self.new seat.old seat.new (event.Adopt job.saga verdict.entry.answer)
+            (seat.old.claims - 1)) }
+        ensures err { IfErr result (λ refused. seat.new ≡ seat.old) }
+        ensures back { IfErr result
+            (λ refused. (refused.job ≡ job) × (refused.verdict ≡ verdict.entry)) }
+        ensures why { IfErr result
+            (λ refused. AdoptionIsRefused self.old seat.old job verdict.entry.case refused.why) }
+    {
+        self.shard.adopt(seat, job, verdict)
+    }
+
+    fn give_back(&mut self, seat: &mut Seat, job: PlanJob) -> Result<(), GiveBackRefused>
+        ensures own { OnOk result (HasClaimed job.seat seat.old) }
+        ensures ok { OnOk result
+            (Records self.old self.new seat.old seat.new (event.DropPlan job.saga)
+            (seat.old.claims - 1)) }
+        ensures err { IfErr result (λ refused. seat.new ≡ seat.old) }
+        ensures back { IfErr result (λ refused. refused.job ≡ job) }
+        ensures why { IfErr result
+            (λ refused. GivingBackIsRefused self.old seat.old job refused.why) }
+    {
+        self.shard.give_back(seat, job)
+    }
+
+    fn abort(&mut self, seat: &mut Seat, saga: u32) -> Result<(), SagaRefusal>
+        requires { P.may_abort saga }
+        ensures ok { OnOk result
+            (Records self.old self.new seat.old seat.new (event.Abort saga) seat.old.claims) }
+        ensures err { OnErr result (seat.new ≡ seat.old) }
+    {
+        self.shard.abort(seat, saga)
+    }
+
+    fn first(&self) -> u32
+        ensures { result ≡ self.now.first }
+    {
+        self.shard.first()
+    }
+
+    fn definitions(&self) -> usize
+        ensures { result ≡ length self.now.shelf }
+    {
+        self.shard.definitions()
+    }
+
+    /// The book alone.
+    fn into_book(self) -> Book<'d>
+        ensures value { result ≡ self.entry }
+        ensures told { HoldsTold P.may P.may_abort result }
+    {
+        let Ruled { shard, .. } = self;
+        shard.into_book()
+    }
+}
 
 /// A shard under its lock, with its number, and a flag that a claim may look at without the lock. The flag is written under
 /// the lock alone: it is set only where each saga of the shard is ended or stuck, and cleared where one is opened.
 #[derive(Drop)]
-struct Slot<'d> {
+struct Slot<'d, P: Policy> {
     number: u32,
-    shard: Mutex<Shard<'d>>,
+    shard: Mutex<Ruled<'d, P>>,
     settled: AtomicBool,
 }
 
-impl<'d> Slot<'d> {
-    fn new(shard: Shard<'d>) -> Slot<'d>
-        ensures { result.number ≡ shard.entry.first }
+impl<'d, P: Policy> Slot<'d, P> {
+    fn new(ruled: Ruled<'d, P>) -> Slot<'d, P>
+        ensures { result.number ≡ ruled.entry.first }
     {
         Slot {
-            number: shard.first(),
-            shard: Mutex::new(shard),
+            number: ruled.first(),
+            shard: Mutex::new(ruled),
             settled: AtomicBool::new(true),
         }
     }
@@ -55,13 +192,13 @@ impl<'d> Slot<'d> {
         ensures why { IfErr result (λ why. OpenIsRefused shelf definition why) }
     {
         let mut locked = self.shard.lock(rt);
-        let shard: &mut Shard<'d> = &mut *locked;
-        if shard.first() != self.number || shard.definitions() != shelf {
+        let ruled: &mut Ruled<'d, P> = &mut *locked;
+        if ruled.first() != self.number || ruled.definitions() != shelf {
             // Never taken: a shard keeps its number and its shelf. Nothing is known of what a lock holds but its type.
             for _ in rt.forever() {}
             unreachable!()
         }
-        let saga = shard.open_saga(seat, definition)?;
+        let saga = ruled.open_saga(seat, definition)?;
         self.settled.store(false, Ordering::SeqCst);
         Ok(saga)
     }
@@ -75,15 +212,17 @@ impl<'d> Slot<'d> {
             return Ok(Claim::Settled);
         }
         let mut locked = self.shard.lock(rt);
-        let shard: &mut Shard<'d> = &mut *locked;
-        let claim = shard.serve(seat)?;
+        let ruled: &mut Ruled<'d, P> = &mut *locked;
+        let claim = ruled.serve(seat)?;
         if let Claim::Settled = claim {
             self.settled.store(true, Ordering::SeqCst);
         }
         Ok(claim)
     }
 
-    fn into_book(self) -> Book<'d> {
+    fn into_book(self) -> Book<'d>
+        ensures { HoldsTold P.may P.may_abort result }
+    {
         let Slot { shard, .. } = self;
         shard.into_inner().into_book()
     }
@@ -91,16 +230,18 @@ impl<'d> Slot<'d> {
 
 /// Shards that several seats share. Contracts see its shelf, and how many seats and shards it has.
 ///
+/// It takes no report and no abort that its policy does not let be told. By `Brand`, as of [`Desk::open`], that is anything.
+///
 /// Each call but `shards` and `finish` locks a shard and makes one call of [`Shard`] there, which says what happens; it
 /// may wait for the lock. What a call does to the seat is told here.
 #[derive(Drop)]
-pub struct Desk<'d> {
+pub struct Desk<'d, P: Policy = Brand> {
     definitions: &'d [Definition],
     seat_count: u32,
-    slots: Vec<Slot<'d>>,
+    slots: Vec<Slot<'d, P>>,
 }
 
-impl<'d> Model for Desk<'d> {
+impl<'d, P: Policy> Model for Desk<'d, P> {
     ghost use Rattle.std.specs.Prelude.{◌≡◌, ℕ, ◌<◌, ◌≤◌, Some, slice_get, vec_len};
     ghost use Rattle.saga_desk.specs.declared.desks.Slot.{Slot};
     ghost use Rattle.saga_desk.specs.Desk.{Desk};
@@ -112,12 +253,12 @@ impl<'d> Model for Desk<'d> {
 
     ghost invariant = { λ d. (0 < vec_len d.slots) × (vec_len d.slots ≤ 16) × (0 < d.seat_count)
         × (d.seat_count ≤ 16)
-        × ((k : ℕ) (s : Slot) → slice_get d.slots.items k ≡ Some s → s.number ≡ k) };
+        × ((k : ℕ) (s : Slot P) → slice_get d.slots.items k ≡ Some s → s.number ≡ k) };
 }
 
 impl<'d> Desk<'d> {
-    /// A desk with so many shards, numbered from 0 on, and its seats, numbered likewise. Shard `s` numbers its sagas `s`,
-    /// `s + shards` and so on.
+    /// A desk that anything may be told, with so many shards, numbered from 0 on, and its seats, numbered likewise. Shard `s`
+    /// numbers its sagas `s`, `s + shards` and so on.
     pub fn open(
         alloc: Global,
         shelf: &'d [Definition],
@@ -131,9 +272,28 @@ impl<'d> Desk<'d> {
             ≡ record { shelf = shelf.entry.now; seats = seats; shards = shards }) }
         ensures seats { IfOk result (λ opened. AreFirstSeats seats opened.1.items) }
     {
+        Desk::open_with_policy(alloc, shelf, seats, shards)
+    }
+}
+
+impl<'d, P: Policy> Desk<'d, P> {
+    /// A desk as of [`Desk::open`], that only what this policy lets may be told.
+    pub fn open_with_policy(
+        alloc: Global,
+        shelf: &'d [Definition],
+        seats: u32,
+        shards: u32,
+    ) -> Result<(Desk<'d, P>, Vec<Seat>), AllocError>
+        requires seats { (0 < seats) × (seats ≤ 16) }
+        requires shards { (0 < shards) × (shards ≤ 16) }
+        ensures desk { IfOk result
+            (λ opened. opened.0
+            ≡ record { shelf = shelf.entry.now; seats = seats; shards = shards }) }
+        ensures seats { IfOk result (λ opened. AreFirstSeats seats opened.1.items) }
+    {
         let mut slots = Vec::with_capacity(alloc, shards as usize)?;
         for shard in 0..shards {
-            slots.push_reserved(Slot::new(Shard::new(alloc, shelf, shard, shards)));
+            slots.push_reserved(Slot::new(Ruled::new(alloc, shelf, shard, shards)));
         }
         let mut all = Vec::with_capacity(alloc, seats as usize)?;
         for number in 0..seats {
@@ -199,7 +359,7 @@ impl<'d> Desk<'d> {
 
     /// The action or the compensation of a job ended: done, or failed, to be tried again while the step has tries left.
     /// Takes no memory. A refusal hands the job back: OtherSeat where another seat claimed it or this one has no claim
-    /// outstanding, and then what the saga's book answers.
+    /// outstanding, OtherAttempt where it is no job at the next attempt at its step, and then what the saga's book answers.
     pub fn report<R: Wait>(
         &self,
         rt: &R,
@@ -207,16 +367,17 @@ impl<'d> Desk<'d> {
         job: Job<'d>,
         outcome: Outcome,
     ) -> Result<(), ReportRefused<'d>>
+        requires { P.may job outcome }
         ensures own { OnOk result (HasClaimed job.entry.seat seat.old) }
         ensures ok { OnOk result (GainsEnd seat.old seat.new job.entry outcome) }
         ensures err { IfErr result (λ refused. seat.new ≡ seat.old) }
         ensures back { IfErr result (λ refused. refused.job ≡ job.entry) }
         ensures why { IfErr result
-            (λ refused. EndIsRefused job.entry.seat seat.old (λ why. Unit {0}) refused.why) }
+            (λ refused. EndIsRefused job.entry.seat seat.old (Unit {0}) (λ why. Unit {0}) refused.why) }
     {
         let mut locked = self.slots[self.place_of(job.saga())].shard.lock(rt);
-        let shard: &mut Shard<'d> = &mut *locked;
-        shard.report(seat, job, outcome)
+        let ruled: &mut Ruled<'d, P> = &mut *locked;
+        ruled.report(seat, job, outcome)
     }
 
     /// A planning ends by an answer: a verdict on the saga's present case is adopted. Takes no memory. A refusal hands job
@@ -235,11 +396,11 @@ impl<'d> Desk<'d> {
         ensures back { IfErr result
             (λ refused. (refused.job ≡ job) × (refused.verdict ≡ verdict.entry)) }
         ensures why { IfErr result
-            (λ refused. EndIsRefused job.seat seat.old (λ why. Unit {0}) refused.why) }
+            (λ refused. EndIsRefused job.seat seat.old ⊥ (λ why. Unit {0}) refused.why) }
     {
         let mut locked = self.slots[self.place_of(job.saga())].shard.lock(rt);
-        let shard: &mut Shard<'d> = &mut *locked;
-        shard.adopt(seat, job, verdict)
+        let ruled: &mut Ruled<'d, P> = &mut *locked;
+        ruled.adopt(seat, job, verdict)
     }
 
     /// A planning ends without an answer. Takes no memory. A refusal hands the job back, with the cause as
@@ -256,21 +417,22 @@ impl<'d> Desk<'d> {
         ensures err { IfErr result (λ refused. seat.new ≡ seat.old) }
         ensures back { IfErr result (λ refused. refused.job ≡ job) }
         ensures why { IfErr result
-            (λ refused. EndIsRefused job.seat seat.old (λ why. Unit {0}) refused.why) }
+            (λ refused. EndIsRefused job.seat seat.old ⊥ (λ why. Unit {0}) refused.why) }
     {
         let mut locked = self.slots[self.place_of(job.saga())].shard.lock(rt);
-        let shard: &mut Shard<'d> = &mut *locked;
-        shard.give_back(seat, job)
+        let ruled: &mut Ruled<'d, P> = &mut *locked;
+        ruled.give_back(seat, job)
     }
 
     /// A saga is aborted.
     pub fn abort<R: Wait>(&self, rt: &R, seat: &mut Seat, saga: u32) -> Result<(), SagaRefusal>
+        requires { P.may_abort saga }
         ensures ok { OnOk result (Gains seat.old seat.new (mark.Abort saga) seat.old.claims) }
         ensures err { OnErr result (seat.new ≡ seat.old) }
     {
         let mut locked = self.slots[self.place_of(saga)].shard.lock(rt);
-        let shard: &mut Shard<'d> = &mut *locked;
-        shard.abort(seat, saga)
+        let ruled: &mut Ruled<'d, P> = &mut *locked;
+        ruled.abort(seat, saga)
     }
 
     /// The place of the shard that has the sagas of such a number.

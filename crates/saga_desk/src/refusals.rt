@@ -8,6 +8,8 @@ use saga_core::{AdoptRefusal, DropRefusal, ReportRefusal};
 pub enum EndRefusal<Why> {
     /// It was claimed by a seat of another number, or the seat has no claim outstanding.
     OtherSeat,
+    /// It is a job, and not the next attempt at its step, or the step has another name: a job of another desk, say.
+    OtherAttempt,
     /// The book refuses it.
     Book(Why),
 }

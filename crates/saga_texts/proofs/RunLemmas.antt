@@ -1,5 +1,5 @@
 -- What a script tells of the events of books, and what their log tells.
-use Rattle.std.proofs.Common.{◌≡◌, ◌∙◌, ◌++◌, ℕ, List, [], ◌∷◌, Ok, ap, refl, sym}
+use Rattle.std.proofs.Common.{◌≡◌, ◌∙◌, ◌++◌, ℕ, List, [], ◌∷◌, Ok, ap, get_or, refl, sym}
 use Rattle.std.specs.List.{flat_map}
 use Rattle.saga_def.specs.Contents.{Contents}
 use Rattle.saga_history.specs.declared.events.Event.{Event}
@@ -8,56 +8,76 @@ use Rattle.saga_history.specs.declared.events.Mark.TheVariants as mark
 use Rattle.saga_history.specs.declared.tasks.Outcome.{Outcome}
 use Rattle.saga_history.specs.declared.tasks.Outcome.TheVariants.{Done}
 use Rattle.saga_history.specs.declared.transitions.Transition.{Transition}
-use Rattle.saga_history.specs.Changes.{past}
+use Rattle.saga_history.specs.Changes.{mark_of, past}
 use Rattle.saga_history.specs.Merges.{IsMerge, IsMergeOf, nothing, from_first, from_second}
 use Rattle.saga_history.specs.Rules.{IsLegal}
 use Rattle.saga_core.specs.Book.{Book}
 use Rattle.saga_desk.specs.Finish.{HeadlineHolds, MergesAreLegal, events_of}
 use Rattle.saga_desk.specs.Job.{Job}
+use Rattle.saga_desk.specs.Told as Told
+use Rattle.saga_desk.specs.Told.{AreTold, EndIsTold}
 use Rattle.saga_log.specs.Logs.{log_of as history_of}
 use Rattle.saga_script.specs.declared.scripts.Script.{Script}
 use Rattle.saga_script.specs.Endings.{outcome_of, asks_abort}
 use Rattle.saga_script.specs.Jobs.{MayAnswer, AsksAbort, IsTold, IsAbortTold, question_of}
 use Rattle.saga_script.specs.Scripts.{Tells}
 use Rattle.saga_script.specs.Statements.{Statement}
-use Rattle.saga_work.specs.Answered.{IsAnswered, MayEnd, MayAbort}
+use Rattle.saga_work.specs.Answered.{MayAbort}
 use Rattle.saga_work.specs.Asked.{AreAnswered}
 use Rattle.saga_texts.specs.Runs.{IsHeadlineLog}
 
--- an end that may be answered, by one relation and by a weaker one
-ended : (may told : Job → Outcome → Type 0) → ((job : Job) (o : Outcome) → may job o → told job o) → (i s : ℕ) (t : Transition)
-    → MayEnd may i s t → MayEnd told i s t
-ended may told weaker i s t m =
-    record { job = m.job; saga = m.saga; step = m.step; outcome = m.outcome; ends = m.ends; answered = weaker m.job m.outcome m.answered }
+-- an end that may be told, by one relation and by a weaker one
+end_told : (may told : Job → Outcome → Type 0) → ((job : Job) (o : Outcome) → may job o → told job o) → (shelf : List Contents) (h : List Event)
+    (i s : ℕ) (t : Transition) → EndIsTold may shelf h i s t → EndIsTold told shelf h i s t
+end_told may told weaker shelf h i s t m = record {
+  job = m.job;
+  saga = m.saga;
+  step = m.step;
+  next = m.next;
+  outcome = m.outcome;
+  ends = m.ends;
+  told = weaker m.job m.outcome m.told;
+}
 
-aborted : (may told : Job → Outcome → Type 0) (may_abort told_abort : Job → Type 0) → ((job : Job) (o : Outcome) → may job o → told job o)
-    → ((job : Job) → may_abort job → told_abort job) → (i : ℕ) → MayAbort may may_abort i → MayAbort told told_abort i
-aborted may told may_abort told_abort w v i m =
-    record { job = m.job; saga = m.saga; done = w m.job Done m.done; asked = v m.job m.asked }
+mark_told : (may told : Job → Outcome → Type 0) (may_abort told_abort : ℕ → Type 0) → ((job : Job) (o : Outcome) → may job o → told job o)
+    → ((i : ℕ) → may_abort i → told_abort i) → (shelf : List Contents) (h : List Event) (m : Mark)
+    → Told.IsTold may may_abort shelf h m → Told.IsTold told told_abort shelf h m
+mark_told may told may_abort told_abort w v shelf h (mark.Open i k) is = tt
+mark_told may told may_abort told_abort w v shelf h (mark.StartRun i s) is = tt
+mark_told may told may_abort told_abort w v shelf h (mark.Commit i s) is = end_told may told w shelf h i s _ is
+mark_told may told may_abort told_abort w v shelf h (mark.Fail i s) is = end_told may told w shelf h i s _ is
+mark_told may told may_abort told_abort w v shelf h (mark.StartUndo i s) is = tt
+mark_told may told may_abort told_abort w v shelf h (mark.Undone i s) is = end_told may told w shelf h i s _ is
+mark_told may told may_abort told_abort w v shelf h (mark.UndoFail i s) is = end_told may told w shelf h i s _ is
+mark_told may told may_abort told_abort w v shelf h (mark.StartPlan i) is = tt
+mark_told may told may_abort told_abort w v shelf h (mark.DropPlan i) is = tt
+mark_told may told may_abort told_abort w v shelf h (mark.Adopt i) is = tt
+mark_told may told may_abort told_abort w v shelf h (mark.Missed i s) is = end_told may told w shelf h i s _ is
+mark_told may told may_abort told_abort w v shelf h (mark.UndoMissed i s) is = end_told may told w shelf h i s _ is
+mark_told may told may_abort told_abort w v shelf h (mark.Abort i) is = v i is
 
-answered : (may told : Job → Outcome → Type 0) (may_abort told_abort : Job → Type 0) → ((job : Job) (o : Outcome) → may job o → told job o)
-    → ((job : Job) → may_abort job → told_abort job) → (m : Mark) → IsAnswered may may_abort m → IsAnswered told told_abort m
-answered may told may_abort told_abort w v (mark.Open i k) h = tt
-answered may told may_abort told_abort w v (mark.StartRun i s) h = tt
-answered may told may_abort told_abort w v (mark.Commit i s) h = ended may told w i s _ h
-answered may told may_abort told_abort w v (mark.Fail i s) h = ended may told w i s _ h
-answered may told may_abort told_abort w v (mark.StartUndo i s) h = tt
-answered may told may_abort told_abort w v (mark.Undone i s) h = ended may told w i s _ h
-answered may told may_abort told_abort w v (mark.UndoFail i s) h = ended may told w i s _ h
-answered may told may_abort told_abort w v (mark.StartPlan i) h = tt
-answered may told may_abort told_abort w v (mark.DropPlan i) h = tt
-answered may told may_abort told_abort w v (mark.Adopt i) h = tt
-answered may told may_abort told_abort w v (mark.Missed i s) h = ended may told w i s _ h
-answered may told may_abort told_abort w v (mark.UndoMissed i s) h = ended may told w i s _ h
-answered may told may_abort told_abort w v (mark.Abort i) h = aborted may told may_abort told_abort w v i h
+past_told : (may told : Job → Outcome → Type 0) (may_abort told_abort : ℕ → Type 0) → ((job : Job) (o : Outcome) → may job o → told job o)
+    → ((i : ℕ) → may_abort i → told_abort i) → (shelf : List Contents) (h : List Event)
+    → AreTold may may_abort shelf h → AreTold told told_abort shelf h
+past_told may told may_abort told_abort w v shelf [] is = tt
+past_told may told may_abort told_abort w v shelf (e ∷ h) is =
+    (mark_told may told may_abort told_abort w v shelf h (mark_of e) is.0, past_told may told may_abort told_abort w v shelf h is.1)
 
 -- what a script may answer is what its text's lines tell
 pub answered_told : (script : Script) (statements : List Statement) (books : List Book) → Tells script statements
     → AreAnswered (MayAnswer script) (AsksAbort script) books → AreAnswered (IsTold statements) (IsAbortTold statements) books
-answered_told script statements books tells h = λ i b lt k e here.
-    answered (MayAnswer script) (IsTold statements) (AsksAbort script) (IsAbortTold statements)
-    (λ job o is. is ∙ ap outcome_of (tells (question_of job)))
-    (λ job is. sym (ap asks_abort (tells (question_of job))) ∙ is) _ (h i b lt k e here)
+answered_told script statements books tells h =
+    let answers : (job : Job) (o : Outcome) → MayAnswer script job o → IsTold statements job o =
+    λ job o is. is ∙ ap outcome_of (tells (question_of job)) in
+    λ n d lt. past_told (MayAnswer script) (IsTold statements) (MayAbort (MayAnswer script) (AsksAbort script))
+    (MayAbort (IsTold statements) (IsAbortTold statements)) answers
+    (λ i m. record {
+      job = m.job;
+      saga = m.saga;
+      done = answers m.job Done m.done;
+      asked = sym (ap asks_abort (tells (question_of m.job))) ∙ m.asked;
+    })
+    (get_or books n d).shelf (past (get_or books n d).history) (h n d lt)
 
 -- ---- one history after the other
 

@@ -7,26 +7,23 @@ use Rattle.std.proofs.Math.Nat.{mod-add-div, mul-le-mul_right}
 use Rattle.std.proofs.lemmas.Nat.{mod-mul-add}
 use Rattle.std.proofs.lemmas.List.{drop_more, append-nil, map-append, append_assoc}
 use Rattle.std.proofs.lemmas.Grind.{flat_map-append}
-use Rattle.std.proofs.lemmas.List.Elements.{All-nil, All-cons, All-head, All-tail, All-same}
+use Rattle.std.proofs.lemmas.List.Elements.{All-head, All-tail}
 use Rattle.std.proofs.lemmas.Bool.{cases_eq, cases_order, eq-eqb, ne_eqb}
 use Rattle.saga_history.specs.declared.events.Event.{Event}
 use Rattle.saga_history.specs.declared.events.Event.TheVariants as event
 use Rattle.saga_history.specs.declared.events.Mark.{Mark}
 use Rattle.saga_history.specs.declared.events.Mark.TheVariants as mark
-use Rattle.saga_history.specs.declared.tasks.Outcome.{Outcome}
 use Rattle.saga_history.specs.Changes.{mark_of}
 use Rattle.saga_history.specs.Merges.{IsNumbered, opened_sagas}
 use Rattle.saga_core.specs.Book.{Book}
 use Rattle.saga_desk.specs.Agreement.{Agree, marks_of, numbered, numbered_from, receipts_of}
 use Rattle.saga_desk.specs.Finish.{AreOfShards, events_of}
-use Rattle.saga_desk.specs.Job.{Job}
 use Rattle.saga_desk.specs.Seat.{Seat}
 use Rattle.saga_desk.specs.declared.receipts.Receipt.{Receipt}
-use Rattle.saga_desk.proofs.MergeLemmas.{All-merge}
 use Rattle.saga_desk.proofs.RestLemmas.{numbered_from-get}
-use Rattle.saga_work.specs.Answered.{IsAnswered, opening}
-use Rattle.saga_work.specs.Asked.{AreAnswered, AreNumbered, AreOpenedAsAsked, OpensAll, asked, definitions_in, opened_in, opening_on}
-use Rattle.saga_work.proofs.GatherLemmas.{All-merged, gather-merge}
+use Rattle.saga_work.specs.Answered.{opening}
+use Rattle.saga_work.specs.Asked.{AreNumbered, AreOpenedAsAsked, OpensAll, asked, definitions_in, opened_in, opening_on}
+use Rattle.saga_work.proofs.GatherLemmas.{gather-merge}
 
 -- ---- sagas that are numbered in steps
 -- these definitions, of sagas from a number on, each so many further
@@ -220,26 +217,3 @@ opens_one S asks j d r rs lt is shard_is (saga, mark_is) before s in' =
         → definitions_in (cond b ((saga, d) ∷ []) []) ++ definitions_in rest ≡ definitions_in (cond b ((j, d) ∷ rest) rest)
     by_turn saga true rest = refl
     by_turn saga false rest = refl
-
--- ---- what was answered
-numbered_answered : (P : Mark → Type 0) (s n : ℕ) (h : List Event)
-    → All (λ (r : Receipt). P r.mark) (numbered s n (map mark_of h)) → All (λ e. P (mark_of e)) h
-numbered_answered P s n [] all = All-nil (λ e. P (mark_of e))
-numbered_answered P s n (e ∷ h) all =
-    All-cons (λ e. P (mark_of e)) e h
-    (All-head (λ (r : Receipt). P r.mark) _ (numbered s (n + 1) (map mark_of h)) all)
-    (numbered_answered P s (n + 1) h (All-tail (λ (r : Receipt). P r.mark) _ (numbered s (n + 1) (map mark_of h)) all))
-
-pub books_answered : (may : Job → Outcome → Type 0) (may_abort : Job → Type 0) (books : List Book) (seats : List Seat) → Agree books seats
-    → ((i : ℕ) → All (λ (r : Receipt). IsAnswered may may_abort r.mark) (get_or (receipts_of seats) i []))
-    → AreAnswered may may_abort books
-books_answered may may_abort books seats (m, mh, ms) each =
-    let P : Mark → Type 0 = IsAnswered may may_abort in
-    let whole = All-merge (λ (r : Receipt). P r.mark) m (receipts_of seats) each ms in
-    let lists = All-merged (λ (r : Receipt). P r.mark) m (numbered_from 0 (marks_of books)) mh whole in
-    by_book books (λ i. numbered_answered P i 0 _ (All-same (λ (r : Receipt). P r.mark) _ _ (sym (history_get books i)) (lists i)))
-  where
-    by_book : (bs : List Book) → ((i : ℕ) → All (λ e. IsAnswered may may_abort (mark_of e)) (get_or (events_of bs) i []))
-        → AreAnswered may may_abort bs
-    by_book [] h = All-nil (λ (b : Book). All (λ e. IsAnswered may may_abort (mark_of e)) b.history)
-    by_book (b ∷ bs) h = All-cons (λ (b : Book). All (λ e. IsAnswered may may_abort (mark_of e)) b.history) b bs (h 0) (by_book bs (λ i. h (suc i)))

@@ -24,12 +24,12 @@ seated_all desk count seats same seated = record {
 }
 
 -- a desk whose seats all came back is refused its end by no stranger and for no missing seat
-pub finishing_fault : (shelf : List Contents) (asks : List ℕ) (desk : Desk) (count : ℕ) (seats : List Seat) (why : FinishRefused) → desk.seats ≡ count
+pub finishing_fault : {P : Type 0} (shelf : List Contents) (asks : List ℕ) (desk : Desk) (count : ℕ) (seats : List Seat) (why : FinishRefused P) → desk.seats ≡ count
     → AreSeated count seats → AreOnShelf shelf asks (length asks) → FinishIsRefused desk seats why → IsRunFault shelf asks (fault_of_finish why)
-finishing_fault shelf asks desk count seats (finish.Stranger d ss) same seated known is = absurd (is.2 (seated_all desk count seats same seated).own)
-finishing_fault shelf asks desk count seats (finish.Missing d ss) same seated known is = absurd (is.3 (seated_all desk count seats same seated).all)
-finishing_fault shelf asks desk count seats (finish.OutOfMemory d ss) same seated known is = tt
-finishing_fault shelf asks desk count seats (finish.Torn books ss) same seated known is = known
+finishing_fault {P} shelf asks desk count seats (finish.Stranger d ss) same seated known is = absurd (is.2 (seated_all desk count seats same seated).own)
+finishing_fault {P} shelf asks desk count seats (finish.Missing d ss) same seated known is = absurd (is.3 (seated_all desk count seats same seated).all)
+finishing_fault {P} shelf asks desk count seats (finish.OutOfMemory d ss) same seated known is = tt
+finishing_fault {P} shelf asks desk count seats (finish.Torn books ss) same seated known is = known
 
 some_same : {X : Type 0} (x y : X) → Some x ≡ Some y → x ≡ y
 some_same x y e = cc

@@ -1,8 +1,7 @@
 -- What lists give, and what their merges give.
 use Rattle.std.proofs.Common.{◌≡◌, ◌≢◌, ℕ, ◌<◌, List, [], ◌∷◌, ◌++◌, length, get_or, set, refl, sym, ap, ◌∙◌, inl, inr, get_or-set_same, get_or-set_other}
-use Rattle.std.specs.List.{flat_map, All}
+use Rattle.std.specs.List.{flat_map}
 use Rattle.std.proofs.lemmas.List.{get_or_past}
-use Rattle.std.proofs.lemmas.List.Elements.{All-nil, All-cons, All-head, All-tail, All-same}
 use Rattle.std.proofs.lemmas.Bool.{cases_lt, cases_eq}
 use Rattle.saga_desk.specs.Merges.{IsMerge}
 
@@ -39,18 +38,4 @@ gather-merge {X} f (x ∷ m) ls k only (i, r, at, mg) =
           let other : k ≢ i = λ q. ne (sym q) in
           ap (λ z. z ++ flat_map f m) none.0
           ∙ (gather-merge f m (set ls i r) k only' mg ∙ ap (flat_map f) (get_or-set_other ls i k r [] other))
-    ]
-
--- what holds of each element of a merge holds of each element of each list
-pub All-merged : {X : Type 0} (P : X → Type 0) (m : List X) (ls : List (List X)) → IsMerge ls m → All P m
-    → (k : ℕ) → All P (get_or ls k [])
-All-merged P [] ls mg all k = All-same P _ [] (mg k) (All-nil P)
-All-merged {X} P (x ∷ m) ls (i, r, at, mg) all k =
-    let deep = All-merged P m (set ls i r) mg (All-tail P x m all) in
-    elim (cases_eq k i) [
-      | inl e ↦
-          let same = get_or-set_same ls i r [] (within ls i x r at) in
-          All-same P _ (x ∷ r) (ap (λ z. get_or ls z []) e ∙ at)
-          (All-cons P x r (All-head P x m all) (All-same P r _ (sym same) (deep i)))
-      | inr ne ↦ All-same P _ _ (sym (get_or-set_other ls i k r [] ne)) (deep k)
     ]

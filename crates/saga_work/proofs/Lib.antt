@@ -1,7 +1,6 @@
 -- Lemmas on workers.
 mod GatherLemmas
 mod AddedLemmas
-mod WorkLemmas
 mod AskedLemmas
 mod RunLemmas
 mod FaultLemmas

@@ -1,25 +1,22 @@
 -- What whole runs leave.
-use Rattle.std.proofs.Common.{◌≡◌, ◌≢◌, ℕ, ◌<◌, ◌≤◌, List, [], ◌++◌, length, get_or, set, map, refl, sym, ap, ◌∙◌, subst, arith, inl, inr, get_or-set_same, get_or-set_other, length-set}
+use Rattle.std.proofs.Common.{◌≡◌, ℕ, ◌<◌, ◌≤◌, List, [], ◌++◌, length, get_or, set, map, sym, ap, ◌∙◌, subst, arith, inl, inr, get_or-set_same, get_or-set_other, length-set}
 use Rattle.std.specs.List.{flat_map, All}
 use Rattle.std.proofs.lemmas.List.{get_or_past, append-nil, get_or-map, length-map}
 use Rattle.std.proofs.lemmas.Grind.{flat_map-append}
 use Rattle.std.proofs.lemmas.Option.{get_or_from_slice_get}
-use Rattle.std.proofs.lemmas.List.Elements.{All-nil, All-same, All-append, All-weaker}
-use Rattle.std.proofs.lemmas.Bool.{cases_lt, cases_eq}
+use Rattle.std.proofs.lemmas.List.Elements.{All-nil, All-same}
+use Rattle.std.proofs.lemmas.Bool.{cases_lt}
 use Rattle.saga_def.specs.Contents.{Contents}
 use Rattle.saga_history.specs.declared.events.Mark.{Mark}
-use Rattle.saga_history.specs.declared.events.Mark.TheVariants as mark
-use Rattle.saga_history.specs.declared.tasks.Outcome.{Outcome}
 use Rattle.saga_core.specs.Book.{Book}
 use Rattle.saga_desk.specs.Agreement.{Agree, receipts_of}
 use Rattle.saga_desk.specs.Finish.{AreFirstSeats, AreOfShards}
-use Rattle.saga_desk.specs.Job.{Job}
 use Rattle.saga_desk.specs.Seat.{Seat}
 use Rattle.saga_desk.specs.declared.receipts.Receipt.{Receipt}
 use Rattle.saga_work.specs.Added.{EachAdds}
-use Rattle.saga_work.specs.Answered.{IsAnswered, IsWork, opening}
-use Rattle.saga_work.specs.Asked.{AreAnswered, AreNumbered, AreOpened, AreOpenedAsAsked, EachGained, IsOpening, OpensAll, opening_on}
-use Rattle.saga_work.proofs.AskedLemmas.{books_answered, none_opened, opened_as_asked}
+use Rattle.saga_work.specs.Answered.{IsWork}
+use Rattle.saga_work.specs.Asked.{AreNumbered, AreOpened, AreOpenedAsAsked, EachGained, IsOpening, OpensAll, opening_on}
+use Rattle.saga_work.proofs.AskedLemmas.{none_opened, opened_as_asked}
 
 list_at : (seats : List Seat) (i : ℕ) (s : Seat) → i < length seats → get_or (receipts_of seats) i [] ≡ (get_or seats i s).receipts
 list_at seats i s lt = get_or-map (λ (v : Seat). v.receipts) seats i s [] lt
@@ -73,56 +70,16 @@ first_opened n shards asks seats seat pos are all only =
       ];
     }
 
-opens_nothing : (may : Job → Outcome → Type 0) (may_abort : Job → Type 0) (rs : List Receipt)
-    → All (λ (r : Receipt). IsWork may may_abort r.mark) rs → All (λ (r : Receipt). opening r.mark ≡ []) rs
-opens_nothing may may_abort rs all =
-    All-weaker (λ (r : Receipt). IsWork may may_abort r.mark) (λ (r : Receipt). opening r.mark ≡ []) (λ r w. w.opens_nothing) rs all
-
-pub run_opened : (may : Job → Outcome → Type 0) (may_abort : Job → Type 0) (shards : ℕ) (asks : List ℕ) (shelf : List Contents)
-    (books : List Book) (seats back : List Seat)
-    → 0 < shards → AreOpened shards asks seats → EachGained (IsWork may may_abort) seats back
+pub run_opened : (shards : ℕ) (asks : List ℕ) (shelf : List Contents) (books : List Book) (seats back : List Seat)
+    → 0 < shards → AreOpened shards asks seats → EachGained IsWork seats back
     → AreOfShards shelf shards books → AreNumbered books → Agree books back → AreOpenedAsAsked shards asks books
-run_opened may may_abort shards asks shelf books seats back pos opened gained are numbers agree =
+run_opened shards asks shelf books seats back pos opened gained are numbers agree =
     let first = get_or (receipts_of seats) 0 [] in
     opened_as_asked shards asks shelf books back first pos are numbers agree opened.all
     (λ s. let a = gained 0 in
     ap (flat_map (opening_on s)) a.1 ∙ (flat_map-append (opening_on s) first a.0
-    ∙ (ap (λ z. flat_map (opening_on s) first ++ z) (none_opened s a.0 (opens_nothing may may_abort a.0 a.2))
+    ∙ (ap (λ z. flat_map (opening_on s) first ++ z) (none_opened s a.0 a.2)
     ∙ append-nil (flat_map (opening_on s) first))))
     (λ s i ne. let a = gained i in
     ap (flat_map (opening_on s)) (a.1 ∙ ap (λ z. z ++ a.0) (opened.others i ne))
-    ∙ none_opened s a.0 (opens_nothing may may_abort a.0 a.2))
-
-pub run_answered : (may : Job → Outcome → Type 0) (may_abort : Job → Type 0) (shards : ℕ) (asks : List ℕ)
-    (books : List Book) (seats back : List Seat)
-    → AreOpened shards asks seats → EachGained (IsWork may may_abort) seats back → Agree books back → AreAnswered may may_abort books
-run_answered may may_abort shards asks books seats back opened gained agree =
-    books_answered may may_abort books back agree (λ i.
-    let a = gained i in
-    All-same P _ _ a.1 (All-append P _ a.0 (before i)
-    (All-weaker (λ (r : Receipt). IsWork may may_abort r.mark) P (λ r w. w.answered) a.0 a.2)))
-  where
-    P : Receipt → Type 0
-    P r = IsAnswered may may_abort r.mark
-
-    opening_answered : (m : Mark) → opening m ≢ [] → IsAnswered may may_abort m
-    opening_answered (mark.Open i k) some = tt
-    opening_answered (mark.StartRun i s) some = tt
-    opening_answered (mark.Commit i s) some = absurd (some refl)
-    opening_answered (mark.Fail i s) some = absurd (some refl)
-    opening_answered (mark.StartUndo i s) some = tt
-    opening_answered (mark.Undone i s) some = absurd (some refl)
-    opening_answered (mark.UndoFail i s) some = absurd (some refl)
-    opening_answered (mark.StartPlan i) some = tt
-    opening_answered (mark.DropPlan i) some = tt
-    opening_answered (mark.Adopt i) some = tt
-    opening_answered (mark.Missed i s) some = absurd (some refl)
-    opening_answered (mark.UndoMissed i s) some = absurd (some refl)
-    opening_answered (mark.Abort i) some = absurd (some refl)
-
-    before : (i : ℕ) → All P (get_or (receipts_of seats) i [])
-    before i = elim (cases_eq i 0) [
-      | inl e ↦ All-same P _ _ (ap (λ k. get_or (receipts_of seats) k []) e)
-          (All-weaker IsOpening P (λ r o. opening_answered r.mark o) _ opened.only)
-      | inr ne ↦ All-same P _ [] (opened.others i ne) (All-nil P)
-    ]
+    ∙ none_opened s a.0 a.2)

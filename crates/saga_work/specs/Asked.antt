@@ -12,7 +12,8 @@ use Rattle.saga_desk.specs.Job.{Job}
 use Rattle.saga_desk.specs.Seat.{Seat}
 use Rattle.saga_desk.specs.declared.receipts.Receipt.{Receipt}
 use Rattle.saga_history.specs.declared.events.Event.{Event}
-use Rattle.saga_work.specs.Answered.{IsAnswered, opening}
+use Rattle.saga_desk.specs.Told.{HoldsTold}
+use Rattle.saga_work.specs.Answered.{MayAbort, opening}
 
 -- of the definitions that are asked for from the j-th on, those of this shard: saga and definition
 abbrev pub asked : ℕ → ℕ → ℕ → List ℕ → List (ℕ × ℕ)
@@ -33,9 +34,10 @@ pub record AreOpenedAsAsked (shards : ℕ) (asks : List ℕ) (books : List Book)
 abbrev pub IsOver : Book → Type 0
 IsOver b = AllAreOver b.shelf (past b.history)
 
--- each event of the books is what may be answered and asked for
+-- each end of an action or a compensation in the books is what may be answered to the job of that attempt at that step, under the
+-- step's name, and each abort may be asked for
 abbrev pub AreAnswered : (Job → Outcome → Type 0) → (Job → Type 0) → List Book → Type 0
-AreAnswered may may_abort books = All (λ (b : Book). All (λ e. IsAnswered may may_abort (mark_of e)) b.history) books
+AreAnswered may may_abort books = All (HoldsTold may (MayAbort may may_abort)) books
 
 -- the openings on a shard among receipts
 abbrev pub opening_on : ℕ → Receipt → List (ℕ × ℕ)

@@ -17,7 +17,7 @@ fault_of_opening saga opening.NoSuchDefinition = Open saga opening.NoSuchDefinit
 fault_of_opening saga opening.Full = Open saga opening.Full
 fault_of_opening saga opening.OutOfMemory = OutOfMemory
 
-abbrev pub fault_of_finish : FinishRefused → RunFault
+abbrev pub fault_of_finish : {P : Type 0} → FinishRefused P → RunFault
 fault_of_finish (finish.Stranger desk seats) = Finish Stranger
 fault_of_finish (finish.Missing desk seats) = Finish Missing
 fault_of_finish (finish.OutOfMemory desk seats) = OutOfMemory

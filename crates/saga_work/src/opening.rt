@@ -6,7 +6,7 @@ ghost use Rattle.saga_work.specs.Faults.{AreOnShelf, IsRunFault, fault_of_openin
 use crate::faults::RunFault;
 use saga_core::OpenRefusal;
 use saga_def::Definition;
-use saga_desk::{Desk, Seat};
+use saga_desk::{Desk, Policy, Seat};
 use std::alloc::Global;
 use std::sync::Wait;
 
@@ -21,9 +21,9 @@ fn open_fault(saga: usize, why: OpenRefusal) -> RunFault
 }
 
 /// Opens each definition that is asked for, the j-th on shard j modulo their number.
-fn open_all<R: Wait>(
+fn open_all<P: Policy, R: Wait>(
     rt: &R,
-    desk: &Desk<'_>,
+    desk: &Desk<'_, P>,
     shards: u32,
     seat: &mut Seat,
     asks: &[u32],
@@ -47,14 +47,14 @@ fn open_all<R: Wait>(
 }
 
 /// A desk with its seats, the first of which has opened what is asked for.
-pub fn opened<'d, R: Wait>(
+pub fn opened<'d, P: Policy, R: Wait>(
     rt: &R,
     alloc: Global,
     shelf: &'d [Definition],
     asks: &[u32],
     workers: u32,
     shards: u32,
-) -> Result<(Desk<'d>, Vec<Seat>), RunFault>
+) -> Result<(Desk<'d, P>, Vec<Seat>), RunFault>
     requires workers { (0 < workers) × (workers ≤ 16) }
     requires shards { (0 < shards) × (shards ≤ 16) }
     ensures desk { IfOk result
@@ -64,7 +64,7 @@ pub fn opened<'d, R: Wait>(
     ensures known { OnOk result (AreOnShelf shelf.entry.now asks.now (length asks.now)) }
     ensures why { IfErr result (λ fault. IsRunFault shelf.entry.now asks.now fault) }
 {
-    let Ok((desk, mut seats)) = Desk::open(alloc, shelf, workers, shards) else {
+    let Ok((desk, mut seats)) = Desk::open_with_policy(alloc, shelf, workers, shards) else {
         return Err(RunFault::OutOfMemory);
     };
     open_all(rt, &desk, shards, &mut seats[0], asks)?;

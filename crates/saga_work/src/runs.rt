@@ -1,7 +1,8 @@
 //! Whole runs.
 ghost use Rattle.std.specs.Prelude.{◌≡◌, ◌<◌, ◌≤◌, ◌↔◌, ◌∷◌, [], All, IfErr, IfOk, IsTrue, None, ℕ, map};
 ghost use Rattle.saga_desk.specs.Finish.{AreOfShards, HeadlineHolds, MergesAreLegal};
-ghost use Rattle.saga_work.specs.Answered.{IsWork};
+ghost use Rattle.saga_desk.specs.Told.{HoldsTold};
+ghost use Rattle.saga_work.specs.Answered.{IsWork, MayBeTold};
 ghost use Rattle.saga_work.specs.Asked.{AreAnswered, AreNumbered, AreOpenedAsAsked, AreSeated, EachGained, IsOver};
 ghost use Rattle.saga_work.specs.Faults.{IsRunFault, fault_of_finish, first_stop, stop_told};
 
@@ -12,8 +13,9 @@ use crate::opening::opened;
 use crate::workers::work_all;
 use saga_core::Book;
 use saga_def::Definition;
-use saga_desk::{Desk, FinishRefused, Seat};
+use saga_desk::{Desk, FinishRefused, Policy, Seat};
 use std::alloc::{AllocError, Global};
+use std::marker::Brand;
 use std::sync::Wait;
 use std::thread::Threads;
 
@@ -25,7 +27,7 @@ pub struct Run<'d> {
 }
 
 /// The fault of a desk that was not finished.
-fn finish_fault(refused: FinishRefused<'_>) -> RunFault
+fn finish_fault<P: Policy>(refused: FinishRefused<'_, P>) -> RunFault
     ensures { result ≡ fault_of_finish refused.entry }
 {
     match refused {
@@ -85,15 +87,16 @@ fn parted(
 }
 
 /// Works each seat, and gives the seats back, and the stop of the first that stopped.
-fn worked<R: Threads + Wait + Sync, A: Actor + Sync>(
+fn worked<R: Threads + Wait + Sync, A: Actor + Sync, P: Policy + Send + Sync>(
     rt: &R,
     alloc: Global,
-    desk: &Desk<'_>,
+    desk: &Desk<'_, P>,
     seats: Vec<Seat>,
     actor: &A,
 ) -> Result<(Vec<Seat>, Option<Stop>), AllocError>
+    requires { MayBeTold (A.may actor.now) (A.may_abort actor.now) P.may P.may_abort }
     ensures gained { IfOk result
-        (λ r. EachGained (IsWork (A.may actor.now) (A.may_abort actor.now)) seats.items r.0.items) }
+        (λ r. EachGained IsWork seats.items r.0.items) }
     ensures numbers { IfOk result
         (λ r. (n : ℕ) → AreSeated n seats.items → AreSeated n r.0.items) }
 {
@@ -111,6 +114,41 @@ fn told(stop: Option<Stop>, is_over: bool) -> Option<Stop>
         None if !is_over => Some(Stop::Refused),
         stop => stop,
     }
+}
+
+/// The same as [`run_all`], by a desk of this policy.
+fn run_with_policy<'d, P: Policy + Send + Sync, R: Threads + Wait + Sync, A: Actor + Sync>(
+    rt: &R,
+    alloc: Global,
+    shelf: &'d [Definition],
+    asks: &[u32],
+    workers: u32,
+    shards: u32,
+    actor: &A,
+) -> Result<Run<'d>, RunFault>
+    requires policy { MayBeTold (A.may actor.now) (A.may_abort actor.now) P.may P.may_abort }
+    requires workers { (0 < workers) × (workers ≤ 16) }
+    requires shards { (0 < shards) × (shards ≤ 16) }
+    ensures shards { IfOk result (λ run. AreOfShards shelf.entry.now shards run.books.items) }
+    ensures opened { IfOk result (λ run. AreOpenedAsAsked shards asks.now run.books.items) }
+    ensures ended { IfOk result (λ run. run.stopped ≡ None → All IsOver run.books.items) }
+    ensures told { IfOk result (λ run. All (HoldsTold P.may P.may_abort) run.books.items) }
+    ensures legal { IfOk result (λ run. MergesAreLegal shelf.entry.now run.books.items) }
+    ensures headline { IfOk result (λ run. HeadlineHolds shelf.entry.now run.books.items) }
+    ensures why { IfErr result (λ fault. IsRunFault shelf.entry.now asks.now fault) }
+{
+    let (desk, seats) = opened::<P, R>(rt, alloc, shelf, asks, workers, shards)?;
+    let Ok((back, stop)) = worked(rt, alloc, &desk, seats, actor) else {
+        return Err(RunFault::OutOfMemory);
+    };
+    let books = match desk.finish(back) {
+        Ok(books) => books,
+        Err(refused) => return Err(finish_fault(refused)),
+    };
+    are_numbered(books.as_slice());
+    let is_over = are_over(books.as_slice());
+    let stopped = told(stop, is_over);
+    Ok(Run { books, stopped })
 }
 
 /// Opens the definitions that are asked for, by their places on the shelf, and lets workers run all of them to their end.
@@ -139,16 +177,5 @@ pub fn run_all<'d, R: Threads + Wait + Sync, A: Actor + Sync>(
     ensures headline { IfOk result (λ run. HeadlineHolds shelf.entry.now run.books.items) }
     ensures why { IfErr result (λ fault. IsRunFault shelf.entry.now asks.now fault) }
 {
-    let (desk, seats) = opened(rt, alloc, shelf, asks, workers, shards)?;
-    let Ok((back, stop)) = worked(rt, alloc, &desk, seats, actor) else {
-        return Err(RunFault::OutOfMemory);
-    };
-    let books = match desk.finish(back) {
-        Ok(books) => books,
-        Err(refused) => return Err(finish_fault(refused)),
-    };
-    are_numbered(books.as_slice());
-    let is_over = are_over(books.as_slice());
-    let stopped = told(stop, is_over);
-    Ok(Run { books, stopped })
+    run_with_policy::<Brand, R, A>(rt, alloc, shelf, asks, workers, shards, actor)
 }

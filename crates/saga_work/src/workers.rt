@@ -1,7 +1,7 @@
 //! Workers.
 ghost use Rattle.std.specs.Prelude.{◌≡◌, ◌-◌, IfOk, length, true};
 ghost use Rattle.saga_work.specs.Added.{Adds, EachAdds, HasClaims, stop_of};
-ghost use Rattle.saga_work.specs.Answered.{EndsPlan, IsAbortOf, IsWork};
+ghost use Rattle.saga_work.specs.Answered.{EndsPlan, IsAbortOf, IsWork, MayBeTold};
 
 use crate::actors::Actor;
 use crate::bells::Bell;
@@ -9,7 +9,7 @@ use crate::faults::Stop;
 use saga_case::Case;
 use saga_check::verify;
 use saga_core::{AdoptRefusal, SagaRefusal};
-use saga_desk::{AdoptionRefused, Claim, Desk, EndRefusal, Job, PlanJob, Seat};
+use saga_desk::{AdoptionRefused, Claim, Desk, EndRefusal, Job, PlanJob, Policy, Seat};
 use saga_history::Outcome;
 use saga_plan::plan;
 use std::alloc::{AllocError, Global};
@@ -24,7 +24,8 @@ enum Course {
 }
 
 /// Aborts a saga. That it is over, or was aborted before, is passed over.
-fn abort<R: Wait>(rt: &R, desk: &Desk<'_>, seat: &mut Seat, saga: u32) -> Option<Stop>
+fn abort<R: Wait, P: Policy>(rt: &R, desk: &Desk<'_, P>, seat: &mut Seat, saga: u32) -> Option<Stop>
+    requires { P.may_abort saga }
     ensures adds { Adds (IsAbortOf saga) seat.old seat.new }
     ensures claims { seat.new.claims ≡ seat.old.claims }
 {
@@ -60,14 +61,15 @@ fn aborts_after<A: Actor>(actor: &A, job: &Job<'_>, outcome: Outcome) -> bool
 }
 
 /// Lets the actor do a job, and reports what it answers.
-fn perform<'d, R: Wait, A: Actor>(
+fn perform<'d, R: Wait, A: Actor, P: Policy>(
     rt: &R,
-    desk: &Desk<'d>,
+    desk: &Desk<'d, P>,
     seat: &mut Seat,
     actor: &A,
     job: Job<'d>,
 ) -> Option<Stop>
-    ensures adds { Adds (IsWork (A.may actor.now) (A.may_abort actor.now)) seat.old seat.new }
+    requires { MayBeTold (A.may actor.now) (A.may_abort actor.now) P.may P.may_abort }
+    ensures adds { Adds IsWork seat.old seat.new }
     ensures ended { HasClaims result seat.new (seat.old.claims - 1) }
 {
     let outcome = outcome_of(actor, &job);
@@ -86,9 +88,9 @@ fn perform<'d, R: Wait, A: Actor>(
 }
 
 /// Gives a plan back, after which the worker has this stop or none.
-fn give_back<R: Wait>(
+fn give_back<R: Wait, P: Policy>(
     rt: &R,
-    desk: &Desk<'_>,
+    desk: &Desk<'_, P>,
     seat: &mut Seat,
     job: PlanJob,
     stop: Option<Stop>,
@@ -103,10 +105,10 @@ fn give_back<R: Wait>(
 }
 
 /// Plans how a saga shall end, and has that adopted. A plan that came too late is given back.
-fn settle<'d, R: Wait>(
+fn settle<'d, R: Wait, P: Policy>(
     rt: &R,
     alloc: Global,
-    desk: &Desk<'d>,
+    desk: &Desk<'d, P>,
     seat: &mut Seat,
     job: PlanJob,
     case: Case<'d>,
@@ -143,15 +145,16 @@ fn after(stop: Option<Stop>) -> Course
 }
 
 /// Claims once, and does what was claimed. Rings when it is done.
-fn take_turn<R: Wait, A: Actor>(
+fn take_turn<R: Wait, A: Actor, P: Policy>(
     rt: &R,
     alloc: Global,
-    desk: &Desk<'_>,
+    desk: &Desk<'_, P>,
     bell: &Bell,
     seat: &mut Seat,
     actor: &A,
 ) -> Course
-    ensures adds { Adds (IsWork (A.may actor.now) (A.may_abort actor.now)) seat.old seat.new }
+    requires { MayBeTold (A.may actor.now) (A.may_abort actor.now) P.may P.may_abort }
+    ensures adds { Adds IsWork seat.old seat.new }
     ensures ended { HasClaims (stop_of result) seat.new seat.old.claims }
 {
     let seen = bell.count();
@@ -183,19 +186,20 @@ fn take_turn<R: Wait, A: Actor>(
 /// Works at a seat: claims and does what is to be done, until each saga of the desk is ended or stuck. Gives the seat back,
 /// and why it stopped before that, if it did.
 ///
-/// The seat gains no opening. Each end of a step that it gains is one that the actor may answer to a job at that step, and
-/// each abort one for which it may ask, after a job that it may answer with done. What is claimed is ended: a plan that came too
-/// late is given back, and so is one for which there is no memory, and then the worker stops. Only where the desk refuses
-/// something may a claim be left.
-pub fn work<R: Wait, A: Actor>(
+/// The desk's policy has to let be told whatever the actor may answer, and let a saga be aborted where the actor may ask for
+/// it, after a job that it may answer with done: so whoever finishes the desk knows that its books hold nothing else. The
+/// seat gains no opening. What is claimed is ended: a plan that came too late is given back, and so is one for which there is
+/// no memory, and then the worker stops. Only where the desk refuses something may a claim be left.
+pub fn work<R: Wait, A: Actor, P: Policy>(
     rt: &R,
     alloc: Global,
-    desk: &Desk<'_>,
+    desk: &Desk<'_, P>,
     bell: &Bell,
     seat: Seat,
     actor: &A,
 ) -> (Seat, Option<Stop>)
-    ensures adds { Adds (IsWork (A.may actor.now) (A.may_abort actor.now)) seat result.0 }
+    requires { MayBeTold (A.may actor.now) (A.may_abort actor.now) P.may P.may_abort }
+    ensures adds { Adds IsWork seat result.0 }
     ensures ended { HasClaims result.1 result.0 seat.claims }
 {
     let mut seat = seat;
@@ -209,25 +213,26 @@ pub fn work<R: Wait, A: Actor>(
 }
 
 /// Works each seat, on a thread of its own where the system grants one, and gives the seats back in their order.
-pub fn work_all<R: Threads + Wait + Sync, A: Actor + Sync>(
+pub fn work_all<R: Threads + Wait + Sync, A: Actor + Sync, P: Policy + Send + Sync>(
     rt: &R,
     alloc: Global,
-    desk: &Desk<'_>,
+    desk: &Desk<'_, P>,
     bell: &Bell,
     seats: Vec<Seat>,
     actor: &A,
 ) -> Result<Vec<(Seat, Option<Stop>)>, AllocError>
+    requires { MayBeTold (A.may actor.now) (A.may_abort actor.now) P.may P.may_abort }
     ensures len { IfOk result (λ done. length done.items ≡ length seats.items) }
     ensures each { IfOk result
         (λ done. EachAdds
-        (IsWork (A.may actor.now) (A.may_abort actor.now)) seats.items done.items) }
+        IsWork seats.items done.items) }
 {
     thread::map_vec(
         rt,
         seats,
         &|seat: Seat| -> (Seat, Option<Stop>)
-            ensures { Adds
-                (IsWork (A.may actor.entry.now) (A.may_abort actor.entry.now)) seat result.0 }
+            requires { MayBeTold (A.may actor.now) (A.may_abort actor.now) P.may P.may_abort }
+            ensures { Adds IsWork seat result.0 }
         { work(rt, alloc, desk, bell, seat, actor) },
     )
 }

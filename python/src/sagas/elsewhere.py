@@ -227,7 +227,7 @@ class Elsewhere:
         now = self.owner.clock()
         for attempt in picked:
             before = attempt.lease
-            self.takeovers += before is not None and before.until > 0  # it ran out; else it was given back
+            self.takeovers += before is not None and before.until > 0 and not before.given_back
             number = max(int(now * 1000), before.number + 1 if before else 1)
             attempt.lease, attempt.fresh = Lease(number, worker, now, now + seconds), False
             self._writing[attempt] = self.owner.loop.create_future()
@@ -325,7 +325,8 @@ class Elsewhere:
             if not self.takeable(word):
                 raise LeaseLost(f"lease {number} of {token} ran out, and others of the step have its place")
             del self._ready[word][attempt]
-        lease.until = self.owner.clock() + seconds
+        before, lease.until = lease.until, self.owner.clock() + seconds
+        lease.given_back = lease.until < before
         self._put([attempt])
         self.offered(attempt)
         return lease.until

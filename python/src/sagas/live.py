@@ -108,6 +108,8 @@ class Lease:
     until: float
     unknown: str | None = None
     """What the worker said where it does not know what it did."""
+    given_back: bool = False
+    """Whether its worker cut it short."""
 
 
 class Attempt:

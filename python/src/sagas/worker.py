@@ -16,6 +16,7 @@ from __future__ import annotations
 import asyncio
 import dataclasses
 import inspect
+import itertools
 import json
 import logging
 import os
@@ -38,6 +39,8 @@ from .task import Task
 logger = logging.getLogger("sagas.worker")
 Function = Callable[[Task[Any]], Any]
 FIRST_PAUSE, MOST_PAUSE = 0.1, 5.0  # seconds between tries to reach the service
+AHEAD, MOST_AHEAD = 0.1, 10  # one question takes as many tasks as are lately done in so many seconds, and at most so many
+LOOK = 0.5  # seconds between looks at what was taken ahead; the shortest lease that the service gives, too
 MOST_TEXT = 4000
 
 
@@ -55,18 +58,23 @@ class _Manner:
     unknown: Unknowns
 
 
-@dataclasses.dataclass(slots=True)
+@dataclasses.dataclass(slots=True, eq=False)
 class _Held:
-    """A task that this worker has."""
+    """A task that this worker has; until half of its lease is over it may be begun, so that its first beat comes in time."""
 
     token: str
     lease: int
     task: Task[Any]
+    until: float
     lost: bool = False
 
 
 class Worker:
-    """Takes tasks of a service, `concurrency` at once, each in a thread. Of several services over one database it may be given all: it goes on at the next where one does not answer.
+    """Does tasks of a service, `concurrency` at once, each in a thread. Of several services over one database it may be given all: it goes on at the
+    next where one does not answer.
+
+    Where its functions are short, one question takes several tasks: as many as one thread has lately done in a tenth of a second, ten at most; any of its
+    threads does them. Where no thread comes to them for half a second, since a function takes longer, they are given back, and are another's in a moment.
 
     `lease`: seconds after which a task of a worker that is gone is another's; while a function runs, it is renewed three times as often.
     `wait`: seconds that one question for tasks waits at the service, 30 at most."""
@@ -82,10 +90,12 @@ class Worker:
         self.name = (name or f"{socket.gethostname()}-{os.getpid()}")[:64]
         self._headers = {"Content-Type": "application/json"} | ({"Authorization": f"Bearer {token}"} if token else {})
         self._steps: dict[str, _Manner] = {}
-        self._held: dict[str, _Held] = {}
+        self._ahead: deque[_Held] = deque()  # taken, and not begun
+        self._held: set[_Held] = set()  # begun
         self._lock = threading.Lock()
         self._rests = threading.Condition(self._lock)
-        self._busy = 0
+        self._busy = self._asking = self._moves = 0
+        self._mean = AHEAD  # seconds that a function took lately; that nothing is known makes one task at a time
         self._lacks = False
         self._stop = threading.Event()
         self._fault: ServiceRefused | None = None
@@ -137,31 +147,24 @@ class Worker:
         except KeyboardInterrupt:
             self.stop()
             with self._rests:
-                self._rests.wait_for(lambda: not self._busy)
+                self._rests.wait_for(lambda: not self._busy and not self._ahead)
         if self._fault:
             raise self._fault
 
     def stop(self) -> None:
-        """Takes nothing more; running functions end, and are reported."""
+        """Takes nothing more; running functions end, and are reported. What it has not begun is given back, also what a question brings that is under way."""
         self._stop.set()
 
     def _work(self) -> None:
-        wanted = {"steps": sorted(self._steps), "lease": self.lease, "worker": self.name}
-        tasks: list[dict[str, Any]] = []
         try:
-            while tasks or not self._stop.is_set():
-                if tasks:
+            while one := self._one():
+                told = None
+                try:
+                    told = self._do(one)
+                finally:
                     with self._rests:
-                        self._busy += 1
-                    try:
-                        tasks += self._do(tasks.pop(0), wanted)
-                    finally:
-                        with self._rests:
-                            self._busy -= 1
-                            self._rests.notify_all()
-                else:
-                    told = self._until_told("/tasks/take", {**wanted, "wait": self.wait}, giving_up=True)
-                    tasks = told.get("tasks", []) if told else []
+                        self._busy -= 1
+                        self._add(told)
         except ServiceRefused as fault:
             self._fault = self._fault or fault
             self.stop()
@@ -170,42 +173,106 @@ class Worker:
             self.stop()
             raise
 
-    def _do(self, told: dict[str, Any], wanted: dict[str, Any]) -> list[dict[str, Any]]:
-        """Does a task and reports it; gives what was taken with the report."""
-        held = _Held(told["token"], told["lease"], task_of(told))
-        with self._lock:
-            self._held[held.token] = held
+    def _one(self) -> _Held | None:
+        """A task to begin, taken ahead or asked for now; where several may come at once, one thread asks for all. None: it was stopped."""
+        while True:
+            with self._rests:
+                self._rests.wait_for(lambda: self._ahead or self._stop.is_set() or not self._asking or self._most() == 1)
+                while self._ahead and not self._stop.is_set():
+                    one = self._ahead.popleft()
+                    self._moves += 1
+                    if time.monotonic() < one.until:  # else it is another's, or soon will be
+                        self._held.add(one)
+                        self._busy += 1
+                        return one
+                self._asking += 1
+            told = None
+            try:
+                if self._stop.is_set():
+                    self._give_back()
+                    return None
+                told = self._until_told("/tasks/take", {**self._wanted(), "wait": self.wait}, giving_up=True)
+            finally:
+                with self._rests:
+                    self._asking -= 1
+                    self._add(told)
+
+    def _most(self) -> int:
+        return max(1, min(MOST_AHEAD, int(AHEAD / max(self._mean, 1e-6))))
+
+    def _wanted(self) -> dict[str, Any]:
+        return {"steps": sorted(self._steps), "most": self._most(), "lease": self.lease, "worker": self.name}
+
+    def _add(self, told: dict[str, Any] | None) -> None:
+        """The tasks of an answer are any thread's. Under the lock."""
+        for task in told.get("tasks", ()) if told else ():
+            self._ahead.append(_Held(task["token"], task["lease"], task_of(task), time.monotonic() + task["seconds"] / 2))
+            self._moves += 1
+        self._rests.notify_all()
+
+    def _do(self, one: _Held) -> dict[str, Any] | None:
+        """Does a task and reports it; gives the answer, with what was taken with the report where nothing was there to go on with."""
+        task, began = one.task, time.monotonic()
         try:
-            manner = self._steps[f"{told['saga']}/{told['step']}{'/undo' if told['undo'] else ''}"]
-            verb, body = outcome(manner, held.task)
+            verb, body = outcome(self._steps[f"{task.saga}/{task.step}{'/undo' if task.undo else ''}"], task)
         finally:
-            with self._lock:
-                self._held.pop(held.token, None)
+            with self._rests:
+                self._held.discard(one)
+                self._mean += (time.monotonic() - began - self._mean) / 4
+                more = {} if self._ahead or self._stop.is_set() else {"next": self._wanted()}
         try:
-            answer = self._until_told(f"/tasks/{held.token}/{verb}", {"lease": held.lease, **body} | ({} if self._stop.is_set() else {"next": wanted}))
-            return answer.get("tasks", []) if answer else []
+            return self._until_told(f"/tasks/{one.token}/{verb}", {"lease": one.lease, **body, **more})
         except ServiceRefused as refusal:
             if refusal.status in (401, 403):
                 raise
-            logger.warning("%s: %s was not taken: %s", held.token, verb, refusal)
-            return []
+            logger.warning("%s: %s was not taken: %s", one.token, verb, refusal)
+            return None
 
     def _beat(self) -> None:
-        while not self._stop.wait(self.lease / 3) or self._held:
-            if self._stop.is_set():
-                time.sleep(0.05)
-            with self._lock:
-                held = [one for one in self._held.values() if not one.lost]
+        """Keeps the leases of what runs. Gives back what was taken ahead where no thread has come to it since the last look, and at a stop."""
+        looks, seen = max(1, round(self.lease / 3 / LOOK)), -1  # between two beats
+        pause = self.lease / 3 / looks
+        for look in itertools.count(1):
+            stopped = self._stop.wait(pause)
+            if stopped or self._moves == seen:
+                self._give_back()
+            seen = self._moves
+            with self._rests:
+                if stopped:
+                    self._rests.notify_all()  # whoever waits for another's answer
+                    if self._rests.wait_for(lambda: not self._held, pause):
+                        return
+                held = [one for one in self._held if not one.lost] if look % looks == 0 else []
             for one in held:
-                url = self.url
-                try:
-                    self._ask(url, f"/tasks/{one.token}/beat", {"lease": one.lease, "seconds": self.lease}, 10.0)
-                except ServiceRefused as refusal:
-                    one.lost = refusal.status in (404, 409)
-                    logger.warning("%s: %s", one.token, refusal)
-                except OSError as error:
-                    logger.info("%s: no beat: %s", one.token, error)
-                    self._next(url)
+                self._renew(one, self.lease)
+
+    def _give_back(self) -> None:
+        """What was taken ahead is this worker's no more, and its lease is cut short; where the service does not hear of that, it runs out."""
+        with self._rests:
+            back = list(self._ahead)
+            if not back:
+                return
+            self._ahead.clear()
+            self._busy += 1
+            self._mean = max(self._mean, LOOK)
+        try:
+            for one in back:
+                self._renew(one, LOOK)
+        finally:
+            with self._rests:
+                self._busy -= 1
+                self._rests.notify_all()
+
+    def _renew(self, one: _Held, seconds: float) -> None:
+        url = self.url
+        try:
+            self._ask(url, f"/tasks/{one.token}/beat", {"lease": one.lease, "seconds": seconds}, 10.0)
+        except ServiceRefused as refusal:
+            one.lost = refusal.status in (404, 409)
+            logger.warning("%s: %s", one.token, refusal)
+        except (OSError, ValueError) as error:
+            logger.info("%s: no beat: %s", one.token, error)
+            self._next(url)
 
     # -- the service
 

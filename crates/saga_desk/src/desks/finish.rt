@@ -1,38 +1,42 @@
 //! The end of a desk.
-ghost use Rattle.std.specs.Prelude.{◌≡◌, ◌≢◌, ℕ, ◌<◌, ◌↔◌, IsTrue, IfOk, IfErr, Some, length, slice_get};
+ghost use Rattle.std.specs.Prelude.{◌≡◌, ◌≢◌, ℕ, ◌<◌, ◌↔◌, All, IsTrue, IfOk, IfErr, Some, length, slice_get};
 ghost use Rattle.saga_desk.specs.Agreement.{Agree, AreSameReceipts};
 ghost use Rattle.saga_desk.specs.Seat.{Seat};
 ghost use Rattle.saga_desk.specs.Finish.{AreAll, AreOfShards, AreOwn, DidOneHistory, FinishIsRefused, HeadlineHolds, IsOfShard, KeepLegalHistories, MergesAreLegal};
+ghost use Rattle.saga_desk.specs.Told.{HoldsTold};
 
 use crate::agreement::agree;
 use crate::desks::Desk;
+use crate::policies::Policy;
 use crate::shards::Seat;
 use saga_core::Book;
 use saga_def::Definition;
 use saga_history::are_sound;
+use std::marker::Brand;
 
 /// Why a desk is not finished. The first three hand back desk and seats as they were, the last one the books in place of
 /// the desk.
 #[derive(Drop)]
-pub enum FinishRefused<'d> {
+pub enum FinishRefused<'d, P: Policy = Brand> {
     /// A seat has a number that no seat of the desk has, or two have one number.
-    Stranger(Desk<'d>, Vec<Seat>),
+    Stranger(Desk<'d, P>, Vec<Seat>),
     /// A seat of the desk is not there.
-    Missing(Desk<'d>, Vec<Seat>),
-    OutOfMemory(Desk<'d>, Vec<Seat>),
+    Missing(Desk<'d, P>, Vec<Seat>),
+    OutOfMemory(Desk<'d, P>, Vec<Seat>),
     /// The books have not the desk's shelf or numbers, or their events are not what the receipts tell.
     Torn(Vec<Book<'d>>, Vec<Seat>),
 }
 
-impl<'d> Desk<'d> {
+impl<'d, P: Policy> Desk<'d, P> {
     /// Takes the books out, and compares all receipts with all histories: they must have one merge in common. Waits for
     /// nobody.
-    pub fn finish(self, seats: Vec<Seat>) -> Result<Vec<Book<'d>>, FinishRefused<'d>>
+    pub fn finish(self, seats: Vec<Seat>) -> Result<Vec<Book<'d>>, FinishRefused<'d, P>>
         ensures seats { IfOk result (λ books. AreAll self.entry seats.items) }
         ensures shards { IfOk result
             (λ books. AreOfShards self.entry.shelf self.entry.shards books.items) }
         ensures agree { IfOk result (λ books. Agree books.items seats.items) }
         ensures named { IfOk result (λ books. AreSameReceipts books.items seats.items) }
+        ensures told { IfOk result (λ books. All (HoldsTold P.may P.may_abort) books.items) }
         ensures history { IfOk result
             (λ books. DidOneHistory self.entry.shelf books.items seats.items) }
         ensures legal { IfOk result (λ books. MergesAreLegal self.entry.shelf books.items) }
@@ -92,7 +96,7 @@ fn see_histories(books: &[Book<'_>])
 }
 
 /// Whether the desk has a seat of each number, and no number stands twice.
-fn are_own(desk: &Desk<'_>, seats: &[Seat]) -> bool
+fn are_own<P: Policy>(desk: &Desk<'_, P>, seats: &[Seat]) -> bool
     ensures { IsTrue result ↔ AreOwn desk.now seats.now }
 {
     for i in 0..seats.len() {

@@ -7,10 +7,10 @@ use Rattle.saga_work.proofs.runs.worked.Goals as goal
 
 pub returns-clause-gained : goal.returns-clause-gained
 returns-clause-gained g c =
-    each_gained {S = Option Stop} (IsWork (g.A.Actor.may c.args.actor.now) (g.A.Actor.may_abort c.args.actor.now)) None
+    each_gained {S = Option Stop} IsWork None
     c.args.seats.items c.in_ok-done.done.items c.in_ok-back.back.items c.in_ok-done.ensures.len c.in_ok-done.ensures.each c.in_ok-back.ensures.seats
 
 pub returns-clause-numbers : goal.returns-clause-numbers
 returns-clause-numbers g c n seated =
-    seated_back {S = Option Stop} (IsWork (g.A.Actor.may c.args.actor.now) (g.A.Actor.may_abort c.args.actor.now)) None n
+    seated_back {S = Option Stop} IsWork None n
     c.args.seats.items c.in_ok-done.done.items c.in_ok-back.back.items seated c.in_ok-done.ensures.len c.in_ok-done.ensures.each c.in_ok-back.ensures.seats

@@ -5,7 +5,7 @@ use Rattle.saga_work.proofs.workers.work.Goals as goal
 
 pub returns-in-Ends-clause-adds : goal.returns-in-Ends-clause-adds
 returns-in-Ends-clause-adds g c =
-    adds_on (IsWork (g.A.Actor.may c.args.actor.now) (g.A.Actor.may_abort c.args.actor.now)) c.args.seat c.loop.seat c.take_turn.new.seat
+    adds_on IsWork c.args.seat c.loop.seat c.take_turn.new.seat
     c.loop.invariant.2 c.take_turn.ensures.adds
 
 pub returns-in-Ends-clause-ended : goal.returns-in-Ends-clause-ended
@@ -15,7 +15,7 @@ pub loop-preserved : goal.loop-preserved
 loop-preserved g c = (
   tt,
   tt,
-  adds_on (IsWork (g.A.Actor.may c.args.actor.now) (g.A.Actor.may_abort c.args.actor.now)) c.args.seat c.loop.seat c.take_turn.new.seat
+  adds_on IsWork c.args.seat c.loop.seat c.take_turn.new.seat
       c.loop.invariant.2 c.take_turn.ensures.adds,
   claims_same c.take_turn.new.seat c.loop.seat.claims (rw c.in_default.is at c.take_turn.ensures.ended) ∙ c.loop.invariant.3,
 )

@@ -7,5 +7,5 @@ abbrev pub invariant-loop : goal.invariant-loop
 invariant-loop g l =
     (goal.iterator-loop g).can_next l.iterator' ×
     (goal.iterator-loop g).is_finite l.iterator' ×
-    Adds (IsWork (g.A.Actor.may l.actor) (g.A.Actor.may_abort l.actor)) l.fn.seat l.seat ×
+    Adds IsWork l.fn.seat l.seat ×
     (l.seat.claims ≡ l.fn.seat.claims)

@@ -3,22 +3,16 @@ use Rattle.saga_desk.specs.Desk.{Desk}
 use Rattle.saga_desk.specs.Finish.{AreOfShards}
 use Rattle.saga_work.specs.Asked.{AreNumbered}
 use Rattle.saga_work.proofs.FaultLemmas.{finishing_fault}
-use Rattle.saga_work.proofs.RunLemmas.{run_answered, run_opened}
-use Rattle.saga_work.proofs.runs.run_all.Goals as goal
+use Rattle.saga_work.proofs.RunLemmas.{run_opened}
+use Rattle.saga_work.proofs.runs.run_with_policy.Goals as goal
 
 pub returns-clause-opened : goal.returns-clause-opened
 returns-clause-opened g c =
     let books = c.in-Ok-finish.books.items in
-    run_opened (g.A.Actor.may c.args.actor.now) (g.A.Actor.may_abort c.args.actor.now) c.args.shards c.args.asks.now c.args.shelf.now
+    run_opened c.args.shards c.args.asks.now c.args.shelf.now
     books c.in_ok-desk.seats.items c.in-Ok.back.items c.requires.shards.0 c.in_ok-desk.ensures.seats c.in-Ok.ensures.gained
     (subst (λ (z : Desk). AreOfShards z.shelf z.shards books) c.in_ok-desk.ensures.desk c.in-Ok-finish.ensures.shards)
     (subst AreNumbered c.as_slice.ensures.value c.are_numbered.ensures) c.in-Ok-finish.ensures.agree
-
-pub returns-clause-answered : goal.returns-clause-answered
-returns-clause-answered g c =
-    run_answered (g.A.Actor.may c.args.actor.now) (g.A.Actor.may_abort c.args.actor.now) c.args.shards c.args.asks.now
-    c.in-Ok-finish.books.items c.in_ok-desk.seats.items c.in-Ok.back.items c.in_ok-desk.ensures.seats c.in-Ok.ensures.gained
-    c.in-Ok-finish.ensures.agree
 
 pub returns-in-Err-clause-why : goal.returns-in-Err-clause-why
 returns-in-Err-clause-why g c =

@@ -1,0 +1,50 @@
+-- What a book holds of what it was told.
+use Rattle.std.specs.Prelude.{◌≡◌, ℕ, List, [], ◌∷◌}
+use Rattle.saga_def.specs.Contents.{Contents}
+use Rattle.saga_history.specs.declared.events.Event.{Event}
+use Rattle.saga_history.specs.declared.events.Mark.{Mark}
+use Rattle.saga_history.specs.declared.events.Mark.TheVariants as mark
+use Rattle.saga_history.specs.declared.tasks.Outcome.{Outcome}
+use Rattle.saga_history.specs.declared.transitions.Transition.{Transition}
+use Rattle.saga_history.specs.declared.transitions.Transition.TheVariants as transition
+use Rattle.saga_history.specs.Changes.{mark_of, past}
+use Rattle.saga_history.specs.Tasks.{IsEndOf}
+use Rattle.saga_core.specs.Book.{Book}
+use Rattle.saga_desk.specs.Effects.{IsNextAttempt}
+use Rattle.saga_desk.specs.Job.{Job, kind_of}
+
+-- after these events, step s of saga i ends by this transition: that is an outcome that may be reported of the job at it, which is the
+-- next attempt at the step and has its name
+pub record EndIsTold (may : Job → Outcome → Type 0) (shelf : List Contents) (h : List Event) (i s : ℕ) (t : Transition) : Type 0 where
+  pub job : Job
+  pub saga : job.saga ≡ i
+  pub step : job.step ≡ s
+  pub next : IsNextAttempt shelf h job
+  pub outcome : Outcome
+  pub ends : IsEndOf (kind_of job.is_undo) outcome t
+  pub told : may job outcome
+
+-- an event after these: the end of an action or a compensation may be reported, and an abort asked for
+abbrev pub IsTold : (Job → Outcome → Type 0) → (ℕ → Type 0) → List Contents → List Event → Mark → Type 0
+IsTold may may_abort shelf h (mark.Open i k) = Unit {0}
+IsTold may may_abort shelf h (mark.StartRun i s) = Unit {0}
+IsTold may may_abort shelf h (mark.Commit i s) = EndIsTold may shelf h i s transition.Commit
+IsTold may may_abort shelf h (mark.Fail i s) = EndIsTold may shelf h i s transition.Fail
+IsTold may may_abort shelf h (mark.StartUndo i s) = Unit {0}
+IsTold may may_abort shelf h (mark.Undone i s) = EndIsTold may shelf h i s transition.Undone
+IsTold may may_abort shelf h (mark.UndoFail i s) = EndIsTold may shelf h i s transition.UndoFail
+IsTold may may_abort shelf h (mark.StartPlan i) = Unit {0}
+IsTold may may_abort shelf h (mark.DropPlan i) = Unit {0}
+IsTold may may_abort shelf h (mark.Adopt i) = Unit {0}
+IsTold may may_abort shelf h (mark.Missed i s) = EndIsTold may shelf h i s transition.Missed
+IsTold may may_abort shelf h (mark.UndoMissed i s) = EndIsTold may shelf h i s transition.UndoMissed
+IsTold may may_abort shelf h (mark.Abort i) = may_abort i
+
+-- each event of a past, after those before it
+abbrev pub AreTold : (Job → Outcome → Type 0) → (ℕ → Type 0) → List Contents → List Event → Type 0
+AreTold may may_abort shelf [] = Unit {0}
+AreTold may may_abort shelf (e ∷ h) = IsTold may may_abort shelf h (mark_of e) × AreTold may may_abort shelf h
+
+-- each event of the book
+abbrev pub HoldsTold : (Job → Outcome → Type 0) → (ℕ → Type 0) → Book → Type 0
+HoldsTold may may_abort book = AreTold may may_abort book.shelf (past book.history)
