@@ -15,6 +15,7 @@ from __future__ import annotations
 
 import asyncio
 import dataclasses
+import http.client
 import inspect
 import itertools
 import json
@@ -25,8 +26,7 @@ import socket
 import threading
 import time
 import traceback
-import urllib.error
-import urllib.request
+import urllib.parse
 from collections import deque
 from collections.abc import Callable, Sequence
 from typing import Any
@@ -97,6 +97,7 @@ class Worker:
         self._busy = self._asking = self._moves = 0
         self._mean = AHEAD  # seconds that a function took lately; that nothing is known makes one task at a time
         self._lacks = False
+        self._links = threading.local()  # each thread's connection
         self._stop = threading.Event()
         self._fault: ServiceRefused | None = None
 
@@ -300,22 +301,51 @@ class Worker:
             pause = min(MOST_PAUSE, 2 * pause)
 
     def _ask(self, url: str, path: str, body: dict[str, Any], seconds: float) -> dict[str, Any]:
-        request = urllib.request.Request(url + path, values.write(body).encode(), self._headers)
+        """One request, over this thread's connection, which is kept; one that the service has closed meanwhile is opened anew. Raises `ServiceRefused`, or an
+        `OSError` or a `ValueError` where there was no answer."""
+        link, base = self._link(url, seconds)
+        data = values.write(body).encode()
+        was_open = link.sock is not None
         try:
-            with urllib.request.urlopen(request, timeout=seconds) as answer:
-                found: dict[str, Any] = json.loads(answer.read())
-                self._lacks = False
-                return found
-        except urllib.error.HTTPError as error:
-            with error:
-                text = error.read(10_000).decode(errors="replace")
-            raise ServiceRefused(error.code, text) from None
-        except EOFError as error:
-            raise ConnectionError(str(error)) from error
+            try:
+                status, text = _answer(link, base + path, data, self._headers)
+            except ConnectionError:
+                if not was_open:
+                    raise
+                link.close()
+                status, text = _answer(link, base + path, data, self._headers)
         except Exception as error:
+            link.close()
             if isinstance(error, (OSError, ValueError)):
                 raise
             raise ConnectionError(f"{type(error).__name__}: {error}") from error  # http.client's own: half an answer, say
+        if status >= 300:
+            raise ServiceRefused(status, text[:10_000].decode(errors="replace"))
+        found: dict[str, Any] = json.loads(text)
+        self._lacks = False
+        return found
+
+    def _link(self, url: str, seconds: float) -> tuple[http.client.HTTPConnection, str]:
+        """This thread's connection to the service, and the path of its address."""
+        of, link = getattr(self._links, "kept", ("", None))
+        parts = urllib.parse.urlsplit(url)
+        if of != url or link is None:
+            if link is not None:
+                link.close()
+            kind = http.client.HTTPSConnection if parts.scheme == "https" else http.client.HTTPConnection
+            link = kind(parts.hostname or "", parts.port)
+            self._links.kept = url, link
+        link.timeout = seconds
+        if link.sock is not None:
+            link.sock.settimeout(seconds)
+        return link, parts.path
+
+
+def _answer(link: http.client.HTTPConnection, path: str, data: bytes, headers: dict[str, str]) -> tuple[int, bytes]:
+    """Posts, and reads the answer to its end, so that the connection can be used again."""
+    link.request("POST", path, data, headers)
+    answer = link.getresponse()
+    return answer.status, answer.read()
 
 
 def task_of(told: dict[str, Any]) -> Task[Any]:
