@@ -237,7 +237,7 @@ def test_a_worker_takes_short_ones_ahead(ones: tuple[Served, httpx.Client]) -> N
         if seconds:
             assert worker.given == [1] * count
         else:
-            assert worker.given[0] == 1 and max(worker.given) == 10 and len(worker.given) < 20, worker.given
+            assert worker.given[0] == 1 and 2 < max(worker.given) <= 10 and len(worker.given) < count, worker.given
     assert not client.get("/sagas?phase=open").json()["sagas"]
 
 
