@@ -222,6 +222,13 @@ def ones(tmp_path_factory: pytest.TempPathFactory) -> Iterator[tuple[Served, htt
         yield service, client
 
 
+def left_open(client: httpx.Client) -> list[str]:
+    """The sagas that do not end, although their tasks were reported."""
+    for saga in client.get("/sagas?phase=open").json()["sagas"]:
+        client.get(f"/sagas/{saga['key']}/wait?seconds=20", timeout=LONG)
+    return [saga["key"] for saga in client.get("/sagas?phase=open").json()["sagas"]]
+
+
 def test_a_worker_takes_short_ones_ahead(ones: tuple[Served, httpx.Client]) -> None:
     """As many in one question as it does in a short time, and long ones one at a time."""
     service, client = ones
@@ -238,7 +245,7 @@ def test_a_worker_takes_short_ones_ahead(ones: tuple[Served, httpx.Client]) -> N
             assert worker.given == [1] * count
         else:
             assert worker.given[0] == 1 and 2 < max(worker.given) <= 10 and len(worker.given) < count, worker.given
-    assert not client.get("/sagas?phase=open").json()["sagas"]
+    assert not left_open(client)
 
 
 def test_what_a_worker_took_ahead(ones: tuple[Served, httpx.Client]) -> None:
@@ -263,7 +270,7 @@ def test_what_a_worker_took_ahead(ones: tuple[Served, httpx.Client]) -> None:
                 calls.hold.set()
         assert calls.count("slow") == count and len(set(calls.all)) == 20
         assert service.told().count("/beat 200") - before >= sum(slow.given) - count
-        assert not client.get("/sagas?phase=open").json()["sagas"] and "sagas_takeovers_total 0.0" in client.get("/metrics").text
+        assert not left_open(client) and "sagas_takeovers_total 0.0" in client.get("/metrics").text
 
 
 class Workers:
