@@ -114,25 +114,6 @@ const TALKS: &[Talk] = &[
         ends: &[(&[0, 1], "books 5 0")],
     },
     Talk {
-        name: "a job of another desk, of an attempt that was missed here",
-        steps: 1,
-        tries: 2,
-        shards: 1,
-        calls: &[
-            (0, Open(0, 0), "Ok(0)"),
-            (2, Open(0, 0), "Ok(0)"),
-            (2, Take, "run 0 0 1"),
-            (0, Take, "run 0 0 1"),
-            (0, Fail(1), OK),
-            (0, Take, "run 0 0 2"),
-            (0, Do(0), "OtherAttempt"),
-            (0, Do(2), OK),
-            (0, Take, "settled"),
-        ],
-        numbers: &[(0, &[0, 1, 2, 3, 4]), (2, &[0, 1])],
-        ends: &[(&[0, 1], "books 5 0")],
-    },
-    Talk {
         name: "two seats on two shards, of which the first has no saga",
         steps: 1,
         tries: 1,
@@ -519,6 +500,26 @@ fn check<R: process::Abort + Wait + Alloc<A = Global>>(rt: &R, talk: &Talk) {
     end_all(rt, desk, &mut seats, talk);
 }
 
+const OTHER_ATTEMPT: &Talk = &Talk {
+    name: "a job of another desk, of an attempt that was missed here",
+    steps: 1,
+    tries: 2,
+    shards: 1,
+    calls: &[
+        (0, Open(0, 0), "Ok(0)"),
+        (2, Open(0, 0), "Ok(0)"),
+        (2, Take, "run 0 0 1"),
+        (0, Take, "run 0 0 1"),
+        (0, Fail(1), OK),
+        (0, Take, "run 0 0 2"),
+        (0, Do(0), "OtherAttempt"),
+        (0, Do(2), OK),
+        (0, Take, "settled"),
+    ],
+    numbers: &[(0, &[0, 1, 2, 3, 4]), (2, &[0, 1])],
+    ends: &[(&[0, 1], "books 5 0")],
+};
+
 /// Sagas of one step on the last of so many shards, of which each is opened, run and settled before the next one.
 struct Turns {
     shards: u32,
@@ -577,11 +578,16 @@ fn take_turns<R: process::Abort + Wait + Alloc<A = Global>>(rt: &R, turns: &Turn
     }
 }
 
+fn check_other_attempt<R: process::Abort + Wait + Alloc<A = Global>>(rt: &R) {
+    check(rt, OTHER_ATTEMPT);
+}
+
 #[test]
 fn talks(rt: HostRuntime) -> Result<(), test::Fail> {
     for talk in TALKS {
         check(&rt, talk);
     }
+    check_other_attempt(&rt);
     for turns in TURNS {
         take_turns(&rt, turns);
     }
