@@ -7,6 +7,7 @@ ghost use Rattle.saga_history.specs.Headline.{Headline};
 ghost use Rattle.saga_work.specs.Asked.{IsOver};
 ghost use Rattle.saga_booking.specs.Entries.{AreNoted};
 ghost use Rattle.saga_booking.specs.Seats.{BookHasSeats, EntryHasSeat};
+ghost use Rattle.saga_core.specs.Book.{HeadlineOf};
 
 use crate::agency::Agency;
 use anyhow::{Context, Error, Result, anyhow, ensure};
@@ -76,8 +77,8 @@ fn settle(alloc: Global, book: &mut Book, trip: u32) -> Result<()>
 pub fn drive(alloc: Global, agency: &Agency, book: &mut Book) -> Result<Vec<Entry>>
     ensures noted { IfOk result (λ entries. AreNoted book.old book.new entries.items) }
     ensures seats { IfOk result (λ entries. All (EntryHasSeat agency.now) entries.items) }
-    ensures over { OnOk result (AllAreOver book.new.shelf (past book.new.history)) }
-    ensures headline { OnOk result (Headline book.new.shelf (past book.new.history)) }
+    ensures over { OnOk result (AllAreOver book.new) }
+    ensures headline { OnOk result (HeadlineOf book.new) }
 {
     let mut entries = Vec::new(alloc);
     for _ in 0..u64::MAX {

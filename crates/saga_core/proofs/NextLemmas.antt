@@ -19,7 +19,7 @@ use Rattle.saga_rows.specs.Row.{IsFirstOfRow, Row, RowAllows, RowAllowsNone, tas
 use Rattle.saga_rows.specs.Rows.{IsNext, row_at}
 use Rattle.saga_rows.proofs.FollowLemmas.{may_from, plan_from, plan_into}
 use Rattle.saga_rows.specs.Limits.{max_rows}
-use Rattle.saga_core.specs.Book.{IsBook, number}
+use Rattle.saga_core.specs.Book.{IsBook, number, book_of}
 use Rattle.saga_core.specs.Journal.{Journal}
 use Rattle.saga_core.specs.Tasks.{AllRest, IsFirstTask, IsFirstTaskFrom, NoTaskIsAllowed, NoTaskIsAllowedFrom, row_task, saga_of_task, step_of_task, task_of}
 use Rattle.saga_core.proofs.BookLemmas.{move_allowed, number_apart}
@@ -85,13 +85,13 @@ module _ (shelf : List Contents) (first stride : ℕ) (rows : List Row) (j : Jou
         | inr none ↦ absurd (holds_opened shelf (changes (saga_of_task u) (past j.history)) _ (b.others (saga_of_task u) none) asks)
       ]
 
-  pub next_none : ((k : ℕ) → k < length rows → RowAllowsNone (row_at rows k)) → NoTaskIsAllowed shelf (past j.history)
+  pub next_none : ((k : ℕ) → k < length rows → RowAllowsNone (row_at rows k)) → NoTaskIsAllowed (book_of shelf first stride j)
   next_none none u may = let r = task_row u may in none r.0 r.1 (row_task u) r.3
 
   number_below : (m k : ℕ) → m < k → number first stride m < number first stride k
   number_below m k lt = let some : 0 < stride = omega (arith, b.begins) in let more : m * stride < k * stride = mul-lt-mul_of_pos_right lt some in omega (arith, more)
 
-  pub next_first : (k : ℕ) (t : RowTask) → IsNext rows k t → IsFirstTask shelf (past j.history) (task_of (number first stride k) t)
+  pub next_first : (k : ℕ) (t : RowTask) → IsNext rows k t → IsFirstTask (book_of shelf first stride j) (task_of (number first stride k) t)
   next_first k t next = record {
     allowed = row_into k next.within t next.first.0;
     first = λ u may.
@@ -109,18 +109,18 @@ module _ (shelf : List Contents) (first stride : ℕ) (rows : List Row) (j : Jou
         ];
   }
 
-  pub next_rests : ((k : ℕ) → k < length rows → RowAllowsNone (row_at rows k)) → AllRest shelf (past j.history)
+  pub next_rests : ((k : ℕ) → k < length rows → RowAllowsNone (row_at rows k)) → AllRest (book_of shelf first stride j)
   next_rests none i d at = all_ended_or_wait shelf (past j.history) b.sound b.legal i d at (λ t named may. next_none none t may)
 
   -- the same of the sagas from a number on
   pub from_none : (from : ℕ) → ((k : ℕ) → k < length rows → from ≤ number first stride k → RowAllowsNone (row_at rows k))
-      → NoTaskIsAllowedFrom shelf (past j.history) from
+      → NoTaskIsAllowedFrom (book_of shelf first stride j) from
   from_none from none u may within =
       let r = task_row u may in none r.0 r.1 (subst (λ (v : ℕ). from ≤ v) r.2 within) (row_task u) r.3
 
   pub from_first : (from k : ℕ) (t : RowTask) → k < length rows → from ≤ number first stride k → IsFirstOfRow (row_at rows k) t
       → ((m : ℕ) → m < k → from ≤ number first stride m → RowAllowsNone (row_at rows m))
-      → IsFirstTaskFrom shelf (past j.history) from (task_of (number first stride k) t)
+      → IsFirstTaskFrom (book_of shelf first stride j) from (task_of (number first stride k) t)
   from_first from k t lt far may before = record {
     allowed = row_into k lt t may.0;
     within = let own = saga_same t (number first stride k) in omega (arith, own.0, far);

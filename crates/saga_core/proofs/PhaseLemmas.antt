@@ -13,7 +13,7 @@ use Rattle.saga_rows.specs.Tables.{unfinished_in}
 use Rattle.saga_rows.specs.Follows.{RowHasPhase}
 use Rattle.saga_rows.proofs.FollowLemmas as follow
 use Rattle.saga_rows.proofs.RowLemmas as table
-use Rattle.saga_core.specs.Book.{IsBook, number}
+use Rattle.saga_core.specs.Book.{IsBook, number, book_of}
 use Rattle.saga_core.specs.Journal.{Journal}
 use Rattle.saga_core.specs.Tasks.{AllAreOver, StandsAt}
 use Rattle.saga_core.proofs.NextLemmas.{row_or_none}
@@ -40,10 +40,10 @@ over_stuck : (row : Row) → row.turn ≡ Stuck → is_over row ≡ true
 over_stuck row is = ap (λ (t : Turn). is_over_by t (unfinished_in row.definition row.states row.goal)) is
 
 module _ (shelf : List Contents) (first stride : ℕ) (rows : List Row) (j : Journal) (b : IsBook shelf first stride rows j) where
-  pub stands_at : (k : ℕ) (lt : k < length rows) (i : ℕ) → i ≡ number first stride k → (p : Phase) → RowHasPhase (row_at rows k) p → StandsAt shelf (past j.history) i p
+  pub stands_at : (k : ℕ) (lt : k < length rows) (i : ℕ) → i ≡ number first stride k → (p : Phase) → RowHasPhase (row_at rows k) p → StandsAt (book_of shelf first stride j) i p
   stands_at k lt i is p has = of_saga shelf first stride rows j b k lt i is (λ d l. HasPhase d l p) (follow.phase_into shelf (row_at rows k) _ (b.follow k lt) p has)
 
-  pub over_all : ((k : ℕ) → k < length rows → is_over (row_at rows k) ≡ true) → AllAreOver shelf (past j.history)
+  pub over_all : ((k : ℕ) → k < length rows → is_over (row_at rows k) ≡ true) → AllAreOver (book_of shelf first stride j)
   over_all over i d at = elim (row_or_none first stride i (length rows)) [
     | inl (k, lt, is) ↦
         let f = b.follow k lt in
@@ -56,7 +56,7 @@ module _ (shelf : List Contents) (first stride : ℕ) (rows : List Row) (j : Jou
     | inr none ↦ absurd (let bad : None ≡ Some d = sym (ap (definition_at shelf) (b.others i none)) ∙ at in let worse : ⊥ = cc in worse)
   ]
 
-  pub over_rows : AllAreOver shelf (past j.history) → (k : ℕ) → k < length rows → is_over (row_at rows k) ≡ true
+  pub over_rows : AllAreOver (book_of shelf first stride j) → (k : ℕ) → k < length rows → is_over (row_at rows k) ≡ true
   over_rows over k lt =
       let f = b.follow k lt in
       elim (over (number first stride k) (row_at rows k).definition f.defined) [

@@ -17,7 +17,7 @@ use Rattle.saga_rows.specs.Row.{FitsIn, MayPlan, Row, row_aborting, row_adopting
 use Rattle.saga_rows.specs.Rows.{no_row, row_at}
 use Rattle.saga_rows.specs.Follows.{RowMayAbort, row_case}
 use Rattle.saga_rows.proofs.FollowLemmas.{abort_into, fits, follows_abort, follows_adopt, follows_drop, follows_plan, plan_into, present_same}
-use Rattle.saga_core.specs.Book.{IsBook, busy_in, number, plans_in, plans_in_turn}
+use Rattle.saga_core.specs.Book.{IsBook, busy_in, number, plans_in, plans_in_turn, book_of}
 use Rattle.saga_core.specs.Journal.{Journal}
 use Rattle.saga_core.specs.Refusals.{IsPresentCase, OfSaga}
 use Rattle.saga_core.proofs.BookLemmas.{holds_from, keeps_book}
@@ -38,8 +38,8 @@ plan_abort Stuck = omega arith
 
 module _ (shelf : List Contents) (first stride : ℕ) (rows : List Row) (j : Journal) (b : IsBook shelf first stride rows j) (k : ℕ) (lt : k < length rows) (i : ℕ) (is : i ≡ number first stride k) where
   -- what holds of the definition and the changes of the row's saga holds of the saga of that number
-  pub of_saga : (P : Contents → List Change → Type 0) → P (row_at rows k).definition (changes (number first stride k) (past j.history)) → OfSaga shelf (past j.history) i P
-  of_saga P p = subst (λ (v : ℕ). OfSaga shelf (past j.history) v P) (sym is)
+  pub of_saga : (P : Contents → List Change → Type 0) → P (row_at rows k).definition (changes (number first stride k) (past j.history)) → OfSaga (book_of shelf first stride j) i P
+  of_saga P p = subst (λ (v : ℕ). OfSaga (book_of shelf first stride j) v P) (sym is)
       (holds_from (definition shelf (changes (number first stride k) (past j.history))) (row_at rows k).definition (λ d. P d (changes (number first stride k) (past j.history))) (b.follow k lt).defined p)
 
   pub plan_book : MayPlan (row_at rows k) → IsBook shelf first stride (set rows k (row_turning (row_at rows k) Planning)) (record { history = j.history ++ event.StartPlan i ∷ []; owed = j.owed; plans = j.plans + 1 })
@@ -83,14 +83,14 @@ module _ (shelf : List Contents) (first stride : ℕ) (rows : List Row) (j : Jou
       (adopt_allowed a planning right) (follows_adopt shelf (row_at rows k) _ (b.follow k lt) a (adopt_fits a right))
       (omega (arith, busy_adopting (row_at rows k) a)) (omega (arith, one, no_plan_adopting (row_at rows k) a, plan_owed planning))
 
-  pub present_here : (case : Situation) → case ≡ row_case (row_at rows k) → IsPresentCase shelf (past j.history) i case
+  pub present_here : (case : Situation) → case ≡ row_case (row_at rows k) → IsPresentCase (book_of shelf first stride j) i case
   present_here case same = of_saga (λ d l. case ≡ present_case d l) (same ∙ sym (present_same shelf (row_at rows k) _ (b.follow k lt)))
 
-  pub stale_here : (case : Situation) → (row_at rows k).turn ≡ Planning → (case ≡ row_case (row_at rows k) → ⊥) → OfSaga shelf (past j.history) i (λ d l. (turn l ≡ Planning) × (case ≢ present_case d l))
+  pub stale_here : (case : Situation) → (row_at rows k).turn ≡ Planning → (case ≡ row_case (row_at rows k) → ⊥) → OfSaga (book_of shelf first stride j) i (λ d l. (turn l ≡ Planning) × (case ≢ present_case d l))
   stale_here case planning other = of_saga (λ d l. (turn l ≡ Planning) × (case ≢ present_case d l))
       (planning_from planning, λ same. other (same ∙ present_same shelf (row_at rows k) _ (b.follow k lt)))
 
-  pub not_planning : ((row_at rows k).turn ≡ Planning → ⊥) → OfSaga shelf (past j.history) i (λ d l. turn l ≢ Planning)
+  pub not_planning : ((row_at rows k).turn ≡ Planning → ⊥) → OfSaga (book_of shelf first stride j) i (λ d l. turn l ≢ Planning)
   not_planning other = of_saga (λ d l. turn l ≢ Planning) (λ planning. other ((b.follow k lt).turn_is ∙ planning))
 
   pub abort_allowed : RowMayAbort (row_at rows k) → IsAllowed shelf (past j.history) (event.Abort i)

@@ -1,14 +1,15 @@
 -- What a book is.
-use Rattle.std.specs.Prelude.{◌≡◌, ℕ, ◌<◌, ◌≤◌, ◌+◌, ◌*◌, ◌++◌, ◌∷◌, [], All, List, None, length}
+use Rattle.std.specs.Prelude.{◌≡◌, ℕ, ◌<◌, ◌≤◌, ◌+◌, ◌*◌, ◌++◌, ◌∷◌, [], All, List, None, Option, Some, length}
 use Rattle.std.specs.List.{count_by, sum_by}
 use Rattle.saga_def.specs.Contents.{Contents}
 use Rattle.saga_def.specs.Sound.{IsSound}
 use Rattle.saga_history.specs.declared.events.Event.{Event}
 use Rattle.saga_history.specs.declared.turns.Turn.{Turn}
 use Rattle.saga_history.specs.declared.turns.Turn.TheVariants.{Going, Draining, Planning, Stuck}
-use Rattle.saga_history.specs.Changes.{past, changes}
+use Rattle.saga_history.specs.Changes.{Change, past, changes}
+use Rattle.saga_history.specs.Headline.{Headline}
 use Rattle.saga_history.specs.Merges.{opened_sagas, IsNumbered}
-use Rattle.saga_history.specs.Rules.{IsLegal}
+use Rattle.saga_history.specs.Rules.{definition, IsAllowed, IsLegal}
 use Rattle.saga_history.specs.States.{is_busy}
 use Rattle.saga_history.specs.Turns.{opened_with}
 use Rattle.saga_rows.specs.Follows.{Follows}
@@ -24,9 +25,31 @@ pub record Book : Type 0 where
   pub stride : ℕ
   pub history : List Event
 
+-- the book with a journal
+abbrev pub book_of : List Contents → ℕ → ℕ → Journal → Book
+book_of shelf first stride journal = record { shelf = shelf; first = first; stride = stride; history = journal.history }
+
 -- a book to which one event more has happened
 abbrev pub with_event : Book → Event → Book
 with_event b e = record b { history = b.history ++ e ∷ [] }
+
+-- what happened is legal, and the headline holds of it
+abbrev pub IsLegalBook : Book → Type 0
+IsLegalBook b = IsLegal b.shelf (past b.history)
+
+abbrev pub HeadlineOf : Book → Type 0
+HeadlineOf b = Headline b.shelf (past b.history)
+
+-- the event may happen next
+abbrev pub Allows : Book → Event → Type 0
+Allows b e = IsAllowed b.shelf (past b.history) e
+
+-- what happened to the saga of a number, latest first, and its definition
+abbrev pub changes_in : Book → ℕ → List Change
+changes_in b i = changes i (past b.history)
+
+abbrev pub definition_in : Book → ℕ → Option Contents
+definition_in b i = definition b.shelf (changes_in b i)
 
 -- the number of the saga that is opened after so many others
 abbrev pub number : ℕ → ℕ → ℕ → ℕ

@@ -1,6 +1,7 @@
 -- The book of a coordinator.
 pub mod Journal
 pub mod Book
+pub mod Saga
 pub mod Refusals
 pub mod Tasks
 pub mod Laws

@@ -14,7 +14,7 @@ use Rattle.saga_history.specs.States.{state}
 use Rattle.saga_history.specs.Tasks.{IsEndOf}
 use Rattle.saga_history.specs.Turns.{opened_with, present_case, turn}
 use Rattle.saga_rows.specs.Limits.{max_rows}
-use Rattle.saga_core.specs.Book.{Book, sagas_in, with_event}
+use Rattle.saga_core.specs.Book.{Book, sagas_in, with_event, Allows, changes_in, definition_in}
 use Rattle.saga_core.specs.declared.refusals.AdoptRefusal.{AdoptRefusal}
 use Rattle.saga_core.specs.declared.refusals.AdoptRefusal.TheVariants as adopt
 use Rattle.saga_core.specs.declared.refusals.DropRefusal.{DropRefusal}
@@ -29,35 +29,35 @@ use Rattle.saga_core.specs.declared.refusals.TakeRefusal.{TakeRefusal}
 use Rattle.saga_core.specs.declared.refusals.TakeRefusal.TheVariants as take
 
 -- the saga was not opened
-abbrev pub IsUnknown : List Event → ℕ → Type 0
-IsUnknown h i = opened_with (changes i h) ≡ None
+abbrev pub IsUnknown : Book → ℕ → Type 0
+IsUnknown b i = opened_with (changes_in b i) ≡ None
 
 -- the saga was opened, and this holds of its definition and its changes
-abbrev pub OfSaga : List Contents → List Event → ℕ → (Contents → List Change → Type 0) → Type 0
-OfSaga shelf h i P = IsSomeAnd (definition shelf (changes i h)) (λ d. P d (changes i h))
+abbrev pub OfSaga : Book → ℕ → (Contents → List Change → Type 0) → Type 0
+OfSaga b i P = IsSomeAnd (definition_in b i) (λ d. P d (changes_in b i))
 
 -- why no saga is opened; the first cause that applies
-abbrev pub OpenRefused : List Contents → List Event → ℕ → OpenRefusal → Type 0
-OpenRefused shelf h k opening.NoSuchDefinition = length shelf ≤ k
-OpenRefused shelf h k opening.Full = (k < length shelf) × (sagas_in h ≡ max_rows)
-OpenRefused shelf h k opening.OutOfMemory = (k < length shelf) × (sagas_in h < max_rows)
+abbrev pub OpenRefused : Book → ℕ → OpenRefusal → Type 0
+OpenRefused b k opening.NoSuchDefinition = length b.shelf ≤ k
+OpenRefused b k opening.Full = (k < length b.shelf) × (sagas_in b.history ≡ max_rows)
+OpenRefused b k opening.OutOfMemory = (k < length b.shelf) × (sagas_in b.history < max_rows)
 
 -- why a step does not make a transition that begins something
-abbrev pub TakeRefused : List Contents → List Event → ℕ → ℕ → Transition → TakeRefusal → Type 0
-TakeRefused shelf h i s t take.NoSuchSaga = IsUnknown h i
-TakeRefused shelf h i s t take.NoSuchStep = OfSaga shelf h i (λ d l. length d.steps ≤ s)
-TakeRefused shelf h i s t take.NotNow = OfSaga shelf h i (λ d l. (s < length d.steps) × (StepMay d l s t → ⊥))
-TakeRefused shelf h i s t take.OutOfMemory = IsAllowed shelf h (step_event i s t)
+abbrev pub TakeRefused : Book → ℕ → ℕ → Transition → TakeRefusal → Type 0
+TakeRefused b i s t take.NoSuchSaga = IsUnknown b i
+TakeRefused b i s t take.NoSuchStep = OfSaga b i (λ d l. length d.steps ≤ s)
+TakeRefused b i s t take.NotNow = OfSaga b i (λ d l. (s < length d.steps) × (StepMay d l s t → ⊥))
+TakeRefused b i s t take.OutOfMemory = Allows b (step_event i s t)
 
 -- why an outcome is not taken for a step, which would have to be in that state
-abbrev pub ReportRefused : List Contents → List Event → ℕ → ℕ → StepState → ReportRefusal → Type 0
-ReportRefused shelf h i s x report.NoSuchSaga = IsUnknown h i
-ReportRefused shelf h i s x report.NoSuchStep = OfSaga shelf h i (λ d l. length d.steps ≤ s)
-ReportRefused shelf h i s x report.NotTaken = OfSaga shelf h i (λ d l. (s < length d.steps) × (state l s ≢ x))
+abbrev pub ReportRefused : Book → ℕ → ℕ → StepState → ReportRefusal → Type 0
+ReportRefused b i s x report.NoSuchSaga = IsUnknown b i
+ReportRefused b i s x report.NoSuchStep = OfSaga b i (λ d l. length d.steps ≤ s)
+ReportRefused b i s x report.NotTaken = OfSaga b i (λ d l. (s < length d.steps) × (state l s ≢ x))
 
 -- the book gained the event of a transition that was allowed
 pub record GainsTransition (old new : Book) (i s : ℕ) (t : Transition) : Type 0 where
-  pub allowed : IsAllowed old.shelf (past old.history) (step_event i s t)
+  pub allowed : Allows old (step_event i s t)
   pub gains : new ≡ with_event old (step_event i s t)
 
 -- of the transitions by which an action, or a compensation, ends with that outcome, the book gained the one that was allowed
@@ -65,22 +65,22 @@ abbrev pub IsReported : Kind → Book → Book → ℕ → ℕ → Outcome → T
 IsReported kind old new i s outcome = (t : Transition) × IsEndOf kind outcome t × GainsTransition old new i s t
 
 -- why a change of the saga as a whole is not made
-abbrev pub SagaRefused : List Contents → List Event → ℕ → Change → SagaRefusal → Type 0
-SagaRefused shelf h i c saga.NoSuchSaga = IsUnknown h i
-SagaRefused shelf h i c saga.NotNow = OfSaga shelf h i (λ d l. SagaMay d l c → ⊥)
-SagaRefused shelf h i c saga.OutOfMemory = OfSaga shelf h i (λ d l. SagaMay d l c)
+abbrev pub SagaRefused : Book → ℕ → Change → SagaRefusal → Type 0
+SagaRefused b i c saga.NoSuchSaga = IsUnknown b i
+SagaRefused b i c saga.NotNow = OfSaga b i (λ d l. SagaMay d l c → ⊥)
+SagaRefused b i c saga.OutOfMemory = OfSaga b i (λ d l. SagaMay d l c)
 
 -- the case is the saga's present one
-abbrev pub IsPresentCase : List Contents → List Event → ℕ → Situation → Type 0
-IsPresentCase shelf h i case = OfSaga shelf h i (λ d l. case ≡ present_case d l)
+abbrev pub IsPresentCase : Book → ℕ → Situation → Type 0
+IsPresentCase b i case = OfSaga b i (λ d l. case ≡ present_case d l)
 
 -- why a plan is not dropped
-abbrev pub DropRefused : List Contents → List Event → ℕ → DropRefusal → Type 0
-DropRefused shelf h i drop.NoSuchSaga = IsUnknown h i
-DropRefused shelf h i drop.NotPlanning = OfSaga shelf h i (λ d l. turn l ≢ Planning)
+abbrev pub DropRefused : Book → ℕ → DropRefusal → Type 0
+DropRefused b i drop.NoSuchSaga = IsUnknown b i
+DropRefused b i drop.NotPlanning = OfSaga b i (λ d l. turn l ≢ Planning)
 
 -- why a verdict on a case is not adopted
-abbrev pub AdoptIsRefused : List Contents → List Event → ℕ → Situation → AdoptRefusal → Type 0
-AdoptIsRefused shelf h i case adopt.NoSuchSaga = IsUnknown h i
-AdoptIsRefused shelf h i case adopt.NotPlanning = OfSaga shelf h i (λ d l. turn l ≢ Planning)
-AdoptIsRefused shelf h i case adopt.Stale = OfSaga shelf h i (λ d l. (turn l ≡ Planning) × (case ≢ present_case d l))
+abbrev pub AdoptIsRefused : Book → ℕ → Situation → AdoptRefusal → Type 0
+AdoptIsRefused b i case adopt.NoSuchSaga = IsUnknown b i
+AdoptIsRefused b i case adopt.NotPlanning = OfSaga b i (λ d l. turn l ≢ Planning)
+AdoptIsRefused b i case adopt.Stale = OfSaga b i (λ d l. (turn l ≡ Planning) × (case ≢ present_case d l))

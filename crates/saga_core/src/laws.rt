@@ -1,26 +1,25 @@
 //! What holds of refusals. The function does nothing: its contract is the law.
-ghost use Rattle.std.specs.Prelude.{ℕ};
+ghost use Rattle.std.specs.Prelude.{ℕ, List};
+ghost use Rattle.saga_def.specs.Contents.{Contents};
 ghost use Rattle.saga_case.specs.Situation.{Situation};
 ghost use Rattle.saga_case.specs.declared.states.StepState.{StepState};
-ghost use Rattle.saga_history.specs.Changes.{Change, past};
+ghost use Rattle.saga_history.specs.Changes.{Change};
+ghost use Rattle.saga_history.specs.declared.events.Event.{Event};
 ghost use Rattle.saga_history.specs.declared.transitions.Transition.{Transition};
+ghost use Rattle.saga_core.specs.Book.{Book};
 ghost use Rattle.saga_core.specs.Laws.{HasOneAdoptRefusal, HasOneDropRefusal, HasOneOpenRefusal, HasOneReportRefusal, HasOneSagaRefusal, HasOneTakeRefusal};
 ghost use Rattle.saga_core.specs.Replays.{IsReplayed};
-
-use saga_def::Definition;
-use saga_history::Event;
 
 /// Whatever the history of a book is, of each call at most one refusal applies: causes that are looked for later leave out
 /// those before them.
 #[tactic(auto, using(crate::proofs::LawLemmas::one_open_refusal, crate::proofs::LawLemmas::one_take_refusal, crate::proofs::LawLemmas::one_report_refusal, crate::proofs::LawLemmas::one_saga_refusal, crate::proofs::LawLemmas::one_drop_refusal, crate::proofs::LawLemmas::one_adopt_refusal, crate::proofs::ReplayLawLemmas::only_for_memory))]
-pub fn refusal_laws(shelf: &[Definition], history: &[Event])
-    ensures open { (k : ℕ) → HasOneOpenRefusal shelf.now (past history.now) k }
-    ensures take { (i s : ℕ) (t : Transition)
-        → HasOneTakeRefusal shelf.now (past history.now) i s t }
-    ensures report { (i s : ℕ) (x : StepState)
-        → HasOneReportRefusal shelf.now (past history.now) i s x }
-    ensures saga { (i : ℕ) (c : Change) → HasOneSagaRefusal shelf.now (past history.now) i c }
-    ensures dropping { (i : ℕ) → HasOneDropRefusal shelf.now (past history.now) i }
-    ensures adopt { (i : ℕ) (c : Situation) → HasOneAdoptRefusal shelf.now (past history.now) i c }
-    ensures replay { (first stride : ℕ) → IsReplayed shelf.now first stride history.now }
+pub fn refusal_laws()
+    ensures open { (b : Book) (k : ℕ) → HasOneOpenRefusal b k }
+    ensures take { (b : Book) (i s : ℕ) (t : Transition) → HasOneTakeRefusal b i s t }
+    ensures report { (b : Book) (i s : ℕ) (x : StepState) → HasOneReportRefusal b i s x }
+    ensures saga { (b : Book) (i : ℕ) (c : Change) → HasOneSagaRefusal b i c }
+    ensures dropping { (b : Book) (i : ℕ) → HasOneDropRefusal b i }
+    ensures adopt { (b : Book) (i : ℕ) (c : Situation) → HasOneAdoptRefusal b i c }
+    ensures replay { (shelf : List Contents) (first stride : ℕ) (events : List Event)
+        → IsReplayed shelf first stride events }
 {}

@@ -23,6 +23,7 @@ mod journals;
 mod laws;
 mod numbers;
 mod refusals;
+mod sagas;
 
 pub use books::{Book, MAX_SAGAS};
 pub use laws::refusal_laws;
@@ -30,3 +31,4 @@ pub use refusals::{
     AdoptRefusal, AdoptRefused, DropRefusal, OpenRefusal, ReplayRefusal, ReportRefusal,
     SagaRefusal, TakeRefusal,
 };
+pub use sagas::Saga;

@@ -8,8 +8,8 @@ ghost use Rattle.saga_rows.specs.Limits.{max_rows};
 use saga_history::Task;
 use saga_rows::{Row, RowTask, Rows};
 
-/// The place of a saga among the rows, by its number.
-pub fn place_of(rows: &Rows, first: u32, stride: u32, saga: u32) -> Option<usize>
+/// The index of a saga among the rows, by its number.
+pub fn index_of(rows: &Rows, first: u32, stride: u32, saga: u32) -> Option<usize>
     requires { first < stride }
     ensures { MatchOption result ((k : ℕ) → k < length rows.now → saga ≡ number first stride k → ⊥)
         (λ k. (k < length rows.now) × (saga ≡ number first stride k)) }
@@ -20,21 +20,21 @@ pub fn place_of(rows: &Rows, first: u32, stride: u32, saga: u32) -> Option<usize
     if (saga - first) % stride != 0 {
         return None;
     }
-    let place = (saga - first) / stride;
-    if place as usize >= rows.len() {
+    let index = (saga - first) / stride;
+    if index as usize >= rows.len() {
         return None;
     }
-    Some(place as usize)
+    Some(index as usize)
 }
 
 /// The number of the saga of a row.
-pub fn number_of(first: u32, stride: u32, place: usize) -> u32
+pub fn number_of(first: u32, stride: u32, index: usize) -> u32
     requires begins { first < stride }
     requires near { stride ≤ 16 }
-    requires few { place ≤ max_rows }
-    ensures { result ≡ number first stride place }
+    requires few { index ≤ max_rows }
+    ensures { result ≡ number first stride index }
 {
-    first + place as u32 * stride
+    first + index as u32 * stride
 }
 
 /// The task of a row, as one of its saga.

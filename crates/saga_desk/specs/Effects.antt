@@ -13,7 +13,7 @@ use Rattle.saga_history.specs.declared.transitions.Transition.TheVariants as tra
 use Rattle.saga_history.specs.Changes.{past, changes, mark_of, step_event}
 use Rattle.saga_history.specs.Rules.{IsAllowed}
 use Rattle.saga_history.specs.Tasks.{IsEndOf, missed}
-use Rattle.saga_core.specs.Book.{Book, with_event}
+use Rattle.saga_core.specs.Book.{Book, with_event, Allows, changes_in}
 use Rattle.saga_core.specs.Refusals.{IsPresentCase, OfSaga}
 use Rattle.saga_core.specs.Tasks.{AllAreOver, IsFirstTask, NoTaskIsAllowed}
 use Rattle.saga_desk.specs.Job.{Job, kind_of}
@@ -52,8 +52,8 @@ pub record IsJob (book : Book) (k i s : ℕ) (undo : Bool) (job : Job) : Type 0 
   pub saga : job.saga ≡ i
   pub step : job.step ≡ s
   pub is_undo : job.is_undo ≡ undo
-  pub name : OfSaga book.shelf (past book.history) i (λ d l. IsNamed d s job.name)
-  pub attempt : job.attempt ≡ missed (kind_of undo) (changes i (past book.history)) s + 1
+  pub name : OfSaga book i (λ d l. IsNamed d s job.name)
+  pub attempt : job.attempt ≡ missed (kind_of undo) (changes_in book i) s + 1
 
 -- after these events the job is the next attempt at its step, and has the step's name
 pub record IsNextAttempt (shelf : List Contents) (h : List Event) (job : Job) : Type 0 where
@@ -63,17 +63,17 @@ pub record IsNextAttempt (shelf : List Contents) (h : List Event) (job : Job) : 
 -- of the tasks of the book the first was claimed, and nothing else happened
 abbrev pub ClaimsFirst : Book → Book → Seat → Seat → Claim → Type 0
 ClaimsFirst old new before after (Run job) =
-    IsFirstTask old.shelf (past old.history) (task.Run job.saga job.step)
+    IsFirstTask old (task.Run job.saga job.step)
     × IsJob old before.number job.saga job.step false job
     × Records old new before after (event.StartRun job.saga job.step) (before.claims + 1)
 ClaimsFirst old new before after (Undo job) =
-    IsFirstTask old.shelf (past old.history) (task.Undo job.saga job.step)
+    IsFirstTask old (task.Undo job.saga job.step)
     × IsJob old before.number job.saga job.step true job
     × Records old new before after (event.StartUndo job.saga job.step) (before.claims + 1)
 ClaimsFirst old new before after (Plan job case) =
-    IsFirstTask old.shelf (past old.history) (task.Plan job.saga)
+    IsFirstTask old (task.Plan job.saga)
     × (job.seat ≡ before.number)
-    × IsPresentCase old.shelf (past old.history) job.saga case
+    × IsPresentCase old job.saga case
     × Records old new before after (event.StartPlan job.saga) (before.claims + 1)
 ClaimsFirst old new before after Idle = ⊥
 ClaimsFirst old new before after Settled = ⊥
@@ -85,8 +85,8 @@ Serves old new before after (Run job) = ClaimsFirst old new before after (Run jo
 Serves old new before after (Undo job) = ClaimsFirst old new before after (Undo job)
 Serves old new before after (Plan job case) = ClaimsFirst old new before after (Plan job case)
 Serves old new before after Idle =
-    NoTaskIsAllowed old.shelf (past old.history) × (AllAreOver old.shelf (past old.history) → ⊥) × StayAsTheyWere old new before after
-Serves old new before after Settled = AllAreOver old.shelf (past old.history) × StayAsTheyWere old new before after
+    NoTaskIsAllowed old × (AllAreOver old → ⊥) × StayAsTheyWere old new before after
+Serves old new before after Settled = AllAreOver old × StayAsTheyWere old new before after
 
 -- the claim says that each saga is ended or stuck
 abbrev pub IsSettled : Claim → Type 0
@@ -96,7 +96,7 @@ IsSettled claim = claim ≡ Settled
 pub record EndsBy (old new : Book) (before after : Seat) (job : Job) (outcome : Outcome) (t : Transition) : Type 0 where
   pub next : IsNextAttempt old.shelf (past old.history) job
   pub ends : IsEndOf (kind_of job.is_undo) outcome t
-  pub allowed : IsAllowed old.shelf (past old.history) (step_event job.saga job.step t)
+  pub allowed : Allows old (step_event job.saga job.step t)
   pub records : Records old new before after (step_event job.saga job.step t) (before.claims - 1)
 
 abbrev pub Ends : Book → Book → Seat → Seat → Job → Outcome → Type 0

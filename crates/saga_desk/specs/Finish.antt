@@ -7,7 +7,7 @@ use Rattle.saga_history.specs.Changes.{mark_of, past}
 use Rattle.saga_history.specs.Headline.{Headline}
 use Rattle.saga_history.specs.Merges.{IsMergeOf, IsNumbered}
 use Rattle.saga_history.specs.Rules.{IsLegal}
-use Rattle.saga_core.specs.Book.{Book}
+use Rattle.saga_core.specs.Book.{Book, IsLegalBook}
 use Rattle.saga_desk.specs.Agreement.{Agree, receipts_of}
 use Rattle.saga_desk.specs.Desk.{Desk}
 use Rattle.saga_desk.specs.Merges.{IsMerge}
@@ -46,7 +46,7 @@ events_of books = map (λ b. b.history) books
 
 -- the history of a book is legal, and its sagas are numbered as the book says
 pub record KeepsLegalHistory (book : Book) : Type 0 where
-  pub legal : IsLegal book.shelf (past book.history)
+  pub legal : IsLegalBook book
   pub numbered : IsNumbered book.first book.stride book.history
 
 abbrev pub KeepLegalHistories : List Book → Type 0

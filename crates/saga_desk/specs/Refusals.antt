@@ -45,11 +45,11 @@ EndIsRefused number seat other P (end.Book why) = HasClaimed number seat × P wh
 abbrev pub ReportIsRefused : Book → Seat → Job → EndRefusal ReportRefusal → Type 0
 ReportIsRefused book seat job why =
     EndIsRefused job.seat seat (IsOfAnother book.shelf (past book.history) job)
-    (ReportRefused book.shelf (past book.history) job.saga job.step (busy_state (kind_of job.is_undo))) why
+    (ReportRefused book job.saga job.step (busy_state (kind_of job.is_undo))) why
 
 abbrev pub AdoptionIsRefused : Book → Seat → PlanJob → Situation → EndRefusal AdoptRefusal → Type 0
 AdoptionIsRefused book seat job case why =
-    EndIsRefused job.seat seat ⊥ (AdoptIsRefused book.shelf (past book.history) job.saga case) why
+    EndIsRefused job.seat seat ⊥ (AdoptIsRefused book job.saga case) why
 
 abbrev pub GivingBackIsRefused : Book → Seat → PlanJob → EndRefusal DropRefusal → Type 0
-GivingBackIsRefused book seat job why = EndIsRefused job.seat seat ⊥ (DropRefused book.shelf (past book.history) job.saga) why
+GivingBackIsRefused book seat job why = EndIsRefused job.seat seat ⊥ (DropRefused book job.saga) why

@@ -65,7 +65,7 @@ impl<'d, P: Policy> Ruled<'d, P> {
             (event.Open saga definition) seat.old.claims) }
         ensures err { OnErr result (seat.new ≡ seat.old) }
         ensures why { IfErr result
-            (λ why. OpenRefused self.old.shelf self.old.history definition why) }
+            (λ why. OpenRefused self.old definition why) }
     {
         self.shard.open_saga(seat, definition)
     }

@@ -11,7 +11,7 @@ use Rattle.saga_history.specs.Tasks.{TaskIsAllowed}
 use Rattle.saga_core.specs.Refusals.{OfSaga, TakeRefused}
 use Rattle.saga_core.specs.declared.refusals.TakeRefusal.TheVariants as take
 use Rattle.saga_core.specs.Book.{Book}
-use Rattle.saga_core.specs.Tasks.{IsFirstTask}
+use Rattle.saga_core.specs.Tasks.{IsFirstTask, MayBegin}
 use Rattle.saga_log.specs.Logs.{event_line}
 use Rattle.saga_drive.specs.declared.replies.Reply.{Reply}
 use Rattle.saga_drive.specs.declared.requests.Request.{Request}
@@ -69,7 +69,7 @@ left_alone old mid new i s a b c reply run undo none text =
 pub record TellsBegun (t : Task) (old new : Book) (reply : Reply) : Type 0 where
   pub gained : List Event
   pub gains : Gains old new reply gained
-  pub allowed : TaskIsAllowed old.shelf (past old.history) t
+  pub allowed : MayBegin old t
   pub begins : BeginsAlone old t gained (text_of reply)
 
 pub begun_alone : (old mid new : Book) (t : Task) (before left behind : Telling) (reply : Reply) → string_bytes before.text ≡ [] → string_bytes before.lines ≡ []
@@ -101,7 +101,7 @@ took_undo i s old new reply t = record { gained = t.gained; gains = t.gains; mee
 pub took_plan : (i : ℕ) (old new : Book) (reply : Reply) → TellsBegun (Plan i) old new reply → IsMet old new (request.TakePlan i) reply
 took_plan i old new reply t = record { gained = t.gained; gains = t.gains; meets = inl (t.allowed, t.begins) }
 
-pub took_next : (t : Task) (old new : Book) (reply : Reply) → IsFirstTask old.shelf (past old.history) t → TellsBegun t old new reply → IsMet old new request.Next reply
+pub took_next : (t : Task) (old new : Book) (reply : Reply) → IsFirstTask old t → TellsBegun t old new reply → IsMet old new request.Next reply
 took_next t old new reply first told = record { gained = told.gained; gains = told.gains; meets = inl (t, first, told.begins) }
 
 pub same_telling : (a : Telling) → TellsSame a a

@@ -14,7 +14,7 @@ use Rattle.saga_history.specs.Rules.{IsAllowed, IsLegal, definition}
 use Rattle.saga_history.specs.Tasks.{TaskIsAllowed}
 use Rattle.saga_history.specs.Turns.{present_case, turn}
 use Rattle.saga_history.proofs.MergeLemmas.{past_push}
-use Rattle.saga_core.specs.Book.{Book}
+use Rattle.saga_core.specs.Book.{Book, Allows, IsLegalBook}
 use Rattle.saga_core.specs.Refusals.{OfSaga}
 use Rattle.saga_views.specs.Shown.{TellsSaga}
 use Rattle.saga_drive.specs.declared.replies.Reply.{Reply}
@@ -27,18 +27,19 @@ use Rattle.saga_drive.specs.Laws.{KeepsLegal}
 use Rattle.saga_drive.specs.Many.{BeginInTurn}
 use Rattle.saga_drive.specs.Replies.{text_of}
 use Rattle.saga_drive.proofs.PlanLemmas.{begun}
+use Rattle.saga_core.specs.Tasks.{MayBegin}
 
 -- the history is legal with those events behind it
 abbrev StaysLegal : Book → List Event → Type 0
 StaysLegal book gained = IsLegal book.shelf (past (book.history ++ gained))
 
 abbrev IsLegalNow : Book → Type 0
-IsLegalNow book = IsLegal book.shelf (past book.history)
+IsLegalNow book = IsLegalBook book
 
 none_legal : (book : Book) (gained : List Event) → IsLegalNow book → gained ≡ [] → StaysLegal book gained
 none_legal book gained legal none = subst (StaysLegal book) (sym none) (subst (λ (h : List Event). IsLegal book.shelf (past h)) (sym (append-nil book.history)) legal)
 
-one_legal : (book : Book) (e : Event) (gained : List Event) → IsLegalNow book → IsAllowed book.shelf (past book.history) e → gained ≡ e ∷ [] → StaysLegal book gained
+one_legal : (book : Book) (e : Event) (gained : List Event) → IsLegalNow book → Allows book e → gained ≡ e ∷ [] → StaysLegal book gained
 one_legal book e gained legal allowed only = subst (StaysLegal book) (sym only) (subst (IsLegal book.shelf) (sym (past_push book.history e)) (allowed, legal))
 
 told_legal : (book : Book) (e : Event) (gained : List Event) (text : List ℕ) → IsLegalNow book → TellsEvent book e gained text → StaysLegal book gained
@@ -54,7 +55,7 @@ may_adopt shelf h i a right = rw (begun i h) (at_definition (definition shelf (c
     at_definition None none = none
     at_definition (Some d) right = (refl, right)
 
-begun_legal : (book : Book) (t : Task) (gained : List Event) (text : List ℕ) → IsLegalNow book → TaskIsAllowed book.shelf (past book.history) t → Begins book t gained text
+begun_legal : (book : Book) (t : Task) (gained : List Event) (text : List ℕ) → IsLegalNow book → MayBegin book t → Begins book t gained text
     → StaysLegal book gained
 begun_legal book (Run i s) gained text legal allowed takes = one_legal book (event.StartRun i s) gained legal allowed takes.only
 begun_legal book (Undo i s) gained text legal allowed takes = one_legal book (event.StartUndo i s) gained legal allowed takes.only

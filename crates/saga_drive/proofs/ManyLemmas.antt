@@ -22,7 +22,7 @@ after_both : (book : Book) (first rest : List Event) → after (after book first
 after_both book first rest = ap (λ h. record book { history = h }) (append_assoc book.history first rest)
 
 in_turn_more : (tasks : List Task) (t : Task) (book : Book) (gained more : List Event) (told : List (List ℕ)) (text : List ℕ)
-    → BeginInTurn tasks book gained told → IsFirstTask (after book gained).shelf (past (after book gained).history) t → Begins (after book gained) t more text
+    → BeginInTurn tasks book gained told → IsFirstTask (after book gained) t → Begins (after book gained) t more text
     → BeginInTurn (tasks ++ t ∷ []) book (gained ++ more) (told ++ text ∷ [])
 in_turn_more [] t book gained more told text (none, untold) first begins =
     let here : after book gained ≡ book = rw none (ap (λ h. record book { history = h }) (append-nil book.history)) in (
@@ -30,7 +30,7 @@ in_turn_more [] t book gained more told text (none, untold) first begins =
       text,
       [],
       [],
-      subst (λ (b : Book). IsFirstTask b.shelf (past b.history) t) here first,
+      subst (λ (b : Book). IsFirstTask b t) here first,
       subst (λ (b : Book). Begins b t more text) here begins,
       (refl, refl),
       ap (λ g. g ++ more) none ∙ sym (append-nil more),
@@ -45,7 +45,7 @@ in_turn_more (u ∷ tasks) t book gained more told text (one, a, rest, texts, is
       is_first,
       begins_one,
       in_turn_more tasks t (after book one) rest more texts text others
-          (subst (λ (b : Book). IsFirstTask b.shelf (past b.history) t) there first) (subst (λ (b : Book). Begins b t more text) there begins),
+          (subst (λ (b : Book). IsFirstTask b t) there first) (subst (λ (b : Book). Begins b t more text) there begins),
       ap (λ g. g ++ more) all ∙ append_assoc one rest more,
       ap (λ l. l ++ text ∷ []) all_told,
     )
@@ -93,7 +93,7 @@ has_begun_more old mid new a b count has (t, first, begun) = record {
   counted = length-append has.tasks (t ∷ []) ∙ ap (λ n. n + 1) has.counted;
   told_all = length-append has.told (begun.told ∷ []) ∙ ap (λ n. n + 1) has.told_all;
   begin = in_turn_more has.tasks t old has.gained begun.gained has.told begun.told has.begin
-      (subst (λ (book : Book). IsFirstTask book.shelf (past book.history) t) has.grows first)
+      (subst (λ (book : Book). IsFirstTask book t) has.grows first)
       (subst (λ (book : Book). Begins book t begun.gained begun.told) has.grows begun.begins);
   grows = begun.grows ∙ (ap (λ book. after book begun.gained) has.grows ∙ after_both old has.gained begun.gained);
   back = back_both has.gained begun.gained has.back begun.back;
@@ -105,7 +105,7 @@ has_begun_more old mid new a b count has (t, first, begun) = record {
 
 -- where no task is left, they are the last
 pub are_the_last : (old mid new : Book) (a b : Telling) (count most : ℕ) (settled : Bool) (front : List ℕ) (reply : Reply) → HasBegun old mid a count → count ≤ most
-    → NextIsBegun false mid new a b → (IsTrue settled ↔ AllAreOver new.shelf (past new.history)) → front ≡ last_tasks_front settled
+    → NextIsBegun false mid new a b → (IsTrue settled ↔ AllAreOver new) → front ≡ last_tasks_front settled
     → text_of reply ≡ front ++ string_bytes b.text ++ codes "]}\n" → lines_of reply ≡ string_bytes b.lines → IsMet old new (request.NextMany most) reply
 are_the_last old mid new a b count most settled front reply has le (none, same, untold) over is text lines =
     let grows : new ≡ after old has.gained = same ∙ has.grows in
@@ -118,9 +118,9 @@ are_the_last old mid new a b count most settled front reply has le (none, same, 
         within = omega (arith, has.counted, le);
         begin = has.begin;
         end = inl (record {
-          none = subst (λ (book : Book). NoTaskIsAllowed book.shelf (past book.history)) has.grows none;
+          none = subst (λ (book : Book). NoTaskIsAllowed book) has.grows none;
           settled = settled;
-          settled_is = subst (λ (book : Book). IsTrue settled ↔ AllAreOver book.shelf (past book.history)) grows over;
+          settled_is = subst (λ (book : Book). IsTrue settled ↔ AllAreOver book) grows over;
           text_is = text ∙ (ap (λ l. l ++ string_bytes b.text ++ codes "]}\n") is
               ∙ ap (λ l. last_tasks_front settled ++ l ++ codes "]}\n") (untold.text ∙ has.text));
         });

@@ -9,7 +9,7 @@ use Rattle.saga_history.specs.Changes.{changes, past, saga_of, step_event}
 use Rattle.saga_history.specs.declared.events.Event.TheVariants as event
 use Rattle.saga_history.specs.Rules.{IsAllowed}
 use Rattle.saga_history.specs.Tasks.{IsEndOf}
-use Rattle.saga_core.specs.Book.{Book, with_event}
+use Rattle.saga_core.specs.Book.{Book, with_event, Allows}
 use Rattle.saga_core.specs.Refusals.{IsReported}
 use Rattle.saga_core.specs.Tasks.{IsDefinedBy, StandsAt}
 use Rattle.saga_log.specs.Back.{IsReadBack}
@@ -27,7 +27,7 @@ use Rattle.saga_views.specs.Words.{phase_word}
 use Rattle.saga_drive.proofs.KnownLemmas.{saga_of-step_event}
 
 -- the event is told, with where its saga stands then
-pub tells_event : (old new : Book) (e : Event) (i : ℕ) (front : List ℕ) (reply : Reply) → saga_of e ≡ i → IsAllowed old.shelf (past old.history) e
+pub tells_event : (old new : Book) (e : Event) (i : ℕ) (front : List ℕ) (reply : Reply) → saga_of e ≡ i → Allows old e
     → new ≡ with_event old e → front ≡ event_front e → IsHeld new i front reply → TellsEvent old e (e ∷ []) (text_of reply)
 tells_event old new e i front reply of allowed grows is (phase, stands, text) = record {
   allowed = allowed;
@@ -35,23 +35,23 @@ tells_event old new e i front reply of allowed grows is (phase, stands, text) = 
   phase = phase;
   stands =
       subst (λ j. StandsAt old.shelf (past (old.history ++ e ∷ [])) j phase) (sym of)
-      (subst (λ (book : Book). StandsAt book.shelf (past book.history) i phase) grows stands);
+      (subst (λ (book : Book). StandsAt book i phase) grows stands);
   text_is = text ∙ ap (λ l. l ++ (phase_word phase ++ codes "\"}\n")) is;
 }
 
 pub reported : (old new : Book) (i s : ℕ) (kind : Kind) (meant : Option Attempt) (outcome : Outcome) (t : Transition) (d : Contents) (front : List ℕ) (reply : Reply)
     → IsEndOf kind outcome t
-    → ((u : Transition) → IsEndOf kind outcome u → IsAllowed old.shelf (past old.history) (step_event i s u) → u ≡ t)
+    → ((u : Transition) → IsEndOf kind outcome u → Allows old (step_event i s u) → u ≡ t)
     → IsReported kind old new i s outcome
-    → IsDefinedBy old.shelf (past old.history) i d
+    → IsDefinedBy old i d
     → IsMeant meant kind (number_of kind (changes i (past old.history)) s)
     → front ≡ event_front (step_event i s t) → lines_of reply ≡ event_line (step_event i s t) → IsReadBack (step_event i s t) → IsHeld new i front reply
     → IsMet old new (request.Report i s meant outcome) reply
 reported old new i s kind meant outcome t d front reply ends only (u, ends_too, gains) defined is_meant is lines back held =
     let same : u ≡ t = only u ends_too gains.allowed in
     let grows : new ≡ with_event old (step_event i s t) = subst (λ v. new ≡ with_event old (step_event i s v)) same gains.gains in
-    let allowed : IsAllowed old.shelf (past old.history) (step_event i s t) =
-    subst (λ v. IsAllowed old.shelf (past old.history) (step_event i s v)) same gains.allowed in
+    let allowed : Allows old (step_event i s t) =
+    subst (λ v. Allows old (step_event i s v)) same gains.allowed in
     record {
       gained = step_event i s t ∷ [];
       gains = record { grows = grows; logged = lines ∙ sym (append-nil (event_line (step_event i s t))); back = (back, tt) };
@@ -68,7 +68,7 @@ not_next None book other = other tt
 not_next (Some i) book other = other
 
 pub opened_by : (old new : Book) (wanted : Wanted) (saga : Option ℕ) (k n m : ℕ) (front : List ℕ) (reply : Reply) → IsWanted old.shelf wanted k → IsNext saga old
-    → n ≡ next_number old → m ≡ next_number old → IsAllowed old.shelf (past old.history) (event.Open m k) → new ≡ with_event old (event.Open m k)
+    → n ≡ next_number old → m ≡ next_number old → Allows old (event.Open m k) → new ≡ with_event old (event.Open m k)
     → front ≡ event_front (event.Open n k) → lines_of reply ≡ event_line (event.Open n k) → IsReadBack (event.Open n k) → IsHeld new m front reply
     → IsMet old new (request.Open wanted saga) reply
 opened_by old new wanted saga k n m front reply is_wanted is_next first other allowed grows is lines back held =
@@ -86,7 +86,7 @@ opened_by old new wanted saga k n m front reply is_wanted is_next first other al
         k,
         is_wanted,
         is_next,
-        tells_event old new e i front reply refl (subst (λ j. IsAllowed old.shelf (past old.history) (event.Open j k)) other allowed) grown
+        tells_event old new e i front reply refl (subst (λ j. Allows old (event.Open j k)) other allowed) grown
             (is ∙ ap (λ j. event_front (event.Open j k)) first) (subst (λ j. IsHeld new j front reply) other held),
       );
     }

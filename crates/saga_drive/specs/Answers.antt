@@ -13,7 +13,7 @@ use Rattle.saga_history.specs.declared.transitions.Transition.TheVariants.{Start
 use Rattle.saga_history.specs.Changes.{Change, aborts, past, saga_of, starts_plan, step_event}
 use Rattle.saga_history.specs.Rules.{IsAllowed, StepMay}
 use Rattle.saga_history.specs.Tasks.{IsEndOf}
-use Rattle.saga_core.specs.Book.{Book}
+use Rattle.saga_core.specs.Book.{Book, Allows}
 use Rattle.saga_core.specs.Refusals.{IsUnknown, OfSaga, OpenRefused, SagaRefused}
 use Rattle.saga_core.specs.Tasks.{AllAreOver, IsFirstTask, NoTaskIsAllowed, StandsAt}
 use Rattle.saga_core.specs.declared.refusals.OpenRefusal.TheVariants as opening
@@ -52,7 +52,7 @@ pub record Tells (P : List ℕ → Type 0) (gained : List Event) (text : List �
 
 -- this event happened, which the rules allow, and it is told, with where its saga stands after it
 pub record TellsEvent (book : Book) (e : Event) (gained : List Event) (text : List ℕ) : Type 0 where
-  pub allowed : IsAllowed book.shelf (past book.history) e
+  pub allowed : Allows book e
   pub only : gained ≡ e ∷ []
   pub phase : Phase
   pub stands : StandsAt book.shelf (past (book.history ++ e ∷ [])) (saga_of e) phase
@@ -66,7 +66,7 @@ Opens book wanted saga gained text =
     ((k : ℕ) × IsWanted book.shelf wanted k × IsNext saga book × TellsEvent book (event.Open (next_number book) k) gained text)
     ⊎ (NoneIsWanted book.shelf wanted × IsRefusal (codes "no-such-definition") gained text)
     ⊎ (((k : ℕ) × IsWanted book.shelf wanted k) × IsNotNext saga book × IsRefusal (codes "not-next") gained text)
-    ⊎ (((k : ℕ) × IsWanted book.shelf wanted k × OpenRefused book.shelf book.history k opening.Full) × IsNext saga book
+    ⊎ (((k : ℕ) × IsWanted book.shelf wanted k × OpenRefused book k opening.Full) × IsNext saga book
     × IsRefusal (codes "full") gained text)
 
 -- a task begins, and the line tells it
@@ -79,30 +79,30 @@ NeitherMay d l s = (s < length d.steps) × (StepMay d l s StartRun → ⊥) × (
 
 abbrev pub TakesStep : Book → ℕ → ℕ → List Event → List ℕ → Type 0
 TakesStep book i s gained text =
-    (IsAllowed book.shelf (past book.history) (event.StartRun i s) × BeginsAlone book (Run i s) gained text)
-    ⊎ (IsAllowed book.shelf (past book.history) (event.StartUndo i s) × BeginsAlone book (Undo i s) gained text)
-    ⊎ (IsUnknown (past book.history) i × IsRefusal (codes "no-such-saga") gained text)
-    ⊎ (OfSaga book.shelf (past book.history) i (λ d l. length d.steps ≤ s) × IsRefusal (codes "no-such-step") gained text)
-    ⊎ (OfSaga book.shelf (past book.history) i (λ d l. NeitherMay d l s) × IsRefusal (codes "not-now") gained text)
+    (Allows book (event.StartRun i s) × BeginsAlone book (Run i s) gained text)
+    ⊎ (Allows book (event.StartUndo i s) × BeginsAlone book (Undo i s) gained text)
+    ⊎ (IsUnknown book i × IsRefusal (codes "no-such-saga") gained text)
+    ⊎ (OfSaga book i (λ d l. length d.steps ≤ s) × IsRefusal (codes "no-such-step") gained text)
+    ⊎ (OfSaga book i (λ d l. NeitherMay d l s) × IsRefusal (codes "not-now") gained text)
 
 -- the plan of a saga; or why none
 abbrev pub TakesPlan : Book → ℕ → List Event → List ℕ → Type 0
 TakesPlan book i gained text =
-    (IsAllowed book.shelf (past book.history) (event.StartPlan i) × BeginsAlone book (Plan i) gained text)
-    ⊎ (SagaRefused book.shelf (past book.history) i starts_plan saga.NoSuchSaga × IsRefusal (codes "no-such-saga") gained text)
-    ⊎ (SagaRefused book.shelf (past book.history) i starts_plan saga.NotNow × IsRefusal (codes "not-now") gained text)
+    (Allows book (event.StartPlan i) × BeginsAlone book (Plan i) gained text)
+    ⊎ (SagaRefused book i starts_plan saga.NoSuchSaga × IsRefusal (codes "no-such-saga") gained text)
+    ⊎ (SagaRefused book i starts_plan saga.NotNow × IsRefusal (codes "not-now") gained text)
 
 -- nothing may begin, and it is told whether each saga is ended or stuck
 pub record IsIdle (book : Book) (gained : List Event) (text : List ℕ) : Type 0 where
-  pub none : NoTaskIsAllowed book.shelf (past book.history)
+  pub none : NoTaskIsAllowed book
   pub settled : Bool
-  pub settled_is : IsTrue settled ↔ AllAreOver book.shelf (past book.history)
+  pub settled_is : IsTrue settled ↔ AllAreOver book
   pub said : IsSaid (idle_text settled) gained text
 
 -- the first task, by saga and then by step
 abbrev pub TakesNext : Book → List Event → List ℕ → Type 0
 TakesNext book gained text =
-    ((t : Task) × IsFirstTask book.shelf (past book.history) t × BeginsAlone book t gained text) ⊎ IsIdle book gained text
+    ((t : Task) × IsFirstTask book t × BeginsAlone book t gained text) ⊎ IsIdle book gained text
 
 -- the action or the compensation of the step ends by this transition, and it is the attempt that is meant
 abbrev pub IsEnd : Option Attempt → Outcome → ℕ → Transition → Contents → List Change → Type 0
@@ -111,23 +111,23 @@ IsEnd meant outcome s t d l = (kind : Kind) × IsEndOf kind outcome t × IsMeant
 abbrev pub Reports : Book → ℕ → ℕ → Option Attempt → Outcome → List Event → List ℕ → Type 0
 Reports book i s meant outcome gained text =
     ((t : Transition) × TellsEvent book (step_event i s t) gained text
-    × OfSaga book.shelf (past book.history) i (IsEnd meant outcome s t))
-    ⊎ (IsUnknown (past book.history) i × IsRefusal (codes "no-such-saga") gained text)
-    ⊎ (OfSaga book.shelf (past book.history) i (λ d l. length d.steps ≤ s) × IsRefusal (codes "no-such-step") gained text)
-    ⊎ (OfSaga book.shelf (past book.history) i (λ d l. IsNotTaken d l s) × IsRefusal (codes "not-taken") gained text)
-    ⊎ (OfSaga book.shelf (past book.history) i (λ d l. IsOtherAttempt meant d l s) × IsRefusal (codes "other-attempt") gained text)
+    × OfSaga book i (IsEnd meant outcome s t))
+    ⊎ (IsUnknown book i × IsRefusal (codes "no-such-saga") gained text)
+    ⊎ (OfSaga book i (λ d l. length d.steps ≤ s) × IsRefusal (codes "no-such-step") gained text)
+    ⊎ (OfSaga book i (λ d l. IsNotTaken d l s) × IsRefusal (codes "not-taken") gained text)
+    ⊎ (OfSaga book i (λ d l. IsOtherAttempt meant d l s) × IsRefusal (codes "other-attempt") gained text)
 
 abbrev pub Aborts : Book → ℕ → List Event → List ℕ → Type 0
 Aborts book i gained text =
     TellsEvent book (event.Abort i) gained text
-    ⊎ (SagaRefused book.shelf (past book.history) i aborts saga.NoSuchSaga × IsRefusal (codes "no-such-saga") gained text)
-    ⊎ (SagaRefused book.shelf (past book.history) i aborts saga.NotNow × IsRefusal (codes "not-now") gained text)
+    ⊎ (SagaRefused book i aborts saga.NoSuchSaga × IsRefusal (codes "no-such-saga") gained text)
+    ⊎ (SagaRefused book i aborts saga.NotNow × IsRefusal (codes "not-now") gained text)
 
 -- how the saga stands
 abbrev pub Shows : Book → ℕ → List Event → List ℕ → Type 0
 Shows book i gained text =
-    OfSaga book.shelf (past book.history) i (λ d l. Tells (TellsSaga d l i) gained text)
-    ⊎ (IsUnknown (past book.history) i × IsRefusal (codes "no-such-saga") gained text)
+    OfSaga book i (λ d l. Tells (TellsSaga d l i) gained text)
+    ⊎ (IsUnknown book i × IsRefusal (codes "no-such-saga") gained text)
 
 abbrev pub Meets : Book → Request → List Event → List ℕ → Type 0
 Meets book (request.Open wanted saga) = Opens book wanted saga

@@ -17,7 +17,7 @@ use Rattle.saga_history.specs.Tasks.{TaskIsAllowed}
 use Rattle.saga_history.specs.Turns.{present_case, turn}
 use Rattle.saga_core.specs.Book.{Book}
 use Rattle.saga_core.specs.Refusals.{OfSaga, TakeRefused}
-use Rattle.saga_core.specs.Tasks.{IsFirstTask, NoTaskIsAllowed, StandsAt}
+use Rattle.saga_core.specs.Tasks.{IsFirstTask, NoTaskIsAllowed, StandsAt, MayBegin}
 use Rattle.saga_core.specs.declared.refusals.TakeRefusal.TheVariants as take
 use Rattle.saga_log.specs.Back.{IsReadBack}
 use Rattle.saga_log.specs.Logs.{event_line}
@@ -33,12 +33,12 @@ after book gained = record book { history = book.history ++ gained }
 -- an action or a compensation begins, and it is told which
 pub record Takes (book : Book) (e : Event) (i : ℕ) (taken : Contents → List Change → TakenTask) (gained : List Event) (told : List ℕ) : Type 0 where
   pub only : gained ≡ e ∷ []
-  pub told_is : OfSaga book.shelf (past book.history) i (λ d l. told ≡ task_text (taken d l))
+  pub told_is : OfSaga book i (λ d l. told ≡ task_text (taken d l))
 
 -- a plan begins and ends, with an answer that is right for the present case; it is told where the saga stands then
 pub record Plans (book : Book) (i : ℕ) (gained : List Event) (told : List ℕ) : Type 0 where
   pub answer : Answer
-  pub right : OfSaga book.shelf (past book.history) i (λ d l. IsRight (terms_of (present_case d l)) answer)
+  pub right : OfSaga book i (λ d l. IsRight (terms_of (present_case d l)) answer)
   pub both : gained ≡ event.StartPlan i ∷ event.Adopt i answer ∷ []
   pub phase : Phase
   pub stands : StandsAt book.shelf (past (book.history ++ gained)) i phase
@@ -65,14 +65,14 @@ pub record Begun (old new : Book) (t : Task) (before behind : Telling) : Type 0 
   pub grows : new ≡ after old gained
   pub back : AreReadBack gained
   pub more : TellsMore before behind told (flat_map event_line gained)
-  pub allowed : TaskIsAllowed old.shelf (past old.history) t
+  pub allowed : MayBegin old t
   pub begins : Begins old t gained told
 
 -- nothing happened, since the step may not make the transition
 pub record IsLeft (old new : Book) (i s : ℕ) (t : Transition) (before behind : Telling) : Type 0 where
   pub same : new ≡ old
   pub untold : TellsSame before behind
-  pub why : TakeRefused old.shelf (past old.history) i s t take.NotNow
+  pub why : TakeRefused old i s t take.NotNow
 
 abbrev pub IsBegunOr : Bool → Book → Book → Task → ℕ → ℕ → Transition → Telling → Telling → Type 0
 IsBegunOr true old new task i s t before behind = Begun old new task before behind
@@ -80,8 +80,8 @@ IsBegunOr false old new task i s t before behind = IsLeft old new i s t before b
 
 -- the first task began, or there is none
 abbrev pub NextIsBegun : Bool → Book → Book → Telling → Telling → Type 0
-NextIsBegun true old new before behind = (t : Task) × IsFirstTask old.shelf (past old.history) t × Begun old new t before behind
-NextIsBegun false old new before behind = NoTaskIsAllowed old.shelf (past old.history) × (new ≡ old) × TellsSame before behind
+NextIsBegun true old new before behind = (t : Task) × IsFirstTask old t × Begun old new t before behind
+NextIsBegun false old new before behind = NoTaskIsAllowed old × (new ≡ old) × TellsSame before behind
 
 -- nothing happened for want of memory
 abbrev pub IsUntouched : Book → Book → Telling → Telling → Type 0

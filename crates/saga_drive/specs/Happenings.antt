@@ -10,5 +10,5 @@ use Rattle.saga_drive.specs.Replies.{text_of}
 
 -- the text ends in the word for where the saga stands
 abbrev pub IsHeld : Book → ℕ → List ℕ → Reply → Type 0
-IsHeld book i front reply = (phase : Phase) × StandsAt book.shelf (past book.history) i phase
+IsHeld book i front reply = (phase : Phase) × StandsAt book i phase
     × (text_of reply ≡ front ++ (phase_word phase ++ codes "\"}\n"))

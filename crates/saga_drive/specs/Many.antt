@@ -12,7 +12,7 @@ use Rattle.saga_drive.specs.Replies.{last_tasks_text, tasks_text}
 abbrev pub BeginInTurn : List Task → Book → List Event → List (List ℕ) → Type 0
 BeginInTurn [] book gained told = (gained ≡ []) × (told ≡ [])
 BeginInTurn (t ∷ tasks) book gained told = (first : List Event) × (text : List ℕ) × (rest : List Event) × (texts : List (List ℕ))
-    × IsFirstTask book.shelf (past book.history) t
+    × IsFirstTask book t
     × Begins book t first text
     × BeginInTurn tasks (after book first) rest texts
     × (gained ≡ first ++ rest)
@@ -20,9 +20,9 @@ BeginInTurn (t ∷ tasks) book gained told = (first : List Event) × (text : Lis
 
 -- there is none behind them, and it is told whether each saga is ended or stuck
 pub record AreTheLast (book : Book) (told : List (List ℕ)) (text : List ℕ) : Type 0 where
-  pub none : NoTaskIsAllowed book.shelf (past book.history)
+  pub none : NoTaskIsAllowed book
   pub settled : Bool
-  pub settled_is : IsTrue settled ↔ AllAreOver book.shelf (past book.history)
+  pub settled_is : IsTrue settled ↔ AllAreOver book
   pub text_is : text ≡ last_tasks_text settled told
 
 -- there may be more: they are as many as were asked for, or some, those that had begun when memory lacked

@@ -48,7 +48,7 @@ fn open(
 
 /// Nothing may begin.
 fn idle(alloc: Global, book: &Book<'_>) -> Result<Reply, AllocError>
-    requires { NoTaskIsAllowed book.now.shelf (past book.now.history) }
+    requires { NoTaskIsAllowed book.now }
     ensures { IfOk result (IsMet book.now book.now request.Next) }
 {
     let reply = reply_of_idle(alloc, book.settled())?;

@@ -5,7 +5,7 @@ ghost use Rattle.saga_history.specs.Rules.{IsAllowed};
 ghost use Rattle.saga_history.specs.declared.events.Event.TheVariants as event;
 ghost use Rattle.saga_history.specs.declared.tasks.Task.TheVariants as task;
 ghost use Rattle.saga_history.specs.declared.transitions.Transition.TheVariants as transition;
-ghost use Rattle.saga_core.specs.Book.{with_event};
+ghost use Rattle.saga_core.specs.Book.{with_event, Allows};
 ghost use Rattle.saga_core.specs.Refusals.{IsPresentCase};
 ghost use Rattle.saga_core.specs.Tasks.{IsDefinedBy, IsFirstTask};
 ghost use Rattle.saga_drive.specs.Begins.{Begun, HoldsPlan, IsBegunOr, IsUntouched, NextIsBegun};
@@ -31,7 +31,7 @@ pub fn begin_run(
     step: u16,
     telling: &mut Telling,
 ) -> Result<bool, AllocError>
-    requires defined { IsDefinedBy book.old.shelf (past book.old.history) saga definition.now }
+    requires defined { IsDefinedBy book.old saga definition.now }
     requires step { step < length definition.now.steps }
     ensures ok { IfOk result (λ begun. IsBegunOr begun book.old book.new (task.Run saga step)
         saga step transition.StartRun telling.old telling.new) }
@@ -60,7 +60,7 @@ pub fn begin_undo(
     step: u16,
     telling: &mut Telling,
 ) -> Result<bool, AllocError>
-    requires defined { IsDefinedBy book.old.shelf (past book.old.history) saga definition.now }
+    requires defined { IsDefinedBy book.old saga definition.now }
     requires step { step < length definition.now.steps }
     ensures ok { IfOk result (λ begun. IsBegunOr begun book.old book.new (task.Undo saga step)
         saga step transition.StartUndo telling.old telling.new) }
@@ -82,7 +82,7 @@ pub fn begin_undo(
 
 /// A plan begins.
 fn begin_plan(book: &mut Book<'_>, saga: u32) -> Result<(), AllocError>
-    requires { IsAllowed book.old.shelf (past book.old.history) (event.StartPlan saga) }
+    requires { Allows book.old (event.StartPlan saga) }
     ensures ok { OnOk result (book.new ≡ with_event book.old (event.StartPlan saga)) }
     ensures err { OnErr result (book.new ≡ book.old) }
 {
@@ -96,7 +96,7 @@ fn begin_plan(book: &mut Book<'_>, saga: u32) -> Result<(), AllocError>
 /// A plan ends by an answer that is right for the present case.
 fn end_plan<'d>(book: &mut Book<'d>, saga: u32, verdict: Verdict<'d>)
     requires planned { HoldsPlan book.old.shelf (past book.old.history) saga verdict.case }
-    ensures allowed { IsAllowed book.old.shelf (past book.old.history)
+    ensures allowed { Allows book.old
         (event.Adopt saga verdict.entry.answer) }
     ensures adopted { book.new ≡ with_event book.old (event.Adopt saga verdict.entry.answer) }
 {
@@ -114,8 +114,8 @@ pub fn plan_case<'d>(
     case: Case<'d>,
     telling: &mut Telling,
 ) -> Result<(), AllocError>
-    requires case { IsPresentCase book.old.shelf (past book.old.history) saga case }
-    requires allowed { IsAllowed book.old.shelf (past book.old.history) (event.StartPlan saga) }
+    requires case { IsPresentCase book.old saga case }
+    requires allowed { Allows book.old (event.StartPlan saga) }
     ensures ok { OnOk result
         (Begun book.old book.new (task.Plan saga) telling.old telling.new) }
     ensures err { OnErr result (IsUntouched book.old book.new telling.old telling.new) }
@@ -142,9 +142,9 @@ fn begin_first(
     telling: &mut Telling,
 ) -> Result<(), AllocError>
     requires run { is_undo ≡ false
-        → IsFirstTask book.old.shelf (past book.old.history) (task.Run saga step) }
+        → IsFirstTask book.old (task.Run saga step) }
     requires undo { is_undo ≡ true
-        → IsFirstTask book.old.shelf (past book.old.history) (task.Undo saga step) }
+        → IsFirstTask book.old (task.Undo saga step) }
     ensures ok { OnOk result (NextIsBegun true book.old book.new telling.old telling.new) }
     ensures err { OnErr result (IsUntouched book.old book.new telling.old telling.new) }
 {
@@ -169,7 +169,7 @@ fn plan_first(
     saga: u32,
     telling: &mut Telling,
 ) -> Result<(), AllocError>
-    requires { IsFirstTask book.old.shelf (past book.old.history) (task.Plan saga) }
+    requires { IsFirstTask book.old (task.Plan saga) }
     ensures ok { OnOk result (NextIsBegun true book.old book.new telling.old telling.new) }
     ensures err { OnErr result (IsUntouched book.old book.new telling.old telling.new) }
 {

@@ -25,8 +25,8 @@ fn drop_plan(
         → DropsPlans start book.old (string_bytes lines.old)
         → DropsPlans start book.new (string_bytes lines.new)) }
     ensures others { OnOk result ((i : ℕ)
-        → StandsAt book.new.shelf (past book.new.history) i phase.Planning
-        → (i ≢ saga) × StandsAt book.old.shelf (past book.old.history) i phase.Planning) }
+        → StandsAt book.new i phase.Planning
+        → (i ≢ saga) × StandsAt book.old i phase.Planning) }
 {
     let line = line_of(alloc, &Event::DropPlan(saga))?;
     lines.reserve(line.as_str().len())?;

@@ -49,7 +49,7 @@ impl Happening {
 
     /// The reply, once it has happened: with where the saga stands. Takes no memory.
     pub fn told(self, book: &Book<'_>, saga: u32) -> Reply
-        requires { IsUnknown (past book.now.history) saga → ⊥ }
+        requires { IsUnknown book.now saga → ⊥ }
         ensures text { IsHeld book.now saga (string_bytes self.text) result }
         ensures lines { lines_of result ≡ string_bytes self.lines }
     {

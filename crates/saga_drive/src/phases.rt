@@ -20,8 +20,8 @@ pub fn word_of(phase: Phase) -> &'static str
 
 /// Where a saga stands that was opened.
 pub fn phase_in(book: &Book<'_>, saga: u32) -> Phase
-    requires { IsUnknown (past book.now.history) saga → ⊥ }
-    ensures { StandsAt book.now.shelf (past book.now.history) saga result }
+    requires { IsUnknown book.now saga → ⊥ }
+    ensures { StandsAt book.now saga result }
 {
     match book.phase(saga) {
         Some(phase) => phase,

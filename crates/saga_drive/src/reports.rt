@@ -7,6 +7,7 @@ ghost use Rattle.saga_core.specs.Tasks.{IsDefinedBy};
 ghost use Rattle.saga_drive.specs.Answers.{IsMet};
 ghost use Rattle.saga_drive.specs.Attempts.{IsMeant, number_of};
 ghost use Rattle.saga_drive.specs.declared.requests.Request.TheVariants as request;
+ghost use Rattle.saga_core.specs.Book.{changes_in};
 
 use crate::attempts::{Attempt, is_meant, on_its_way};
 use crate::happenings::Happening;
@@ -28,11 +29,11 @@ fn end(
     meant: Option<Attempt>,
     outcome: Outcome,
 ) -> Result<Reply, AllocError>
-    requires defined { IsDefinedBy book.old.shelf (past book.old.history) saga definition.now }
+    requires defined { IsDefinedBy book.old saga definition.now }
     requires step { step < length definition.now.steps }
-    requires busy { state (changes saga (past book.old.history)) step ≡ busy_state kind }
+    requires busy { state (changes_in book.old saga) step ≡ busy_state kind }
     requires meant { IsMeant meant kind
-        (number_of kind (changes saga (past book.old.history)) step) }
+        (number_of kind (changes_in book.old saga) step) }
     ensures ok { IfOk result (IsMet book.old book.new (request.Report saga step meant outcome)) }
     ensures err { OnErr result (book.new ≡ book.old) }
 {

@@ -25,17 +25,17 @@ few_more false text old new is few less = subst (λ (ts : List (List ℕ)). leng
 
 -- one phase more
 pub phase_more : (book : Book) (k : ℕ) (phases : List Phase) (p : Phase) → AreFirstPhases book k phases
-    → StandsAt book.shelf (past book.history) (number book.first book.stride k) p → AreFirstPhases book (k + 1) (phases ++ p ∷ [])
+    → StandsAt book (number book.first book.stride k) p → AreFirstPhases book (k + 1) (phases ++ p ∷ [])
 phase_more book k phases p first here = record {
   sized = length-append phases (p ∷ []) ∙ ap (λ (n : ℕ). n + 1) first.sized;
   each = λ j q lt. elim (cases_lt j k) [
-    | inl less ↦ subst (λ (r : Phase). StandsAt book.shelf (past book.history) (number book.first book.stride j) r)
+    | inl less ↦ subst (λ (r : Phase). StandsAt book (number book.first book.stride j) r)
         (sym (get_or-append phases (p ∷ []) q j (omega (arith, less, first.sized)))) (first.each j q less)
     | inr more ↦
         let same : j ≡ k = omega (arith, lt, more) in
         let at : get_or (phases ++ p ∷ []) j q ≡ p = get_or-append_right phases (p ∷ []) j q (omega (arith, more, first.sized)) ∙ last (j - length phases) p q (omega (arith, same, first.sized)) in
-        subst (λ (r : Phase). StandsAt book.shelf (past book.history) (number book.first book.stride j) r) (sym at)
-        (subst (λ (i : ℕ). StandsAt book.shelf (past book.history) (number book.first book.stride i) p) (sym same) here)
+        subst (λ (r : Phase). StandsAt book (number book.first book.stride j) r) (sym at)
+        (subst (λ (i : ℕ). StandsAt book (number book.first book.stride i) p) (sym same) here)
   ];
 }
   where

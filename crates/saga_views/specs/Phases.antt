@@ -9,7 +9,7 @@ use Rattle.saga_core.specs.Tasks.{StandsAt}
 -- the phase of each of the first sagas
 pub record AreFirstPhases (book : Book) (count : ℕ) (phases : List Phase) : Type 0 where
   pub sized : length phases ≡ count
-  pub each : (k : ℕ) (p : Phase) → k < count → StandsAt book.shelf (past book.history) (number book.first book.stride k) (slice_index_or phases k p)
+  pub each : (k : ℕ) (p : Phase) → k < count → StandsAt book (number book.first book.stride k) (slice_index_or phases k p)
 
 -- of all
 abbrev pub ArePhases : Book → List Phase → Type 0

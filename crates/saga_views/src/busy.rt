@@ -2,7 +2,7 @@
 ghost use Rattle.std.specs.Prelude.{◌≡◌, ◌<◌, ◌++◌, OnOk, IfOk, length, map, string_bytes};
 ghost use Rattle.saga_history.specs.Changes.{changes, past};
 ghost use Rattle.saga_history.specs.States.{state};
-ghost use Rattle.saga_core.specs.Book.{sagas_in};
+ghost use Rattle.saga_core.specs.Book.{sagas_in, changes_in};
 ghost use Rattle.saga_core.specs.Tasks.{IsDefinedBy};
 ghost use Rattle.saga_views.specs.Busy as spec;
 
@@ -22,11 +22,11 @@ fn push_busy_step(
     saga: u32,
     step: u16,
 ) -> Result<(), AllocError>
-    requires defined { IsDefinedBy book.now.shelf (past book.now.history) saga definition.now }
+    requires defined { IsDefinedBy book.now saga definition.now }
     requires step { step < length definition.now.steps }
     ensures { OnOk result (map string_bytes texts.new.items ≡ map string_bytes texts.old.items
-        ++ spec.busy_in (state (changes saga (past book.now.history)) step) definition.now
-        (changes saga (past book.now.history)) saga step) }
+        ++ spec.busy_in (state (changes_in book.now saga) step) definition.now
+        (changes_in book.now saga) saga step) }
 {
     match state_of(book, definition, saga, step) {
         StepState::Running => texts.push(run_text(alloc, book, definition, saga, step)?)?,
@@ -44,9 +44,9 @@ fn push_busy_steps(
     definition: &Definition,
     saga: u32,
 ) -> Result<(), AllocError>
-    requires { IsDefinedBy book.now.shelf (past book.now.history) saga definition.now }
+    requires { IsDefinedBy book.now saga definition.now }
     ensures { OnOk result (map string_bytes texts.new.items ≡ map string_bytes texts.old.items
-        ++ spec.busy_below definition.now (changes saga (past book.now.history)) saga
+        ++ spec.busy_below definition.now (changes_in book.now saga) saga
         (length definition.now.steps)) }
 {
     let count = definition.steps();

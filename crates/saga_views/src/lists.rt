@@ -60,7 +60,7 @@ fn named_text(alloc: Global, name: &str, phase: &str, saga: u32) -> Result<Strin
 
 /// The same of a saga of a book.
 fn saga_text(alloc: Global, book: &Book<'_>, phase: Phase, saga: u32) -> Result<String, AllocError>
-    requires { StandsAt book.now.shelf (past book.now.history) saga phase }
+    requires { StandsAt book.now saga phase }
     ensures { IfOk result (λ text. string_bytes text
         ≡ spec.saga_text book.now.shelf (past book.now.history) phase saga) }
 {
@@ -79,7 +79,7 @@ fn push_saga(
     phase: Phase,
     saga: u32,
 ) -> Result<(), AllocError>
-    requires { StandsAt book.now.shelf (past book.now.history) saga phase }
+    requires { StandsAt book.now saga phase }
     ensures { OnOk result (map string_bytes texts.new.items ≡ map string_bytes texts.old.items
         ++ spec.text_if told (spec.saga_text book.now.shelf (past book.now.history) phase saga)) }
 {

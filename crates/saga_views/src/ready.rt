@@ -3,7 +3,7 @@ ghost use Rattle.std.specs.Prelude.{ℕ, ◌≡◌, ◌<◌, ◌≤◌, ◌+◌,
 ghost use Rattle.std.specs.List.{concat};
 ghost use Rattle.saga_history.specs.Changes.{past};
 ghost use Rattle.saga_history.specs.Tasks.{TaskIsAllowed};
-ghost use Rattle.saga_core.specs.Tasks.{saga_of_task};
+ghost use Rattle.saga_core.specs.Tasks.{saga_of_task, MayBegin};
 ghost use Rattle.saga_views.specs.Ready as spec;
 ghost use Rattle.saga_views.specs.Ready.{AddsOf, AreReady, IsAdded, IsReady, ListsAll, TellsReady};
 
@@ -100,7 +100,7 @@ fn plan_text(alloc: Global, saga: u32) -> Result<String, AllocError>
 
 /// The text of a task that may begin.
 fn text_of(alloc: Global, book: &Book<'_>, task: Task) -> Result<String, AllocError>
-    requires { TaskIsAllowed book.now.shelf (past book.now.history) task }
+    requires { MayBegin book.now task }
     ensures { IfOk result (λ text. string_bytes text
         ≡ spec.text_of book.now.shelf (past book.now.history) task) }
 {
@@ -116,7 +116,7 @@ fn text_of(alloc: Global, book: &Book<'_>, task: Task) -> Result<String, AllocEr
 
 /// The texts of tasks that may begin.
 fn texts_of(alloc: Global, book: &Book<'_>, tasks: &[Task]) -> Result<Vec<String>, AllocError>
-    requires { All (λ t. TaskIsAllowed book.now.shelf (past book.now.history) t) tasks.now }
+    requires { All (λ t. MayBegin book.now t) tasks.now }
     ensures { IfOk result (λ texts. map string_bytes texts.items
         ≡ map (spec.text_of book.now.shelf (past book.now.history)) tasks.now) }
 {

@@ -5,6 +5,7 @@ ghost use Rattle.saga_history.specs.Rules.{HasPhase};
 ghost use Rattle.saga_history.specs.Turns.{aborted, in_goal};
 ghost use Rattle.saga_core.specs.Tasks.{IsDefinedBy};
 ghost use Rattle.saga_views.specs.Shown as spec;
+ghost use Rattle.saga_core.specs.Book.{changes_in};
 
 use crate::tasks::state_of;
 use crate::words::{listed, listed_words, phase_word, truth_text};
@@ -17,9 +18,9 @@ use saga_history::{Event, Phase};
 use std::alloc::{AllocError, Global};
 
 fn is_kept(book: &Book<'_>, definition: &Definition, saga: u32, step: u16) -> bool
-    requires defined { IsDefinedBy book.now.shelf (past book.now.history) saga definition.now }
+    requires defined { IsDefinedBy book.now saga definition.now }
     requires step { step < length definition.now.steps }
-    ensures { result ≡ in_goal (changes saga (past book.now.history)) step }
+    ensures { result ≡ in_goal (changes_in book.now saga) step }
 {
     let _ = definition;
     match book.in_goal(saga, step) {
@@ -51,9 +52,9 @@ fn kept_numbers(
     definition: &Definition,
     saga: u32,
 ) -> Result<Vec<String>, AllocError>
-    requires { IsDefinedBy book.now.shelf (past book.now.history) saga definition.now }
+    requires { IsDefinedBy book.now saga definition.now }
     ensures { IfOk result (λ numbers. map string_bytes numbers.items
-        ≡ spec.kept_below (changes saga (past book.now.history)) (length definition.now.steps)) }
+        ≡ spec.kept_below (changes_in book.now saga) (length definition.now.steps)) }
 {
     let mut numbers = Vec::new(alloc);
     let count = definition.steps();
@@ -71,9 +72,9 @@ fn state_words(
     definition: &Definition,
     saga: u32,
 ) -> Result<Vec<&'static str>, AllocError>
-    requires { IsDefinedBy book.now.shelf (past book.now.history) saga definition.now }
+    requires { IsDefinedBy book.now saga definition.now }
     ensures { IfOk result (λ words. map (λ w. w.now) words.items
-        ≡ spec.states_below (changes saga (past book.now.history)) (length definition.now.steps)) }
+        ≡ spec.states_below (changes_in book.now saga) (length definition.now.steps)) }
 {
     let mut words: Vec<&'static str> = Vec::new(alloc);
     let count = definition.steps();
@@ -84,8 +85,8 @@ fn state_words(
 }
 
 fn is_aborted(book: &Book<'_>, definition: &Definition, saga: u32) -> bool
-    requires { IsDefinedBy book.now.shelf (past book.now.history) saga definition.now }
-    ensures { result ≡ aborted (changes saga (past book.now.history)) }
+    requires { IsDefinedBy book.now saga definition.now }
+    ensures { result ≡ aborted (changes_in book.now saga) }
 {
     let _ = definition;
     match book.is_aborted(saga) {
@@ -95,8 +96,8 @@ fn is_aborted(book: &Book<'_>, definition: &Definition, saga: u32) -> bool
 }
 
 fn phase_of(book: &Book<'_>, definition: &Definition, saga: u32) -> Phase
-    requires { IsDefinedBy book.now.shelf (past book.now.history) saga definition.now }
-    ensures { HasPhase definition.now (changes saga (past book.now.history)) result }
+    requires { IsDefinedBy book.now saga definition.now }
+    ensures { HasPhase definition.now (changes_in book.now saga) result }
 {
     let _ = definition;
     match book.phase(saga) {
@@ -108,7 +109,7 @@ fn phase_of(book: &Book<'_>, definition: &Definition, saga: u32) -> Phase
 /// The answer that a saga adopted last. Goes back over the events as far as that, or to the opening of the saga.
 fn last_answer<'b>(book: &'b Book<'_>, saga: u32) -> Option<&'b Answer>
     ensures { option_map (λ a. a.now) result
-        ≡ spec.last_answer (changes saga (past book.entry.now.history)) }
+        ≡ spec.last_answer (changes_in book.entry.now saga) }
 {
     let history = book.history();
     let mut left = history.len();
@@ -138,7 +139,7 @@ fn told_answer(alloc: Global, answer: &Answer) -> Result<String, AllocError>
 /// The part of the line that tells of the last answer of a saga, if there is one.
 fn answer_text(alloc: Global, book: &Book<'_>, saga: u32) -> Result<String, AllocError>
     ensures { IfOk result (λ text. string_bytes text
-        ≡ spec.answer_text (spec.last_answer (changes saga (past book.now.history)))) }
+        ≡ spec.answer_text (spec.last_answer (changes_in book.now saga))) }
 {
     match last_answer(book, saga) {
         None => Ok(String::new(alloc)),
@@ -192,9 +193,9 @@ pub fn show_text(
     definition: &Definition,
     saga: u32,
 ) -> Result<String, AllocError>
-    requires { IsDefinedBy book.now.shelf (past book.now.history) saga definition.now }
+    requires { IsDefinedBy book.now saga definition.now }
     ensures { IfOk result (λ text. spec.TellsSaga definition.now
-        (changes saga (past book.now.history)) saga (string_bytes text)) }
+        (changes_in book.now saga) saga (string_bytes text)) }
 {
     let aborted = truth_text(is_aborted(book, definition, saga));
     let phase = phase_word(phase_of(book, definition, saga));

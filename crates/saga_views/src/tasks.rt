@@ -5,6 +5,7 @@ ghost use Rattle.saga_history.specs.States.{state};
 ghost use Rattle.saga_history.specs.Tasks.{missed};
 ghost use Rattle.saga_core.specs.Tasks.{IsDefinedBy};
 ghost use Rattle.saga_views.specs.Tasks as spec;
+ghost use Rattle.saga_core.specs.Book.{changes_in};
 
 use itoa::Buffer;
 use saga_case::StepState;
@@ -15,9 +16,9 @@ use std::alloc::{AllocError, Global};
 
 /// The state of a step of a saga with that definition.
 pub fn state_of(book: &Book<'_>, definition: &Definition, saga: u32, step: u16) -> StepState
-    requires defined { IsDefinedBy book.now.shelf (past book.now.history) saga definition.now }
+    requires defined { IsDefinedBy book.now saga definition.now }
     requires step { step < length definition.now.steps }
-    ensures { result ≡ state (changes saga (past book.now.history)) step }
+    ensures { result ≡ state (changes_in book.now saga) step }
 {
     let _ = definition;
     match book.state(saga, step) {
@@ -28,9 +29,9 @@ pub fn state_of(book: &Book<'_>, definition: &Definition, saga: u32, step: u16) 
 
 /// How often the action of the step was missed, or its compensation.
 pub fn missed(book: &Book<'_>, definition: &Definition, saga: u32, step: u16, kind: Kind) -> u8
-    requires defined { IsDefinedBy book.now.shelf (past book.now.history) saga definition.now }
+    requires defined { IsDefinedBy book.now saga definition.now }
     requires step { step < length definition.now.steps }
-    ensures { result ≡ missed kind (changes saga (past book.now.history)) step }
+    ensures { result ≡ missed kind (changes_in book.now saga) step }
 {
     let _ = definition;
     let misses = match kind {
@@ -97,12 +98,12 @@ pub fn run_text(
     saga: u32,
     step: u16,
 ) -> Result<String, AllocError>
-    requires defined { IsDefinedBy book.now.shelf (past book.now.history) saga definition.now }
+    requires defined { IsDefinedBy book.now saga definition.now }
     requires step { step < length definition.now.steps }
     ensures { IfOk result
         (λ text. string_bytes text
         ≡ spec.task_text
-        (spec.run_task definition.now (changes saga (past book.now.history)) saga step)) }
+        (spec.run_task definition.now (changes_in book.now saga) saga step)) }
 {
     let attempt = u16::from(missed(book, definition, saga, step, Kind::Run)) + 1;
     task_text(alloc, attempt, name_of(definition, step), saga, step, "run")
@@ -116,12 +117,12 @@ pub fn undo_text(
     saga: u32,
     step: u16,
 ) -> Result<String, AllocError>
-    requires defined { IsDefinedBy book.now.shelf (past book.now.history) saga definition.now }
+    requires defined { IsDefinedBy book.now saga definition.now }
     requires step { step < length definition.now.steps }
     ensures { IfOk result
         (λ text. string_bytes text
         ≡ spec.task_text
-        (spec.undo_task definition.now (changes saga (past book.now.history)) saga step)) }
+        (spec.undo_task definition.now (changes_in book.now saga) saga step)) }
 {
     let attempt = u16::from(missed(book, definition, saga, step, Kind::Undo)) + 1;
     task_text(

@@ -32,7 +32,7 @@ pub record AreOpenedAsAsked (shards : ℕ) (asks : List ℕ) (books : List Book)
 
 -- each saga of the book is ended or stuck
 abbrev pub IsOver : Book → Type 0
-IsOver b = AllAreOver b.shelf (past b.history)
+IsOver b = AllAreOver b
 
 -- each end of an action or a compensation in the books is what may be answered to the job of that attempt at that step, under the
 -- step's name, and each abort may be asked for

@@ -7,11 +7,11 @@ use Rattle.saga_core.proofs.books.Book.phase_at.Goals as goal
 
 pub row-requires : goal.row-requires
 row-requires c =
-    let within : c.args.place < sagas_in c.self.inside.journal.history = rw (← c.self.view_is) at c.requires in
+    let within : c.args.index < sagas_in c.self.inside.journal.history = rw (← c.self.view_is) at c.requires in
     omega (arith, within, c.self.invariant.counted)
 
 pub returns : goal.returns
 returns c =
-    let within : c.args.place < sagas_in c.self.inside.journal.history = rw (← c.self.view_is) at c.requires in
-    let here : RowHasPhase (row_at c.self.inside.rows c.args.place) c.phase.result = rw c.row.ensures at c.phase.ensures in
-    rw (← c.self.view_is) (stands_at _ _ _ _ _ c.self.invariant c.args.place (omega (arith, within, c.self.invariant.counted)) _ refl c.phase.result here)
+    let within : c.args.index < sagas_in c.self.inside.journal.history = rw (← c.self.view_is) at c.requires in
+    let here : RowHasPhase (row_at c.self.inside.rows c.args.index) c.phase.result = rw c.row.ensures at c.phase.ensures in
+    rw (← c.self.view_is) (stands_at _ _ _ _ _ c.self.invariant c.args.index (omega (arith, within, c.self.invariant.counted)) _ refl c.phase.result here)

@@ -1,0 +1,17 @@
+-- A saga of a book, as it stands.
+use Rattle.std.specs.Prelude.{◌≡◌, ℕ, List, Some}
+use Rattle.saga_def.specs.Contents.{Contents}
+use Rattle.saga_history.specs.Changes.{Change}
+use Rattle.saga_core.specs.Book.{Book, changes_in, definition_in}
+
+-- its number, its definition, and what happened to it, latest first
+pub record Saga : Type 0 where
+  pub number : ℕ
+  pub definition : Contents
+  pub changes : List Change
+
+-- the book has that saga under that number
+pub record HasSaga (b : Book) (i : ℕ) (saga : Saga) : Type 0 where
+  pub numbered : saga.number ≡ i
+  pub defined : definition_in b i ≡ Some saga.definition
+  pub changed : saga.changes ≡ changes_in b i
