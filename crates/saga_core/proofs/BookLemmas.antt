@@ -110,15 +110,15 @@ follow_push shelf number_of rows h e k row lt named apart follow now j below = e
 ]
 
 -- a transition that begins something leads from a state in which nothing is owed to one in which an end is
-begin_busy : (t : Transition) (row : Row) (s : ℕ) → begins t ≡ true → RowMay row s t → (one_if (is_busy (state_at row.states s)) ≡ 0) × (one_if (is_busy (state_after t)) ≡ 1)
-begin_busy transition.StartRun row s e may = (ap (λ x. one_if (is_busy x)) may.waiting, refl)
-begin_busy transition.Commit row s e may = cc
-begin_busy transition.Missed row s e may = cc
-begin_busy transition.Fail row s e may = cc
-begin_busy transition.StartUndo row s e may = (ap (λ x. one_if (is_busy x)) may.committed, refl)
-begin_busy transition.Undone row s e may = cc
-begin_busy transition.UndoMissed row s e may = cc
-begin_busy transition.UndoFail row s e may = cc
+start_busy : (t : Transition) (row : Row) (s : ℕ) → begins t ≡ true → RowMay row s t → (one_if (is_busy (state_at row.states s)) ≡ 0) × (one_if (is_busy (state_after t)) ≡ 1)
+start_busy transition.StartRun row s e may = (ap (λ x. one_if (is_busy x)) may.waiting, refl)
+start_busy transition.Commit row s e may = cc
+start_busy transition.Missed row s e may = cc
+start_busy transition.Fail row s e may = cc
+start_busy transition.StartUndo row s e may = (ap (λ x. one_if (is_busy x)) may.committed, refl)
+start_busy transition.Undone row s e may = cc
+start_busy transition.UndoMissed row s e may = cc
+start_busy transition.UndoFail row s e may = cc
 
 end_busy : (t : Transition) (row : Row) (s : ℕ) → begins t ≡ false → RowMay row s t → (one_if (is_busy (state_at row.states s)) ≡ 1) × (one_if (is_busy (state_after t)) ≡ 0)
 end_busy transition.StartRun row s e may = cc
@@ -190,10 +190,10 @@ module _ (shelf : List Contents) (first stride : ℕ) (rows : List Row) (j : Jou
     pub is_step : (s : ℕ) (t : Transition) → RowMay (row_at rows k) s t → s < length (row_at rows k).definition.steps
     is_step s t may = (may_into shelf (row_at rows k) _ (b.follow k lt) s t legal_row may).is_step
 
-    pub begin_book : (i s : ℕ) (t : Transition) → i ≡ number first stride k → begins t ≡ true → RowMay (row_at rows k) s t → IsBook shelf first stride (set rows k (row_after (row_at rows k) s t)) (record { history = j.history ++ step_event i s t ∷ []; owed = j.owed + 1; plans = j.plans })
-    begin_book i s t is begin may =
+    pub start_book : (i s : ℕ) (t : Transition) → i ≡ number first stride k → begins t ≡ true → RowMay (row_at rows k) s t → IsBook shelf first stride (set rows k (row_after (row_at rows k) s t)) (record { history = j.history ++ step_event i s t ∷ []; owed = j.owed + 1; plans = j.plans })
+    start_book i s t is begin may =
         let below = is_step s t may in
-        let two = begin_busy t (row_at rows k) s begin may in
+        let two = start_busy t (row_at rows k) s begin may in
         keeps_book k (step_event i s t) (row_after (row_at rows k) s t) (j.owed + 1) j.plans lt (step_saga t i s ∙ is) (step_opens t i s) (move_allowed i s t is may) (follows_step i s t below)
         (omega (arith, busy_step s t below, two.0, two.1)) (omega (arith, less_plans t (row_at rows k).turn))
 

@@ -147,14 +147,14 @@ module _ (shelf : List Contents) (first stride : ℕ) (rows : List Row) (j : Jou
       omega (arith, own.0, many, b.begins, b.near)
 
   -- a task is allowed where its row allows it, and none is of a saga without a row
-  pub begin_into : (u : Task) (k : ℕ) → k < length rows → saga_of_task u ≡ number first stride k → RowAllows (row_at rows k) (row_task u)
+  pub start_into : (u : Task) (k : ℕ) → k < length rows → saga_of_task u ≡ number first stride k → RowAllows (row_at rows k) (row_task u)
       → TaskIsAllowed shelf (past j.history) u
-  begin_into (Run i s) k lt is may = subst (λ (v : ℕ). TaskIsAllowed shelf (past j.history) (Run v s)) (sym is) (row_into k lt (row.Run s) may)
-  begin_into (Undo i s) k lt is may = subst (λ (v : ℕ). TaskIsAllowed shelf (past j.history) (Undo v s)) (sym is) (row_into k lt (row.Undo s) may)
-  begin_into (Plan i) k lt is may = subst (λ (v : ℕ). TaskIsAllowed shelf (past j.history) (Plan v)) (sym is) (row_into k lt row.Plan may)
+  start_into (Run i s) k lt is may = subst (λ (v : ℕ). TaskIsAllowed shelf (past j.history) (Run v s)) (sym is) (row_into k lt (row.Run s) may)
+  start_into (Undo i s) k lt is may = subst (λ (v : ℕ). TaskIsAllowed shelf (past j.history) (Undo v s)) (sym is) (row_into k lt (row.Undo s) may)
+  start_into (Plan i) k lt is may = subst (λ (v : ℕ). TaskIsAllowed shelf (past j.history) (Plan v)) (sym is) (row_into k lt row.Plan may)
 
-  pub begin_from : (u : Task) (k : ℕ) → saga_of_task u ≡ number first stride k → TaskIsAllowed shelf (past j.history) u → RowAllows (row_at rows k) (row_task u)
-  begin_from u k is may =
+  pub start_from : (u : Task) (k : ℕ) → saga_of_task u ≡ number first stride k → TaskIsAllowed shelf (past j.history) u → RowAllows (row_at rows k) (row_task u)
+  start_from u k is may =
       let r = task_row u may in
       let same : r.0 ≡ k = number_apart first stride r.0 k (omega (arith, b.begins)) (sym r.2 ∙ is) in
       subst (λ (v : ℕ). RowAllows (row_at rows v) (row_task u)) same r.3

@@ -142,7 +142,7 @@ fn laws(on: On<'_, '_>) -> bool {
     saga_history::change_laws(on.events);
     saga_history::merge_laws(on.shelf, on.events, on.events);
     saga_rows::limit_laws();
-    saga_core::refusal_laws(on.shelf, on.events);
+    saga_core::refusal_laws();
     saga_desk::merge_law();
     saga_script::limit_laws();
     saga_views::limit_laws();
