@@ -1,11 +1,10 @@
 -- Which faults a value has, and what they make of a whole reading.
 use Rattle.std.proofs.Common.{◌≡◌, ℕ, ◌^◌, Bool, true, false, List, [], ◌∷◌, length, Option, Some, None, Result, Ok, Err, IfOk, IfErr, refl, nat_lt, cond, not, codes}
 use Rattle.std.specs.Str.{bytes_eq}
-use Rattle.serde_json.specs.Data.{Data, null, boolean, number, string, array, object, unsigned, negative, float}
+use Rattle.serde_json.specs.Data.{Data, boolean, number, string, array, unsigned}
 use Rattle.serde_json.specs.Find.{get}
 use Rattle.saga_def.specs.Contents.{Contents}
 use Rattle.saga_case.specs.declared.answers.Answer.{Answer}
-use Rattle.saga_case.specs.declared.answers.Answer.TheVariants.{Plan, Blocked}
 use Rattle.saga_case.specs.declared.states.StepState.{StepState}
 use Rattle.saga_case.specs.declared.states.StepState.TheVariants.{Waiting, Running, Committed, Failed, Undoing, Undone, Fixed}
 use Rattle.saga_case.specs.Situation.{Situation, situation, HasStates}
@@ -49,31 +48,15 @@ either false x y h k = k
 
 u64_of-stays : (value : Data) → Stays (u64_of value)
 u64_of-stays (number (unsigned n)) = tt {0}
-u64_of-stays (number (negative z)) = tt {0}
-u64_of-stays (number (float x)) = tt {0}
-u64_of-stays null = tt {0}
-u64_of-stays (boolean b) = tt {0}
-u64_of-stays (string text) = tt {0}
-u64_of-stays (array items) = tt {0}
-u64_of-stays (object entries) = tt {0}
+u64_of-stays _ = tt {0}
 
 below-stays : (limit : ℕ) (value : Data) → Stays (below limit value)
 below-stays limit (number (unsigned n)) = either {A = ℕ} (nat_lt n limit) (Ok n) (Err BadType) (tt {0}) (tt {0})
-below-stays limit (number (negative z)) = tt {0}
-below-stays limit (number (float x)) = tt {0}
-below-stays limit null = tt {0}
-below-stays limit (boolean b) = tt {0}
-below-stays limit (string text) = tt {0}
-below-stays limit (array items) = tt {0}
-below-stays limit (object entries) = tt {0}
+below-stays limit _ = tt {0}
 
 items_of-stays : (value : Data) → Stays (items_of value)
-items_of-stays (number n) = tt {0}
-items_of-stays null = tt {0}
-items_of-stays (boolean b) = tt {0}
-items_of-stays (string text) = tt {0}
 items_of-stays (array items) = tt {0}
-items_of-stays (object entries) = tt {0}
+items_of-stays _ = tt {0}
 
 value_in-stays : (value : Option Data) → Stays (value_in value)
 value_in-stays None = tt {0}
@@ -91,8 +74,7 @@ amounts-stay key value = at_key-stays (list_of_each u64_of) key value (λ found.
 keys_fit-stays : (must may : List (List ℕ)) (value : Data) → Stays (keys_fit must may value)
 unfolding keys_fit
 keys_fit-stays must may value =
-    let rest = cond (not (has_each must value)) (Err MissingKey) (Ok (tt {0})) in
-    either {A = Unit {0}} (not (has_only must may value)) (Err UnknownKey) rest (tt {0})
+    either {A = Unit {0}} (not (has_only must may value)) (Err UnknownKey) _ (tt {0})
     (either {A = Unit {0}} (not (has_each must value)) (Err MissingKey) (Ok (tt {0})) (tt {0}) (tt {0}))
 
 kept_of-stays : (count : ℕ) (kept : List ℕ) → Stays (kept_of count kept)
@@ -121,26 +103,19 @@ chain_of-stays value =
 answer_of_kind-stays : (kind : Option (List ℕ)) (value : Data) → Stays (answer_of_kind kind value)
 answer_of_kind-stays None value = tt {0}
 answer_of_kind-stays (Some kind) value =
-    let plan = plan_of value >>= (λ plan. Ok (Plan plan)) in
-    let chain = chain_of value >>= (λ chain. Ok (Blocked chain)) in
-    either {A = Answer} (bytes_eq kind (codes "plan")) plan (cond (bytes_eq kind (codes "blocked")) chain (Err Kind)) (then (plan_of value) _ (plan_of-stays value) (λ p. tt {0}))
-    (either {A = Answer} (bytes_eq kind (codes "blocked")) chain (Err Kind) (then (chain_of value) _ (chain_of-stays value) (λ c. tt {0})) (tt {0}))
+    either {A = Answer} (bytes_eq kind (codes "plan")) _ _ (then (plan_of value) _ (plan_of-stays value) (λ p. tt {0}))
+    (either {A = Answer} (bytes_eq kind (codes "blocked")) _ (Err Kind) (then (chain_of value) _ (chain_of-stays value) (λ c. tt {0})) (tt {0}))
 
 answer_of-stays : (value : Data) → Stays (answer_of value)
 answer_of-stays value = answer_of_kind-stays (text_at (codes "kind") value) value
 
 -- what is read of a value is what is read of its text
 pub reads_answer : (text : List ℕ) (value : Data) (outcome : Result Answer JsonFault) → IsTextOf value text → Gives (λ a. a) outcome (answer_of value) → ReadsAnswer text outcome
-reads_answer text value (Ok answer) is given = (value, is, given)
 reads_answer text value (Err OutOfMemory) is given = tt {0}
 reads_answer text value (Err NotJson) is given = absurd (rw given at (answer_of-stays value))
 reads_answer text value (Err WrongLength) is given = absurd (rw given at (answer_of-stays value))
 reads_answer text value (Err (Busy step)) is given = absurd (rw given at (answer_of-stays value))
-reads_answer text value (Err Kind) is given = (value, is, given)
-reads_answer text value (Err UnknownKey) is given = (value, is, given)
-reads_answer text value (Err MissingKey) is given = (value, is, given)
-reads_answer text value (Err BadType) is given = (value, is, given)
-reads_answer text value (Err Kept) is given = (value, is, given)
+reads_answer text value outcome is given = (value, is, given)
 
 known : (test : Bool) (state : StepState) (rest : Result StepState JsonFault) → Stays rest → Stays (cond test (Ok state) rest)
 known test state rest h = either {A = StepState} test (Ok state) rest (tt {0}) h
@@ -158,20 +133,12 @@ state_named-stays word =
 
 state_of-stays : (value : Data) → Stays (state_of value)
 state_of-stays (string word) = state_named-stays word
-state_of-stays (number n) = tt {0}
-state_of-stays null = tt {0}
-state_of-stays (boolean b) = tt {0}
-state_of-stays (array items) = tt {0}
-state_of-stays (object entries) = tt {0}
+state_of-stays _ = tt {0}
 
 flag_in-stays : (value : Option Data) → Stays (flag_in value)
 flag_in-stays None = tt {0}
 flag_in-stays (Some (boolean b)) = tt {0}
-flag_in-stays (Some (number n)) = tt {0}
-flag_in-stays (Some null) = tt {0}
-flag_in-stays (Some (string text)) = tt {0}
-flag_in-stays (Some (array items)) = tt {0}
-flag_in-stays (Some (object entries)) = tt {0}
+flag_in-stays _ = tt {0}
 
 case_parts_of-stays : (value : Data) → Stays (case_parts_of value)
 unfolding case_parts_of
@@ -191,11 +158,7 @@ reads_case_fault definition text value OutOfMemory is given = tt {0}
 reads_case_fault definition text value NotJson is given = absurd (rw given at (written_of-stays value))
 reads_case_fault definition text value WrongLength is given = absurd (rw given at (written_of-stays value))
 reads_case_fault definition text value (Busy step) is given = absurd (rw given at (written_of-stays value))
-reads_case_fault definition text value Kind is given = (value, is, given)
-reads_case_fault definition text value UnknownKey is given = (value, is, given)
-reads_case_fault definition text value MissingKey is given = (value, is, given)
-reads_case_fault definition text value BadType is given = (value, is, given)
-reads_case_fault definition text value Kept is given = (value, is, given)
+reads_case_fault definition text value fault is given = (value, is, given)
 
 -- the case of what is written is the text's
 pub reads_case_made : (definition : Contents) (text : List ℕ) (w : Written) (made : Result Situation JsonFault) → HoldsCase text (Ok w)
@@ -203,10 +166,4 @@ pub reads_case_made : (definition : Contents) (text : List ℕ) (w : Written) (m
 reads_case_made definition text w (Ok c) held made fault = rw made.0 (held, refl, made.1)
 reads_case_made definition text w (Err WrongLength) held made fault = (w, held, fault)
 reads_case_made definition text w (Err (Busy step)) held made fault = (w, held, fault.0, fault.1)
-reads_case_made definition text w (Err NotJson) held made fault = absurd fault
-reads_case_made definition text w (Err Kind) held made fault = absurd fault
-reads_case_made definition text w (Err UnknownKey) held made fault = absurd fault
-reads_case_made definition text w (Err MissingKey) held made fault = absurd fault
-reads_case_made definition text w (Err BadType) held made fault = absurd fault
-reads_case_made definition text w (Err Kept) held made fault = absurd fault
-reads_case_made definition text w (Err OutOfMemory) held made fault = absurd fault
+reads_case_made definition text w (Err other) held made fault = absurd fault
