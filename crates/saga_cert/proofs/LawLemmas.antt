@@ -112,7 +112,7 @@ come_to_one definition w a b (inr (inr busy)) (inr (inl wrong)) = absurd (wrong.
 come_to_one definition w a b (inr (inr busy)) (inr (inr other)) =
     busy.same ∙ ap (λ (step : ℕ). Err (Busy step)) (first_once w.states busy.step other.step busy.first other.first) ∙ sym other.same
 
--- the sorts of outcomes: no value, no case's value, states
+-- the sorts of answers: no value, no case's value, states
 record IsMisshapen (text : List ℕ) (a : Result Situation JsonFault) : Type 0 where
   fault : JsonFault
   held : HoldsCase text (Err fault)

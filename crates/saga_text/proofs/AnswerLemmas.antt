@@ -95,8 +95,8 @@ past : (text : List ℕ) (a b : Result Contents TextFault) → IsLong text a →
 past text a b one short = absurd (omega (arith, one.long, short))
 
 -- what a tree holds, and a text that has none
-treeless : (text : List ℕ) (a b outcome : Result Contents TextFault) → HasNoTree text a → Holds text outcome → TellTheSame a b
-treeless text a b outcome one (short, (top, is, gives)) = absurd (one.none top is)
+treeless : (text : List ℕ) (a b reading : Result Contents TextFault) → HasNoTree text a → Holds text reading → TellTheSame a b
+treeless text a b reading one (short, (top, is, gives)) = absurd (one.none top is)
 
 module _ (one : (c : Contents) → HasOneFault c) (none : (c : Contents) → HasNoFault c) where
   -- sound contents have no fault
