@@ -1,2 +1,3 @@
--- How a text is split into lines.
+-- Lines, and readings.
 pub mod LineLemmas
+pub mod ReadingLemmas

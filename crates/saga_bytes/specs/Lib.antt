@@ -1,3 +1,4 @@
--- The lines of a text, and what was read.
+-- The lines of a text, readings of it, and what was read.
 pub mod Lines
+pub mod Readings
 pub mod More

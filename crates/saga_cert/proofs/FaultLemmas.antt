@@ -1,17 +1,17 @@
 -- Which faults a value has, and what they make of a whole reading.
-use Rattle.std.proofs.Common.{◌≡◌, ℕ, ◌^◌, Bool, true, false, List, [], ◌∷◌, length, Option, Some, None, Result, Ok, Err, IfOk, IfErr, refl, nat_lt, cond, not, codes}
+use Rattle.std.proofs.Common.{◌≡◌, ℕ, ◌^◌, Bool, List, [], ◌∷◌, length, Option, Some, None, Result, Ok, Err, IfOk, IfErr, refl, nat_lt, cond, not, codes}
 use Rattle.std.specs.Str.{bytes_eq}
-use Rattle.serde_json.specs.Data.{Data, null, boolean, number, string, array, object, unsigned, negative, float}
+use Rattle.serde_json.specs.Data.{Data, boolean, number, string, array, unsigned}
 use Rattle.serde_json.specs.Find.{get}
 use Rattle.saga_def.specs.Contents.{Contents}
 use Rattle.saga_case.specs.declared.answers.Answer.{Answer}
-use Rattle.saga_case.specs.declared.answers.Answer.TheVariants.{Plan, Blocked}
 use Rattle.saga_case.specs.declared.states.StepState.{StepState}
 use Rattle.saga_case.specs.declared.states.StepState.TheVariants.{Waiting, Running, Committed, Failed, Undoing, Undone, Fixed}
 use Rattle.saga_case.specs.Situation.{Situation, situation, HasStates}
+use Rattle.saga_bytes.proofs.ReadingLemmas.{Stays, then, each-stays, either}
 use Rattle.saga_json.specs.declared.faults.JsonFault.{JsonFault}
 use Rattle.saga_json.specs.declared.faults.JsonFault.TheVariants.{NotJson, Kind, UnknownKey, MissingKey, BadType, Kept, WrongLength, Busy, OutOfMemory}
-use Rattle.saga_json.specs.Reads.{◌>>=◌, each, Fails, Gives}
+use Rattle.saga_json.specs.Reads.{Fails, Gives}
 use Rattle.saga_json.specs.Trees.{is_object}
 use Rattle.saga_json.specs.Texts.{IsTextOf}
 use Rattle.saga_json.specs.Fields.{text_at, below, u16_of, u64_of, items_of, value_in, at_key, list_of_each}
@@ -31,121 +31,84 @@ OfValue Kept = Unit {0}
 OfValue _ = ⊥
 
 -- the reading has no other fault
-abbrev Stays : {A : Type 0} → Result A JsonFault → Type 0
-Stays (Ok x) = Unit {0}
-Stays (Err fault) = OfValue fault
+abbrev StaysInValue : {A : Type 0} → Result A JsonFault → Type 0
+StaysInValue = Stays OfValue
 
-then : {A B : Type 0} (first : Result A JsonFault) (next : A → Result B JsonFault) → Stays first → ((x : A) → Stays (next x)) → Stays (first >>= next)
-then (Ok x) next h more = more x
-then (Err fault) next h more = h
-
-each-stays : {A B : Type 0} (read : A → Result B JsonFault) (xs : List A) → ((x : A) → Stays (read x)) → Stays (each read xs)
-each-stays read [] h = tt {0}
-each-stays read (x ∷ xs) h = then (read x) _ (h x) (λ y. then (each read xs) _ (each-stays read xs h) (λ ys. tt {0}))
-
-either : {A : Type 0} (test : Bool) (x y : Result A JsonFault) → Stays x → Stays y → Stays (cond test x y)
-either true x y h k = h
-either false x y h k = k
-
-u64_of-stays : (value : Data) → Stays (u64_of value)
+u64_of-stays : (value : Data) → StaysInValue (u64_of value)
 u64_of-stays (number (unsigned n)) = tt {0}
-u64_of-stays (number (negative z)) = tt {0}
-u64_of-stays (number (float x)) = tt {0}
-u64_of-stays null = tt {0}
-u64_of-stays (boolean b) = tt {0}
-u64_of-stays (string text) = tt {0}
-u64_of-stays (array items) = tt {0}
-u64_of-stays (object entries) = tt {0}
+u64_of-stays _ = tt {0}
 
-below-stays : (limit : ℕ) (value : Data) → Stays (below limit value)
-below-stays limit (number (unsigned n)) = either {A = ℕ} (nat_lt n limit) (Ok n) (Err BadType) (tt {0}) (tt {0})
-below-stays limit (number (negative z)) = tt {0}
-below-stays limit (number (float x)) = tt {0}
-below-stays limit null = tt {0}
-below-stays limit (boolean b) = tt {0}
-below-stays limit (string text) = tt {0}
-below-stays limit (array items) = tt {0}
-below-stays limit (object entries) = tt {0}
+below-stays : (limit : ℕ) (value : Data) → StaysInValue (below limit value)
+below-stays limit (number (unsigned n)) = either {A = ℕ} OfValue (nat_lt n limit) (Ok n) (Err BadType) (tt {0}) (tt {0})
+below-stays limit _ = tt {0}
 
-items_of-stays : (value : Data) → Stays (items_of value)
-items_of-stays (number n) = tt {0}
-items_of-stays null = tt {0}
-items_of-stays (boolean b) = tt {0}
-items_of-stays (string text) = tt {0}
+items_of-stays : (value : Data) → StaysInValue (items_of value)
 items_of-stays (array items) = tt {0}
-items_of-stays (object entries) = tt {0}
+items_of-stays _ = tt {0}
 
-value_in-stays : (value : Option Data) → Stays (value_in value)
+value_in-stays : (value : Option Data) → StaysInValue (value_in value)
 value_in-stays None = tt {0}
 value_in-stays (Some value) = tt {0}
 
-list_of_each-stays : {A : Type 0} (read : Data → Result A JsonFault) (value : Data) → ((d : Data) → Stays (read d)) → Stays (list_of_each read value)
-list_of_each-stays read value h = then (items_of value) _ (items_of-stays value) (λ items. each-stays read items h)
+list_of_each-stays : {A : Type 0} (read : Data → Result A JsonFault) (value : Data) → ((d : Data) → StaysInValue (read d)) → StaysInValue (list_of_each read value)
+list_of_each-stays read value h = then OfValue (items_of value) _ (items_of-stays value) (λ items. each-stays OfValue read items h)
 
-at_key-stays : {A : Type 0} (read : Data → Result A JsonFault) (key : List ℕ) (value : Data) → ((d : Data) → Stays (read d)) → Stays (at_key read key value)
-at_key-stays read key value h = then (value_in (get key value)) _ (value_in-stays (get key value)) h
+at_key-stays : {A : Type 0} (read : Data → Result A JsonFault) (key : List ℕ) (value : Data) → ((d : Data) → StaysInValue (read d)) → StaysInValue (at_key read key value)
+at_key-stays read key value h = then OfValue (value_in (get key value)) _ (value_in-stays (get key value)) h
 
-amounts-stay : (key : List ℕ) (value : Data) → Stays (at_key (list_of_each u64_of) key value)
+amounts-stay : (key : List ℕ) (value : Data) → StaysInValue (at_key (list_of_each u64_of) key value)
 amounts-stay key value = at_key-stays (list_of_each u64_of) key value (λ found. list_of_each-stays u64_of found u64_of-stays)
 
-keys_fit-stays : (must may : List (List ℕ)) (value : Data) → Stays (keys_fit must may value)
+keys_fit-stays : (must may : List (List ℕ)) (value : Data) → StaysInValue (keys_fit must may value)
 unfolding keys_fit
 keys_fit-stays must may value =
-    let rest = cond (not (has_each must value)) (Err MissingKey) (Ok (tt {0})) in
-    either {A = Unit {0}} (not (has_only must may value)) (Err UnknownKey) rest (tt {0})
-    (either {A = Unit {0}} (not (has_each must value)) (Err MissingKey) (Ok (tt {0})) (tt {0}) (tt {0}))
+    either {A = Unit {0}} OfValue (not (has_only must may value)) (Err UnknownKey) _ (tt {0})
+    (either {A = Unit {0}} OfValue (not (has_each must value)) (Err MissingKey) (Ok (tt {0})) (tt {0}) (tt {0}))
 
-kept_of-stays : (count : ℕ) (kept : List ℕ) → Stays (kept_of count kept)
-kept_of-stays count kept = either {A = List Bool} (is_kept count kept) (Ok (marks_of count kept)) (Err Kept) (tt {0}) (tt {0})
+kept_of-stays : (count : ℕ) (kept : List ℕ) → StaysInValue (kept_of count kept)
+kept_of-stays count kept = either {A = List Bool} OfValue (is_kept count kept) (Ok (marks_of count kept)) (Err Kept) (tt {0}) (tt {0})
 
-plan_parts_of-stays : (value : Data) → Stays (plan_parts_of value)
+plan_parts_of-stays : (value : Data) → StaysInValue (plan_parts_of value)
 unfolding plan_parts_of
 plan_parts_of-stays value =
-    then (at_key u64_of (codes "cost") value) _ (at_key-stays u64_of (codes "cost") value u64_of-stays) (λ cost.
-    then (at_key (list_of_each u64_of) (codes "kept") value) _ (amounts-stay (codes "kept") value) (λ numbers.
-    then (at_key (list_of_each u64_of) (codes "leave") value) _ (amounts-stay (codes "leave") value) (λ leave.
-    then (at_key (list_of_each u64_of) (codes "stand") value) _ (amounts-stay (codes "stand") value) (λ stand.
-    then (at_key (list_of_each u64_of) (codes "links") value) _ (amounts-stay (codes "links") value) (λ links.
-    then (kept_of (length stand) numbers) _ (kept_of-stays (length stand) numbers) (λ kept. tt {0}))))))
+    then OfValue (at_key u64_of (codes "cost") value) _ (at_key-stays u64_of (codes "cost") value u64_of-stays) (λ cost.
+    then OfValue (at_key (list_of_each u64_of) (codes "kept") value) _ (amounts-stay (codes "kept") value) (λ numbers.
+    then OfValue (at_key (list_of_each u64_of) (codes "leave") value) _ (amounts-stay (codes "leave") value) (λ leave.
+    then OfValue (at_key (list_of_each u64_of) (codes "stand") value) _ (amounts-stay (codes "stand") value) (λ stand.
+    then OfValue (at_key (list_of_each u64_of) (codes "links") value) _ (amounts-stay (codes "links") value) (λ links.
+    then OfValue (kept_of (length stand) numbers) _ (kept_of-stays (length stand) numbers) (λ kept. tt {0}))))))
 
-plan_of-stays : (value : Data) → Stays (plan_of value)
+plan_of-stays : (value : Data) → StaysInValue (plan_of value)
 unfolding plan_of
-plan_of-stays value = then (keys_fit plan_keys [] value) _ (keys_fit-stays plan_keys [] value) (λ u. plan_parts_of-stays value)
+plan_of-stays value = then OfValue (keys_fit plan_keys [] value) _ (keys_fit-stays plan_keys [] value) (λ u. plan_parts_of-stays value)
 
-chain_of-stays : (value : Data) → Stays (chain_of value)
+chain_of-stays : (value : Data) → StaysInValue (chain_of value)
 unfolding chain_of
 chain_of-stays value =
-    then (keys_fit chain_keys [] value) _ (keys_fit-stays chain_keys [] value) (λ u.
+    then OfValue (keys_fit chain_keys [] value) _ (keys_fit-stays chain_keys [] value) (λ u.
     at_key-stays (list_of_each u16_of) (codes "chain") value (λ found. list_of_each-stays u16_of found (below-stays (2 ^ 16))))
 
-answer_of_kind-stays : (kind : Option (List ℕ)) (value : Data) → Stays (answer_of_kind kind value)
+answer_of_kind-stays : (kind : Option (List ℕ)) (value : Data) → StaysInValue (answer_of_kind kind value)
 answer_of_kind-stays None value = tt {0}
 answer_of_kind-stays (Some kind) value =
-    let plan = plan_of value >>= (λ plan. Ok (Plan plan)) in
-    let chain = chain_of value >>= (λ chain. Ok (Blocked chain)) in
-    either {A = Answer} (bytes_eq kind (codes "plan")) plan (cond (bytes_eq kind (codes "blocked")) chain (Err Kind)) (then (plan_of value) _ (plan_of-stays value) (λ p. tt {0}))
-    (either {A = Answer} (bytes_eq kind (codes "blocked")) chain (Err Kind) (then (chain_of value) _ (chain_of-stays value) (λ c. tt {0})) (tt {0}))
+    either {A = Answer} OfValue (bytes_eq kind (codes "plan")) _ _ (then OfValue (plan_of value) _ (plan_of-stays value) (λ p. tt {0}))
+    (either {A = Answer} OfValue (bytes_eq kind (codes "blocked")) _ (Err Kind) (then OfValue (chain_of value) _ (chain_of-stays value) (λ c. tt {0})) (tt {0}))
 
-answer_of-stays : (value : Data) → Stays (answer_of value)
+answer_of-stays : (value : Data) → StaysInValue (answer_of value)
 answer_of-stays value = answer_of_kind-stays (text_at (codes "kind") value) value
 
 -- what is read of a value is what is read of its text
-pub reads_answer : (text : List ℕ) (value : Data) (outcome : Result Answer JsonFault) → IsTextOf value text → Gives (λ a. a) outcome (answer_of value) → ReadsAnswer text outcome
-reads_answer text value (Ok answer) is given = (value, is, given)
+pub reads_answer : (text : List ℕ) (value : Data) (reading : Result Answer JsonFault) → IsTextOf value text → Gives (λ a. a) reading (answer_of value) → ReadsAnswer text reading
 reads_answer text value (Err OutOfMemory) is given = tt {0}
 reads_answer text value (Err NotJson) is given = absurd (rw given at (answer_of-stays value))
 reads_answer text value (Err WrongLength) is given = absurd (rw given at (answer_of-stays value))
 reads_answer text value (Err (Busy step)) is given = absurd (rw given at (answer_of-stays value))
-reads_answer text value (Err Kind) is given = (value, is, given)
-reads_answer text value (Err UnknownKey) is given = (value, is, given)
-reads_answer text value (Err MissingKey) is given = (value, is, given)
-reads_answer text value (Err BadType) is given = (value, is, given)
-reads_answer text value (Err Kept) is given = (value, is, given)
+reads_answer text value reading is given = (value, is, given)
 
-known : (test : Bool) (state : StepState) (rest : Result StepState JsonFault) → Stays rest → Stays (cond test (Ok state) rest)
-known test state rest h = either {A = StepState} test (Ok state) rest (tt {0}) h
+known : (test : Bool) (state : StepState) (rest : Result StepState JsonFault) → StaysInValue rest → StaysInValue (cond test (Ok state) rest)
+known test state rest h = either {A = StepState} OfValue test (Ok state) rest (tt {0}) h
 
-state_named-stays : (word : List ℕ) → Stays (state_named word)
+state_named-stays : (word : List ℕ) → StaysInValue (state_named word)
 state_named-stays word =
     known (bytes_eq word (codes "waiting")) Waiting (cond (bytes_eq word (codes "running")) (Ok Running) (cond (bytes_eq word (codes "committed")) (Ok Committed) (cond (bytes_eq word (codes "failed")) (Ok Failed) (cond (bytes_eq word (codes "undoing")) (Ok Undoing) (cond (bytes_eq word (codes "undone")) (Ok Undone) (cond (bytes_eq word (codes "fixed")) (Ok Fixed) (Err BadType)))))))
     (known (bytes_eq word (codes "running")) Running (cond (bytes_eq word (codes "committed")) (Ok Committed) (cond (bytes_eq word (codes "failed")) (Ok Failed) (cond (bytes_eq word (codes "undoing")) (Ok Undoing) (cond (bytes_eq word (codes "undone")) (Ok Undone) (cond (bytes_eq word (codes "fixed")) (Ok Fixed) (Err BadType))))))
@@ -156,34 +119,26 @@ state_named-stays word =
     (known (bytes_eq word (codes "fixed")) Fixed (Err BadType)
     (tt {0})))))))
 
-state_of-stays : (value : Data) → Stays (state_of value)
+state_of-stays : (value : Data) → StaysInValue (state_of value)
 state_of-stays (string word) = state_named-stays word
-state_of-stays (number n) = tt {0}
-state_of-stays null = tt {0}
-state_of-stays (boolean b) = tt {0}
-state_of-stays (array items) = tt {0}
-state_of-stays (object entries) = tt {0}
+state_of-stays _ = tt {0}
 
-flag_in-stays : (value : Option Data) → Stays (flag_in value)
+flag_in-stays : (value : Option Data) → StaysInValue (flag_in value)
 flag_in-stays None = tt {0}
 flag_in-stays (Some (boolean b)) = tt {0}
-flag_in-stays (Some (number n)) = tt {0}
-flag_in-stays (Some null) = tt {0}
-flag_in-stays (Some (string text)) = tt {0}
-flag_in-stays (Some (array items)) = tt {0}
-flag_in-stays (Some (object entries)) = tt {0}
+flag_in-stays _ = tt {0}
 
-case_parts_of-stays : (value : Data) → Stays (case_parts_of value)
+case_parts_of-stays : (value : Data) → StaysInValue (case_parts_of value)
 unfolding case_parts_of
 case_parts_of-stays value =
     let must = codes "states" ∷ [] in
     let may = codes "aborted" ∷ [] in
-    then (keys_fit must may value) _ (keys_fit-stays must may value) (λ u.
-    then (at_key (list_of_each state_of) (codes "states") value) _ (at_key-stays (list_of_each state_of) (codes "states") value (λ found. list_of_each-stays state_of found state_of-stays)) (λ states.
-    then (flag_in (get (codes "aborted") value)) _ (flag_in-stays (get (codes "aborted") value)) (λ aborted. tt {0})))
+    then OfValue (keys_fit must may value) _ (keys_fit-stays must may value) (λ u.
+    then OfValue (at_key (list_of_each state_of) (codes "states") value) _ (at_key-stays (list_of_each state_of) (codes "states") value (λ found. list_of_each-stays state_of found state_of-stays)) (λ states.
+    then OfValue (flag_in (get (codes "aborted") value)) _ (flag_in-stays (get (codes "aborted") value)) (λ aborted. tt {0})))
 
-written_of-stays : (value : Data) → Stays (written_of value)
-written_of-stays value = either {A = Written} (is_object value) (case_parts_of value) (Err Kind) (case_parts_of-stays value) (tt {0})
+written_of-stays : (value : Data) → StaysInValue (written_of value)
+written_of-stays value = either {A = Written} OfValue (is_object value) (case_parts_of value) (Err Kind) (case_parts_of-stays value) (tt {0})
 
 -- a fault of what is written is the text's
 pub reads_case_fault : (definition : Contents) (text : List ℕ) (value : Data) (fault : JsonFault) → IsTextOf value text → Fails fault (written_of value) → ReadsCase definition text (Err fault)
@@ -191,11 +146,7 @@ reads_case_fault definition text value OutOfMemory is given = tt {0}
 reads_case_fault definition text value NotJson is given = absurd (rw given at (written_of-stays value))
 reads_case_fault definition text value WrongLength is given = absurd (rw given at (written_of-stays value))
 reads_case_fault definition text value (Busy step) is given = absurd (rw given at (written_of-stays value))
-reads_case_fault definition text value Kind is given = (value, is, given)
-reads_case_fault definition text value UnknownKey is given = (value, is, given)
-reads_case_fault definition text value MissingKey is given = (value, is, given)
-reads_case_fault definition text value BadType is given = (value, is, given)
-reads_case_fault definition text value Kept is given = (value, is, given)
+reads_case_fault definition text value fault is given = (value, is, given)
 
 -- the case of what is written is the text's
 pub reads_case_made : (definition : Contents) (text : List ℕ) (w : Written) (made : Result Situation JsonFault) → HoldsCase text (Ok w)
@@ -203,10 +154,4 @@ pub reads_case_made : (definition : Contents) (text : List ℕ) (w : Written) (m
 reads_case_made definition text w (Ok c) held made fault = rw made.0 (held, refl, made.1)
 reads_case_made definition text w (Err WrongLength) held made fault = (w, held, fault)
 reads_case_made definition text w (Err (Busy step)) held made fault = (w, held, fault.0, fault.1)
-reads_case_made definition text w (Err NotJson) held made fault = absurd fault
-reads_case_made definition text w (Err Kind) held made fault = absurd fault
-reads_case_made definition text w (Err UnknownKey) held made fault = absurd fault
-reads_case_made definition text w (Err MissingKey) held made fault = absurd fault
-reads_case_made definition text w (Err BadType) held made fault = absurd fault
-reads_case_made definition text w (Err Kept) held made fault = absurd fault
-reads_case_made definition text w (Err OutOfMemory) held made fault = absurd fault
+reads_case_made definition text w (Err other) held made fault = absurd fault

@@ -15,7 +15,7 @@ use Rattle.saga_case.specs.declared.answers.Plan.{Plan as PlanParts}
 use Rattle.saga_case.specs.declared.answers.Answer.{Answer}
 use Rattle.saga_case.specs.declared.answers.Answer.TheVariants.{Plan, Blocked}
 use Rattle.saga_case.specs.declared.states.StepState.{StepState}
-use Rattle.saga_case.specs.declared.states.StepState.TheVariants.{Waiting, Running, Committed, Failed, Undoing, Undone, Fixed}
+use Rattle.saga_case.specs.declared.states.StepState.TheVariants.{Waiting}
 use Rattle.saga_case.specs.States.{word_of}
 use Rattle.saga_case.specs.Situation.{Situation, situation, IsAtRest}
 use Rattle.saga_json.specs.Reads.{each}
@@ -23,12 +23,12 @@ use Rattle.saga_json.specs.Trees.{list_of, items_from}
 use Rattle.saga_json.specs.Texts.{IsTextOf}
 use Rattle.saga_json.specs.Fields.{u16_of, u64_of}
 use Rattle.saga_json.specs.Keys.{keys_fit}
-use Rattle.saga_cert.specs.Kept.{kept_of, places_from}
+use Rattle.saga_cert.specs.Kept.{kept_of, numbers_from}
 use Rattle.saga_cert.specs.Answers.{plan_parts_of, plan_of, chain_of, answer_of, plan_form, chain_form, answer_form, IsPaired}
 use Rattle.saga_cert.specs.Cases.{state_named, state_of, case_parts_of, written_of, case_form}
 use Rattle.saga_cert.specs.Reads.{ReadsAnswer, ReadsCase}
 use Rattle.saga_json.proofs.TreeLemmas.{list_of-items_from}
-use Rattle.saga_cert.proofs.KeptLemmas.{is_kept-places, marks_of-places}
+use Rattle.saga_cert.proofs.KeptLemmas.{is_kept-numbers, marks_of-numbers}
 
 -- ---- lists
 
@@ -76,12 +76,7 @@ steps-read ns h = rw (list_of-items_from (map whole ns)) (each-steps ns h)
 
 state_named-word : (s : StepState) → state_named (word_of s) ≡ Ok s
 state_named-word Waiting = refl
-state_named-word Running = refl
-state_named-word Committed = refl
-state_named-word Failed = refl
-state_named-word Undoing = refl
-state_named-word Undone = refl
-state_named-word Fixed = refl
+state_named-word _ = refl
 
 each-states : (states : List StepState) → each state_of (map worded states) ≡ Ok states
 each-states [] = refl
@@ -94,21 +89,21 @@ states-read states = rw (list_of-items_from (map worded states)) (each-states st
 
 pub has_float-answer : (answer : Answer) → has_float (answer_form answer) ≡ false
 has_float-answer (Plan plan) =
-    rw (items_have_float-numbers (places_from 0 plan.kept), items_have_float-numbers plan.leave, items_have_float-numbers plan.links, items_have_float-numbers plan.stand)
+    rw (items_have_float-numbers (numbers_from 0 plan.kept), items_have_float-numbers plan.leave, items_have_float-numbers plan.links, items_have_float-numbers plan.stand)
 has_float-answer (Blocked chain) = rw (items_have_float-numbers chain)
 
-pub depth-answer : (answer : Answer) → depth (answer_form answer) ≤ max_depth
+pub depth-answer : (answer : Answer) → depth (answer_form answer) ≡ 2
 depth-answer (Plan plan) =
-    rw (items_depth-numbers (places_from 0 plan.kept), items_depth-numbers plan.leave, items_depth-numbers plan.links, items_depth-numbers plan.stand) (lit≤ tt)
-depth-answer (Blocked chain) = rw (items_depth-numbers chain) (lit≤ tt)
+    rw (items_depth-numbers (numbers_from 0 plan.kept), items_depth-numbers plan.leave, items_depth-numbers plan.links, items_depth-numbers plan.stand)
+depth-answer (Blocked chain) = rw (items_depth-numbers chain)
 
-kept-read : (marks : List Bool) (count : ℕ) → length marks ≡ count → kept_of count (places_from 0 marks) ≡ Ok marks
-kept-read marks count same = rw (← same, is_kept-places marks, marks_of-places marks)
+kept-read : (marks : List Bool) (count : ℕ) → length marks ≡ count → kept_of count (numbers_from 0 marks) ≡ Ok marks
+kept-read marks count same = rw (← same, is_kept-numbers marks, marks_of-numbers marks)
 
 plan_parts-read : (plan : PlanParts) → length plan.kept ≡ length plan.stand → plan_parts_of (plan_form plan) ≡ Ok plan
 unfolding plan_parts_of
 plan_parts-read plan same =
-    rw (amounts-read (places_from 0 plan.kept), amounts-read plan.leave, amounts-read plan.stand, amounts-read plan.links, kept-read plan.kept (length plan.stand) same)
+    rw (amounts-read (numbers_from 0 plan.kept), amounts-read plan.leave, amounts-read plan.stand, amounts-read plan.links, kept-read plan.kept (length plan.stand) same)
 
 plan-read : (plan : PlanParts) → length plan.kept ≡ length plan.stand → plan_of (plan_form plan) ≡ Ok plan
 unfolding plan_of keys_fit

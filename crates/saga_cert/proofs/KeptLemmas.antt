@@ -5,7 +5,7 @@ use Rattle.std.proofs.lemmas.Bool.{false≢true, false_from_ne_true}
 use Rattle.std.proofs.lemmas.Bool.Decides.{nat_tests}
 use Rattle.std.specs.List.{list_all, list_any}
 use Rattle.std.specs.List.Sorted.{IsStrictlyIncreasing}
-use Rattle.saga_cert.specs.Kept.{is_increasing, is_kept, marks_of, places_from}
+use Rattle.saga_cert.specs.Kept.{is_increasing, is_kept, marks_of, numbers_from}
 
 both : (p : Bool) {q : Bool} → (p && q) ≡ true → (p ≡ true) × (q ≡ true)
 both true test = (refl, test)
@@ -59,51 +59,51 @@ same_sum : (m : ℕ) → (m == m + 0) ≡ true
 same_sum m = grind (arith, nat_tests)
 
 -- the numbers of marks increase
-increasing-after : (marks : List Bool) (n m : ℕ) → n < m → is_increasing (n ∷ places_from m marks) ≡ true
+increasing-after : (marks : List Bool) (n m : ℕ) → n < m → is_increasing (n ∷ numbers_from m marks) ≡ true
 increasing-after [] n m h = refl
 increasing-after (true ∷ marks) n m h = rw (below n m h) (increasing-after marks m (m + 1) (omega arith))
 increasing-after (false ∷ marks) n m h = increasing-after marks n (m + 1) (omega arith)
 
-increasing-places : (marks : List Bool) (m : ℕ) → is_increasing (places_from m marks) ≡ true
-increasing-places [] m = refl
-increasing-places (true ∷ marks) m = increasing-after marks m (m + 1) (omega arith)
-increasing-places (false ∷ marks) m = increasing-places marks (m + 1)
+increasing-numbers : (marks : List Bool) (m : ℕ) → is_increasing (numbers_from m marks) ≡ true
+increasing-numbers [] m = refl
+increasing-numbers (true ∷ marks) m = increasing-after marks m (m + 1) (omega arith)
+increasing-numbers (false ∷ marks) m = increasing-numbers marks (m + 1)
 
 -- they are below the number of marks
-below-places : (marks : List Bool) (m count : ℕ) → m + length marks ≤ count → list_all (λ n. nat_lt n count) (places_from m marks) ≡ true
-below-places [] m count h = refl
-below-places (true ∷ marks) m count h = rw (below m count (omega arith)) (below-places marks (m + 1) count (omega arith))
-below-places (false ∷ marks) m count h = below-places marks (m + 1) count (omega arith)
+below-numbers : (marks : List Bool) (m count : ℕ) → m + length marks ≤ count → list_all (λ n. nat_lt n count) (numbers_from m marks) ≡ true
+below-numbers [] m count h = refl
+below-numbers (true ∷ marks) m count h = rw (below m count (omega arith)) (below-numbers marks (m + 1) count (omega arith))
+below-numbers (false ∷ marks) m count h = below-numbers marks (m + 1) count (omega arith)
 
 -- a number below the first one is none of them
-absent : (marks : List Bool) (m x : ℕ) → x < m → list_any (λ n. n == x) (places_from m marks) ≡ false
+absent : (marks : List Bool) (m x : ℕ) → x < m → list_any (λ n. n == x) (numbers_from m marks) ≡ false
 absent [] m x h = refl
 absent (true ∷ marks) m x h = rw (apart x m h) (absent marks (m + 1) x (omega arith))
 absent (false ∷ marks) m x h = absent marks (m + 1) x (omega arith)
 
-mark_later : (marks : List Bool) (m k : ℕ) → get_or marks k false ≡ list_any (λ n. n == m + 1 + k) (places_from (m + 1) marks) → get_or marks k false ≡ list_any (λ n. n == m + suc k) (places_from (m + 1) marks)
+mark_later : (marks : List Bool) (m k : ℕ) → get_or marks k false ≡ list_any (λ n. n == m + 1 + k) (numbers_from (m + 1) marks) → get_or marks k false ≡ list_any (λ n. n == m + suc k) (numbers_from (m + 1) marks)
 mark_later marks m k h =
-    let P : ℕ → Type 0 = λ x. get_or marks k false ≡ list_any (λ n. n == x) (places_from (m + 1) marks) in
+    let P : ℕ → Type 0 = λ x. get_or marks k false ≡ list_any (λ n. n == x) (numbers_from (m + 1) marks) in
     let later : m + 1 + k ≡ m + suc k = omega arith in
     subst P later h
 
 -- each mark is true where its number is one of them
-mark_at : (marks : List Bool) (m k : ℕ) → get_or marks k false ≡ list_any (λ n. n == m + k) (places_from m marks)
+mark_at : (marks : List Bool) (m k : ℕ) → get_or marks k false ≡ list_any (λ n. n == m + k) (numbers_from m marks)
 mark_at [] m k = refl
 mark_at (true ∷ marks) m zero = rw (same_sum m)
 mark_at (false ∷ marks) m zero = sym (absent marks (m + 1) (m + 0) (omega arith))
 mark_at (true ∷ marks) m (suc k) = rw (apart_from_sum m k) (mark_later marks m k (mark_at marks (m + 1) k))
 mark_at (false ∷ marks) m (suc k) = mark_later marks m k (mark_at marks (m + 1) k)
 
-mark_first : (marks : List Bool) (k : ℕ) → get_or marks k false ≡ list_any (λ n. n == 0 + k) (places_from 0 marks) → get_or marks k false ≡ list_any (λ n. n == k) (places_from 0 marks)
+mark_first : (marks : List Bool) (k : ℕ) → get_or marks k false ≡ list_any (λ n. n == 0 + k) (numbers_from 0 marks) → get_or marks k false ≡ list_any (λ n. n == k) (numbers_from 0 marks)
 mark_first marks k h =
-    let P : ℕ → Type 0 = λ x. get_or marks k false ≡ list_any (λ n. n == x) (places_from 0 marks) in
+    let P : ℕ → Type 0 = λ x. get_or marks k false ≡ list_any (λ n. n == x) (numbers_from 0 marks) in
     subst P (zero-add k) h
 
 -- the numbers of marks are a list of kept steps, and stand for those marks
-pub is_kept-places : (marks : List Bool) → is_kept (length marks) (places_from 0 marks) ≡ true
-is_kept-places marks = rw (increasing-places marks 0, below-places marks 0 (length marks) (omega arith))
+pub is_kept-numbers : (marks : List Bool) → is_kept (length marks) (numbers_from 0 marks) ≡ true
+is_kept-numbers marks = rw (increasing-numbers marks 0, below-numbers marks 0 (length marks) (omega arith))
 
-pub marks_of-places : (marks : List Bool) → marks_of (length marks) (places_from 0 marks) ≡ marks
-marks_of-places marks =
-    sym (fill_by_all (λ k. list_any (λ n. n == k) (places_from 0 marks)) marks (length marks) false refl (λ k h. mark_first marks k (mark_at marks 0 k)))
+pub marks_of-numbers : (marks : List Bool) → marks_of (length marks) (numbers_from 0 marks) ≡ marks
+marks_of-numbers marks =
+    sym (fill_by_all (λ k. list_any (λ n. n == k) (numbers_from 0 marks)) marks (length marks) false refl (λ k h. mark_first marks k (mark_at marks 0 k)))

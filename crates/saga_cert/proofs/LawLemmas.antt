@@ -8,7 +8,7 @@ use Rattle.saga_case.specs.declared.states.StepState.{StepState}
 use Rattle.saga_case.specs.declared.states.StepState.TheVariants.{Waiting}
 use Rattle.saga_case.specs.Situation.{Situation, situation, HasStates, IsFirstBusy}
 use Rattle.saga_json.specs.declared.faults.JsonFault.{JsonFault}
-use Rattle.saga_json.specs.declared.faults.JsonFault.TheVariants.{NotJson, Kind, UnknownKey, MissingKey, BadType, Kept, WrongLength, Busy, OutOfMemory}
+use Rattle.saga_json.specs.declared.faults.JsonFault.TheVariants.{NotJson, WrongLength, Busy, OutOfMemory}
 use Rattle.saga_json.specs.Texts.{IsTextOf}
 use Rattle.saga_cert.specs.Answers.{answer_of}
 use Rattle.saga_cert.specs.Cases.{Written, written_of}
@@ -40,11 +40,7 @@ answer_sort text (Err NotJson) told none = inl (none, refl)
 answer_sort text (Err OutOfMemory) told held = absurd (told refl)
 answer_sort text (Err WrongLength) told never = absurd never
 answer_sort text (Err (Busy step)) told never = absurd never
-answer_sort text (Err Kind) told held = inr held
-answer_sort text (Err UnknownKey) told held = inr held
-answer_sort text (Err MissingKey) told held = inr held
-answer_sort text (Err BadType) told held = inr held
-answer_sort text (Err Kept) told held = inr held
+answer_sort text (Err fault) told held = inr held
 
 answers_agree : (text : List ℕ) (a b : Result Answer JsonFault) → AnswerSort text a → AnswerSort text b → a ≡ b
 answers_agree text a b (inl (none, is)) (inl (never, was)) = is ∙ sym was
@@ -116,7 +112,7 @@ come_to_one definition w a b (inr (inr busy)) (inr (inl wrong)) = absurd (wrong.
 come_to_one definition w a b (inr (inr busy)) (inr (inr other)) =
     busy.same ∙ ap (λ (step : ℕ). Err (Busy step)) (first_once w.states busy.step other.step busy.first other.first) ∙ sym other.same
 
--- the sorts of outcomes: no value, no case's value, states
+-- the sorts of answers: no value, no case's value, states
 record IsMisshapen (text : List ℕ) (a : Result Situation JsonFault) : Type 0 where
   fault : JsonFault
   held : HoldsCase text (Err fault)
@@ -145,11 +141,7 @@ case_sort definition text (Err WrongLength) told (w, held, apart) = read_as defi
 case_sort definition text (Err (Busy step)) told (w, held, paired, first) =
     read_as definition text w _ held (inr (inr (record { step = step; paired = paired; first = first; same = refl })))
 case_sort definition text (Err OutOfMemory) told held = absurd (told refl)
-case_sort definition text (Err Kind) told held = misshapen definition text Kind held
-case_sort definition text (Err UnknownKey) told held = misshapen definition text UnknownKey held
-case_sort definition text (Err MissingKey) told held = misshapen definition text MissingKey held
-case_sort definition text (Err BadType) told held = misshapen definition text BadType held
-case_sort definition text (Err Kept) told held = misshapen definition text Kept held
+case_sort definition text (Err fault) told held = misshapen definition text fault held
 
 cases_agree : (definition : Contents) (text : List ℕ) (a b : Result Situation JsonFault) → CaseSort definition text a → CaseSort definition text b → a ≡ b
 cases_agree definition text a b (inl (none, is)) (inl (never, was)) = is ∙ sym was

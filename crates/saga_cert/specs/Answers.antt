@@ -12,7 +12,7 @@ use Rattle.saga_json.specs.Reads.{◌>>=◌}
 use Rattle.saga_json.specs.Trees.{items_from}
 use Rattle.saga_json.specs.Fields.{text_at, at_key, list_of_each, u16_of, u64_of}
 use Rattle.saga_json.specs.Keys.{keys_fit}
-use Rattle.saga_cert.specs.Kept.{kept_of, places_from}
+use Rattle.saga_cert.specs.Kept.{kept_of, numbers_from}
 
 -- ---- reading
 
@@ -66,7 +66,7 @@ numbers ns = array (items_from (map (λ n. number (unsigned n)) ns))
 abbrev pub plan_form : PlanParts → Data
 plan_form plan =
     object (member (codes "cost") (number (unsigned plan.cost))
-    (member (codes "kept") (numbers (places_from 0 plan.kept))
+    (member (codes "kept") (numbers (numbers_from 0 plan.kept))
     (member (codes "kind") (string (codes "plan"))
     (member (codes "leave") (numbers plan.leave)
     (member (codes "links") (numbers plan.links)

@@ -22,7 +22,7 @@ abbrev pub kept_of : ℕ → List ℕ → Result (List Bool) JsonFault
 kept_of count kept = if is_kept count kept then Ok (marks_of count kept) else Err Kept
 
 -- the numbers of the true marks, where the first mark has the number `first`
-abbrev pub places_from : ℕ → List Bool → List ℕ
-places_from first [] = []
-places_from first (true ∷ marks) = first ∷ places_from (first + 1) marks
-places_from first (false ∷ marks) = places_from (first + 1) marks
+abbrev pub numbers_from : ℕ → List Bool → List ℕ
+numbers_from first [] = []
+numbers_from first (true ∷ marks) = first ∷ numbers_from (first + 1) marks
+numbers_from first (false ∷ marks) = numbers_from (first + 1) marks

@@ -13,7 +13,7 @@ use Rattle.saga_cert.specs.Cases.{Written, written_of}
 
 -- the text is of a value that holds what this reading gives
 abbrev pub HoldsAnswer : List ℕ → Result Answer JsonFault → Type 0
-HoldsAnswer text outcome = (value : Data) × IsTextOf value text × (answer_of value ≡ outcome)
+HoldsAnswer text reading = (value : Data) × IsTextOf value text × (answer_of value ≡ reading)
 
 -- the answer that the text holds, or else the first fault, want of memory apart
 abbrev pub ReadsAnswer : List ℕ → Result Answer JsonFault → Type 0
@@ -21,10 +21,10 @@ ReadsAnswer text (Err NotJson) = (value : Data) → IsTextOf value text → ⊥
 ReadsAnswer text (Err OutOfMemory) = Unit {0}
 ReadsAnswer text (Err WrongLength) = ⊥
 ReadsAnswer text (Err (Busy step)) = ⊥
-ReadsAnswer text outcome = HoldsAnswer text outcome
+ReadsAnswer text reading = HoldsAnswer text reading
 
 abbrev pub HoldsCase : List ℕ → Result Written JsonFault → Type 0
-HoldsCase text outcome = (value : Data) × IsTextOf value text × (written_of value ≡ outcome)
+HoldsCase text reading = (value : Data) × IsTextOf value text × (written_of value ≡ reading)
 
 -- the case of that definition that the text holds, or else the first fault, want of memory apart
 abbrev pub ReadsCase : Contents → List ℕ → Result Situation JsonFault → Type 0

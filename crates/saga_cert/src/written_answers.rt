@@ -1,7 +1,7 @@
 //! The JSON value of an answer.
 ghost use Rattle.std.specs.Prelude.{◌≡◌, ◌<◌, All, IfOk, Ok};
 ghost use Rattle.serde_json.specs.View.{view};
-ghost use Rattle.saga_cert.specs.Kept.{places_from};
+ghost use Rattle.saga_cert.specs.Kept.{numbers_from};
 ghost use Rattle.saga_cert.specs.Answers.{numbers, plan_form, chain_form, answer_form, answer_of, IsPaired};
 
 use saga_case::{Amounts, Answer, Plan};
@@ -31,13 +31,13 @@ fn steps_value(alloc: Global, steps: &[u16]) -> Result<Value, AllocError>
 }
 
 /// The list of the numbers of the true marks.
-fn places_value(alloc: Global, marks: &[bool]) -> Result<Value, AllocError>
-    ensures { IfOk result (λ v. view v ≡ numbers (places_from 0 marks.now)) }
+fn numbers_value(alloc: Global, marks: &[bool]) -> Result<Value, AllocError>
+    ensures { IfOk result (λ v. view v ≡ numbers (numbers_from 0 marks.now)) }
 {
     let mut list = Vec::new(alloc);
-    for (place, mark) in marks.iter().enumerate() {
+    for (step, mark) in marks.iter().enumerate() {
         if *mark {
-            list.push(Value::from(place as u64))?;
+            list.push(Value::from(step as u64))?;
         }
     }
     Ok(Value::Array(list))
@@ -46,7 +46,7 @@ fn places_value(alloc: Global, marks: &[bool]) -> Result<Value, AllocError>
 fn plan_value(alloc: Global, plan: &Plan) -> Result<Value, AllocError>
     ensures { IfOk result (λ v. view v ≡ plan_form plan.now) }
 {
-    let kept = places_value(alloc, plan.kept.as_slice())?;
+    let kept = numbers_value(alloc, plan.kept.as_slice())?;
     let leave = amounts_value(alloc, &plan.leave)?;
     let links = amounts_value(alloc, &plan.links)?;
     let stand = amounts_value(alloc, &plan.stand)?;

@@ -21,21 +21,21 @@ look_of (Some state.Undoing) = codes "shape=trapezium style=filled fillcolor=\"#
 look_of (Some state.Undone) = codes "shape=ellipse style=\"filled,dotted\" fillcolor=\"#eeeeee\""
 look_of (Some state.Fixed) = codes "shape=hexagon style=filled fillcolor=\"#6fae75\""
 
+-- a text for a kept step or need, and one for a step or need of the chain
+abbrev pub mark_text : List ℕ → List ℕ → Mark → List ℕ
+mark_text kept chained Plain = []
+mark_text kept chained Kept = kept
+mark_text kept chained Chained = chained
+
 -- a kept step has a double outline, one of the chain a thick one
 abbrev pub outline_of : Mark → List ℕ
-outline_of Plain = []
-outline_of Kept = codes " peripheries=2"
-outline_of Chained = codes " penwidth=4"
+outline_of = mark_text (codes " peripheries=2") (codes " penwidth=4")
 
 abbrev pub stroke_of : Mark → List ℕ
-stroke_of Plain = []
-stroke_of Kept = codes " [penwidth=2]"
-stroke_of Chained = codes " [penwidth=4]"
+stroke_of = mark_text (codes " [penwidth=2]") (codes " [penwidth=4]")
 
 abbrev pub mark_word : Mark → List ℕ
-mark_word Plain = []
-mark_word Kept = codes ", kept"
-mark_word Chained = codes ", in the chain"
+mark_word = mark_text (codes ", kept") (codes ", in the chain")
 
 -- within a label a new line is written as a backslash and an n
 abbrev pub state_text : Option StepState → List ℕ

@@ -35,36 +35,35 @@ fn look_of(state: Option<StepState>) -> &'static str
     }
 }
 
+/// A text for what is kept, and one for what is on the chain.
+fn mark_text(mark: Mark, kept: &'static str, chained: &'static str) -> &'static str
+    ensures { result.now ≡ spec.mark_text kept.now chained.now mark }
+{
+    match mark {
+        Mark::Plain => "",
+        Mark::Kept => kept,
+        Mark::Chained => chained,
+    }
+}
+
 /// The outline of a marked step.
 fn outline_of(mark: Mark) -> &'static str
     ensures { result.now ≡ spec.outline_of mark }
 {
-    match mark {
-        Mark::Plain => "",
-        Mark::Kept => " peripheries=2",
-        Mark::Chained => " penwidth=4",
-    }
+    mark_text(mark, " peripheries=2", " penwidth=4")
 }
 
 /// The line of a marked need.
 fn stroke_of(mark: Mark) -> &'static str
     ensures { result.now ≡ spec.stroke_of mark }
 {
-    match mark {
-        Mark::Plain => "",
-        Mark::Kept => " [penwidth=2]",
-        Mark::Chained => " [penwidth=4]",
-    }
+    mark_text(mark, " [penwidth=2]", " [penwidth=4]")
 }
 
 fn mark_word(mark: Mark) -> &'static str
     ensures { result.now ≡ spec.mark_word mark }
 {
-    match mark {
-        Mark::Plain => "",
-        Mark::Kept => ", kept",
-        Mark::Chained => ", in the chain",
-    }
+    mark_text(mark, ", kept", ", in the chain")
 }
 
 fn push_state(text: &mut String, state: Option<StepState>) -> Result<(), AllocError>

@@ -1,5 +1,5 @@
--- What a task begins with, and what an outcome ends it with.
-use Rattle.std.specs.Prelude.{◌≡◌, ℕ, ◌+◌, nat_lt, if◌then◌else◌, List}
+-- What a task begins with, what an outcome ends it with, and the words of phases.
+use Rattle.std.specs.Prelude.{◌≡◌, ℕ, ◌+◌, nat_lt, if◌then◌else◌, List, codes}
 use Rattle.saga_def.specs.Contents.{Contents}
 use Rattle.saga_case.specs.declared.states.StepState.{StepState}
 use Rattle.saga_case.specs.declared.states.StepState.TheVariants.{Running, Undoing}
@@ -7,6 +7,8 @@ use Rattle.saga_history.specs.declared.events.Event.{Event}
 use Rattle.saga_history.specs.declared.events.Event.TheVariants as event
 use Rattle.saga_history.specs.declared.tasks.Kind.{Kind}
 use Rattle.saga_history.specs.declared.tasks.Kind.TheVariants as kind
+use Rattle.saga_history.specs.declared.tasks.Phase.{Phase}
+use Rattle.saga_history.specs.declared.tasks.Phase.TheVariants as phase
 use Rattle.saga_history.specs.declared.tasks.Task.{Task}
 use Rattle.saga_history.specs.declared.tasks.Task.TheVariants as task
 use Rattle.saga_history.specs.declared.tasks.Outcome.{Outcome}
@@ -50,3 +52,10 @@ end_of kind.Undo Failed misses tries = if nat_lt (misses + 1) tries then transit
 -- the transition ends it by that outcome, after some misses of some tries
 abbrev pub IsEndOf : Kind → Outcome → Transition → Type 0
 IsEndOf kind outcome t = (misses : ℕ) × (tries : ℕ) × (t ≡ end_of kind outcome misses tries)
+
+abbrev pub phase_word : Phase → List ℕ
+phase_word phase.Going = codes "going"
+phase_word phase.Draining = codes "draining"
+phase_word phase.Planning = codes "planning"
+phase_word phase.Ended = codes "ended"
+phase_word phase.Stuck = codes "stuck"

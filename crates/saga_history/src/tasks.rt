@@ -43,6 +43,21 @@ pub enum Outcome {
     Failed,
 }
 
+impl Phase {
+    /// The phase in one word, as `draining`.
+    pub fn word(self) -> &'static str
+        ensures { result.now ≡ spec.phase_word self }
+    {
+        match self {
+            Phase::Going => "going",
+            Phase::Draining => "draining",
+            Phase::Planning => "planning",
+            Phase::Ended => "ended",
+            Phase::Stuck => "stuck",
+        }
+    }
+}
+
 impl Kind {
     /// The state of a step whose action, or compensation, is on its way.
     pub fn busy_state(self) -> StepState

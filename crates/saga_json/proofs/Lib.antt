@@ -1,4 +1,3 @@
-pub mod Fronts
 pub mod TreeLemmas
 pub mod KeyLemmas
 pub mod TextLemmas

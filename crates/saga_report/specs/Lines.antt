@@ -7,6 +7,7 @@ use Rattle.saga_case.specs.declared.states.StepState.{StepState}
 use Rattle.saga_case.specs.declared.states.StepState.TheVariants as state
 use Rattle.saga_history.specs.Changes.{Change}
 use Rattle.saga_history.specs.States.{state as state_of, is_standing, is_off}
+use Rattle.saga_history.specs.Tasks.{phase_word}
 use Rattle.saga_history.specs.Turns.{turn, goal, aborted, opened_with}
 use Rattle.saga_history.specs.declared.tasks.Phase.{Phase}
 use Rattle.saga_history.specs.declared.tasks.Phase.TheVariants as phase
@@ -63,13 +64,6 @@ phase_by turns.Stuck done = phase.Stuck
 -- where the saga stands
 abbrev pub phase_of : Contents → Story → Phase
 phase_of d story = phase_by story.turn (are_done d story)
-
-abbrev pub phase_word : Phase → List ℕ
-phase_word phase.Going = codes "going"
-phase_word phase.Draining = codes "draining"
-phase_word phase.Planning = codes "planning"
-phase_word phase.Ended = codes "ended"
-phase_word phase.Stuck = codes "stuck"
 
 -- the state's word, filled up to 9 places
 abbrev pub padded_word : StepState → List ℕ

@@ -1,16 +1,12 @@
 -- The sagas that a history opens.
 use Rattle.std.specs.Prelude.{ℕ, List, [], ◌∷◌, flat_map}
 use Rattle.saga_history.specs.declared.events.Event.{Event}
-use Rattle.saga_history.specs.Changes.{Change, opens, moves, starts_plan, drops_plan, adopts, aborts, saga_of, change_of}
+use Rattle.saga_history.specs.Changes.{Change, opens, saga_of, change_of}
 
 -- the number of a saga that an event opens
 abbrev pub opened_by : ℕ → Change → List ℕ
 opened_by number (opens k) = number ∷ []
-opened_by number (moves s t) = []
-opened_by number starts_plan = []
-opened_by number drops_plan = []
-opened_by number (adopts a) = []
-opened_by number aborts = []
+opened_by number _ = []
 
 -- the numbers of the sagas that events open, in order
 abbrev pub opened_sagas : List Event → List ℕ

@@ -41,18 +41,12 @@ abbrev pub text_at : List Contents → List (List Event) → Entry → List ℕ
 text_at shelf histories e = saga_text (contents_of shelf (story_at histories e)) e.number (story_at histories e)
 
 abbrev pub is_ended : Phase → Bool
-is_ended phase.Going = false
-is_ended phase.Draining = false
-is_ended phase.Planning = false
 is_ended phase.Ended = true
-is_ended phase.Stuck = false
+is_ended _ = false
 
 abbrev pub is_stuck : Phase → Bool
-is_stuck phase.Going = false
-is_stuck phase.Draining = false
-is_stuck phase.Planning = false
-is_stuck phase.Ended = false
 is_stuck phase.Stuck = true
+is_stuck _ = false
 
 -- the text of these sagas, and the last line
 abbrev pub text_of : List Contents → List (List Event) → List Entry → List ℕ

@@ -5,7 +5,7 @@ use Rattle.std.specs.declared.vec.Vec.{Vec}
 use Rattle.saga_def.specs.Order.{member}
 use Rattle.saga_case.specs.declared.answers.Answer.{Answer}
 use Rattle.saga_case.specs.declared.answers.Answer.TheVariants as answer
-use Rattle.saga_history.specs.Changes.{Change, opens, moves, starts_plan, drops_plan, adopts, aborts}
+use Rattle.saga_history.specs.Changes.{Change, adopts}
 use Rattle.saga_report.specs.declared.sagas.Cost.{Cost}
 use Rattle.saga_report.specs.declared.sagas.Cost.TheVariants as cost
 
@@ -15,12 +15,8 @@ cost_of_answer (answer.Blocked chain) = cost.Blocked
 
 -- what one change makes of the cost
 abbrev pub next_cost : Change → Cost → Cost
-next_cost (opens k) x = x
-next_cost (moves s t) x = x
-next_cost starts_plan x = x
-next_cost drops_plan x = x
 next_cost (adopts a) x = cost_of_answer a
-next_cost aborts x = x
+next_cost _ x = x
 
 -- what the last adopted answer costs
 abbrev pub cost_of : List Change → Cost
@@ -28,12 +24,8 @@ cost_of [] = cost.None
 cost_of (c ∷ l) = next_cost c (cost_of l)
 
 abbrev pub is_adoption : Change → Bool
-is_adoption (opens k) = false
-is_adoption (moves s t) = false
-is_adoption starts_plan = false
-is_adoption drops_plan = false
 is_adoption (adopts a) = true
-is_adoption aborts = false
+is_adoption _ = false
 
 -- how many answers were adopted
 abbrev pub plans_of : List Change → ℕ

@@ -25,18 +25,6 @@ fn push_all(text: &mut String, pieces: &[&str]) -> Result<(), AllocError>
     Ok(())
 }
 
-fn phase_word(phase: Phase) -> &'static str
-    ensures { result.now ≡ spec.phase_word phase }
-{
-    match phase {
-        Phase::Going => "going",
-        Phase::Draining => "draining",
-        Phase::Planning => "planning",
-        Phase::Ended => "ended",
-        Phase::Stuck => "stuck",
-    }
-}
-
 /// The state's word, filled up to 9 places.
 fn padded_word(state: StepState) -> &'static str
     ensures { result.now ≡ spec.padded_word state }
@@ -85,10 +73,9 @@ fn push_head(
 {
     let mut buffer = Buffer::new();
     let number = buffer.format(number as u64);
-    let phase = phase_word(phase);
     push_all(text, &["saga ", number, " "])?;
     text.push_str(name)?;
-    push_all(text, &[" ", phase, aborted_word(aborted), "\n"])
+    push_all(text, &[" ", phase.word(), aborted_word(aborted), "\n"])
 }
 
 fn push_step(text: &mut String, step: u16, state: StepState, name: &str) -> Result<(), AllocError>

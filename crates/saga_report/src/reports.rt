@@ -63,19 +63,13 @@ fn push_entry(
 fn is_ended(phase: Phase) -> bool
     ensures { result ≡ is_ended phase }
 {
-    match phase {
-        Phase::Ended => true,
-        _ => false,
-    }
+    matches!(phase, Phase::Ended)
 }
 
 fn is_stuck(phase: Phase) -> bool
     ensures { result ≡ is_stuck phase }
 {
-    match phase {
-        Phase::Stuck => true,
-        _ => false,
-    }
+    matches!(phase, Phase::Stuck)
 }
 
 /// How many events the histories have together.

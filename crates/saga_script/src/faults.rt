@@ -1,5 +1,5 @@
 //! Why a script is refused.
-use std::alloc::{AllocError, AllocFailed};
+use std::alloc::AllocError;
 use std::convert::From;
 
 /// Why a script is refused. `OutOfMemory` may stand in place of any answer.
@@ -20,17 +20,6 @@ impl From<AllocError> for ScriptFault {
     ghost from_gives = { λ _ fault. fault ≡ OutOfMemory };
 
     fn from(_: AllocError) -> ScriptFault {
-        ScriptFault::OutOfMemory
-    }
-}
-
-impl<T: Drop> From<AllocFailed<T>> for ScriptFault {
-    ghost use Rattle.std.specs.Prelude.{◌≡◌};
-    ghost use Rattle.saga_script.specs.declared.faults.ScriptFault.TheVariants.{OutOfMemory};
-
-    ghost from_gives = { λ _ fault. fault ≡ OutOfMemory };
-
-    fn from(_: AllocFailed<T>) -> ScriptFault {
         ScriptFault::OutOfMemory
     }
 }

@@ -6,9 +6,9 @@ use Rattle.saga_def.specs.Sound.{IsSound}
 use Rattle.saga_def.specs.Faults.{IsFirstFault}
 use Rattle.saga_def.specs.Laws.{HasOneFault, HasNoFault}
 use Rattle.saga_def.specs.declared.faults.DefFault.{DefFault}
-use Rattle.saga_def.specs.declared.faults.DefFault.TheVariants.{Empty, TooManySteps, TooManyNeeds, BadName, DoubleName, UnknownStep, DoubleNeed, PriceTooLarge, TriesOutOfRange, Cycle, OutOfMemory as NoMemory}
+use Rattle.saga_def.specs.declared.faults.DefFault.TheVariants.{OutOfMemory as NoMemory}
 use Rattle.saga_text.specs.declared.faults.TextFault.{TextFault}
-use Rattle.saga_text.specs.declared.faults.TextFault.TheVariants.{TooLong, NotToml, BadFormat, UnknownKey, MissingKey, BadType, Def, OutOfMemory}
+use Rattle.saga_text.specs.declared.faults.TextFault.TheVariants.{TooLong, NotToml, Def, OutOfMemory}
 use Rattle.saga_text.specs.Faults.{word_of}
 use Rattle.saga_text.specs.Format.{contents_of}
 use Rattle.saga_text.specs.Laws.{TellTheSame, HasOneAnswer}
@@ -84,22 +84,10 @@ sort_of : (text : List ℕ) (a : Result Contents TextFault) → a ≢ Err OutOfM
 sort_of text (Ok c) told (held, sound) = inr (inr (inl (record { contents = c; held = held; sound = sound; same = refl })))
 sort_of text (Err TooLong) told long = inl (record { long = long; same = refl })
 sort_of text (Err NotToml) told (short, none) = inr (inl (record { short = short; none = none; same = refl }))
-sort_of text (Err BadFormat) told held = misshapen text BadFormat held
-sort_of text (Err UnknownKey) told held = misshapen text UnknownKey held
-sort_of text (Err MissingKey) told held = misshapen text MissingKey held
-sort_of text (Err BadType) told held = misshapen text BadType held
 sort_of text (Err OutOfMemory) told held = absurd (told refl)
 sort_of text (Err (Def NoMemory)) told never = absurd never
-sort_of text (Err (Def Empty)) told is = unsound text Empty (λ e. cc) is
-sort_of text (Err (Def TooManySteps)) told is = unsound text TooManySteps (λ e. cc) is
-sort_of text (Err (Def TooManyNeeds)) told is = unsound text TooManyNeeds (λ e. cc) is
-sort_of text (Err (Def BadName)) told is = unsound text BadName (λ e. cc) is
-sort_of text (Err (Def DoubleName)) told is = unsound text DoubleName (λ e. cc) is
-sort_of text (Err (Def UnknownStep)) told is = unsound text UnknownStep (λ e. cc) is
-sort_of text (Err (Def DoubleNeed)) told is = unsound text DoubleNeed (λ e. cc) is
-sort_of text (Err (Def PriceTooLarge)) told is = unsound text PriceTooLarge (λ e. cc) is
-sort_of text (Err (Def TriesOutOfRange)) told is = unsound text TriesOutOfRange (λ e. cc) is
-sort_of text (Err (Def (Cycle steps))) told is = unsound text (Cycle steps) (λ e. cc) is
+sort_of text (Err (Def fault)) told is = unsound text fault (λ e. cc) is
+sort_of text (Err fault) told held = misshapen text fault held
 
 -- ---- two answers to one text are of one sort
 
@@ -107,8 +95,8 @@ past : (text : List ℕ) (a b : Result Contents TextFault) → IsLong text a →
 past text a b one short = absurd (omega (arith, one.long, short))
 
 -- what a tree holds, and a text that has none
-treeless : (text : List ℕ) (a b outcome : Result Contents TextFault) → HasNoTree text a → Holds text outcome → TellTheSame a b
-treeless text a b outcome one (short, (top, is, gives)) = absurd (one.none top is)
+treeless : (text : List ℕ) (a b reading : Result Contents TextFault) → HasNoTree text a → Holds text reading → TellTheSame a b
+treeless text a b reading one (short, (top, is, gives)) = absurd (one.none top is)
 
 module _ (one : (c : Contents) → HasOneFault c) (none : (c : Contents) → HasNoFault c) where
   -- sound contents have no fault

@@ -1,22 +1,23 @@
 -- Which faults a tree has, and what they make of a whole reading.
-use Rattle.std.proofs.Common.{◌≡◌, ℕ, ◌≤◌, Bool, true, false, List, [], ◌∷◌, length, Option, Some, None, Result, Ok, Err, IfOk, IfErr, pos, negsuc, cond, not, ◌==◌, codes}
+use Rattle.std.proofs.Common.{◌≡◌, ℕ, ◌≤◌, List, length, Option, Some, None, Result, Ok, Err, IfOk, IfErr, pos, not, ◌==◌, codes}
 use Rattle.std.specs.Str.{bytes_eq}
-use Rattle.toml.specs.Data.{Data, string, integer, float, boolean, datetime, array, table, Members, get_member}
+use Rattle.toml.specs.Data.{Data, string, integer, array, table, Members, get_member}
 use Rattle.saga_def.specs.Contents.{Contents}
 use Rattle.saga_def.specs.Sound.{IsSound}
 use Rattle.saga_def.specs.declared.steps.Price.{Price}
 use Rattle.saga_def.specs.declared.steps.Price.TheVariants.{Never}
-use Rattle.saga_def.specs.declared.faults.DefFault.TheVariants.{Empty, TooManySteps, TooManyNeeds, BadName, DoubleName, UnknownStep, DoubleNeed, PriceTooLarge, TriesOutOfRange, Cycle, OutOfMemory as NoMemory}
+use Rattle.saga_def.specs.declared.faults.DefFault.TheVariants.{OutOfMemory as NoMemory}
 use Rattle.saga_text.specs.declared.faults.TextFault.{TextFault}
 use Rattle.saga_text.specs.declared.faults.TextFault.TheVariants.{TooLong, NotToml, BadFormat, UnknownKey, MissingKey, BadType, Def, OutOfMemory}
 use Rattle.saga_text.specs.declared.keys.Format.{Format}
 use Rattle.saga_text.specs.declared.keys.Format.TheVariants.{First, Second}
 use Rattle.saga_text.specs.declared.limits.TheConstants.{MAX_DEFINITION}
-use Rattle.saga_text.specs.Outcomes.{◌>>=◌, each, Fails}
+use Rattle.saga_bytes.specs.Readings.{each}
+use Rattle.saga_bytes.proofs.ReadingLemmas.{Stays, then, each-stays, either}
 use Rattle.saga_text.specs.Trees.{IsTextOf}
 use Rattle.saga_text.specs.Kinds.{text_of, name_in, price_in, count_in, items_of, list_in, name_at, price_at, count_at, list_at}
 use Rattle.saga_text.specs.Format.{Written, format_in, format_of, has_known_keys, has_names, step_of, needs_of, kinds_of, checked_of, written_of}
-use Rattle.saga_text.specs.Reads.{Holds, Reads, IsFirstCarried}
+use Rattle.saga_text.specs.Reads.{Fails, Holds, Reads, IsFirstCarried}
 
 -- a fault of a tree, and not of its text or of a definition
 abbrev OfTree : TextFault → Type 0
@@ -28,168 +29,86 @@ OfTree _ = ⊥
 
 -- the reading has no other fault
 abbrev StaysInTree : {A : Type 0} → Result A TextFault → Type 0
-StaysInTree (Ok x) = Unit {0}
-StaysInTree (Err fault) = OfTree fault
-
-then : {A B : Type 0} (first : Result A TextFault) (next : A → Result B TextFault) → StaysInTree first → ((x : A) → StaysInTree (next x)) → StaysInTree (first >>= next)
-then (Ok x) next h more = more x
-then (Err fault) next h more = h
-
-each-stays : {A B : Type 0} (read : A → Result B TextFault) (xs : List A) → ((x : A) → StaysInTree (read x)) → StaysInTree (each read xs)
-each-stays read [] h = tt {0}
-each-stays read (x ∷ xs) h = then (read x) _ (h x) (λ y. then (each read xs) _ (each-stays read xs h) (λ ys. tt {0}))
-
-either : {A : Type 0} (test : Bool) (x y : Result A TextFault) → StaysInTree x → StaysInTree y → StaysInTree (cond test x y)
-either true x y h k = h
-either false x y h k = k
+StaysInTree = Stays OfTree
 
 text_of-stays : (value : Data) → StaysInTree (text_of value)
 text_of-stays (string text) = tt {0}
-text_of-stays (integer n) = tt {0}
-text_of-stays (float x) = tt {0}
-text_of-stays (boolean b) = tt {0}
-text_of-stays (datetime d) = tt {0}
-text_of-stays (array items) = tt {0}
-text_of-stays (table entries) = tt {0}
+text_of-stays _ = tt {0}
 
 name_in-stays : (value : Option Data) → StaysInTree (name_in value)
 name_in-stays None = tt {0}
 name_in-stays (Some value) = text_of-stays value
 
 price_in-stays : (value : Option Data) → StaysInTree (price_in value)
-price_in-stays None = tt {0}
 price_in-stays (Some (integer (pos n))) = tt {0}
-price_in-stays (Some (integer (negsuc n))) = tt {0}
-price_in-stays (Some (string text)) = either {A = Price} (bytes_eq text (codes "never")) (Ok Never) (Err BadType) (tt {0}) (tt {0})
-price_in-stays (Some (float x)) = tt {0}
-price_in-stays (Some (boolean b)) = tt {0}
-price_in-stays (Some (datetime d)) = tt {0}
-price_in-stays (Some (array items)) = tt {0}
-price_in-stays (Some (table entries)) = tt {0}
+price_in-stays (Some (string text)) = either {A = Price} OfTree (bytes_eq text (codes "never")) (Ok Never) (Err BadType) (tt {0}) (tt {0})
+price_in-stays _ = tt {0}
 
 count_in-stays : (value : Option Data) → StaysInTree (count_in value)
-count_in-stays None = tt {0}
 count_in-stays (Some (integer (pos n))) = tt {0}
-count_in-stays (Some (integer (negsuc n))) = tt {0}
-count_in-stays (Some (string text)) = tt {0}
-count_in-stays (Some (float x)) = tt {0}
-count_in-stays (Some (boolean b)) = tt {0}
-count_in-stays (Some (datetime d)) = tt {0}
-count_in-stays (Some (array items)) = tt {0}
-count_in-stays (Some (table entries)) = tt {0}
+count_in-stays _ = tt {0}
 
 items_of-stays : (value : Data) → StaysInTree (items_of value)
-items_of-stays (string text) = tt {0}
-items_of-stays (integer n) = tt {0}
-items_of-stays (float x) = tt {0}
-items_of-stays (boolean b) = tt {0}
-items_of-stays (datetime d) = tt {0}
 items_of-stays (array items) = tt {0}
-items_of-stays (table entries) = tt {0}
+items_of-stays _ = tt {0}
 
 list_in-stays : (value : Option Data) → StaysInTree (list_in value)
 list_in-stays None = tt {0}
 list_in-stays (Some value) = items_of-stays value
 
 format_in-stays : (value : Option Data) → StaysInTree (format_in value)
-format_in-stays None = tt {0}
 format_in-stays (Some (integer (pos n))) =
-    either {A = Format} (n == 1) (Ok First) (cond (n == 2) (Ok Second) (Err BadFormat)) (tt {0})
-    (either {A = Format} (n == 2) (Ok Second) (Err BadFormat) (tt {0}) (tt {0}))
-format_in-stays (Some (integer (negsuc n))) = tt {0}
-format_in-stays (Some (string text)) = tt {0}
-format_in-stays (Some (float x)) = tt {0}
-format_in-stays (Some (boolean b)) = tt {0}
-format_in-stays (Some (datetime d)) = tt {0}
-format_in-stays (Some (array items)) = tt {0}
-format_in-stays (Some (table entries)) = tt {0}
-
-name_at-stays : (key : List ℕ) (entries : Members) → StaysInTree (name_at key entries)
-name_at-stays key entries = name_in-stays (get_member key entries)
-
-price_at-stays : (key : List ℕ) (entries : Members) → StaysInTree (price_at key entries)
-price_at-stays key entries = price_in-stays (get_member key entries)
-
-count_at-stays : (key : List ℕ) (entries : Members) → StaysInTree (count_at key entries)
-count_at-stays key entries = count_in-stays (get_member key entries)
-
-list_at-stays : (key : List ℕ) (entries : Members) → StaysInTree (list_at key entries)
-list_at-stays key entries = list_in-stays (get_member key entries)
+    either {A = Format} OfTree (n == 1) (Ok First) _ (tt {0})
+    (either {A = Format} OfTree (n == 2) (Ok Second) (Err BadFormat) (tt {0}) (tt {0}))
+format_in-stays _ = tt {0}
 
 step_of-stays : (value : Data) → StaysInTree (step_of value)
 step_of-stays (table entries) =
-    then (name_at (codes "name") entries) _ (name_at-stays (codes "name") entries) (λ name.
-    then (price_at (codes "run") entries) _ (price_at-stays (codes "run") entries) (λ run.
-    then (price_at (codes "undo") entries) _ (price_at-stays (codes "undo") entries) (λ undo.
-    then (price_at (codes "skip") entries) _ (price_at-stays (codes "skip") entries) (λ skip.
-    then (price_at (codes "keep") entries) _ (price_at-stays (codes "keep") entries) (λ keep.
-    then (count_at (codes "tries") entries) _ (count_at-stays (codes "tries") entries) (λ tries.
-    then (count_at (codes "undo_tries") entries) _ (count_at-stays (codes "undo_tries") entries) (λ undo_tries. tt {0})))))))
-step_of-stays (string text) = tt {0}
-step_of-stays (integer n) = tt {0}
-step_of-stays (float x) = tt {0}
-step_of-stays (boolean b) = tt {0}
-step_of-stays (datetime d) = tt {0}
-step_of-stays (array items) = tt {0}
+    then OfTree (name_at (codes "name") entries) _ (name_in-stays (get_member (codes "name") entries)) (λ name.
+    then OfTree (price_at (codes "run") entries) _ (price_in-stays (get_member (codes "run") entries)) (λ run.
+    then OfTree (price_at (codes "undo") entries) _ (price_in-stays (get_member (codes "undo") entries)) (λ undo.
+    then OfTree (price_at (codes "skip") entries) _ (price_in-stays (get_member (codes "skip") entries)) (λ skip.
+    then OfTree (price_at (codes "keep") entries) _ (price_in-stays (get_member (codes "keep") entries)) (λ keep.
+    then OfTree (count_at (codes "tries") entries) _ (count_in-stays (get_member (codes "tries") entries)) (λ tries.
+    then OfTree (count_at (codes "undo_tries") entries) _ (count_in-stays (get_member (codes "undo_tries") entries)) (λ undo_tries. tt {0})))))))
+step_of-stays _ = tt {0}
 
 needs_of-stays : (value : Data) → StaysInTree (needs_of value)
 needs_of-stays (table entries) =
-    then (list_at (codes "needs") entries) _ (list_at-stays (codes "needs") entries) (λ items. each-stays text_of items text_of-stays)
-needs_of-stays (string text) = tt {0}
-needs_of-stays (integer n) = tt {0}
-needs_of-stays (float x) = tt {0}
-needs_of-stays (boolean b) = tt {0}
-needs_of-stays (datetime d) = tt {0}
-needs_of-stays (array items) = tt {0}
+    then OfTree (list_at (codes "needs") entries) _ (list_in-stays (get_member (codes "needs") entries)) (λ items. each-stays OfTree text_of items text_of-stays)
+needs_of-stays _ = tt {0}
 
 kinds_of-stays : (top : Members) → StaysInTree (kinds_of top)
 unfolding kinds_of
 kinds_of-stays top =
-    then (name_at (codes "name") top) _ (name_at-stays (codes "name") top) (λ name.
-    then (list_at (codes "step") top) _ (list_at-stays (codes "step") top) (λ items.
-    then (each step_of items) _ (each-stays step_of items step_of-stays) (λ steps.
-    then (each needs_of items) _ (each-stays needs_of items needs_of-stays) (λ needs. tt {0}))))
+    then OfTree (name_at (codes "name") top) _ (name_in-stays (get_member (codes "name") top)) (λ name.
+    then OfTree (list_at (codes "step") top) _ (list_in-stays (get_member (codes "step") top)) (λ items.
+    then OfTree (each step_of items) _ (each-stays OfTree step_of items step_of-stays) (λ steps.
+    then OfTree (each needs_of items) _ (each-stays OfTree needs_of items needs_of-stays) (λ needs. tt {0}))))
 
 checked_of-stays : (format : Format) (top : Members) → StaysInTree (checked_of format top)
 checked_of-stays format top =
-    either {A = Written} (not (has_known_keys format top)) (Err UnknownKey) (cond (not (has_names top)) (Err MissingKey) (kinds_of top)) (tt {0})
-    (either {A = Written} (not (has_names top)) (Err MissingKey) (kinds_of top) (tt {0}) (kinds_of-stays top))
+    either {A = Written} OfTree (not (has_known_keys format top)) (Err UnknownKey) _ (tt {0})
+    (either {A = Written} OfTree (not (has_names top)) (Err MissingKey) (kinds_of top) (tt {0}) (kinds_of-stays top))
 
 -- what is written has the faults of a tree alone
 written_of-stays : (top : Members) → StaysInTree (written_of top)
-written_of-stays top = then (format_of top) _ (format_in-stays (get_member (codes "format") top)) (λ format. checked_of-stays format top)
+written_of-stays top = then OfTree (format_of top) _ (format_in-stays (get_member (codes "format") top)) (λ format. checked_of-stays format top)
 
 -- a fault of what is written is the file's
 pub reads_fault : (text : List ℕ) (top : Members) (fault : TextFault) → length text ≤ MAX_DEFINITION → IsTextOf top text → Fails fault (written_of top) → Reads text (Err fault)
 reads_fault text top OutOfMemory short is fails = tt {0}
-reads_fault text top BadFormat short is fails = (short, (top, is, rw fails))
-reads_fault text top UnknownKey short is fails = (short, (top, is, rw fails))
-reads_fault text top MissingKey short is fails = (short, (top, is, rw fails))
-reads_fault text top BadType short is fails = (short, (top, is, rw fails))
 reads_fault text top TooLong short is fails = absurd (rw fails at (written_of-stays top))
 reads_fault text top NotToml short is fails = absurd (rw fails at (written_of-stays top))
 reads_fault text top (Def fault) short is fails = absurd (rw fails at (written_of-stays top))
+reads_fault text top fault short is fails = (short, (top, is, rw fails))
 
 -- the first fault of a definition that the text holds is the file's
 carried : (text : List ℕ) (c : Contents) (fault : TextFault) → Holds text (Ok c) → IsFirstCarried c fault → Reads text (Err fault)
 carried text c OutOfMemory held first = tt {0}
-carried text c TooLong held first = absurd first
-carried text c NotToml held first = absurd first
-carried text c BadFormat held first = absurd first
-carried text c UnknownKey held first = absurd first
-carried text c MissingKey held first = absurd first
-carried text c BadType held first = absurd first
 carried text c (Def NoMemory) held first = absurd first
-carried text c (Def Empty) held first = (c, held, first)
-carried text c (Def TooManySteps) held first = (c, held, first)
-carried text c (Def TooManyNeeds) held first = (c, held, first)
-carried text c (Def BadName) held first = (c, held, first)
-carried text c (Def DoubleName) held first = (c, held, first)
-carried text c (Def UnknownStep) held first = (c, held, first)
-carried text c (Def DoubleNeed) held first = (c, held, first)
-carried text c (Def PriceTooLarge) held first = (c, held, first)
-carried text c (Def TriesOutOfRange) held first = (c, held, first)
-carried text c (Def (Cycle steps)) held first = (c, held, first)
+carried text c (Def fault) held first = (c, held, first)
+carried text c fault held first = absurd first
 
 -- a definition built of what the text holds is the file's
 pub reads_built : (text : List ℕ) (c : Contents) (built : Result Contents TextFault) → Holds text (Ok c) → IfOk built (λ d. (d ≡ c) × IsSound d) → IfErr built (IsFirstCarried c) → Reads text built

@@ -1,4 +1,3 @@
-pub mod Outcomes
 pub mod TreeLemmas
 pub mod NumberLemmas
 pub mod FaultLemmas

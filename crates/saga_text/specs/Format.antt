@@ -11,7 +11,7 @@ use Rattle.saga_text.specs.declared.faults.TextFault.{TextFault}
 use Rattle.saga_text.specs.declared.faults.TextFault.TheVariants.{BadFormat, UnknownKey, MissingKey, BadType}
 use Rattle.saga_text.specs.declared.keys.Format.{Format}
 use Rattle.saga_text.specs.declared.keys.Format.TheVariants.{First, Second}
-use Rattle.saga_text.specs.Outcomes.{◌>>=◌, each}
+use Rattle.saga_bytes.specs.Readings.{◌>>=◌, each}
 use Rattle.saga_text.specs.Trees.{keys_of}
 use Rattle.saga_text.specs.Kinds.{has_key, name_at, price_at, count_at, list_at, texts_at}
 

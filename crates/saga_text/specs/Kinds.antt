@@ -6,7 +6,7 @@ use Rattle.saga_def.specs.declared.steps.Price.{Price}
 use Rattle.saga_def.specs.declared.steps.Price.TheVariants.{Of, Never}
 use Rattle.saga_text.specs.declared.faults.TextFault.{TextFault}
 use Rattle.saga_text.specs.declared.faults.TextFault.TheVariants.{BadType, MissingKey}
-use Rattle.saga_text.specs.Outcomes.{◌>>=◌, each}
+use Rattle.saga_bytes.specs.Readings.{◌>>=◌, each}
 use Rattle.saga_text.specs.Trees.{list_of}
 
 -- the table has the key

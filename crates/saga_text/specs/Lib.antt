@@ -1,5 +1,4 @@
 -- What a definition file is.
-pub mod Outcomes
 pub mod Trees
 pub mod Kinds
 pub mod Format

@@ -1,4 +1,4 @@
--- What reading a file gives.
+-- What reading a file, or a part of it, gives.
 use Rattle.std.specs.Prelude.{ℕ, List, length, Result, Ok, Err, ◌≡◌, ◌<◌, ◌≤◌}
 use Rattle.toml.specs.Data.{Members}
 use Rattle.saga_def.specs.Contents.{Contents}
@@ -11,9 +11,19 @@ use Rattle.saga_text.specs.declared.faults.TextFault.TheVariants.{TooLong, NotTo
 use Rattle.saga_text.specs.Trees.{IsTextOf}
 use Rattle.saga_text.specs.Format.{contents_of}
 
+-- the fault is the one of that reading, or want of memory
+abbrev pub Fails : {A : Type 0} → TextFault → Result A TextFault → Type 0
+Fails OutOfMemory reading = Unit {0}
+Fails fault reading = reading ≡ Err fault
+
+-- the value, as `view` shows it, or the fault of that reading, or want of memory
+abbrev pub Gives : {A B : Type 0} → (B → A) → Result B TextFault → Result A TextFault → Type 0
+Gives view (Ok x) reading = reading ≡ Ok (view x)
+Gives view (Err fault) reading = Fails fault reading
+
 -- the text is short enough, and holds what this reading of a tree gives
 abbrev pub Holds : List ℕ → Result Contents TextFault → Type 0
-Holds text outcome = (length text ≤ max_definition) × ((top : Members) × IsTextOf top text × (contents_of top ≡ outcome))
+Holds text reading = (length text ≤ max_definition) × ((top : Members) × IsTextOf top text × (contents_of top ≡ reading))
 
 -- the definition that the text holds, which is sound; or else the first fault, want of memory apart
 abbrev pub Reads : List ℕ → Result Contents TextFault → Type 0

@@ -1,7 +1,7 @@
 //! Reading what a whole file writes.
 ghost use Rattle.std.specs.Prelude.{◌≡◌, map};
 ghost use Rattle.toml.specs.View.{view, table_view};
-ghost use Rattle.saga_text.specs.Outcomes.{Gives};
+ghost use Rattle.saga_text.specs.Reads.{Gives};
 ghost use Rattle.saga_text.specs.Format.{step_items, has_known_keys, has_names, kinds_of, written_of};
 ghost use Rattle.saga_text.specs.Drafts.{written};
 

@@ -2,7 +2,8 @@
 ghost use Rattle.std.specs.Prelude.{◌≡◌, map, option_map, string_bytes};
 ghost use Rattle.toml.specs.Data.{get_member};
 ghost use Rattle.toml.specs.View.{view, table_view};
-ghost use Rattle.saga_text.specs.Outcomes.{Gives, each, seen};
+ghost use Rattle.saga_bytes.specs.Readings.{each, seen};
+ghost use Rattle.saga_text.specs.Reads.{Gives};
 ghost use Rattle.saga_text.specs.Kinds.{has_key, text_of, name_at, price_in, price_at, count_in, count_at, items_of, list_at, texts_at};
 
 use crate::faults::TextFault;

@@ -1,7 +1,8 @@
 //! Reading the tables of the list `step`.
 ghost use Rattle.std.specs.Prelude.{◌≡◌, map};
 ghost use Rattle.toml.specs.View.{view, table_view};
-ghost use Rattle.saga_text.specs.Outcomes.{Gives, each};
+ghost use Rattle.saga_bytes.specs.Readings.{each};
+ghost use Rattle.saga_text.specs.Reads.{Gives};
 ghost use Rattle.saga_text.specs.Format.{step_of, needs_of};
 ghost use Rattle.saga_text.specs.Drafts.{names_of};
 

@@ -1,8 +1,7 @@
 use Rattle.std.proofs.Common.{◌≡◌, map, drop}
 use Rattle.serde_json.specs.View.{view}
-use Rattle.saga_json.specs.Reads.{each}
+use Rattle.saga_json.specs.Reads.{each, with_front}
 use Rattle.saga_cert.specs.Cases.{state_of}
-use Rattle.saga_json.proofs.Fronts.{with_front}
 use Rattle.saga_cert.proofs.states.states_of.Given as goal
 
 abbrev pub invariant-loop-item : goal.invariant-loop-item

@@ -3,7 +3,7 @@ use Rattle.std.proofs.lemmas.List.{length-map}
 use Rattle.toml.specs.View.{view}
 use Rattle.saga_text.specs.Drafts.{names_of}
 use Rattle.saga_text.specs.Format.{step_of, needs_of}
-use Rattle.saga_text.proofs.Outcomes.{length-each}
+use Rattle.saga_bytes.proofs.ReadingLemmas.{length-each}
 use Rattle.saga_text.proofs.documents.kinds_of.Goals as goal
 
 pub invariant_of-result : goal.invariant_of-result

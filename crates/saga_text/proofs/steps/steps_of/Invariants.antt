@@ -1,8 +1,7 @@
 use Rattle.std.proofs.Common.{◌≡◌, map, drop}
 use Rattle.toml.specs.View.{view}
-use Rattle.saga_text.specs.Outcomes.{each}
+use Rattle.saga_bytes.specs.Readings.{each, with_front}
 use Rattle.saga_text.specs.Format.{step_of}
-use Rattle.saga_text.proofs.Outcomes.{with_front}
 use Rattle.saga_text.proofs.steps.steps_of.Given as goal
 
 abbrev pub invariant-loop-item : goal.invariant-loop-item
