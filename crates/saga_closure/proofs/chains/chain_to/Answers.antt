@@ -30,11 +30,11 @@ index-requires c = omega (arith, c.loop-v.invariant.inside, c.requires.at.search
 pub index-by-requires : goal.index-by-requires
 index-by-requires c = omega (arith, c.loop-v.invariant.inside, c.requires.at.search.by_sized, c.args.found.now.by.ok.0)
 
-pub tail-v-requires-clause-far : goal.tail-v-requires-clause-far
-tail-v-requires-clause-far c = (from (goal.at.tail-v-requires-clause-far c).After-index-by (above (goal.at.tail-v-requires-clause-far c).In-loop-v)).3
+pub ends-v-requires-clause-far : goal.ends-v-requires-clause-far
+ends-v-requires-clause-far c = (from (goal.at.ends-v-requires-clause-far c).After-index-by (above (goal.at.ends-v-requires-clause-far c).In-loop-v)).3
 
-pub tail-v-requires-clause-inside : goal.tail-v-requires-clause-inside
-tail-v-requires-clause-inside c = (from (goal.at.tail-v-requires-clause-inside c).After-index-by (above (goal.at.tail-v-requires-clause-inside c).In-loop-v)).4
+pub ends-v-requires-clause-inside : goal.ends-v-requires-clause-inside
+ends-v-requires-clause-inside c = (from (goal.at.ends-v-requires-clause-inside c).After-index-by (above (goal.at.ends-v-requires-clause-inside c).In-loop-v)).4
 
 pub loop-v-init : goal.loop-v-init
 loop-v-init c = record {
@@ -48,13 +48,13 @@ loop-v-preserved c =
     let t : Terms = terms_in c.args.residual.now.net.now in
     let came = from (goal.at.loop-v-preserved c).After-index-by (above (goal.at.loop-v-preserved c).In-loop-v) in
     record {
-      inside = c.tail-v.ensures.inside;
-      low = rw c.tail-v.ensures.is (omega (arith, came.2, c.loop-v.invariant.low));
-      back = rw (c.in_ok-push-2.ensures.items, c.tail-v.ensures.is) (back_more t c.args.goal.step c.loop-v.v _ c.loop-v.chain.items c.loop-v.invariant.back came.0 (needs_open t c.args.residual.now.on.now _ _ c.loop-v.v c.requires.empty came.1));
+      inside = c.ends-v.ensures.tail_inside;
+      low = rw c.ends-v.ensures.tail (omega (arith, came.2, c.loop-v.invariant.low));
+      back = rw (c.in_ok-push-2.ensures.items, c.ends-v.ensures.tail) (back_more t c.args.goal.step c.loop-v.v _ c.loop-v.chain.items c.loop-v.invariant.back came.0 (needs_open t c.args.residual.now.on.now _ _ c.loop-v.v c.requires.empty came.1));
     }
 
 pub loop-v-smaller : goal.loop-v-smaller
-loop-v-smaller c = rw c.tail-v.ensures.is (omega (arith, (from (goal.at.loop-v-smaller c).After-index-by (above (goal.at.loop-v-smaller c).In-loop-v)).2))
+loop-v-smaller c = rw c.ends-v.ensures.tail (omega (arith, (from (goal.at.loop-v-smaller c).After-index-by (above (goal.at.loop-v-smaller c).In-loop-v)).2))
 
 pub returns : goal.returns
 returns c =

@@ -33,11 +33,11 @@ loop-by-init c =
           (climbs_out t c.args.residual.now.on.now level c.args.goal.depth c.args.goal.step (record { arc = t.count + c.args.goal.step; forward = true }) c.requires.goes c.requires.level));
     }
 
-pub tail-v-requires-clause-far : goal.tail-v-requires-clause-far
-tail-v-requires-clause-far c = let from = came_from (terms_in c.args.residual.now.net.now) c.args.residual.now.on.now c.args.found.now.level.items c.args.found.now.by.items c.args.found.now.order.items c.args.goal.first (length c.args.found.now.order.items) c.args.goal.first c.args.goal.depth c.args.goal.depth c.loop-by.v c.index-by.result.now c.requires.search c.loop-by.invariant.inside (omega (arith, read (goal.at.tail-v-requires-clause-far c).After-index, c.loop-by-test.true)) c.loop-by.invariant.low c.index-by.ensures in from.3
+pub ends-v-requires-clause-far : goal.ends-v-requires-clause-far
+ends-v-requires-clause-far c = let from = came_from (terms_in c.args.residual.now.net.now) c.args.residual.now.on.now c.args.found.now.level.items c.args.found.now.by.items c.args.found.now.order.items c.args.goal.first (length c.args.found.now.order.items) c.args.goal.first c.args.goal.depth c.args.goal.depth c.loop-by.v c.index-by.result.now c.requires.search c.loop-by.invariant.inside (omega (arith, read (goal.at.ends-v-requires-clause-far c).After-index, c.loop-by-test.true)) c.loop-by.invariant.low c.index-by.ensures in from.3
 
-pub tail-v-requires-clause-inside : goal.tail-v-requires-clause-inside
-tail-v-requires-clause-inside c = let from = came_from (terms_in c.args.residual.now.net.now) c.args.residual.now.on.now c.args.found.now.level.items c.args.found.now.by.items c.args.found.now.order.items c.args.goal.first (length c.args.found.now.order.items) c.args.goal.first c.args.goal.depth c.args.goal.depth c.loop-by.v c.index-by.result.now c.requires.search c.loop-by.invariant.inside (omega (arith, read (goal.at.tail-v-requires-clause-inside c).After-index, c.loop-by-test.true)) c.loop-by.invariant.low c.index-by.ensures in from.4
+pub ends-v-requires-clause-inside : goal.ends-v-requires-clause-inside
+ends-v-requires-clause-inside c = let from = came_from (terms_in c.args.residual.now.net.now) c.args.residual.now.on.now c.args.found.now.level.items c.args.found.now.by.items c.args.found.now.order.items c.args.goal.first (length c.args.found.now.order.items) c.args.goal.first c.args.goal.depth c.args.goal.depth c.loop-by.v c.index-by.result.now c.requires.search c.loop-by.invariant.inside (omega (arith, read (goal.at.ends-v-requires-clause-inside c).After-index, c.loop-by-test.true)) c.loop-by.invariant.low c.index-by.ensures in from.4
 
 pub loop-by-preserved : goal.loop-by-preserved
 loop-by-preserved c =
@@ -47,7 +47,7 @@ loop-by-preserved c =
     let level : List ℕ = c.args.found.now.level.items in
     let from = came_from (terms_in c.args.residual.now.net.now) c.args.residual.now.on.now c.args.found.now.level.items c.args.found.now.by.items c.args.found.now.order.items c.args.goal.first (length c.args.found.now.order.items) c.args.goal.first c.args.goal.depth c.args.goal.depth c.loop-by.v c.index-by.result.now c.requires.search c.loop-by.invariant.inside (omega (arith, read (goal.at.loop-by-preserved c).After-index, c.loop-by-test.true)) c.loop-by.invariant.low c.index-by.ensures in
     let one = climbs t c.args.residual.now.on.now level c.args.goal.depth _ c.loop-by.v c.index-by.result.now from.1 from.2 c.loop-by.invariant.low in
-    rw (c.tail-v.ensures.is) (record {
+    rw (c.ends-v.ensures.tail) (record {
       inside = from.0;
       low = omega (arith, from.2, c.loop-by.invariant.low);
       trail = rw c.in_ok-push-2.ensures.items (trail_front (Climbs (arcs_in net) on (node_level c.args.goal.depth level)) c.loop-by.path.items c.index-by.result.now _ (2 + c.loop-by.v) 1 one c.loop-by.invariant.trail);
@@ -56,7 +56,7 @@ loop-by-preserved c =
 pub loop-by-smaller : goal.loop-by-smaller
 loop-by-smaller c =
     let from = came_from (terms_in c.args.residual.now.net.now) c.args.residual.now.on.now c.args.found.now.level.items c.args.found.now.by.items c.args.found.now.order.items c.args.goal.first (length c.args.found.now.order.items) c.args.goal.first c.args.goal.depth c.args.goal.depth c.loop-by.v c.index-by.result.now c.requires.search c.loop-by.invariant.inside (omega (arith, read (goal.at.loop-by-smaller c).After-index, c.loop-by-test.true)) c.loop-by.invariant.low c.index-by.ensures in
-    rw c.tail-v.ensures.is (omega (arith, from.2))
+    rw c.ends-v.ensures.tail (omega (arith, from.2))
 
 pub returns : goal.returns
 returns c =
