@@ -129,59 +129,45 @@ module _ (t : Terms) (on level : List ℕ) (by : List ResidualArc) (order : List
     pub label_place : (j : ℕ) → j < length order → get_or (order ++ w ∷ []) j 0 ≡ get_or order j 0
     label_place = place
 
+  -- further steps are done, or dry
+  module _ (next' dried' : ℕ) (bounds : (first ≤ next') × (next' ≤ end)) (dries : dried' ≤ depth + 1) where
+    go_on : ((j w : ℕ) → first ≤ j → j < next' → w < t.count → Goes t on (get_or order j 0) w → get_or level w 0 ≤ depth + 1) → ((v : ℕ) → v < t.count → get_or level v 0 < dried' → GoesOut t on v → ⊥) → IsSearch t on level by order first end next' depth dried'
+    go_on done_here dry = record {
+      sized = search.sized;
+      by_sized = search.by_sized;
+      few_steps = search.few_steps;
+      bounds = (bounds.0, bounds.1, search.bounds.2);
+      dries = dries;
+      inside = search.inside;
+      counted = search.counted;
+      deep = search.deep;
+      levels = search.levels;
+      here = search.here;
+      there = search.there;
+      listed = search.listed;
+      listed_next = search.listed_next;
+      source = search.source;
+      done = search.done;
+      done_here = done_here;
+      dry = dry;
+      back = search.back;
+    }
+
   -- one more step of the layer is done
   pub next_more : next < end → ((w : ℕ) → w < t.count → Goes t on (get_or order next 0) w → get_or level w 0 ≤ depth + 1) → IsSearch t on level by order first end (next + 1) depth dried
-  next_more less reach = record {
-    sized = search.sized;
-    by_sized = search.by_sized;
-    few_steps = search.few_steps;
-    dries = search.dries;
-    inside = search.inside;
-    counted = search.counted;
-    deep = search.deep;
-    levels = search.levels;
-    here = search.here;
-    there = search.there;
-    listed = search.listed;
-    listed_next = search.listed_next;
-    source = search.source;
-    done = search.done;
-    dry = search.dry;
-    back = search.back;
-    bounds = (omega (arith, search.bounds), omega arith, search.bounds.2);
-    done_here = λ j w le lt w_lt goes. elim (cases_eq j next) [
-      | inl e ↦ reach w w_lt (rw e at goes)
-      | inr ne ↦ search.done_here j w le (omega arith) w_lt goes
-    ];
-  }
+  next_more less reach = go_on (next + 1) dried (omega (arith, search.bounds), omega arith) search.dries (λ j w le lt w_lt goes. elim (cases_eq j next) [
+    | inl e ↦ reach w w_lt (rw e at goes)
+    | inr ne ↦ search.done_here j w le (omega arith) w_lt goes
+  ]) search.dry
 
   -- no step of the layer sends more to the sink
   pub dry_more : dried ≡ depth → ((j : ℕ) → first ≤ j → j < end → GoesOut t on (get_or order j 0) → ⊥) → IsSearch t on level by order first end next depth (depth + 1)
-  dry_more is none_goes = record {
-    sized = search.sized;
-    by_sized = search.by_sized;
-    few_steps = search.few_steps;
-    bounds = search.bounds;
-    dries = omega arith;
-    inside = search.inside;
-    counted = search.counted;
-    deep = search.deep;
-    levels = search.levels;
-    here = search.here;
-    there = search.there;
-    listed = search.listed;
-    listed_next = search.listed_next;
-    source = search.source;
-    done = search.done;
-    done_here = search.done_here;
-    dry = λ v lt less goes. elim (cases_eq (get_or level v 0) depth) [
-      | inl e ↦
-          let at = search.listed v lt e in
-          none_goes at.0 at.1 at.2 (rw at.3 goes)
-      | inr ne ↦ search.dry v lt (omega arith) goes
-    ];
-    back = search.back;
-  }
+  dry_more is none_goes = go_on next (depth + 1) (search.bounds.0, search.bounds.1) (omega arith) search.done_here (λ v lt less goes. elim (cases_eq (get_or level v 0) depth) [
+    | inl e ↦
+        let at = search.listed v lt e in
+        none_goes at.0 at.1 at.2 (rw at.3 goes)
+    | inr ne ↦ search.dry v lt (omega arith) goes
+  ])
 
   -- one more layer is done
   pub layer_end : next ≡ end → first < end → IsSearch t on level by order end (length order) end (depth + 1) dried
