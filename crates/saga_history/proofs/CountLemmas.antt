@@ -9,7 +9,7 @@ use Rattle.saga_def.specs.Sound.{IsSound}
 use Rattle.saga_case.specs.declared.answers.Answer.{Answer}
 use Rattle.saga_case.specs.declared.answers.Answer.TheVariants as answer
 use Rattle.saga_case.specs.declared.states.StepState.{StepState}
-use Rattle.saga_case.specs.declared.states.StepState.TheVariants.{Waiting, Running, Committed, Failed, Undoing, Undone, Fixed}
+use Rattle.saga_case.specs.declared.states.StepState.TheVariants.{Waiting}
 use Rattle.saga_case.specs.Flow.{sum_below}
 use Rattle.saga_case.proofs.SumLemmas.{sum_same, sum_le, sum_add, sum_zero, sum_one}
 use Rattle.saga_history.specs.declared.events.Event.{Event}
@@ -37,33 +37,19 @@ debt Stuck = 0
 
 abbrev is_open : Change → Bool
 is_open (opens d) = true
-is_open (moves s m) = false
-is_open starts_plan = false
-is_open drops_plan = false
-is_open (adopts a) = false
-is_open aborts = false
+is_open _ = false
 
 abbrev is_moved : Change → Bool
-is_moved (opens d) = false
 is_moved (moves s m) = true
-is_moved starts_plan = false
-is_moved drops_plan = false
-is_moved (adopts a) = false
-is_moved aborts = false
+is_moved _ = false
 
 abbrev is_plan : Change → Bool
-is_plan (opens d) = false
-is_plan (moves s m) = false
 is_plan starts_plan = true
-is_plan drops_plan = false
-is_plan (adopts a) = false
-is_plan aborts = false
+is_plan _ = false
 
 abbrev in_plan : Turn → ℕ
-in_plan Going = 0
-in_plan Draining = 0
 in_plan Planning = 1
-in_plan Stuck = 0
+in_plan _ = 0
 
 -- all seven counts after one more change
 record Counts (e : Change) (l : List Change) : Type 0 where
@@ -100,35 +86,16 @@ debt_answer (answer.Blocked chain) = (refl, refl)
 
 debt_move : (m : Transition) (t : Turn) → debt (turn_after_transition m t) ≤ debt t + one (is_final_failure m)
 debt_move transition.StartRun t = omega arith
-debt_move transition.Commit t = omega arith
-debt_move transition.Missed t = omega arith
-debt_move transition.Fail t = omega arith
-debt_move transition.StartUndo t = omega arith
-debt_move transition.Undone t = omega arith
-debt_move transition.UndoMissed t = omega arith
-debt_move transition.UndoFail t = omega arith
+debt_move _ t = omega arith
 
 plan_move : (m : Transition) (t : Turn) → (t ≡ Planning → ⊥) → in_plan (turn_after_transition m t) ≡ in_plan t
-plan_move transition.StartRun t none = refl
-plan_move transition.Commit t none = refl
-plan_move transition.Missed t none = refl
-plan_move transition.Fail Going none = refl
-plan_move transition.Fail Draining none = refl
 plan_move transition.Fail Planning none = absurd (none refl)
-plan_move transition.Fail Stuck none = refl
-plan_move transition.StartUndo t none = refl
-plan_move transition.Undone t none = refl
-plan_move transition.UndoMissed t none = refl
-plan_move transition.UndoFail Going none = refl
-plan_move transition.UndoFail Draining none = refl
 plan_move transition.UndoFail Planning none = absurd (none refl)
-plan_move transition.UndoFail Stuck none = refl
+plan_move _ _ none = refl
 
 plan_abort : (t : Turn) → (in_plan (turn_after_abort t) ≡ in_plan t) × (debt (turn_after_abort t) ≤ debt t + 1)
 plan_abort Going = (refl, omega arith)
-plan_abort Draining = (refl, omega arith)
-plan_abort Planning = (refl, omega arith)
-plan_abort Stuck = (refl, omega arith)
+plan_abort _ = (refl, omega arith)
 
 kept_none : Kept []
 kept_none = record { paid = omega arith; planned = omega arith; once = refl; opened_once = omega arith; in_all = omega arith }
@@ -174,12 +141,8 @@ keeps d (aborts ∷ l) legal =
 
 -- ---- sums over the steps
 abbrev weight : (Transition → ℕ) → Change → ℕ
-weight w (opens d) = 0
 weight w (moves s m) = w m
-weight w starts_plan = 0
-weight w drops_plan = 0
-weight w (adopts a) = 0
-weight w aborts = 0
+weight w _ = 0
 
 abbrev at_step : ℕ → ℕ → ℕ → ℕ
 at_step t v s = if eqb s t then v else 0
@@ -228,13 +191,7 @@ length-unit (m ∷ ms) = omega (arith, sum_by-cons unit m ms, length-unit ms)
 
 failure_parts : (m : Transition) → final_failure m ≡ one (same_transition transition.Fail m) + one (same_transition transition.UndoFail m)
 failure_parts transition.StartRun = omega arith
-failure_parts transition.Commit = omega arith
-failure_parts transition.Missed = omega arith
-failure_parts transition.Fail = omega arith
-failure_parts transition.StartUndo = omega arith
-failure_parts transition.Undone = omega arith
-failure_parts transition.UndoMissed = omega arith
-failure_parts transition.UndoFail = omega arith
+failure_parts _ = omega arith
 
 failures_in : (ms : List Transition) → sum_by final_failure ms ≡ count_of transition.Fail ms + count_of transition.UndoFail ms
 failures_in [] = omega arith
@@ -242,12 +199,7 @@ failures_in (m ∷ ms) = omega (arith, sum_by-cons final_failure m ms, failures_
 
 failures_by_state : (x : StepState) (a b : ℕ) → a ≡ one (has_failed x) → b ≡ one (has_fixed x) → a + b ≤ 1
 failures_by_state Waiting a b p q = omega arith
-failures_by_state Running a b p q = omega arith
-failures_by_state Committed a b p q = omega arith
-failures_by_state Failed a b p q = omega arith
-failures_by_state Undoing a b p q = omega arith
-failures_by_state Undone a b p q = omega arith
-failures_by_state Fixed a b p q = omega arith
+failures_by_state _ a b p q = omega arith
 
 -- a step fails for good at most once
 fails_once : (d : Contents) (l : List Change) (s : ℕ) → IsLegalUnder d l → sum_by final_failure (transitions l s) ≤ 1
@@ -257,19 +209,11 @@ fails_once d l s legal =
 
 weigh_moved : (e : Change) → weight unit e ≡ one (is_moved e)
 weigh_moved (opens k) = refl
-weigh_moved (moves s m) = refl
-weigh_moved starts_plan = refl
-weigh_moved drops_plan = refl
-weigh_moved (adopts a) = refl
-weigh_moved aborts = refl
+weigh_moved _ = refl
 
 weigh_failed : (e : Change) → weight final_failure e ≡ one (is_failure e)
 weigh_failed (opens k) = refl
-weigh_failed (moves s m) = refl
-weigh_failed starts_plan = refl
-weigh_failed drops_plan = refl
-weigh_failed (adopts a) = refl
-weigh_failed aborts = refl
+weigh_failed _ = refl
 
 moved_in : (l : List Change) → sum_by (weight unit) l ≡ count_by is_moved l
 moved_in [] = refl
@@ -297,9 +241,7 @@ step_short d l sound legal s lt =
 
 plan_debt : (t : Turn) → in_plan t ≤ debt t
 plan_debt Going = omega arith
-plan_debt Draining = omega arith
-plan_debt Planning = omega arith
-plan_debt Stuck = omega arith
+plan_debt _ = omega arith
 
 once_at_most : (b : Bool) → one b ≤ 1
 once_at_most true = omega arith

@@ -19,21 +19,14 @@ use Rattle.saga_history.proofs.NeedLemmas.{is_active, pairs, undo_off}
 
 pub active_stands : (b a : StepState) → is_active b ≡ true → SuitsNeed b a → is_standing a ≡ true
 active_stands Waiting a t fit = cc
-active_stands Running a t fit = fit
-active_stands Committed a t fit = fit
 active_stands Failed a t fit = cc
-active_stands Undoing a t fit = fit
 active_stands Undone a t fit = cc
-active_stands Fixed a t fit = fit
+active_stands _ a t fit = fit
 
 pub stands_active : (a : StepState) → is_standing a ≡ true → is_active a ≡ true
-stands_active Waiting t = cc
-stands_active Running t = cc
 stands_active Committed t = refl
-stands_active Failed t = cc
-stands_active Undoing t = cc
-stands_active Undone t = cc
 stands_active Fixed t = refl
+stands_active _ t = cc
 
 -- where a step is active, all that a chain of needs leads to is
 active_down : (d : Contents) (l : List Change) → IsLegalUnder d l → (n q p : ℕ) → Leads d.needs n q p → is_active (state l q) ≡ true → is_active (state l p) ≡ true
@@ -59,12 +52,9 @@ held d l legal p q order now =
 
 off_inactive : (a : StepState) → IsTrue (is_off a) → is_active a ≡ false
 off_inactive Waiting t = refl
-off_inactive Running t = cc
-off_inactive Committed t = cc
 off_inactive Failed t = refl
-off_inactive Undoing t = cc
 off_inactive Undone t = refl
-off_inactive Fixed t = cc
+off_inactive _ t = cc
 
 -- where those that need p directly are off, none that it precedes is active
 dependants_off : (d : Contents) (l : List Change) → IsLegalUnder d l → (p q : ℕ) → Precedes d.needs p q → ((b : ℕ) → NeedsDirectly d.needs b p → IsTrue (is_off (state l b))) → is_active (state l q) ≡ true → ⊥
@@ -75,42 +65,24 @@ dependants_off d l legal p q order off now =
     cc
 
 undone_from : (x : StepState) → is_active x ≡ false → has_committed x ≡ true → has_undone x ≡ true
-undone_from Waiting a c = cc
-undone_from Running a c = cc
-undone_from Committed a c = cc
-undone_from Failed a c = cc
-undone_from Undoing a c = cc
 undone_from Undone a c = refl
-undone_from Fixed a c = cc
+undone_from _ a c = cc
 
 was_active : (m : Transition) (z : StepState) → z ≡ state_before m → has_committed (state_after m) ≡ true → is_active z ≡ true
 was_active transition.StartRun z f c = cc
-was_active transition.Commit z f c = ap is_active f
 was_active transition.Missed z f c = cc
 was_active transition.Fail z f c = cc
-was_active transition.StartUndo z f c = ap is_active f
-was_active transition.Undone z f c = ap is_active f
-was_active transition.UndoMissed z f c = ap is_active f
-was_active transition.UndoFail z f c = ap is_active f
+was_active _ z f c = ap is_active f
 
 -- undoing or undone
 abbrev pub is_leaving : StepState → Bool
-is_leaving Waiting = false
-is_leaving Running = false
-is_leaving Committed = false
-is_leaving Failed = false
 is_leaving Undoing = true
 is_leaving Undone = true
-is_leaving Fixed = false
+is_leaving _ = false
 
 leaving_down : (x : StepState) → is_leaving x ≡ true → is_standing x ≡ true → ⊥
 leaving_down Waiting l s = cc
-leaving_down Running l s = cc
-leaving_down Committed l s = cc
-leaving_down Failed l s = cc
-leaving_down Undoing l s = cc
-leaving_down Undone l s = cc
-leaving_down Fixed l s = cc
+leaving_down _ l s = cc
 
 -- the claim: a step that is leaving, and one that it precedes and that has committed
 abbrev pub WasUndoneBefore : List Change → ℕ → ℕ → Type 0

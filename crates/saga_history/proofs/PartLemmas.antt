@@ -7,7 +7,7 @@ use Rattle.std.proofs.lemmas.List.{take_more, take-append-drop, take-take}
 use Rattle.std.proofs.lemmas.Option.{slice_get-get_or, slice_get_past}
 use Rattle.saga_def.specs.Contents.{Contents}
 use Rattle.saga_history.specs.declared.events.Event.{Event}
-use Rattle.saga_history.specs.Changes.{Change, opens, moves, starts_plan, drops_plan, adopts, aborts, saga_of, change_of, past, changes}
+use Rattle.saga_history.specs.Changes.{Change, opens, saga_of, change_of, past, changes}
 use Rattle.saga_history.specs.States.{state}
 use Rattle.saga_history.specs.Turns.{opened_with, in_goal}
 use Rattle.saga_history.specs.Rules.{HasPhase, definition, IsAllowed, IsLegal}
@@ -82,19 +82,11 @@ among i (x ∷ xs) = eqb i x || among i xs
 opened_append : (l m : List Change) → opened_with l ≡ None → opened_with m ≡ None → opened_with (l ++ m) ≡ None
 opened_append [] m p q = q
 opened_append (opens k ∷ l) m p q = cc
-opened_append (moves s t ∷ l) m p q = opened_append l m p q
-opened_append (starts_plan ∷ l) m p q = opened_append l m p q
-opened_append (drops_plan ∷ l) m p q = opened_append l m p q
-opened_append (adopts a ∷ l) m p q = opened_append l m p q
-opened_append (aborts ∷ l) m p q = opened_append l m p q
+opened_append (_ ∷ l) m p q = opened_append l m p q
 
 not_opening : (c : Change) → is_opening c ≡ false → opened_with (c ∷ []) ≡ None
 not_opening (opens k) e = cc
-not_opening (moves s t) e = refl
-not_opening starts_plan e = refl
-not_opening drops_plan e = refl
-not_opening (adopts a) e = refl
-not_opening aborts e = refl
+not_opening _ e = refl
 
 -- a saga that is not among those that a history opens is not opened in it
 not_opened : (i : ℕ) (h : List Event) → among i (opened_sagas h) ≡ false → opened_with (changes i (past h)) ≡ None

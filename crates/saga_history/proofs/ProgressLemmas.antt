@@ -7,7 +7,7 @@ use Rattle.saga_def.specs.Sound.{IsSound}
 use Rattle.saga_def.specs.Order.{IsClosed}
 use Rattle.saga_def.proofs.OrderLemmas.{known_on, known_step}
 use Rattle.saga_case.specs.declared.states.StepState.{StepState}
-use Rattle.saga_case.specs.declared.states.StepState.TheVariants.{Waiting, Running, Committed, Failed, Undoing, Undone, Fixed}
+use Rattle.saga_case.specs.declared.states.StepState.TheVariants.{Waiting, Running, Committed, Undoing, Fixed}
 use Rattle.saga_case.proofs.ClosedLemmas.{closed_direct}
 use Rattle.saga_order.specs.Shape.{shape_of}
 use Rattle.saga_order.proofs.LawLemmas.{sets_have_first, sets_have_last, ordered_from_sound}
@@ -38,66 +38,36 @@ search_below p (suc n) = below_more p n (cases_Bool (p n)) (search_below p n)
 
 waits_from : (x : StepState) → is_busy x ≡ false → suits true x ≡ true → is_standing x ≡ false → is_waiting x ≡ true
 waits_from Waiting q m s = refl
-waits_from Running q m s = cc
-waits_from Committed q m s = cc
-waits_from Failed q m s = cc
-waits_from Undoing q m s = cc
-waits_from Undone q m s = cc
-waits_from Fixed q m s = cc
+waits_from _ q m s = cc
 
 stands_from : (x : StepState) → is_busy x ≡ false → suits true x ≡ true → (is_waiting x ≡ true → ⊥) → is_standing x ≡ true
 stands_from Waiting q m s = absurd (s refl)
-stands_from Running q m s = cc
 stands_from Committed q m s = refl
-stands_from Failed q m s = cc
-stands_from Undoing q m s = cc
-stands_from Undone q m s = cc
 stands_from Fixed q m s = refl
+stands_from _ q m s = cc
 
 is_waiting-eq : (x : StepState) → is_waiting x ≡ true → x ≡ Waiting
 is_waiting-eq Waiting t = refl
-is_waiting-eq Running t = cc
-is_waiting-eq Committed t = cc
-is_waiting-eq Failed t = cc
-is_waiting-eq Undoing t = cc
-is_waiting-eq Undone t = cc
-is_waiting-eq Fixed t = cc
+is_waiting-eq _ t = cc
 
 abbrev is_committed : StepState → Bool
-is_committed Waiting = false
-is_committed Running = false
 is_committed Committed = true
-is_committed Failed = false
-is_committed Undoing = false
-is_committed Undone = false
-is_committed Fixed = false
+is_committed _ = false
 
 commits_from : (x : StepState) → is_busy x ≡ false → suits false x ≡ true → is_off x ≡ false → is_committed x ≡ true
-commits_from Waiting q m s = cc
-commits_from Running q m s = cc
 commits_from Committed q m s = refl
-commits_from Failed q m s = cc
-commits_from Undoing q m s = cc
-commits_from Undone q m s = cc
-commits_from Fixed q m s = cc
+commits_from _ q m s = cc
 
 off_from : (x : StepState) → is_busy x ≡ false → suits false x ≡ true → (is_committed x ≡ true → ⊥) → is_off x ≡ true
-off_from Waiting q m s = refl
 off_from Running q m s = cc
 off_from Committed q m s = absurd (s refl)
-off_from Failed q m s = refl
 off_from Undoing q m s = cc
-off_from Undone q m s = refl
 off_from Fixed q m s = cc
+off_from _ q m s = refl
 
 is_committed-eq : (x : StepState) → is_committed x ≡ true → x ≡ Committed
-is_committed-eq Waiting t = cc
-is_committed-eq Running t = cc
 is_committed-eq Committed t = refl
-is_committed-eq Failed t = cc
-is_committed-eq Undoing t = cc
-is_committed-eq Undone t = cc
-is_committed-eq Fixed t = cc
+is_committed-eq _ t = cc
 
 both : (a b : Bool) → a ≡ true → b ≡ true → (a && b) ≡ true
 both a b p q = rw (p, q) refl
