@@ -1,5 +1,6 @@
 -- How many events a saga has.
 use Rattle.std.proofs.Common.{◌≡◌, ◌≢◌, ℕ, zero, suc, ◌+◌, ◌<◌, ◌≤◌, Bool, true, false, cond, List, [], ◌∷◌, length, eqb, refl, sym, ap, ◌∙◌, inl, inr, arith}
+use Rattle.saga_history.specs.Merges.{is_opening}
 use Rattle.std.specs.Prelude.{All, if◌then◌else◌, count_by, sum_by}
 use Rattle.std.proofs.lemmas.Bool.{cases_Bool, eq-eqb, ne_eqb}
 use Rattle.std.proofs.lemmas.Option.{slice_get-get_or}
@@ -35,10 +36,6 @@ debt Draining = 1
 debt Planning = 1
 debt Stuck = 0
 
-abbrev is_open : Change → Bool
-is_open (opens d) = true
-is_open _ = false
-
 abbrev is_moved : Change → Bool
 is_moved (moves s m) = true
 is_moved _ = false
@@ -53,7 +50,7 @@ in_plan _ = 0
 
 -- all seven counts after one more change
 record Counts (e : Change) (l : List Change) : Type 0 where
-  n_opened : count_by is_open (e ∷ l) ≡ one (is_open e) + count_by is_open l
+  n_opened : count_by is_opening (e ∷ l) ≡ one (is_opening e) + count_by is_opening l
   n_moved : count_by is_moved (e ∷ l) ≡ one (is_moved e) + count_by is_moved l
   n_planned : count_by is_plan (e ∷ l) ≡ one (is_plan e) + count_by is_plan l
   n_dropped : count_by is_drop (e ∷ l) ≡ one (is_drop e) + count_by is_drop l
@@ -63,7 +60,7 @@ record Counts (e : Change) (l : List Change) : Type 0 where
 
 counts : (e : Change) (l : List Change) → Counts e l
 counts e l = record {
-  n_opened = count-cons is_open e l;
+  n_opened = count-cons is_opening e l;
   n_moved = count-cons is_moved e l;
   n_planned = count-cons is_plan e l;
   n_dropped = count-cons is_drop e l;
@@ -77,8 +74,8 @@ record Kept (l : List Change) : Type 0 where
   paid : count_by is_adoption l + debt (turn l) ≤ count_by is_failure l + count_by is_abort l
   planned : count_by is_plan l ≡ count_by is_drop l + count_by is_adoption l + in_plan (turn l)
   once : count_by is_abort l ≡ one (aborted l)
-  opened_once : count_by is_open l ≤ 1
-  in_all : length l ≡ count_by is_open l + count_by is_moved l + count_by is_plan l + count_by is_drop l + count_by is_adoption l + count_by is_abort l
+  opened_once : count_by is_opening l ≤ 1
+  in_all : length l ≡ count_by is_opening l + count_by is_moved l + count_by is_plan l + count_by is_drop l + count_by is_adoption l + count_by is_abort l
 
 debt_answer : (a : Answer) → (debt (turn_of_answer a) ≡ 0) × (in_plan (turn_of_answer a) ≡ 0)
 debt_answer (answer.Plan plan) = (refl, refl)
@@ -104,7 +101,7 @@ keeps : (d : Contents) (l : List Change) → IsLegalUnder d l → Kept l
 keeps d [] legal = kept_none
 keeps d (opens k ∷ l) legal =
     let n = counts (opens k) l in
-    let empty : count_by is_open l ≡ 0 = rw legal refl in
+    let empty : count_by is_opening l ≡ 0 = rw legal refl in
     let rest : Kept l = rw legal kept_none in
     record { paid = omega (arith, n, rest); planned = omega (arith, n, rest); once = omega (arith, n, rest); opened_once = omega (arith, n, empty); in_all = omega (arith, n, rest) }
 keeps d (moves s m ∷ l) legal =
@@ -173,10 +170,7 @@ by_steps w d (moves t m ∷ l) legal =
     let rest = by_steps w d l legal.1 in
     let here = sum_by-cons (weight w) (moves t m) l in
     omega (arith, more, parts, alone, itself, rest, here)
-by_steps w d (starts_plan ∷ l) legal = omega (arith, sum_by-cons (weight w) starts_plan l, by_steps w d l legal.1)
-by_steps w d (drops_plan ∷ l) legal = omega (arith, sum_by-cons (weight w) drops_plan l, by_steps w d l legal.1)
-by_steps w d (adopts a ∷ l) legal = omega (arith, sum_by-cons (weight w) (adopts a) l, by_steps w d l legal.1)
-by_steps w d (aborts ∷ l) legal = omega (arith, sum_by-cons (weight w) aborts l, by_steps w d l legal.1)
+by_steps w d (e ∷ l) legal = omega (arith, sum_by-cons (weight w) e l, by_steps w d l legal.1)
 
 -- ---- the number of events of a saga
 abbrev unit : Transition → ℕ

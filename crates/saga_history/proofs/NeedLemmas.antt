@@ -33,13 +33,10 @@ stood _ t = cc
 -- the step that needs moves
 user_moves : (m : Transition) (z a : StepState) → z ≡ state_before m → (m ≡ transition.StartRun → IsTrue (is_standing a)) → SuitsNeed z a → SuitsNeed (state_after m) a
 user_moves transition.StartRun z a f start fit = start refl
-user_moves transition.Commit z a f start fit = let k : SuitsNeed Running a = rw f at fit in k
 user_moves transition.Missed z a f start fit = tt
 user_moves transition.Fail z a f start fit = let k : SuitsNeed Running a = rw f at fit in stood a k
-user_moves transition.StartUndo z a f start fit = let k : SuitsNeed Committed a = rw f at fit in k
 user_moves transition.Undone z a f start fit = let k : SuitsNeed Undoing a = rw f at fit in stood a k
-user_moves transition.UndoMissed z a f start fit = let k : SuitsNeed Undoing a = rw f at fit in k
-user_moves transition.UndoFail z a f start fit = let k : SuitsNeed Undoing a = rw f at fit in k
+user_moves m z a f start fit = let k : SuitsNeed (state_before m) a = rw f at fit in k
 
 from_waiting : (b y : StepState) → is_waiting b ≡ true → SuitsNeed b y
 from_waiting Waiting y t = tt
@@ -65,14 +62,11 @@ off_from _ a never fit = cc
 
 -- the needed step moves
 needed_moves : (b z : StepState) (m : Transition) → z ≡ state_before m → (m ≡ transition.StartUndo → IsTrue (is_off b)) → SuitsNeed b z → SuitsNeed b (state_after m)
-needed_moves b z transition.StartRun f off fit = from_waiting b Running (waiting_from b z (ap has_committed f) fit)
-needed_moves b z transition.Commit f off fit = from_waiting b Committed (waiting_from b z (ap has_committed f) fit)
-needed_moves b z transition.Missed f off fit = from_waiting b Waiting (waiting_from b z (ap has_committed f) fit)
-needed_moves b z transition.Fail f off fit = from_waiting b Failed (waiting_from b z (ap has_committed f) fit)
 needed_moves b z transition.StartUndo f off fit = from_off b Undoing (off refl) refl
 needed_moves b z transition.Undone f off fit = from_off b Undone (off_from b z (ap is_standing f) fit) refl
 needed_moves b z transition.UndoMissed f off fit = from_off b Committed (off_from b z (ap is_standing f) fit) refl
 needed_moves b z transition.UndoFail f off fit = from_off b Fixed (off_from b z (ap is_standing f) fit) refl
+needed_moves b z m f off fit = from_waiting b (state_after m) (waiting_from b z (ap has_committed f) fit)
 
 pub starts_standing : (d : Contents) (l : List Change) (s a : ℕ) (m : Transition) → NeedsDirectly d.needs s a → MeetsCondition d l s m → m ≡ transition.StartRun → IsTrue (is_standing (state l a))
 starts_standing d l s a m need condition is = let f : MeetsCondition d l s transition.StartRun = subst (MeetsCondition d l s) is condition in f.2 a need
@@ -84,10 +78,7 @@ undo_off d l s b m need condition is = let f : MeetsCondition d l s transition.S
 itself : (z : StepState) (m : Transition) → z ≡ state_before m → (m ≡ transition.StartRun → IsTrue (is_standing z)) → (m ≡ transition.StartUndo → IsTrue (is_off z)) → SuitsNeed z z → ⊥
 itself z transition.StartRun f start go fit = let s = start refl in let t : IsTrue (is_standing Waiting) = rw f at s in cc
 itself z transition.StartUndo f start go fit = let s = go refl in let t : IsTrue (is_off Committed) = rw f at s in cc
-itself z transition.Undone f start go fit = let t : SuitsNeed Undoing Undoing = rw f at fit in cc
-itself z transition.UndoMissed f start go fit = let t : SuitsNeed Undoing Undoing = rw f at fit in cc
-itself z transition.UndoFail f start go fit = let t : SuitsNeed Undoing Undoing = rw f at fit in cc
-itself z _ f start go fit = let t : SuitsNeed Running Running = rw f at fit in cc
+itself z m f start go fit = let t : SuitsNeed (state_before m) (state_before m) = rw f at fit in cc
 
 same_step : (b a : ℕ) (m n : Transition) (e : Change) → e ≡ moves b m → e ≡ moves a n → a ≡ b
 same_step b a m n e p q = let both = sym p ∙ q in cc

@@ -1,11 +1,12 @@
 -- Compensations stand in reverse order.
 use Rattle.std.proofs.Common.{◌≡◌, ℕ, zero, suc, Bool, true, false, List, [], ◌∷◌, refl, sym, ap, ◌∙◌, subst, inl, inr}
+use Rattle.std.proofs.lemmas.Bool.{false_from_ne_true}
 use Rattle.std.specs.Prelude.{IsTrue}
 use Rattle.saga_def.specs.declared.steps.Need.{Need}
 use Rattle.saga_def.specs.Contents.{Contents}
 use Rattle.saga_def.specs.Order.{NeedsDirectly, Leads, Precedes}
 use Rattle.saga_case.specs.declared.states.StepState.{StepState}
-use Rattle.saga_case.specs.declared.states.StepState.TheVariants.{Waiting, Running, Committed, Failed, Undoing, Undone, Fixed}
+use Rattle.saga_case.specs.declared.states.StepState.TheVariants.{Waiting, Committed, Failed, Undoing, Undone, Fixed}
 use Rattle.saga_history.specs.declared.transitions.Transition.{Transition}
 use Rattle.saga_history.specs.declared.transitions.Transition.TheVariants as transition
 use Rattle.saga_history.specs.Changes.{Change, moves}
@@ -88,10 +89,6 @@ leaving_down _ l s = cc
 abbrev pub WasUndoneBefore : List Change → ℕ → ℕ → Type 0
 WasUndoneBefore l p q = is_leaving (state l p) ≡ true → has_committed (state l q) ≡ true → has_undone (state (before_last (starts_undo_of p) l) q) ≡ true
 
-inactive : (b : Bool) → (b ≡ true → ⊥) → b ≡ false
-inactive true f = absurd (f refl)
-inactive false f = refl
-
 -- q does not move to a committed state while p is leaving
 q_stays : (d : Contents) (e : Change) (l : List Change) → IsLegalUnder d (e ∷ l) → (p q : ℕ) → Precedes d.needs p q → is_leaving (state l p) ≡ true → LeavesOrMoves q e l → has_committed (state (e ∷ l) q) ≡ true → has_committed (state l q) ≡ true
 q_stays d e l legal p q order leaving (inl quiet) committed = rw quiet.stays at committed
@@ -115,18 +112,13 @@ had d e l p q was is (inr t) committed =
 
 -- p moves
 p_moves : (d : Contents) (e : Change) (l : List Change) → IsLegalUnder d (e ∷ l) → (p q : ℕ) → Precedes d.needs p q → (m : Transition) → StepMay d l p m → state (e ∷ l) p ≡ state_after m → starts_undo_of p e ≡ same_transition transition.StartUndo m → e ≡ moves p m → WasUndoneBefore l p q → WasUndoneBefore (e ∷ l) p q
-p_moves d e l legal p q order transition.StartRun may now begins is rec = λ leaving committed. let t : is_leaving Running ≡ true = ap is_leaving (sym now) ∙ leaving in cc
-p_moves d e l legal p q order transition.Commit may now begins is rec = λ leaving committed. let t : is_leaving Committed ≡ true = ap is_leaving (sym now) ∙ leaving in cc
-p_moves d e l legal p q order transition.Missed may now begins is rec = λ leaving committed. let t : is_leaving Waiting ≡ true = ap is_leaving (sym now) ∙ leaving in cc
-p_moves d e l legal p q order transition.Fail may now begins is rec = λ leaving committed. let t : is_leaving Failed ≡ true = ap is_leaving (sym now) ∙ leaving in cc
-p_moves d e l legal p q order transition.UndoMissed may now begins is rec = λ leaving committed. let t : is_leaving Committed ≡ true = ap is_leaving (sym now) ∙ leaving in cc
-p_moves d e l legal p q order transition.UndoFail may now begins is rec = λ leaving committed. let t : is_leaving Fixed ≡ true = ap is_leaving (sym now) ∙ leaving in cc
 p_moves d e l legal p q order transition.StartUndo may now begins is rec = λ leaving committed.
-    let quiet : is_active (state l q) ≡ false = inactive _ (dependants_off d l (legal_tail d e l legal) p q order (λ b need. undo_off d l p b transition.StartUndo need may.condition refl)) in
+    let quiet : is_active (state l q) ≡ false = false_from_ne_true _ (dependants_off d l (legal_tail d e l legal) p q order (λ b need. undo_off d l p b transition.StartUndo need may.condition refl)) in
     rw begins (undone_from (state l q) quiet (had d e l p q may.begins is (leaves_or_moves q e l) committed))
 p_moves d e l legal p q order transition.Undone may now begins is rec = λ leaving committed.
     let going : is_leaving (state l p) ≡ true = ap is_leaving may.begins in
     rw begins (rec going (q_stays d e l legal p q order going (leaves_or_moves q e l) committed))
+p_moves d e l legal p q order m may now begins is rec = λ leaving committed. let t : is_leaving (state_after m) ≡ true = ap is_leaving (sym now) ∙ leaving in cc
 
 was_step : (d : Contents) (e : Change) (l : List Change) → IsLegalUnder d (e ∷ l) → (p q : ℕ) → Precedes d.needs p q → LeavesOrMoves p e l → WasUndoneBefore l p q → WasUndoneBefore (e ∷ l) p q
 was_step d e l legal p q order (inl quiet) rec = p_stays d e l legal p q order quiet rec

@@ -1,7 +1,7 @@
 -- The places of a history, one event more, and sagas by their numbers.
 use Rattle.std.proofs.Common.{◌≡◌, ℕ, suc, ◌+◌, ◌*◌, ◌%◌, ◌<◌, Bool, true, false, ◌||◌, List, [], ◌∷◌, ◌++◌, Some, None, length, take, drop, get_or, eqb, refl, sym, ap, ◌∙◌, subst, inl, inr, arith}
 use Rattle.std.specs.Prelude.{slice_get, slice_index}
-use Rattle.std.proofs.lemmas.Bool.{cases_Bool, cases_lt, cases_order, ne_eqb, eqb-true}
+use Rattle.std.proofs.lemmas.Bool.{cases_Bool, cases_lt, cases_order, ne_eqb, eqb-true, false_from_ne_true}
 use Rattle.std.proofs.lemmas.Nat.{mod-mul-add}
 use Rattle.std.proofs.lemmas.List.{take_more, take-append-drop, take-take}
 use Rattle.std.proofs.lemmas.Option.{slice_get-get_or, slice_get_past}
@@ -145,10 +145,6 @@ first_of first stride h i lt numbered found =
     let is : i ≡ p.0 * stride + first = omega (arith, p.2, numbered p.0 p.1) in
     ap (λ (v : ℕ). v % stride) is ∙ mod-mul-add p.0 stride first lt
 
-in_one : (b : Bool) → (b ≡ true → ⊥) → b ≡ false
-in_one true f = absurd (f refl)
-in_one false f = refl
-
 pub numbered_apart : (shelf : List Contents) (a b : List Event) → NumberedApart shelf a b
 numbered_apart shelf a b = λ first other stride lt below apart of_a of_b num_a num_b i named.
-    in_one (names_saga i b) (λ too. apart (sym (first_of first stride a i lt num_a (named_among shelf i a of_a named)) ∙ first_of other stride b i below num_b (named_among shelf i b of_b too)))
+    false_from_ne_true (names_saga i b) (λ too. apart (sym (first_of first stride a i lt num_a (named_among shelf i a of_a named)) ∙ first_of other stride b i below num_b (named_among shelf i b of_b too)))

@@ -1,7 +1,7 @@
 -- Where no task is allowed in a saga, it is ended, stuck or planning, or has a busy step.
 use Rattle.std.proofs.Common.{IsSomeAnd, ◌≡◌, ℕ, zero, suc, ◌<◌, Bool, true, false, ◌&&◌, List, length, Option, Some, refl, sym, ap, ◌∙◌, subst, ◌⊎◌, inl, inr, arith}
 use Rattle.std.specs.Prelude.{All, not}
-use Rattle.std.proofs.lemmas.Bool.{cases_Bool, cases_eq, and_parts}
+use Rattle.std.proofs.lemmas.Bool.{cases_Bool, cases_eq, and_parts, false_from_ne_true, not-true, not_from_false}
 use Rattle.saga_def.specs.Contents.{Contents}
 use Rattle.saga_def.specs.Sound.{IsSound}
 use Rattle.saga_def.specs.Order.{IsClosed}
@@ -72,17 +72,6 @@ is_committed-eq _ t = cc
 both : (a b : Bool) → a ≡ true → b ≡ true → (a && b) ≡ true
 both a b p q = rw (p, q) refl
 
-not_true : (b : Bool) → b ≡ false → not b ≡ true
-not_true b e = rw e refl
-
-true_not : (b : Bool) → not b ≡ true → b ≡ false
-true_not true e = cc
-true_not false e = refl
-
-in_or_out : (b : Bool) → (b ≡ true → ⊥) → b ≡ false
-in_or_out true f = absurd (f refl)
-in_or_out false f = refl
-
 -- what a saga that is going and has no busy step has
 record Still (d : Contents) (l : List Change) : Type 0 where
   sound : IsSound d
@@ -116,9 +105,9 @@ run_first d l g s lt wanted down =
 undo_last : (d : Contents) (l : List Change) → Still d l → (s : ℕ) → s < length d.steps → goal l s ≡ false → is_off (state l s) ≡ false → (t : ℕ) × StepMay d l t transition.StartUndo
 undo_last d l g s lt away up =
     let stands = commits_from (state l s) (g.none_busy s lt) (rw away at (g.suit s lt)) up in
-    let f = sets_have_last (shape_of d) (ordered_from_sound d g.sound) (λ (t : ℕ). not (goal l t) && is_committed (state l t)) s lt (both _ _ (not_true _ away) stands) in
+    let f = sets_have_last (shape_of d) (ordered_from_sound d g.sound) (λ (t : ℕ). not (goal l t) && is_committed (state l t)) s lt (both _ _ (not_from_false _ away) stands) in
     let here = and_parts (not (goal l f.last)) (is_committed (state l f.last)) f.in_set in
-    let out = true_not _ here.0 in (
+    let out = not-true _ here.0 in (
       f.last,
       record {
         is_step = f.within;
@@ -128,8 +117,8 @@ undo_last d l g s lt away up =
           out,
           λ b need.
               let below = known_step d.needs (length d.steps) g.sound.known b f.last need in
-              let away' : goal l b ≡ false = in_or_out _ (λ kept. let low = closed_direct d.needs (goal l) g.closed b f.last kept need in let bad : true ≡ false = sym low ∙ out in cc) in
-              off_from (state l b) (g.none_busy b below) (rw away' at (g.suit b below)) (λ committed. f.needed_by_none b need (both _ _ (not_true _ away') committed)),
+              let away' : goal l b ≡ false = false_from_ne_true _ (λ kept. let low = closed_direct d.needs (goal l) g.closed b f.last kept need in let bad : true ≡ false = sym low ∙ out in cc) in
+              off_from (state l b) (g.none_busy b below) (rw away' at (g.suit b below)) (λ committed. f.needed_by_none b need (both _ _ (not_from_false _ away') committed)),
         );
       },
     )
