@@ -16,7 +16,7 @@ use Rattle.saga_def.proofs.AdjacencyLemmas.{sum_of, sum_on, occurs_both, needs_o
 use Rattle.saga_case.specs.Flow.{sum_below}
 use Rattle.saga_case.proofs.SumLemmas.{sum_none, sum_more, sum_same, sum_zero}
 use Rattle.saga_case.specs.declared.states.StepState.{StepState}
-use Rattle.saga_case.specs.declared.states.StepState.TheVariants.{Waiting, Running, Committed, Failed, Undoing, Undone, Fixed}
+use Rattle.saga_case.specs.declared.states.StepState.TheVariants.{Waiting, Committed}
 use Rattle.saga_history.specs.declared.turns.Turn.{Turn}
 use Rattle.saga_history.specs.declared.turns.Turn.TheVariants.{Going, Draining}
 use Rattle.saga_history.specs.States.{is_standing, is_off, is_busy}
@@ -291,12 +291,8 @@ holds_none c states s b sound none needed = pass_all (λ b. is_off (state_at sta
 
 committed_from : (x : StepState) (g : Bool) (u h : ℕ) → is_ready x g u h ≡ true → (x ≡ Waiting → ⊥) → x ≡ Committed
 committed_from Waiting g u h e ne = absurd (ne refl)
-committed_from Running g u h e ne = absurd (false≢true e)
 committed_from Committed g u h e ne = refl
-committed_from Failed g u h e ne = absurd (false≢true e)
-committed_from Undoing g u h e ne = absurd (false≢true e)
-committed_from Undone g u h e ne = absurd (false≢true e)
-committed_from Fixed g u h e ne = absurd (false≢true e)
+committed_from _ g u h e ne = absurd (false≢true e)
 
 not_true : (b : Bool) → not b ≡ true → b ≡ false
 not_true true e = absurd (false≢true e)
