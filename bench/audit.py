@@ -18,12 +18,6 @@ PARTS = ["book", "audit", "audit_with 4"]
 WORKERS = "4"
 
 
-def seconds(program, file, sagas, rest, turns):
-    """How many events a load has, and the seconds of each part in the best of all runs."""
-    said, best = runs.best_of_parts([program, "audit", file, str(sagas), WORKERS, *rest], len(PARTS), turns)
-    return int(said[1]), best
-
-
 def main():
     words = runs.options(__doc__)
     program = runs.built(words)
@@ -31,11 +25,11 @@ def main():
     with tempfile.TemporaryDirectory() as folder:
         for name, steps, sagas, rest in LOADS:
             file = runs.put(folder, str(steps), book.definition(steps))
-            events, best = seconds(program, file, sagas, rest, words.turns)
+            events, best = runs.events_of(program, ["audit", file, str(sagas), WORKERS, *rest], len(PARTS), words.turns)
             each = [time / events * 1e9 for time in best]
             print(f"{name}: {events} events; " + ", ".join(f"{part} {time:.0f} ns an event" for part, time in zip(PARTS, each))
                   + f"; audit takes {each[1] / each[0]:.2f} of the book's time, four workers {each[2] / each[1]:.2f} of one's", flush=True)
-            _, small = seconds(program, file, sagas // 10, rest, words.turns)
+            _, small = runs.events_of(program, ["audit", file, str(sagas // 10), WORKERS, *rest], len(PARTS), words.turns)
             print(f"ten times the sagas take an audit {best[1] / small[1]:.1f} times as long", flush=True)
             good = good and best[1] <= 2 * best[0] and best[1] <= 12 * small[1]
     sys.exit(0 if good else 1)

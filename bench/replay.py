@@ -25,12 +25,6 @@ def definition(steps):
     return "".join(["s waiting 0 0 0 1\n"] * steps + [f"n {step} {on}\n" for step, on in pairs])
 
 
-def seconds(program, file, sagas, fails, turns):
-    """How many events a load has, and the seconds of each part in the best of all runs."""
-    said, best = runs.best_of_parts([program, "replay", file, str(sagas), *fails], len(PARTS), turns)
-    return int(said[1]), best
-
-
 def main():
     words = runs.options(__doc__)
     program = runs.built(words)
@@ -39,8 +33,8 @@ def main():
         for steps in STEPS:
             file = runs.put(folder, str(steps), definition(steps))
             for kind, fails in [("all succeed", []), ("one failure a saga", [str(steps - 1)])]:
-                events, (audit, replay) = seconds(program, file, SAGAS, fails, words.turns)
-                _, (_, small) = seconds(program, file, SAGAS // 10, fails, words.turns)
+                events, (audit, replay) = runs.events_of(program, ["replay", file, str(SAGAS), *fails], len(PARTS), words.turns)
+                _, (_, small) = runs.events_of(program, ["replay", file, str(SAGAS // 10), *fails], len(PARTS), words.turns)
                 print(f"{SAGAS} sagas of {steps} steps, {kind}: {events} events; audit {audit / events * 1e9:.0f} ns an event,"
                       f" replay {replay / events * 1e9:.0f}, {replay / audit:.2f} times as long;"
                       f" ten times the sagas take a replay {replay / small:.1f} times as long", flush=True)

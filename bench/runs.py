@@ -73,6 +73,12 @@ def best_of_parts(command, parts, turns):
     return done.stdout.split(), [min(times) for times in found]
 
 
+def events_of(program, words, parts, turns):
+    """How many events the load of a command has, which it prints as its second word, and the seconds of each part in the best of all runs."""
+    said, best = best_of_parts([program, *words], parts, turns)
+    return int(said[1]), best
+
+
 def compared(summary, command, kinds):
     """Compares a command of the program with the peer, and prints for each input both median times and their ratio, and then
     the ratios of each kind. A kind has a name, and makes of a seed the program's text and the network as the peer reads it.

@@ -1,4 +1,5 @@
 -- What is found of two groups that have no saga in common, and of the groups of several workers.
+use Rattle.std.proofs.Math.Bool.{or-false, and-true}
 use Rattle.std.proofs.Common.{◌≡◌, ℕ, ◌+◌, ◌<◌, ◌≤◌, ◌%◌, ◌^◌, Bool, true, false, ◌&&◌, ◌||◌, not, List, [], ◌∷◌, ◌++◌, length, Option, Some, None, eqb, refl, sym, ap, ◌∙◌, subst, inl, inr, arith, take, drop}
 use Rattle.std.specs.Prelude.{count_by, nat_lt, is_some, if◌then◌else◌, ◌==◌}
 use Rattle.std.specs.Cmp.{both_ways}
@@ -66,11 +67,8 @@ module _ (shelf : List Contents) (first second both : ℕ → Bool) (events : Li
 
   one_of : (a b x : Bool) → (a ≡ true → b ≡ false) → one ((a || b) && x) ≡ one (a && x) + one (b && x)
   one_of true true x never = let bad = never refl in cc
-  one_of true false true never = refl
-  one_of true false false never = refl
-  one_of false true true never = refl
-  one_of false true false never = refl
-  one_of false false x never = refl
+  one_of true false x never = omega arith
+  one_of false b x never = omega arith
 
   count_both : (test : ℕ → Bool) (xs : List ℕ) → count_by (λ i. both i && test i) xs ≡ count_by (λ i. first i && test i) xs + count_by (λ i. second i && test i) xs
   count_both test [] = refl
@@ -222,22 +220,14 @@ module _ (mine : ℕ → Bool) (events : List Event) (links : List Link) (old ne
       left ∙ sym (or_right (is_done mine old i) true refl)
   done_at i false away =
       let same : new i ≡ old i = rw away at (taken i) in
-      rw same (sym (or_false (is_done mine old i)))
-    where
-      or_false : (a : Bool) → (a || false) ≡ a
-      or_false true = refl
-      or_false false = refl
+      rw same (sym (or-false (is_done mine old i)))
 
   pub done_more : (i : ℕ) → is_done mine new i ≡ (is_done mine old i || is_saga saga i)
   done_more i = done_at i (eqb saga i) refl
 
 -- in the end none waits
 pub all_done : (mine : ℕ → Bool) (heads : ℕ → Option ℕ) → ((i : ℕ) → heads i ≡ None) → (i : ℕ) → is_done mine heads i ≡ mine i
-all_done mine heads none i = rw (none i) (and_true (mine i))
-  where
-    and_true : (a : Bool) → (a && true) ≡ a
-    and_true true = refl
-    and_true false = refl
+all_done mine heads none i = rw (none i) (and-true (mine i))
 
 -- ---- the groups of several workers
 

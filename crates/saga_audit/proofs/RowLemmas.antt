@@ -16,7 +16,7 @@ use Rattle.saga_history.specs.Rules.{IsAllowedChange, IsEnded, IsLegalSaga, Saga
 use Rattle.saga_history.specs.States.{is_off, is_standing, state}
 use Rattle.saga_history.specs.Turns.{goal, is_going, turn}
 use Rattle.saga_history.specs.declared.turns.Turn.{Turn}
-use Rattle.saga_history.specs.declared.turns.Turn.TheVariants.{Draining, Going, Planning, Stuck}
+use Rattle.saga_history.specs.declared.turns.Turn.TheVariants.{Going, Stuck}
 use Rattle.saga_history.proofs.SagaLemmas.{IsLegalUnder, allowed_known, legal_under}
 use Rattle.saga_rows.specs.Row.{Row, RowIsEnded}
 use Rattle.saga_rows.specs.Follows.{Follows}
@@ -57,12 +57,9 @@ module _ (shelf : List Contents) (row : Row) (l : List Change) (f : Follows shel
     }
 
     pub room_for : (c : Change) → RowTakes row c → HasRoomFor row c
-    room_for (opens k) takes = tt
     room_for (moves s t) takes = let lt = (may_into shelf row l f s t under takes).is_step in (lt, has_room shelf row l f s t under lt)
-    room_for starts_plan takes = tt
-    room_for drops_plan takes = tt
     room_for (adopts a) takes = fits shelf row l f a (may_of (adopts a) takes).1
-    room_for aborts takes = tt
+    room_for _ takes = tt
 
     pub follows_then : (c : Change) → RowTakes row c → Follows shelf (row_then row c) (c ∷ l)
     follows_then (opens k) takes = absurd takes
@@ -105,9 +102,7 @@ module _ (d : Contents) (l : List Change) where
 
   going_from : (t : Turn) → is_going t ≡ true → t ≡ Going
   going_from Going is = refl
-  going_from Draining is = absurd (false≢true is)
-  going_from Planning is = absurd (false≢true is)
-  going_from Stuck is = absurd (false≢true is)
+  going_from _ is = absurd (false≢true is)
 
   ended_of : is_ended_by (Some d) l ≡ true → IsEnded d l
   ended_of is =
@@ -129,10 +124,8 @@ ended_same shelf row l b f told =
     ∙ ap (λ (o : Option Contents). is_ended_by o l) (sym f.defined)
 
 stuck_from : (t : Turn) → is_stuck_turn t ≡ true → t ≡ Stuck
-stuck_from Going is = absurd (false≢true is)
-stuck_from Draining is = absurd (false≢true is)
-stuck_from Planning is = absurd (false≢true is)
 stuck_from Stuck is = refl
+stuck_from _ is = absurd (false≢true is)
 
 pub stuck_same : (shelf : List Contents) (row : Row) (l : List Change) (b : Bool) → Follows shelf row l → (IsTrue b ↔ (row.turn ≡ Stuck)) → b ≡ is_stuck l
 stuck_same shelf row l b f told =

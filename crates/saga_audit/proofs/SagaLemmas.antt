@@ -6,7 +6,7 @@ use Rattle.std.proofs.lemmas.List.Sums.{sum_by-append}
 use Rattle.saga_def.specs.Contents.{Contents}
 use Rattle.saga_def.specs.Sound.{IsSound}
 use Rattle.saga_history.specs.declared.events.Event.{Event}
-use Rattle.saga_history.specs.Changes.{Change, opens, moves, starts_plan, drops_plan, adopts, aborts, saga_of, change_of, past, changes}
+use Rattle.saga_history.specs.Changes.{Change, opens, moves, saga_of, change_of, past, changes}
 use Rattle.saga_history.specs.Merges.{is_opening, opened_sagas}
 use Rattle.saga_history.specs.Rules.{IsLegalSaga, definition_at}
 use Rattle.saga_history.specs.Tallies.{one}
@@ -90,10 +90,7 @@ openings shelf (opens k ∷ l) legal =
     let none : count_by is_opening l ≡ 0 = openings shelf l legal.1 ∙ ap opening_in legal.0.0 in
     omega (arith, count-cons is_opening (opens k) l, none)
 openings shelf (moves s t ∷ l) legal = openings shelf l legal.1
-openings shelf (starts_plan ∷ l) legal = openings shelf l legal.1
-openings shelf (drops_plan ∷ l) legal = openings shelf l legal.1
-openings shelf (adopts a ∷ l) legal = openings shelf l legal.1
-openings shelf (aborts ∷ l) legal = openings shelf l legal.1
+openings shelf (_ ∷ l) legal = openings shelf l legal.1
 
 opened_once : (shelf : List Contents) (o : Option ℕ) (d : Contents) → definition_at shelf o ≡ Some d → opening_in o ≡ 1
 unfolding opening_in
@@ -200,33 +197,21 @@ module _ (shelf : List Contents) (events : List Event) (links : List Link) (i k 
 
   refused_unopened : (c : Change) → opened_by c ≡ None → IsRefused shelf [] c reason.NoSuchSaga
   refused_unopened (opens n) is = cc
-  refused_unopened (moves s t) is = record { denied = λ allowed. allowed; first = refl }
-  refused_unopened starts_plan is = record { denied = λ allowed. allowed; first = refl }
-  refused_unopened drops_plan is = record { denied = λ allowed. allowed; first = refl }
-  refused_unopened (adopts a) is = record { denied = λ allowed. allowed; first = refl }
-  refused_unopened aborts is = record { denied = λ allowed. allowed; first = refl }
+  refused_unopened _ is = record { denied = λ allowed. allowed; first = refl }
 
   pub first_unopened : opened_by (change_of e) ≡ None → IsFirstIn shelf (is_saga i) events (link_at links k).place reason.NoSuchSaga
   first_unopened is = first_refused reason.NoSuchSaga (refused_unopened (change_of e) is)
 
   refused_unknown : (c : Change) (n : ℕ) → opened_by c ≡ Some n → (n < length shelf → ⊥) → IsRefused shelf [] c reason.NoSuchDefinition
   refused_unknown (opens m) n is unknown = let same : m ≡ n = cc in record { denied = λ allowed. unknown (omega (arith, allowed.1, same)); first = refl }
-  refused_unknown (moves s t) n is unknown = cc
-  refused_unknown starts_plan n is unknown = cc
-  refused_unknown drops_plan n is unknown = cc
-  refused_unknown (adopts a) n is unknown = cc
-  refused_unknown aborts n is unknown = cc
+  refused_unknown _ n is unknown = cc
 
   pub first_unknown : (n : ℕ) → opened_by (change_of e) ≡ Some n → (n < length shelf → ⊥) → IsFirstIn shelf (is_saga i) events (link_at links k).place reason.NoSuchDefinition
   first_unknown n is unknown = first_refused reason.NoSuchDefinition (refused_unknown (change_of e) n is unknown)
 
   opens_from : (c : Change) (n : ℕ) → opened_by c ≡ Some n → c ≡ opens n
   opens_from (opens m) n is = let same : m ≡ n = cc in ap opens same
-  opens_from (moves s t) n is = cc
-  opens_from starts_plan n is = cc
-  opens_from drops_plan n is = cc
-  opens_from (adopts a) n is = cc
-  opens_from aborts n is = cc
+  opens_from _ n is = cc
 
   pub first_followed : (n : ℕ) (c : Contents) → opened_by (change_of e) ≡ Some n → n < length shelf → slice_get shelf n ≡ Some c → IsSound c → IsFollowed shelf (new_row c) events links i (link_at links k).next
   first_followed n c is below found sound =

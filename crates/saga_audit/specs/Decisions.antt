@@ -29,12 +29,9 @@ IsDrainedForPlanning row = row.turn ≡ Planning → IsDrained row
 
 -- the row has room for a change
 abbrev pub HasRoomFor : Row → Change → Type 0
-HasRoomFor row (opens k) = Unit {0}
 HasRoomFor row (moves s t) = (s < length row.definition.steps) × HasRoom row s t
-HasRoomFor row starts_plan = Unit {0}
-HasRoomFor row drops_plan = Unit {0}
 HasRoomFor row (adopts a) = FitsIn row a
-HasRoomFor row aborts = Unit {0}
+HasRoomFor row _ = Unit {0}
 
 -- the row after a change
 abbrev pub row_then : Row → Change → Row

@@ -4,7 +4,7 @@ use Rattle.std.specs.List.{list_all, range_with_len}
 use Rattle.saga_def.specs.Contents.{Contents}
 use Rattle.saga_history.specs.declared.events.Event.{Event}
 use Rattle.saga_history.specs.declared.turns.Turn.{Turn}
-use Rattle.saga_history.specs.declared.turns.Turn.TheVariants.{Going, Draining, Planning, Stuck}
+use Rattle.saga_history.specs.declared.turns.Turn.TheVariants.{Stuck}
 use Rattle.saga_history.specs.Changes.{Change, saga_of, change_of, past, changes}
 use Rattle.saga_history.specs.Turns.{turn, is_going}
 use Rattle.saga_history.specs.Rules.{definition, IsLegal, IsLegalSaga}
@@ -28,10 +28,8 @@ abbrev pub is_ended : List Contents → List Change → Bool
 is_ended shelf l = is_ended_by (definition shelf l) l
 
 abbrev pub is_stuck_turn : Turn → Bool
-is_stuck_turn Going = false
-is_stuck_turn Draining = false
-is_stuck_turn Planning = false
 is_stuck_turn Stuck = true
+is_stuck_turn _ = false
 
 abbrev pub is_stuck : List Change → Bool
 is_stuck l = is_stuck_turn (turn l)

@@ -4,7 +4,7 @@ use Rattle.saga_def.specs.Contents.{Contents}
 use Rattle.saga_history.specs.declared.transitions.Transition.{Transition}
 use Rattle.saga_history.specs.declared.transitions.Transition.TheVariants as transition
 use Rattle.saga_history.specs.declared.turns.Turn.{Turn}
-use Rattle.saga_history.specs.declared.turns.Turn.TheVariants.{Going, Draining, Planning, Stuck}
+use Rattle.saga_history.specs.declared.turns.Turn.TheVariants.{Planning}
 use Rattle.saga_history.specs.Changes.{Change, opens, moves, starts_plan, drops_plan, adopts, aborts}
 use Rattle.saga_history.specs.Turns.{turn}
 use Rattle.saga_history.specs.Rules.{definition, IsAllowedChange}
@@ -14,40 +14,25 @@ use Rattle.saga_audit.specs.declared.reasons.Reason.TheVariants as reason
 -- the place on the shelf of the definition that a change opens a saga with
 abbrev pub opened_by : Change → Option ℕ
 opened_by (opens k) = Some k
-opened_by (moves s t) = None
-opened_by starts_plan = None
-opened_by drops_plan = None
-opened_by (adopts a) = None
-opened_by aborts = None
+opened_by _ = None
 
 -- in a saga that was not opened
 abbrev pub reason_unopened : Change → Reason
 reason_unopened (opens k) = reason.NoSuchDefinition
-reason_unopened (moves s t) = reason.NoSuchSaga
-reason_unopened starts_plan = reason.NoSuchSaga
-reason_unopened drops_plan = reason.NoSuchSaga
-reason_unopened (adopts a) = reason.NoSuchSaga
-reason_unopened aborts = reason.NoSuchSaga
+reason_unopened _ = reason.NoSuchSaga
 
 -- of a transition that begins an action or a compensation, or ends one
 abbrev pub reason_of_transition : Transition → Reason
 reason_of_transition transition.StartRun = reason.NotNow
-reason_of_transition transition.Commit = reason.NotTaken
-reason_of_transition transition.Missed = reason.NotTaken
-reason_of_transition transition.Fail = reason.NotTaken
 reason_of_transition transition.StartUndo = reason.NotNow
-reason_of_transition transition.Undone = reason.NotTaken
-reason_of_transition transition.UndoMissed = reason.NotTaken
-reason_of_transition transition.UndoFail = reason.NotTaken
+reason_of_transition _ = reason.NotTaken
 
 abbrev pub reason_of_step : Contents → ℕ → Transition → Reason
 reason_of_step d s t = if nat_lt s (length d.steps) then reason_of_transition t else reason.NoSuchStep
 
 abbrev pub reason_of_adoption : Turn → Reason
-reason_of_adoption Going = reason.NotPlanning
-reason_of_adoption Draining = reason.NotPlanning
 reason_of_adoption Planning = reason.NotRight
-reason_of_adoption Stuck = reason.NotPlanning
+reason_of_adoption _ = reason.NotPlanning
 
 -- in a saga of that definition, whose turn it is
 abbrev pub reason_opened : Contents → Turn → Change → Reason

@@ -93,14 +93,11 @@ value-le-cost t f set cost known within conserved closed priced =
 -- a right plan is least
 pub IsLeast-plan : (t : Terms) (plan : Plan) → AreKnown t.needs t.count → IsRightPlan t plan → IsLeast t (member plan.kept)
 IsLeast-plan t plan known right = record {
-  allowed = record { closed = right.closed; priced = λ never. not_never plan.cost (sym right.priced ∙ never) };
+  allowed = record { closed = right.closed; priced = λ never. let bad = sym right.priced ∙ never in cc };
   least = λ other allowed. rw right.priced (bounded (cost_of t other) (λ c is.
       rw (← right.valued) (value-le-cost t (flow_of plan) other c known right.within right.conserved allowed.closed is)));
 }
   where
-    not_never : (c : ℕ) → Of c ≡ Never → ⊥
-    not_never c e = cc
-
     bounded : (p : Price) → ((c : ℕ) → p ≡ Of c → plan.cost ≤ c) → AtMost (Of plan.cost) p
     bounded (Of c) le = le c refl
     bounded Never le = tt

@@ -8,7 +8,7 @@ use Rattle.saga_def.specs.declared.steps.Price.TheVariants.{Of, Never}
 use Rattle.saga_def.specs.declared.steps.Step.{Step}
 use Rattle.saga_def.specs.Order.{Steps}
 use Rattle.saga_case.specs.declared.states.StepState.{StepState}
-use Rattle.saga_case.specs.declared.states.StepState.TheVariants.{Waiting, Running, Committed, Failed, Undoing, Undone, Fixed}
+use Rattle.saga_case.specs.declared.states.StepState.TheVariants.{Waiting, Running, Committed, Undoing, Fixed}
 use Rattle.saga_case.specs.Free.{none, CostsNothing, IsFree}
 use Rattle.saga_case.specs.Prices.{leave_of}
 use Rattle.saga_case.specs.States.{IsBusy}
@@ -23,13 +23,11 @@ prices_zero zero price free = refl
 prices_zero (suc n) price free = rw (prices_zero n price (λ s lt. free s (omega arith)), free n (omega arith)) refl
 
 leave_zero : (state : StepState) (step : Step) → (IsBusy state → ⊥) → (state ≢ Fixed) → CostsNothing step → leave_of state step ≡ Of 0
-leave_zero Waiting step rest undoable free = free.skip
 leave_zero Running step rest undoable free = absurd (rest tt)
 leave_zero Committed step rest undoable free = rw (free.undo, free.skip) refl
-leave_zero Failed step rest undoable free = free.skip
 leave_zero Undoing step rest undoable free = absurd (rest tt)
-leave_zero Undone step rest undoable free = free.skip
 leave_zero Fixed step rest undoable free = absurd (undoable refl)
+leave_zero _ step rest undoable free = free.skip
 
 not_never : (c : ℕ) → Of c ≡ Never → ⊥
 not_never c e = cc

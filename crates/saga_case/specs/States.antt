@@ -5,13 +5,9 @@ use Rattle.saga_case.specs.declared.states.StepState.TheVariants.{Waiting, Runni
 
 -- the action or the compensation is on its way
 abbrev pub IsBusy : StepState → Type 0
-IsBusy Waiting = ⊥
 IsBusy Running = Unit {0}
-IsBusy Committed = ⊥
-IsBusy Failed = ⊥
 IsBusy Undoing = Unit {0}
-IsBusy Undone = ⊥
-IsBusy Fixed = ⊥
+IsBusy _ = ⊥
 
 -- the state in one word
 abbrev pub word_of : StepState → List ℕ

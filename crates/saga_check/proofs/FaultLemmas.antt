@@ -53,8 +53,7 @@ plan_at t plan NotConserved w =
 plan_at t plan WrongValue w =
     record { place = 6; broken = (w.0, (w.1, (is_number t plan w.2, (w.2, (w.3, (w.4, w.5)))))); is = refl }
 plan_at t plan NotForced w = absurd w
-plan_at t plan NotAChain w = absurd w
-plan_at t plan NotForbidden w = absurd w
+plan_at t plan _ w = absurd w
 
 chain_at : (t : Terms) (chain : List ℕ) (f : CheckFault) → IsFirstChainFault t chain f
     → IsAt (chain_rules t chain) chain_faults f
@@ -62,12 +61,7 @@ chain_at t chain Shape w = record { place = 0; broken = w; is = refl }
 chain_at t chain NotForced w = record { place = 1; broken = (w.0, w.1); is = refl }
 chain_at t chain NotAChain w = record { place = 2; broken = (w.0, (w.1, w.2)); is = refl }
 chain_at t chain NotForbidden w = record { place = 3; broken = (w.0, (w.1, (w.2, w.3))); is = refl }
-chain_at t chain NotClosed w = absurd w
-chain_at t chain NotAllowed w = absurd w
-chain_at t chain WrongCost w = absurd w
-chain_at t chain OverCapacity w = absurd w
-chain_at t chain NotConserved w = absurd w
-chain_at t chain WrongValue w = absurd w
+chain_at t chain _ w = absurd w
 
 pub has_one_fault : (t : Terms) (a : Answer) → HasOneFault t a
 has_one_fault t (answer.Plan plan) e f p q =

@@ -1,18 +1,19 @@
 -- The entries of a definition's lists are its needs, each at its step.
-use Rattle.std.proofs.Common.{ℕ, ◌≡◌, ◌<◌, ◌≤◌, ◌+◌, ◌∙◌, true, false, List, Some, length, get_or, sym, subst, arith, inl, inr}
-use Rattle.std.specs.Prelude.{slice_get}
+use Rattle.std.proofs.Common.{ℕ, ◌≡◌, ◌<◌, ◌+◌, ◌∙◌, Bool, true, false, not, List, Some, length, get_or, sym, subst, refl, arith, inl, inr}
+use Rattle.std.specs.Prelude.{slice_get, Contains}
+use Rattle.saga_case.specs.Terms.{Terms}
 use Rattle.std.proofs.lemmas.Bool.{cases_lt}
 use Rattle.std.proofs.lemmas.List.{get_or_default}
 use Rattle.std.proofs.lemmas.Option.{slice_get_within, slice_get-get_or, same_Some}
 use Rattle.saga_def.specs.Contents.{Contents}
 use Rattle.saga_def.specs.Order.{NeedsDirectly}
 use Rattle.saga_def.specs.Rules.{AreKnown, AreSingle}
-use Rattle.saga_def.specs.Neighbours.{a_need, ArePlacesOn, AreNeedsOf, AreNeededBy}
+use Rattle.saga_def.specs.Neighbours.{a_need}
 use Rattle.saga_def.specs.declared.steps.Need.{Need}
 use Rattle.saga_flow.specs.Residual.{IsOpen}
 use Rattle.saga_closure.specs.Capacities.{terms_by}
 use Rattle.saga_closure.specs.CaseNet.{network_of}
-use Rattle.saga_closure.specs.Layers.{IsUpTo, AreNeedsUpTo, AreCarryingUpTo}
+use Rattle.saga_closure.specs.Links.{need_over, arc_over, LetsThrough, AreLinks, AreLinkedUpTo, IsUpTo}
 use Rattle.saga_closure.proofs.ArcCases.{no_need, opens_link, opens_unlink}
 
 -- a need is what is read at its place
@@ -41,39 +42,46 @@ same_place needs i j n single at_i at_j = elim (cases_lt i j) [
   ]
 ]
 
--- ---- steps over entries
+-- ---- residual arcs over needs
 
-module _ (d : Contents) (caps on : List ℕ) (k b a : ℕ) (at : slice_get d.needs k ≡ Some (a_need b a)) where
-  -- along a need
-  pub opens_along : IsOpen (network_of (terms_by d caps)).arcs on (record { arc = length d.steps + (length d.steps + k); forward = true }) (2 + b) (2 + a)
-  opens_along =
-      let read = read_need d.needs k (a_need b a) at in
-      subst (λ (n : Need). IsOpen (network_of (terms_by d caps)).arcs on (record { arc = length d.steps + (length d.steps + k); forward = true }) (2 + n.step) (2 + n.on)) read.1 (opens_link (terms_by d caps) on k read.0)
+-- a step to which one leads
+link_known : (needs : List Need) (count k v w : ℕ) (forward : Bool) → AreKnown needs count → slice_get needs k ≡ Some (need_over forward v w) → w < count
+link_known needs count k v w true known at =
+    let read = read_need needs k (a_need v w) at in
+    subst (λ (n : Need). n.on < count) read.1 (known k no_need read.0).1
+link_known needs count k v w false known at =
+    let read = read_need needs k (a_need w v) at in
+    subst (λ (n : Need). n.step < count) read.1 (known k no_need read.0).0
 
-  -- and back, where it carries something
-  pub opens_back : 0 < get_or on (length d.steps + (length d.steps + k)) 0 → IsOpen (network_of (terms_by d caps)).arcs on (record { arc = length d.steps + (length d.steps + k); forward = false }) (2 + a) (2 + b)
-  opens_back some =
-      let read = read_need d.needs k (a_need b a) at in
-      subst (λ (n : Need). IsOpen (network_of (terms_by d caps)).arcs on (record { arc = length d.steps + (length d.steps + k); forward = false }) (2 + n.on) (2 + n.step)) read.1 (opens_unlink (terms_by d caps) on k read.0 some)
+-- a step's lists are its links
+pub are_links : (needs : List Need) (count : ℕ) (forward : Bool) (v : ℕ) (steps places : List ℕ) → AreSingle needs → AreKnown needs count → length places ≡ length steps → ((e : ℕ) → e < length steps → slice_get needs (get_or places e 0) ≡ Some (need_over forward v (get_or steps e 0))) → ((k w : ℕ) → slice_get needs k ≡ Some (need_over forward v w) → Contains steps w) → AreLinks needs count forward v steps places
+are_links needs count forward v steps places single known sized each all = record {
+  sized = sized;
+  inside = λ e lt. link_known needs count (get_or places e 0) v (get_or steps e 0) forward known (each e lt);
+  each = each;
+  all = λ k w at.
+      let (e, lt, is) = all k w at in
+      let same : get_or steps e 0 ≡ w = get_or_default steps e 0 w lt ∙ is in
+      let at_e : slice_get needs (get_or places e 0) ≡ Some (need_over forward v w) = subst (λ x. slice_get needs (get_or places e 0) ≡ Some (need_over forward v x)) same (each e lt) in
+      (e, lt, same, same_place needs (get_or places e 0) k (need_over forward v w) single at_e at);
+}
 
-  pub ends_known : AreKnown d.needs (length d.steps) → (b < length d.steps) × (a < length d.steps)
-  ends_known known =
-      let read = read_need d.needs k (a_need b a) at in
-      let is = known k no_need read.0 in
-      (subst (λ (n : Need). n.step < length d.steps) read.1 is.0, subst (λ (n : Need). n.on < length d.steps) read.1 is.1)
+-- those that let something through are open
+pub opens_over : (d : Contents) (caps on : List ℕ) (k v w : ℕ) (forward : Bool) → slice_get d.needs k ≡ Some (need_over forward v w) → LetsThrough on (arc_over (length d.steps) forward k) → IsOpen (network_of (terms_by d caps)).arcs on (arc_over (length d.steps) forward k) (2 + v) (2 + w)
+opens_over d caps on k v w true at pass =
+    let read = read_need d.needs k (a_need v w) at in
+    subst (λ (n : Need). IsOpen (network_of (terms_by d caps)).arcs on (arc_over (length d.steps) true k) (2 + n.step) (2 + n.on)) read.1 (opens_link (terms_by d caps) on k read.0)
+opens_over d caps on k v w false at (inl never) = absurd (cc)
+opens_over d caps on k v w false at (inr some) =
+    let read = read_need d.needs k (a_need w v) at in
+    subst (λ (n : Need). IsOpen (network_of (terms_by d caps)).arcs on (arc_over (length d.steps) false k) (2 + n.on) (2 + n.step)) read.1 (opens_unlink (terms_by d caps) on k read.0 some)
 
--- ---- what was seen in the lists
+pub need_turned : (forward : Bool) (v w : ℕ) → need_over (not forward) v w ≡ need_over forward w v
+need_turned true v w = refl
+need_turned false v w = refl
 
-pub needs_seen : (d : Contents) (caps steps level : List ℕ) (v most : ℕ) → AreNeedsOf d.needs v steps → IsUpTo (λ e. Unit {0}) steps level most (length steps) → AreNeedsUpTo (terms_by d caps) level v most
-needs_seen d caps steps level v most exact seen a needs =
-    let (e, lt, is) = exact.all a needs in
-    let same : get_or steps e 0 ≡ a = get_or_default steps e 0 a lt ∙ is in
-    subst (λ x. get_or level x 0 ≤ most) same (seen e lt tt)
-
-pub carrying_seen : (d : Contents) (caps on steps places level : List ℕ) (v most : ℕ) → AreSingle d.needs → AreNeededBy d.needs v steps → ArePlacesOn d.needs v steps places → IsUpTo (λ e. 0 < get_or on (length d.steps + (length d.steps + get_or places e 0)) 0) steps level most (length steps) → AreCarryingUpTo (terms_by d caps) on level v most
-carrying_seen d caps on steps places level v most single exact placed seen k b at some =
-    let (e, lt, is) = exact.all b (has_need d.needs k b v at) in
-    let same : get_or steps e 0 ≡ b = get_or_default steps e 0 b lt ∙ is in
-    let at_e : slice_get d.needs (get_or places e 0) ≡ Some (a_need b v) = subst (λ x. slice_get d.needs (get_or places e 0) ≡ Some (a_need x v)) same (placed.each e lt) in
-    let place : get_or places e 0 ≡ k = same_place d.needs (get_or places e 0) k (a_need b v) single at_e at in
-    subst (λ x. get_or level x 0 ≤ most) same (seen e lt (rw place some))
+-- what was seen in the lists
+pub links_seen : (t : Terms) (on level : List ℕ) (forward : Bool) (v most : ℕ) (steps places : List ℕ) → AreLinks t.needs t.count forward v steps places → IsUpTo t on level forward steps places most (length steps) → AreLinkedUpTo t on level forward v most
+links_seen t on level forward v most steps places links seen k w at pass =
+    let (e, lt, is, place) = links.all k w at in
+    rw is at (seen e lt (rw place pass))

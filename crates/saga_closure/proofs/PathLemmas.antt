@@ -13,7 +13,9 @@ use Rattle.saga_flow.specs.Levels.{Climbs, AreNear, IsLevelled}
 use Rattle.saga_closure.specs.CaseNet.{network_of, leave_arc, stand_arc, link_arc}
 use Rattle.saga_flow.proofs.LevelLemmas.{rising_climbs}
 use Rattle.saga_flow.proofs.PathLemmas.{climbing_rises}
-use Rattle.saga_closure.specs.Layers.{GoesIn, GoesOut, Goes, CameBy, IsSearch, node_level, no_step}
+use Rattle.saga_closure.specs.declared.searching.Found.{Found}
+use Rattle.saga_closure.specs.declared.searching.Goal.{Goal}
+use Rattle.saga_closure.specs.Layers.{GoesIn, GoesOut, Goes, CameBy, IsSearch, IsAtGoal, node_level, no_step}
 use Rattle.saga_closure.specs.Paths.{tail_of, head_of}
 use Rattle.saga_closure.proofs.ArcCases.{need_at, no_need, each_at, each_open, opens_leave, opens_stand, opens_link, opens_unlink}
 use Rattle.saga_closure.proofs.SearchLemmas.{order_few, depth_few}
@@ -116,27 +118,41 @@ link_head t s x y (a, at, joins) far =
     let two = (joins_link t s.arc a at s.forward x y joins).1 far in
     (two.0, two.2)
 
--- a step above the lowest level came from one a level lower
-pub came_from : (t : Terms) (on level : List ℕ) (by : List ResidualArc) (order : List ℕ) (first end next depth dried v : ℕ) (s : ResidualArc) → IsSearch t on level by order first end next depth dried → v < t.count → 0 < get_or level v 0 → get_or level v 0 ≤ depth → s ≡ get_or by v s → (tail_of t s < t.count) × IsOpen (network_of t).arcs on s (2 + tail_of t s) (2 + v) × (get_or level v 0 ≡ get_or level (tail_of t s) 0 + 1) × (2 * t.count ≤ s.arc) × (s.arc < t.count + (t.count + length t.needs))
-came_from t on level by order first end next depth dried v s search lt some few read = from (search.back v lt (omega (arith, few, depth_few t on level by order first end next depth dried search)))
-  where
-    same : s ≡ get_or by v no_step
-    same = read ∙ get_or_default by v s no_step (omega (arith, search.by_sized))
+-- how a step above the lowest level came from one a level lower
+pub record IsFrom (t : Terms) (on level : List ℕ) (v : ℕ) (s : ResidualArc) : Type 0 where
+  pub inside : tail_of t s < t.count
+  pub opened : IsOpen (network_of t).arcs on s (2 + tail_of t s) (2 + v)
+  pub rise : get_or level v 0 ≡ get_or level (tail_of t s) 0 + 1
+  pub far : 2 * t.count ≤ s.arc
+  pub within : s.arc < t.count + (t.count + length t.needs)
 
-    from : CameBy t on level by v → (tail_of t s < t.count) × IsOpen (network_of t).arcs on s (2 + tail_of t s) (2 + v) × (get_or level v 0 ≡ get_or level (tail_of t s) 0 + 1) × (2 * t.count ≤ s.arc) × (s.arc < t.count + (t.count + length t.needs))
-    from (inl (zero_level, goes)) = absurd (omega arith)
-    from (inr (u, u_lt, step, up)) =
-        let step' = rw (← same) at step in
-        let link = is_link t s u v step'.0 in
-        (rw link.2 at u_lt, subst (λ x. IsOpen (network_of t).arcs on s (2 + x) (2 + v)) link.2 step', up ∙ ap (λ x. get_or level x 0 + 1) link.2, link.0, link.1)
+module _ (t : Terms) (on : List ℕ) (found : Found) (goal : Goal) (v : ℕ) (at : IsAtGoal t on found goal) (lt : v < t.count) where
+  pub came_from : (s : ResidualArc) → 0 < get_or found.level.items v 0 → get_or found.level.items v 0 ≤ goal.depth → s ≡ get_or found.by.items v s → IsFrom t on found.level.items v s
+  came_from s some few read = from (at.search.back v lt (omega (arith, few, depth_few t on found.level.items found.by.items found.order.items goal.first (length found.order.items) goal.first goal.depth goal.depth at.search)))
+    where
+      same : s ≡ get_or found.by.items v no_step
+      same = read ∙ get_or_default found.by.items v s no_step (omega (arith, at.search.by_sized))
 
--- one of the lowest level can get more from the source
-pub came_in : (t : Terms) (on level : List ℕ) (by : List ResidualArc) (order : List ℕ) (first end next depth dried v : ℕ) → IsSearch t on level by order first end next depth dried → v < t.count → get_or level v 0 ≡ 0 → IsOpen (network_of t).arcs on (record { arc = v; forward = true }) 0 (2 + v)
-came_in t on level by order first end next depth dried v search lt is = from (search.back v lt (omega arith))
-  where
-    from : CameBy t on level by v → IsOpen (network_of t).arcs on (record { arc = v; forward = true }) 0 (2 + v)
-    from (inl (zero_level, goes)) = opens_leave t on v lt (goes_in t on v 0 goes).1
-    from (inr (u, u_lt, step, up)) = absurd (omega arith)
+      from : CameBy t on found.level.items found.by.items v → IsFrom t on found.level.items v s
+      from (inl (zero_level, goes)) = absurd (omega arith)
+      from (inr (u, u_lt, step, up)) =
+          let step' = rw (← same) at step in
+          let link = is_link t s u v step'.0 in
+          record {
+            inside = rw link.2 at u_lt;
+            opened = subst (λ x. IsOpen (network_of t).arcs on s (2 + x) (2 + v)) link.2 step';
+            rise = up ∙ ap (λ x. get_or found.level.items x 0 + 1) link.2;
+            far = link.0;
+            within = link.1;
+          }
+
+  -- one of the lowest level can get more from the source
+  pub came_in : get_or found.level.items v 0 ≡ 0 → IsOpen (network_of t).arcs on (record { arc = v; forward = true }) 0 (2 + v)
+  came_in is = from (at.search.back v lt (omega arith))
+    where
+      from : CameBy t on found.level.items found.by.items v → IsOpen (network_of t).arcs on (record { arc = v; forward = true }) 0 (2 + v)
+      from (inl (zero_level, goes)) = opens_leave t on v lt (goes_in t on v 0 goes).1
+      from (inr (u, u_lt, step, up)) = absurd (omega arith)
 
 -- where a climbing trail begins is below its end
 pub trail_low : (t : Terms) (on level : List ℕ) (depth h : ℕ) (steps : List ResidualArc) → IsTrail (Climbs (network_of t).arcs on (node_level depth level)) (2 + h) steps 1 → get_or level h 0 ≤ depth

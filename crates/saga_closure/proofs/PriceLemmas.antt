@@ -9,7 +9,7 @@ use Rattle.saga_def.specs.declared.steps.Price.TheVariants.{Of, Never}
 use Rattle.saga_def.specs.declared.steps.Step.{Step}
 use Rattle.saga_def.specs.Rules.{IsSmall, HasSmallPrices}
 use Rattle.saga_case.specs.declared.states.StepState.{StepState}
-use Rattle.saga_case.specs.declared.states.StepState.TheVariants.{Waiting, Running, Committed, Failed, Undoing, Undone, Fixed}
+use Rattle.saga_case.specs.declared.states.StepState.TheVariants.{Waiting, Running, Committed, Undoing, Fixed}
 use Rattle.saga_case.specs.Prices.{plus, leave_of, stand_of, IsBounded}
 use Rattle.saga_case.specs.Situation.{Situation, IsAtRest}
 use Rattle.saga_case.specs.Terms.{Terms, terms_of, price_by}
@@ -29,23 +29,17 @@ plus_bounded (Of a) Never first second = tt
 plus_bounded Never q first second = tt
 
 leave_bounded : (state : StepState) (step : Step) → HasSmallPrices step → IsBounded (leave_of state step)
-leave_bounded Waiting step small = small_bounded step.skip small.skip
 leave_bounded Running step small = tt
 leave_bounded Committed step small = plus_bounded step.undo step.skip small.undo small.skip
-leave_bounded Failed step small = small_bounded step.skip small.skip
 leave_bounded Undoing step small = tt
-leave_bounded Undone step small = small_bounded step.skip small.skip
 leave_bounded Fixed step small = tt
+leave_bounded _ step small = small_bounded step.skip small.skip
 
 stand_bounded : (aborted : Bool) (state : StepState) (step : Step) → HasSmallPrices step → IsBounded (stand_of aborted state step)
 stand_bounded false Waiting step small = plus_bounded step.run step.keep small.run small.keep
-stand_bounded true Waiting step small = tt
-stand_bounded aborted Running step small = tt
 stand_bounded aborted Committed step small = small_bounded step.keep small.keep
-stand_bounded aborted Failed step small = tt
-stand_bounded aborted Undoing step small = tt
-stand_bounded aborted Undone step small = tt
 stand_bounded aborted Fixed step small = small_bounded step.keep small.keep
+stand_bounded _ _ step small = tt
 
 any_step : Step
 any_step = record { name = []; run = Never; undo = Never; skip = Never; keep = Never; tries = 0; undo_tries = 0 }

@@ -58,17 +58,16 @@ module _ (t : Terms) (caps on : List ℕ) (capacities : AreCapacities t caps) (s
   along_from : (a : Arc) (x more : ℕ) → s.forward ≡ true → IsWithin (x + more) a.cap → HasRoom s.forward a.cap x more
   along_from a x more way room = rw way room
 
-  pub along_some : s.forward ≡ true → s.arc < length caps → Carries (network_of t).arcs on 1 s → 0 < room_at caps on s.arc
-  along_some way short (a, at, room) = (arc_room s.arc a at short).shut (along a (get_or on s.arc 0) 1 way room)
-
-  pub along_carries : s.forward ≡ true → s.arc < length caps → Carries (network_of t).arcs on 1 s → Carries (network_of t).arcs on (room_at caps on s.arc) s
+  pub along_carries : s.forward ≡ true → s.arc < length caps → Carries (network_of t).arcs on 1 s → (0 < room_at caps on s.arc) × Carries (network_of t).arcs on (room_at caps on s.arc) s × (room_at caps on s.arc < 2 ^ 63 → Carries (network_of t).arcs on (room_at caps on s.arc + 1) s → ⊥)
   along_carries way short (a, at, room) =
-      (a, at, along_from a (get_or on s.arc 0) (room_at caps on s.arc) way ((arc_room s.arc a at short).goes ((arc_room s.arc a at short).shut (along a (get_or on s.arc 0) 1 way room))))
-
-  pub along_most : s.forward ≡ true → s.arc < length caps → Carries (network_of t).arcs on 1 s → room_at caps on s.arc < 2 ^ 63 → Carries (network_of t).arcs on (room_at caps on s.arc + 1) s → ⊥
-  along_most way short (a, at, room) less (b, at_b, more) =
-      let same : b ≡ a = same_Some _ _ (sym at_b ∙ at) in
-      (arc_room s.arc a at short).most less ((arc_room s.arc a at short).shut (along a (get_or on s.arc 0) 1 way room)) (along a (get_or on s.arc 0) (room_at caps on s.arc + 1) way (rw same at more))
+      let is = arc_room s.arc a at short in
+      let some : 0 < room_at caps on s.arc = is.shut (along a (get_or on s.arc 0) 1 way room) in (
+        some,
+        (a, at, along_from a (get_or on s.arc 0) (room_at caps on s.arc) way (is.goes some)),
+        λ less (b, at_b, more).
+            let same : b ≡ a = same_Some _ _ (sym at_b ∙ at) in
+            is.most less some (along a (get_or on s.arc 0) (room_at caps on s.arc + 1) way (rw same at more)),
+      )
 
   pub link_carries : s.forward ≡ true → length caps ≤ s.arc → Carries (network_of t).arcs on 1 s → (more : ℕ) → Carries (network_of t).arcs on more s
   link_carries way long (a, at, room) more = (a, at, along_from a (get_or on s.arc 0) more way (link_room s.arc a at long (get_or on s.arc 0 + more)))

@@ -1,5 +1,5 @@
 -- A visit: the residual arcs out of a step are entries of its lists.
-use Rattle.std.proofs.Common.{ℕ, ◌≡◌, ◌<◌, ◌≤◌, ◌+◌, ◌∙◌, ◌⊎◌, true, List, Some, length, get_or, ap, subst, refl, arith, inl, inr}
+use Rattle.std.proofs.Common.{ℕ, ◌≡◌, ◌<◌, ◌≤◌, ◌+◌, ◌∙◌, ◌⊎◌, Bool, true, false, List, Some, length, get_or, ap, subst, refl, arith, inl, inr}
 use Rattle.std.proofs.lemmas.Bool.{cases_eq}
 use Rattle.std.specs.Prelude.{slice_get}
 use Rattle.std.proofs.lemmas.Option.{slice_get-get_or}
@@ -11,10 +11,10 @@ use Rattle.saga_flow.specs.Residual.{IsOpen}
 use Rattle.saga_closure.specs.CaseNet.{network_of, cap_of}
 use Rattle.saga_closure.specs.Capacities.{AreCapacities, room_at}
 use Rattle.saga_closure.specs.declared.searching.Found.{Found}
-use Rattle.saga_closure.specs.Layers.{none, GoesIn, GoesOut, Goes, IsSearch, IsStart, IsVisit, IsLabelled, IsUpTo, AreNeedsUpTo, AreCarryingUpTo}
+use Rattle.saga_closure.specs.Layers.{none, GoesIn, GoesOut, Goes, IsSearch, IsStart, IsVisit, IsLabelled}
+use Rattle.saga_closure.specs.Links.{arc_over, LetsThrough, AreLinkedUpTo, IsUpTo}
 use Rattle.saga_closure.proofs.ArcCases.{no_need, need_at, each_open, opens_leave, opens_stand}
 use Rattle.saga_closure.proofs.RoomLemmas.{leave_room, stand_room}
-use Rattle.saga_closure.proofs.NeighbourLemmas.{has_need}
 use Rattle.saga_closure.proofs.SearchLemmas.{label_more, label_lower, label_here, label_place, next_more}
 
 module _ (t : Terms) (on : List ℕ) (v w : ℕ) where
@@ -98,26 +98,26 @@ pub visit_levels : (t : Terms) (on level : List ℕ) (by : List ResidualArc) (or
 visit_levels t on level by order first end next depth v w visit lt old = elim (visit.search.levels w lt) [ inl few ↦ few | inr is ↦ absurd (old is) ]
 
 -- one entry more is looked at
-pub seen_more : (passes : ℕ → Type 0) (entries old new : List ℕ) (most e : ℕ) → IsUpTo passes entries old most e → ((x : ℕ) → get_or new x 0 ≤ get_or old x 0) → (passes e → get_or new (get_or entries e 0) 0 ≤ most) → IsUpTo passes entries new most (e + 1)
-seen_more passes entries old new most e seen lower now k lt pass = elim (cases_eq k e) [
+pub seen_more : (t : Terms) (on old new : List ℕ) (forward : Bool) (steps places : List ℕ) (most e : ℕ) → IsUpTo t on old forward steps places most e → ((x : ℕ) → get_or new x 0 ≤ get_or old x 0) → (LetsThrough on (arc_over t.count forward (get_or places e 0)) → get_or new (get_or steps e 0) 0 ≤ most) → IsUpTo t on new forward steps places most (e + 1)
+seen_more t on old new forward steps places most e seen lower now k lt pass = elim (cases_eq k e) [
   | inl same ↦ rw same (now (rw same at pass))
-  | inr ne ↦ omega (arith, lower (get_or entries k 0), seen k (omega arith) pass)
+  | inr ne ↦ omega (arith, lower (get_or steps k 0), seen k (omega arith) pass)
 ]
 
-pub needs_lower : (t : Terms) (old new : List ℕ) (v most : ℕ) → AreNeedsUpTo t old v most → ((x : ℕ) → get_or new x 0 ≤ get_or old x 0) → AreNeedsUpTo t new v most
-needs_lower t old new v most seen lower a needs = omega (arith, lower a, seen a needs)
+pub links_lower : (t : Terms) (on old new : List ℕ) (forward : Bool) (v most : ℕ) → AreLinkedUpTo t on old forward v most → ((x : ℕ) → get_or new x 0 ≤ get_or old x 0) → AreLinkedUpTo t on new forward v most
+links_lower t on old new forward v most seen lower k w at pass = omega (arith, lower w, seen k w at pass)
 
 -- the whole visit
-pub visit_end : (t : Terms) (on level : List ℕ) (by : List ResidualArc) (order : List ℕ) (first end next depth v : ℕ) → IsVisit t on level by order first end next depth v → AreNeedsUpTo t level v (depth + 1) → AreCarryingUpTo t on level v (depth + 1) → IsSearch t on level by order first end (next + 1) depth (depth + 1)
-visit_end t on level by order first end next depth v visit free carrying =
+pub visit_end : (t : Terms) (on level : List ℕ) (by : List ResidualArc) (order : List ℕ) (first end next depth v : ℕ) → IsVisit t on level by order first end next depth v → AreLinkedUpTo t on level true v (depth + 1) → AreLinkedUpTo t on level false v (depth + 1) → IsSearch t on level by order first end (next + 1) depth (depth + 1)
+visit_end t on level by order first end next depth v visit along back =
     next_more t on level by order first end next depth (depth + 1) visit.search visit.less (λ w lt goes. each w (goes_by t on (get_or order next 0) w goes))
   where
     needed : (k b a : ℕ) → k < length t.needs → (need_at t k).step ≡ b → (need_at t k).on ≡ a → slice_get t.needs k ≡ Some (a_need b a)
     needed k b a lt from to = slice_get-get_or t.needs k no_need lt ∙ ap Some (rw (← from, ← to) refl)
 
     each : (w : ℕ) → GoesBy t on (get_or order next 0) w → get_or level w 0 ≤ depth + 1
-    each w (inl (k, lt, from, to)) = free w (has_need t.needs k v w (needed k v w lt (from ∙ visit.at) to))
-    each w (inr (k, lt, from, to, some)) = carrying k w (needed k w v lt to (from ∙ visit.at)) some
+    each w (inl (k, lt, from, to)) = along k w (needed k v w lt (from ∙ visit.at) to) (inl refl)
+    each w (inr (k, lt, from, to, some)) = back k w (needed k w v lt to (from ∙ visit.at)) (inr some)
 
 -- the search begins
 pub search_start : (t : Terms) (caps on level : List ℕ) (by : List ResidualArc) (order : List ℕ) → AreCapacities t caps → t.count ≤ 1024 → IsStart (λ v. room_at caps on v) t.count level by order t.count → IsSearch t on level by order 0 (length order) 0 0 0

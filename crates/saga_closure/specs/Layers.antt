@@ -1,8 +1,6 @@
 -- A search from the source, layer by layer.
-use Rattle.std.specs.Prelude.{ℕ, Bool, List, [], ◌∷◌, ◌++◌, length, slice_index, slice_index_or, slice_set, slice_get, Some, if◌then◌else◌, nat_lt, min, ◌⊎◌, ◌==◌, ◌≡◌, ◌<◌, ◌≤◌, ◌+◌, ◌-◌}
+use Rattle.std.specs.Prelude.{ℕ, Bool, List, [], ◌∷◌, ◌++◌, length, slice_index, slice_index_or, slice_set, if◌then◌else◌, nat_lt, min, ◌⊎◌, ◌==◌, ◌≡◌, ◌<◌, ◌≤◌, ◌+◌, ◌-◌}
 use Rattle.std.specs.List.{count_by}
-use Rattle.saga_def.specs.Neighbours.{a_need}
-use Rattle.saga_def.specs.Order.{NeedsDirectly}
 use Rattle.saga_case.specs.Terms.{Terms}
 use Rattle.saga_flow.specs.declared.residual_arcs.ResidualArc.{ResidualArc}
 use Rattle.saga_flow.specs.Residual.{IsOpen, IsResidual}
@@ -78,19 +76,6 @@ pub record IsStart (room : ℕ → ℕ) (count : ℕ) (level : List ℕ) (by : L
   pub counted : length order ≡ count_by is_level level
   pub either : (v : ℕ) → v < so_far → ((slice_index level v ≡ 0) × (0 < room v) × ((j : ℕ) × (j < length order) × (slice_index order j ≡ v))) ⊎ ((slice_index level v ≡ none) × (room v ≡ 0))
   pub later : (v : ℕ) → so_far ≤ v → v < count → slice_index level v ≡ none
-
--- what a step needs directly has a level of at most this
-abbrev pub AreNeedsUpTo : Terms → List ℕ → ℕ → ℕ → Type 0
-AreNeedsUpTo t level v most = (a : ℕ) → NeedsDirectly t.needs v a → slice_index level a ≤ most
-
--- what needs a step directly, over a need that carries something, has a level of at most this
-abbrev pub AreCarryingUpTo : Terms → List ℕ → List ℕ → ℕ → ℕ → Type 0
-AreCarryingUpTo t on level v most =
-    (k b : ℕ) → slice_get t.needs k ≡ Some (a_need b v) → 0 < slice_index on (t.count + (t.count + k)) → slice_index level b ≤ most
-
--- of the first so many entries those that pass a test have a level of at most this
-abbrev pub IsUpTo : (ℕ → Type 0) → List ℕ → List ℕ → ℕ → ℕ → Type 0
-IsUpTo passes entries level most count = (e : ℕ) → e < count → passes e → slice_index level (slice_index entries e) ≤ most
 
 -- a visit of the step that stands next in the order
 pub record IsVisit (t : Terms) (on level : List ℕ) (by : List ResidualArc) (order : List ℕ) (first end next depth v : ℕ) : Type 0 where

@@ -3,6 +3,7 @@ pub mod CaseNet
 pub mod Capacities
 pub mod Nets
 pub mod Outs
+pub mod Links
 pub mod Layers
 pub mod Found
 pub mod Paths

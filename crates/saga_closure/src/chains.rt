@@ -8,7 +8,7 @@ ghost use Rattle.saga_closure.specs.Nets.{terms_in, arcs_in};
 
 use crate::capacities::{ENDLESS, endless_only};
 use crate::nets::{ClosureNet, Residual};
-use crate::paths::tail;
+use crate::paths::ends;
 use crate::searching::{Found, Goal, search};
 use std::alloc::{AllocError, Global};
 
@@ -72,7 +72,7 @@ fn chain_to(
     chain.push(v)?;
     while found.level[v as usize] > 0 {
         let by = found.by[v as usize];
-        v = tail(residual.net, by);
+        v = ends(residual.net, by).0;
         chain.push(v)?;
     }
     chain.reverse();

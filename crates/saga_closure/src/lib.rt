@@ -7,6 +7,7 @@
 mod capacities;
 mod chains;
 mod flows;
+mod links;
 mod nets;
 mod paths;
 mod phases;

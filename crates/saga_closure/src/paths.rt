@@ -10,36 +10,19 @@ use crate::searching::{Found, Goal};
 use saga_flow::ResidualArc;
 use std::alloc::AllocError;
 
-/// The saga's step that the residual arc of a need leaves.
-pub fn tail(net: &ClosureNet, over: ResidualArc) -> u16
+/// The saga's steps that the residual arc of a need joins: the one that it leaves, and the one to which it leads.
+pub fn ends(net: &ClosureNet, over: ResidualArc) -> (u16, u16)
     requires far { 2 * (terms_in net.now).count ≤ over.arc }
     requires inside { over.arc
         < (terms_in net.now).count + ((terms_in net.now).count + length (terms_in net.now).needs) }
-    ensures is { result ≡ tail_of (terms_in net.now) over }
-    ensures inside { result < (terms_in net.now).count }
+    ensures tail { result.0 ≡ tail_of (terms_in net.now) over }
+    ensures tail_inside { result.0 < (terms_in net.now).count }
+    ensures head { result.1 ≡ head_of (terms_in net.now) over }
+    ensures head_inside { result.1 < (terms_in net.now).count }
 {
     let need = net.definition.need(over.arc - 2 * net.definition.steps());
-    if over.forward {
-        need.step as u16
-    } else {
-        need.on as u16
-    }
-}
-
-/// The saga's step to which the residual arc of a need leads.
-pub fn head(net: &ClosureNet, over: ResidualArc) -> u16
-    requires far { 2 * (terms_in net.now).count ≤ over.arc }
-    requires inside { over.arc
-        < (terms_in net.now).count + ((terms_in net.now).count + length (terms_in net.now).needs) }
-    ensures is { result ≡ head_of (terms_in net.now) over }
-    ensures inside { result < (terms_in net.now).count }
-{
-    let need = net.definition.need(over.arc - 2 * net.definition.steps());
-    if over.forward {
-        need.on as u16
-    } else {
-        need.step as u16
-    }
+    let (step, on) = (need.step as u16, need.on as u16);
+    if over.forward { (step, on) } else { (on, step) }
 }
 
 /// The path by which a search came to its goal, and on to the sink.
@@ -62,7 +45,7 @@ pub fn path_to(
     while found.level[v as usize] > 0 {
         let by = found.by[v as usize];
         path.push(by)?;
-        v = tail(residual.net, by);
+        v = ends(residual.net, by).0;
     }
     path.push(ResidualArc {
         arc: v as usize,

@@ -1,10 +1,12 @@
 //! The search from the source, layer by layer.
 ghost use Rattle.std.specs.Prelude.{◌<◌, ◌≤◌, ◌+◌, ℕ, IfOk, IfSome, IfNone, OnOk, length, slice_index};
 ghost use Rattle.saga_closure.specs.Nets.{terms_in};
-ghost use Rattle.saga_closure.specs.Layers.{IsLabelled, AreNeedsUpTo, AreCarryingUpTo, IsAtGoal, IsReach};
+ghost use Rattle.saga_closure.specs.Layers.{IsLabelled, IsAtGoal, IsReach};
+ghost use Rattle.saga_closure.specs.Links.{AreLinkedUpTo};
 ghost use Rattle.saga_closure.specs.Found.{IsStarted, IsSearching, IsVisiting};
 ghost use Rattle.saga_closure.specs.Outs.{IsOut, AreDry};
 
+use crate::links::{lets_through, links_from};
 use crate::nets::Residual;
 use crate::rooms::room_along;
 use saga_flow::ResidualArc;
@@ -80,67 +82,34 @@ pub struct Layer {
     pub depth: u16,
 }
 
-/// Labels what a step needs.
-fn visit_needs(
+/// Labels what residual arcs of a direction lead to from a step, over needs.
+fn visit_links(
     residual: &Residual,
     layer: Layer,
     next: usize,
     v: u16,
+    forward: bool,
     found: &mut Found,
 ) -> Result<(), AllocError>
     requires visit { IsVisiting residual.now found.old layer next v }
     ensures visit { OnOk result (IsVisiting residual.now found.new layer next v) }
     ensures seen { OnOk result
-        (AreNeedsUpTo (terms_in residual.now.net.now) found.new.level.items v (layer.depth + 1)) }
-{
-    let definition = residual.net.definition;
-    let links = 2 * definition.steps();
-    let steps = definition.needs_of(v);
-    let places = definition.places_of(v);
-    for e in 0..steps.len() {
-        let u = steps[e];
-        if found.level[u as usize] == NONE {
-            let by = ResidualArc {
-                arc: links + places[e] as usize,
-                forward: true,
-            };
-            label(found, u, layer.depth + 1, by)?;
-        }
-    }
-    Ok(())
-}
-
-/// Labels what needs a step, over the needs that carry something.
-fn visit_dependants(
-    residual: &Residual,
-    layer: Layer,
-    next: usize,
-    v: u16,
-    found: &mut Found,
-) -> Result<(), AllocError>
-    requires visit { IsVisiting residual.now found.old layer next v }
-    ensures visit { OnOk result (IsVisiting residual.now found.new layer next v) }
-    ensures seen { OnOk result
-        (AreCarryingUpTo (terms_in residual.now.net.now) residual.now.on.now found.new.level.items v
-        (layer.depth + 1)) }
+        (AreLinkedUpTo (terms_in residual.now.net.now) residual.now.on.now found.new.level.items forward
+        v (layer.depth + 1)) }
     ensures lower { OnOk result
         ((x : ℕ) → slice_index found.new.level.items x ≤ slice_index found.old.level.items x) }
 {
     let definition = residual.net.definition;
     let links = 2 * definition.steps();
-    let steps = definition.needed_by(v);
-    let places = definition.places_on(v);
+    let (steps, places) = links_from(definition, v, forward);
     for e in 0..steps.len() {
-        let arc = links + places[e] as usize;
-        if residual.on[arc] > 0 {
-            let u = steps[e];
-            if found.level[u as usize] == NONE {
-                let by = ResidualArc {
-                    arc,
-                    forward: false,
-                };
-                label(found, u, layer.depth + 1, by)?;
-            }
+        let u = steps[e];
+        let by = ResidualArc {
+            arc: links + places[e] as usize,
+            forward,
+        };
+        if lets_through(residual, by) && found.level[u as usize] == NONE {
+            label(found, u, layer.depth + 1, by)?;
         }
     }
     Ok(())
@@ -158,8 +127,8 @@ fn visit(
     ensures { OnOk result (IsSearching residual.now found.new layer (next + 1)) }
 {
     let v = found.order[next];
-    visit_needs(residual, layer, next, v, found)?;
-    visit_dependants(residual, layer, next, v, found)?;
+    visit_links(residual, layer, next, v, true, found)?;
+    visit_links(residual, layer, next, v, false, found)?;
     Ok(())
 }
 

@@ -1,11 +1,12 @@
 //! Further paths of the same length: a walk back from a step, a level lower at each step.
-ghost use Rattle.std.specs.Prelude.{◌≡◌, ◌<◌, ◌+◌, ◌*◌, ℕ, List, true, All, IfOk, IfSome, IsTrue, length, vec_len, slice_index};
+ghost use Rattle.std.specs.Prelude.{◌≡◌, ◌<◌, ◌+◌, ◌*◌, true, All, IfOk, IfSome, IsTrue, length, vec_len, slice_index};
 ghost use Rattle.saga_flow.specs.Residual.{IsOpen};
 ghost use Rattle.saga_closure.specs.Found.{IsClimb};
 ghost use Rattle.saga_closure.specs.Nets.{terms_in, arcs_in};
 
+use crate::links::{lets_through, links_from};
 use crate::nets::{ClosureNet, Residual};
-use crate::paths::head;
+use crate::paths::ends;
 use crate::rooms::room_along;
 use saga_flow::ResidualArc;
 use std::alloc::AllocError;
@@ -38,54 +39,15 @@ fn is_alive(residual: &Residual, level: &[u16], left: &[usize], v: u16) -> bool
     }
 }
 
-/// From one of the last `many` steps that need `v`.
-fn dependant_before(
+/// From one of the last `many` steps from which a residual arc of a direction may lead to `v`: `forward` one that needs it,
+/// else one that it needs.
+fn link_before(
     residual: &Residual,
     level: &[u16],
     left: &[usize],
     v: u16,
     many: usize,
-) -> Option<Back>
-    requires level { length level.now ≡ (terms_in residual.now.net.now).count }
-    requires left { length left.now ≡ (terms_in residual.now.net.now).count }
-    requires inside { v < (terms_in residual.now.net.now).count }
-    ensures before { IfSome result (λ b. b.left < many) }
-    ensures inside { IfSome result (λ b. b.from < (terms_in residual.now.net.now).count) }
-    ensures opened { IfSome result
-        (λ b. (on : List ℕ) → IsOpen (arcs_in residual.now.net.now) on b.by (2 + b.from) (2 + v)) }
-    ensures lower { IfSome result
-        (λ b. slice_index level.now v ≡ slice_index level.now b.from + 1) }
-{
-    let definition = residual.net.definition;
-    let links = 2 * definition.steps();
-    let steps = definition.needed_by(v);
-    let places = definition.places_on(v);
-    let far = level[v as usize];
-    let many = many.min(steps.len());
-    for e in steps.len() - many..steps.len() {
-        let u = steps[e];
-        if is_just_below(level[u as usize], far) && is_alive(residual, level, left, u) {
-            let by = ResidualArc {
-                arc: links + places[e] as usize,
-                forward: true,
-            };
-            return Some(Back {
-                left: steps.len() - e - 1,
-                from: u,
-                by,
-            });
-        }
-    }
-    None
-}
-
-/// From one of the last `many` steps that `v` needs, back over a need that carries something.
-fn need_before(
-    residual: &Residual,
-    level: &[u16],
-    left: &[usize],
-    v: u16,
-    many: usize,
+    forward: bool,
 ) -> Option<Back>
     requires level { length level.now ≡ (terms_in residual.now.net.now).count }
     requires left { length left.now ≡ (terms_in residual.now.net.now).count }
@@ -99,21 +61,19 @@ fn need_before(
 {
     let definition = residual.net.definition;
     let links = 2 * definition.steps();
-    let steps = definition.needs_of(v);
-    let places = definition.places_of(v);
+    let (steps, places) = links_from(definition, v, !forward);
     let far = level[v as usize];
     let many = many.min(steps.len());
     for e in steps.len() - many..steps.len() {
         let u = steps[e];
-        let arc = links + places[e] as usize;
-        if residual.on[arc] > 0
+        let by = ResidualArc {
+            arc: links + places[e] as usize,
+            forward,
+        };
+        if lets_through(residual, by)
             && is_just_below(level[u as usize], far)
             && is_alive(residual, level, left, u)
         {
-            let by = ResidualArc {
-                arc,
-                forward: false,
-            };
             return Some(Back {
                 left: steps.len() - e - 1,
                 from: u,
@@ -144,7 +104,7 @@ fn step_before(
 {
     let needs = residual.net.definition.needs_of(v).len();
     if many > needs {
-        if let Some(back) = dependant_before(residual, level, left, v, many - needs) {
+        if let Some(back) = link_before(residual, level, left, v, many - needs, true) {
             return Some(Back {
                 left: back.left + needs,
                 from: back.from,
@@ -152,7 +112,7 @@ fn step_before(
             });
         }
     }
-    need_before(residual, level, left, v, many.min(needs))
+    link_before(residual, level, left, v, many.min(needs), false)
 }
 
 /// Looks for a path of residual arcs from the source over `goal` to the sink that rises a level with each.
@@ -199,7 +159,7 @@ pub fn walk_back(
                         if over.arc < 2 * count {
                             return Ok(false);
                         }
-                        v = head(residual.net, over);
+                        v = ends(residual.net, over).1;
                     }
                 }
             }
@@ -221,7 +181,7 @@ pub fn put_back(net: &ClosureNet, path: &[ResidualArc], left: &mut [usize])
     let links = 2 * net.definition.steps();
     for over in path {
         if over.arc >= links {
-            let untried = &mut left[head(net, *over) as usize];
+            let untried = &mut left[ends(net, *over).1 as usize];
             *untried = untried.saturating_add(1);
         }
     }

@@ -52,17 +52,8 @@ fault_at c (Cycle steps) w = inr (w.0, (w.1, (w.2, (w.3, (w.4, (w.5, (w.6, (w.7,
 fault_at c OutOfMemory w = inl refl
 
 word_at : (f : DefFault) → f ≢ OutOfMemory → word_of f ≡ get_or words (place f) []
-word_at Empty ne = refl
-word_at TooManySteps ne = refl
-word_at TooManyNeeds ne = refl
-word_at BadName ne = refl
-word_at DoubleName ne = refl
-word_at UnknownStep ne = refl
-word_at DoubleNeed ne = refl
-word_at PriceTooLarge ne = refl
-word_at TriesOutOfRange ne = refl
-word_at (Cycle steps) ne = refl
 word_at OutOfMemory ne = absurd (ne refl)
+word_at _ ne = refl
 
 -- sound contents keep all of them
 all_kept : (c : Contents) → IsSound c → AreKept (rules c)

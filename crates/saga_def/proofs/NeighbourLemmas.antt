@@ -1,9 +1,9 @@
 -- The neighbours of a step ascend, each is there once, and they are all that its needs name.
+use Rattle.saga_def.specs.Peeling.{one_if}
 use Rattle.std.proofs.Common.{ℕ, ◌≡◌, ◌<◌, ◌≤◌, ◌+◌, ◌*◌, ◌∙◌, ◌⊎◌, inl, inr, List, [], ◌∷◌, ◌++◌, length, get_or, map, ap, sym, refl, arith, suc, zero}
 use Rattle.std.specs.Prelude.{Bool, true, false, ◌==◌, cond, Contains, slice_index, slice_get, Some, None}
 use Rattle.std.specs.List.{filter, count_by, sum_by, flat_map, range_with_len}
-use Rattle.std.proofs.lemmas.Bool.{cases_eq, cases_lt, eq-eqb, eqb-true}
-use Rattle.std.proofs.lemmas.Bool.Decides.{nat_tests}
+use Rattle.std.proofs.lemmas.Bool.{cases_eq, cases_lt, eq-eqb, eqb-true, ne_eqb}
 use Rattle.std.proofs.lemmas.List.{get_or-map, length-map, get_or_default}
 use Rattle.std.proofs.lemmas.List.Sums.{sum_by-cons, get_or-le-sum_by}
 use Rattle.std.proofs.lemmas.List.Elements.{filter-append, filter_passes}
@@ -18,9 +18,6 @@ use Rattle.saga_def.specs.Sound.{IsSound}
 use Rattle.saga_def.specs.Rules.{AreSingle}
 use Rattle.saga_def.specs.declared.steps.Need.{Need}
 use Rattle.saga_def.proofs.AdjacencyLemmas.{sum_of, occurs_both, places_below, no_need}
-
-abbrev one_if : Bool → ℕ
-one_if b = cond b 1 0
 
 -- each number is less than those after it
 abbrev pub Ascends : List ℕ → Type 0
@@ -77,8 +74,6 @@ ascends_from low (x ∷ (y ∷ ys)) up once = (
 )
 
 -- a need is there once, so a step is once among those that another needs
-eqb_no : (a b : ℕ) → (a ≡ b → ⊥) → (a == b) ≡ false
-eqb_no a b h = grind (arith, nat_tests)
 
 abbrev links : ℕ → ℕ → Need → ℕ
 links b s n = one_if (n.step == b) * one_if (n.on == s)
@@ -93,9 +88,9 @@ one_link : (n : Need) (b s : ℕ) → ((n ≡ record { step = b; on = s }) × (l
 one_link n b s = elim (cases_eq n.step b) [
   | inl e ↦ elim (cases_eq n.on s) [
     | inl f ↦ inl (need_is n b s e f, rw (eq-eqb n.step b e, eq-eqb n.on s f) refl)
-    | inr ne ↦ inr (rw (eqb_no n.on s ne) (omega arith))
+    | inr ne ↦ inr (rw (ne_eqb n.on s ne) (omega arith))
   ]
-  | inr ne ↦ inr (rw (eqb_no n.step b ne) (omega arith))
+  | inr ne ↦ inr (rw (ne_eqb n.step b ne) (omega arith))
 ]
 
 none_like : (needs : List Need) (b s : ℕ) → ((k : ℕ) (d : Need) → k < length needs → get_or needs k d ≡ record { step = b; on = s } → ⊥) → sum_by (links b s) needs ≡ 0
@@ -139,7 +134,7 @@ counted_is_there [] x some = absurd (omega (arith, some))
 counted_is_there (y ∷ xs) x some = elim (cases_eq y x) [
   | inl e ↦ (0, omega arith, e)
   | inr ne ↦
-      let none : one_if (y == x) ≡ 0 = ap (λ b. cond b 1 0) (eqb_no y x ne) in
+      let none : one_if (y == x) ≡ 0 = ap (λ b. cond b 1 0) (ne_eqb y x ne) in
       let later : Contains xs x = counted_is_there xs x (omega (arith, some, none, sum_by-cons (λ z. one_if (z == x)) y xs)) in
       (suc later.0, omega (arith, later.1), later.2)
 ]

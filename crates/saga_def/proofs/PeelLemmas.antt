@@ -1,9 +1,9 @@
 -- What the passes of the search keep of their marks.
+use Rattle.std.proofs.Math.Bool.{and-true}
 use Rattle.std.proofs.Common.{ℕ, ◌≡◌, ◌<◌, ◌≤◌, ◌+◌, ◌∙◌, inl, inr, List, [], ◌∷◌, ◌++◌, length, take, replicate, get_or, set, ap, sym, subst, refl, arith, suc}
 use Rattle.std.specs.Prelude.{Bool, true, false, not, ◌==◌, ◌&&◌, All, slice_index_or, Option, Some, None, IsSome}
 use Rattle.std.specs.List.{count_by}
-use Rattle.std.proofs.lemmas.Bool.{cases_eq, cases_lt, false≢true, eq-eqb, eqb-true}
-use Rattle.std.proofs.lemmas.Bool.Decides.{nat_tests}
+use Rattle.std.proofs.lemmas.Bool.{cases_eq, cases_lt, false≢true, eq-eqb, eqb-true, ne_eqb}
 use Rattle.std.proofs.lemmas.List.Sums.{get_or-le-sum_by, sum_by-cons, sum_by_push, sum_by_more, sum_by_more_le, sum_by-set, count_by-le-length}
 use Rattle.std.proofs.lemmas.List.{take_more, length-set, get_or-set_same, get_or-set_other, get_or_past, take_at, length-replicate, get_or-replicate}
 use Rattle.std.proofs.lemmas.List.Elements.{Contains-push, Contains-push_cases, Contains-append_left, All-take, All-contains, All-same, All-weaker, All-push}
@@ -115,14 +115,11 @@ none_pending (n ∷ needs) done s all =
         let yes : get_or done n.on false ≡ true = all n.on (0, omega arith, need_eq n s same) in
         rw (e, yes) refl
 
-eqb_no : (a b : ℕ) → (a ≡ b → ⊥) → (a == b) ≡ false
-eqb_no a b h = grind (arith, nat_tests)
-
 one_yes : (a b : ℕ) → a ≡ b → one_if (a == b) ≡ 1
 one_yes a b e = ap one_if (eq-eqb a b e)
 
 one_no : (a b : ℕ) → (a ≡ b → ⊥) → one_if (a == b) ≡ 0
-one_no a b ne = ap one_if (eqb_no a b ne)
+one_no a b ne = ap one_if (ne_eqb a b ne)
 
 one_true : (b : Bool) → one_if b ≡ 1 → b ≡ true
 one_true true e = refl
@@ -169,7 +166,7 @@ pending_set (n ∷ needs) done s a lt open_now =
           rw (before, after, eq-eqb n.on a e) refl
       | inr ne ↦
           let after : get_or (set done a true) n.on false ≡ get_or done n.on false = get_or-set_other done a n.on true false ne in
-          rw (after, eqb_no n.on a ne) (omega arith)
+          rw (after, ne_eqb n.on a ne) (omega arith)
     ]
 
 -- one step is done
@@ -290,7 +287,7 @@ lower_more users unmet todo unmet' todo' todo'' i n left lt long known is less o
             let mark : one_if (get_or (set unmet' b left) s 0 == 0) ≡ one_if (left == 0) = ap (λ (x : ℕ). one_if (x == 0)) now in
             omega (arith, grown s, here, mark, old.once s within, one_no (get_or unmet' s 0) 0 (λ z. absurd (omega (arith, was, less, z))))
         | inr ne ↦
-            let here : one_if (b == s && left == 0) ≡ 0 = rw (eqb_no b s (λ e. ne (sym e))) refl in
+            let here : one_if (b == s && left == 0) ≡ 0 = rw (ne_eqb b s (λ e. ne (sym e))) refl in
             let mark : one_if (get_or (set unmet' b left) s 0 == 0) ≡ one_if (get_or unmet' s 0 == 0) = ap (λ (x : ℕ). one_if (x == 0)) (get_or-set_other unmet' b s left 0 ne) in
             omega (arith, grown s, here, mark, old.once s within)
       ];
@@ -308,14 +305,10 @@ one_left users unmet todo unmet' todo' i lt known old enough =
 
 -- the step is opened, or not
 pub grown_yes : (todo : List ℕ) (b left : ℕ) → left ≡ 0 → (s : ℕ) → occurs s (todo ++ b ∷ []) ≡ occurs s todo + one_if (b == s && left == 0)
-grown_yes todo b left z s = rw (eq-eqb left 0 z) (occurs_push s b todo ∙ ap (λ t. occurs s todo + one_if t) (sym (and_true (b == s))))
-  where
-    and_true : (t : Bool) → (t && true) ≡ t
-    and_true true = refl
-    and_true false = refl
+grown_yes todo b left z s = rw (eq-eqb left 0 z) (occurs_push s b todo ∙ ap (λ t. occurs s todo + one_if t) (sym (and-true (b == s))))
 
 pub grown_no : (todo : List ℕ) (b left : ℕ) → (left ≡ 0 → ⊥) → (s : ℕ) → occurs s todo ≡ occurs s todo + one_if (b == s && left == 0)
-grown_no todo b left ne s = rw (eqb_no left 0 ne) (let none : one_if (b == s && false) ≡ 0 = and_false (b == s) in omega (arith, none))
+grown_no todo b left ne s = rw (ne_eqb left 0 ne) (let none : one_if (b == s && false) ≡ 0 = and_false (b == s) in omega (arith, none))
   where
     and_false : (t : Bool) → one_if (t && false) ≡ 0
     and_false true = refl
@@ -340,11 +333,11 @@ free_more unmet todo todo' i left lt is grown belows old = record {
         let mark : one_if (get_or unmet s 0 == 0) ≡ one_if (left == 0) = rw (e, is) refl in
         omega (arith, grown s, here, mark, old.none s (omega (arith, e)))
     | inr ne ↦
-        let here : one_if (i == s && left == 0) ≡ 0 = rw (eqb_no i s (λ e. ne (sym e))) refl in
+        let here : one_if (i == s && left == 0) ≡ 0 = rw (ne_eqb i s (λ e. ne (sym e))) refl in
         omega (arith, grown s, here, old.once s (omega arith))
   ];
   none = λ s past.
-      let here : one_if (i == s && left == 0) ≡ 0 = rw (eqb_no i s (λ e. absurd (omega (arith, e, past)))) refl in
+      let here : one_if (i == s && left == 0) ≡ 0 = rw (ne_eqb i s (λ e. absurd (omega (arith, e, past)))) refl in
       omega (arith, grown s, here, old.none s (omega arith));
 }
 
@@ -359,12 +352,8 @@ pending_all [] count s = refl
 pending_all (n ∷ needs) count s =
     let f : Need → ℕ = λ n. one_if (n.step == s && not (get_or (replicate count false) n.on false)) in
     let g : Need → ℕ = λ n. one_if (n.step == s) in
-    let one : f n ≡ g n = rw (no_marks count n.on) (ap one_if (and_true (n.step == s))) in
+    let one : f n ≡ g n = rw (no_marks count n.on) (ap one_if (and-true (n.step == s))) in
     omega (arith, sum_by-cons f n needs, sum_by-cons g n needs, one, pending_all needs count s)
-  where
-    and_true : (t : Bool) → (t && true) ≡ t
-    and_true true = refl
-    and_true false = refl
 
 -- no step is done at first
 pub settling_init : (needs : List Need) (count : ℕ) (done : List Bool) (unmet todo : List ℕ) → done ≡ replicate count false → length unmet ≡ count → ((s : ℕ) → s < count → get_or unmet s 0 ≡ demand needs s) → AreFree unmet todo → IsSettling needs count done unmet todo

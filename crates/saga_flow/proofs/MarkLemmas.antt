@@ -1,11 +1,10 @@
 -- The marks that two lists stand for: how many, at a node, and after a change.
-use Rattle.std.proofs.Common.{◌≡◌, ◌≢◌, ℕ, zero, suc, ◌+◌, ◌<◌, ◌==◌, true, false, not, List, Option, [], ◌∷◌, Some, None, length, get_or, set, map, replicate, ◌⊎◌, inl, inr, refl, sym, ap, ◌∙◌, arith}
-use Rattle.std.specs.Prelude.{is_some, IsTrue, ◌↔◌, if◌then◌else◌, Bool}
-use Rattle.std.proofs.lemmas.Bool.{ne_eqb, eq-eqb, eqb-true, true≢false}
-use Rattle.std.proofs.lemmas.Option.{none-some}
+use Rattle.std.proofs.Common.{◌≡◌, ◌≢◌, ℕ, zero, suc, ◌<◌, ◌==◌, true, false, not, List, Option, [], ◌∷◌, Some, None, length, get_or, set, map, replicate, ◌⊎◌, inl, inr, refl, sym, ap, ◌∙◌, arith}
+use Rattle.std.specs.Prelude.{is_some, if◌then◌else◌, Bool}
+use Rattle.std.proofs.lemmas.Bool.{ne_eqb}
 use Rattle.std.proofs.lemmas.List.{get_or_read}
 use Rattle.saga_flow.specs.declared.residual_arcs.ResidualArc.{ResidualArc}
-use Rattle.saga_flow.specs.Marks.{Mark, mark_of, marks_of, mark_at, depth_of, by_of, IsJustAbove, no_depth}
+use Rattle.saga_flow.specs.Marks.{Mark, mark_of, marks_of, mark_at, by_of, IsDepth, no_depth}
 
 pub marks_length : (depths : List ℕ) (by : List ResidualArc) → length depths ≡ length by → length (marks_of depths by) ≡ length depths
 marks_length [] by same = refl
@@ -84,12 +83,6 @@ pub marks_put : (depths : List ℕ) (by : List ResidualArc) (marks : List (Optio
 marks_put depths by marks node d s same is some less =
     marks_set depths by node d s same ∙ ap (λ ms. set ms node (mark_of d s)) is ∙ ap (set marks node) (mark_found d s some less)
 
-pub marks_flag : (depths : List ℕ) (by : List ResidualArc) (marks : List (Option Mark)) (node d : ℕ) → length depths ≡ length by → marks_of depths by ≡ marks → node < length marks → d ≡ get_or depths node d → is_some (mark_at marks node) ≡ not (d == no_depth)
-marks_flag depths by marks node d same is less read =
-    let lt = marks_within depths by marks node same is less in
-    let at : mark_at marks node ≡ mark_of (get_or depths node 0) (get_or by node (record { arc = 0; forward = false })) = ap (λ ms. mark_at ms node) (sym is) ∙ marks_at depths by node _ same lt.0 in
-    ap is_some at ∙ flag _ _ ∙ ap (λ x. not (x == no_depth)) (sym (get_or_read depths node d lt.0 read 0))
-
 -- no residual arc led to where a search began, nor to a node without a mark
 pub by_none : (marks : List (Option Mark)) (by : List ResidualArc) (node d : ℕ) → IsRead marks by node d → (d ≡ 0) ⊎ ((d ≢ 0) × (d ≡ no_depth)) → by_of (mark_at marks node) ≡ None
 by_none marks by node d read (inl zero_is) =
@@ -100,17 +93,9 @@ pub by_some : (marks : List (Option Mark)) (by : List ResidualArc) (node d : ℕ
 by_some marks by node d s read some other is =
     ap by_of (read.some other s) ∙ rw (ne_eqb d 0 some) (ap Some (sym is))
 
--- the test for a mark one less deep
-pub above_marked : (marks : List (Option Mark)) (by : List ResidualArc) (node d far : ℕ) → IsRead marks by node d → d ≢ no_depth → IsTrue (d + 1 == far) ↔ IsJustAbove marks node far
-above_marked marks by node d far read other =
-    let s : ResidualArc = record { arc = 0; forward = false } in
-    let at = read.some other s in (
-      λ test. (_, at, eqb-true (d + 1) far test),
-      λ above. eq-eqb (d + 1) far (ap (λ n. n + 1) (ap depth_of (sym at ∙ above.1)) ∙ above.2),
-    )
-
-pub above_none : (marks : List (Option Mark)) (by : List ResidualArc) (node d far : ℕ) → IsRead marks by node d → d ≡ no_depth → IsTrue (not (d == no_depth)) ↔ IsJustAbove marks node far
-above_none marks by node d far read away = (
-  λ test. absurd (true≢false (sym test ∙ ap not (eq-eqb d no_depth away))),
-  λ above. absurd (none-some above.0 (sym (read.none away) ∙ above.1)),
-)
+-- what was read, as the depth of a mark
+pub read_depth : (marks : List (Option Mark)) (by : List ResidualArc) (node d : ℕ) → IsRead marks by node d → IsDepth (mark_at marks node) d
+read_depth marks by node d read = record {
+  none = read.none;
+  some = λ other. (_, read.some other (record { arc = 0; forward = false }), refl);
+}

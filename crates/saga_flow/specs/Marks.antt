@@ -1,5 +1,5 @@
 -- The marks of a breadth-first search, and how far nodes are by them.
-use Rattle.std.specs.Prelude.{ℕ, ◌≡◌, ◌+◌, ◌==◌, if◌then◌else◌, List, [], ◌∷◌, Option, Some, None, length, slice_index_or}
+use Rattle.std.specs.Prelude.{ℕ, ◌≡◌, ◌≢◌, ◌+◌, ◌==◌, if◌then◌else◌, List, [], ◌∷◌, Option, Some, None, length, slice_index_or}
 use Rattle.saga_flow.specs.declared.residual_arcs.ResidualArc.{ResidualArc}
 
 -- how a search came to a node: after how many residual arcs, and by which last one (none where it began)
@@ -52,3 +52,8 @@ far_in marks node = far_of (length marks) (mark_at marks node)
 -- a node has a mark one less deep than this
 abbrev pub IsJustAbove : List (Option Mark) → ℕ → ℕ → Type 0
 IsJustAbove marks node depth = (m : Mark) × (mark_at marks node ≡ Some m) × (m.depth + 1 ≡ depth)
+
+-- the depth that stands for a mark, or for none
+pub record IsDepth (mark : Option Mark) (depth : ℕ) : Type 0 where
+  pub none : depth ≡ no_depth → mark ≡ None
+  pub some : depth ≢ no_depth → (m : Mark) × (mark ≡ Some m) × (m.depth ≡ depth)

@@ -1,6 +1,6 @@
 //! The marks of a breadth-first search: how deep it found each node, and by which residual arc.
 ghost use Rattle.std.specs.Prelude.{◌≡◌, ◌==◌, ◌<◌, ◌↔◌, ℕ, List, Option, IfOk, IsTrue, None, Some, is_some, length, map, not, replicate, slice_set};
-ghost use Rattle.saga_flow.specs.Marks.{Mark, IsJustAbove, by_of, depth_at, far_in, mark_at, marks_of, no_depth};
+ghost use Rattle.saga_flow.specs.Marks.{Mark, IsDepth, IsJustAbove, by_of, depth_at, far_in, mark_at, marks_of, no_depth};
 
 use crate::residual_arcs::ResidualArc;
 use std::alloc::{AllocError, Global};
@@ -61,13 +61,22 @@ impl Marks {
         self.by[node] = by;
     }
 
+    /// The depth that stands for a node's mark.
+    #[inline]
+    fn read(&self, node: usize) -> u32
+        requires { node < length self.now }
+        ensures { IsDepth (mark_at self.now node) result }
+    {
+        self.depths[node]
+    }
+
     /// Whether a node has a mark.
     #[inline]
     pub fn is_marked(&self, node: usize) -> bool
         requires { node < length self.now }
         ensures { result ≡ is_some (mark_at self.now node) }
     {
-        self.depths[node] != NO_DEPTH
+        self.read(node) != NO_DEPTH
     }
 
     /// How deep a node stands; 0 where it has no mark.
@@ -75,7 +84,7 @@ impl Marks {
         requires { node < length self.now }
         ensures { result ≡ depth_at self.now node }
     {
-        let depth = self.depths[node];
+        let depth = self.read(node);
         if depth == NO_DEPTH { 0 } else { depth }
     }
 
@@ -97,7 +106,7 @@ impl Marks {
         requires { node < length self.now }
         ensures { result ≡ far_in self.now node }
     {
-        let depth = self.depths[node];
+        let depth = self.read(node);
         if depth == NO_DEPTH {
             self.depths.len()
         } else {
@@ -118,7 +127,7 @@ impl Marks {
         requires { node < length self.now }
         ensures { IsTrue result ↔ IsJustAbove self.now node far }
     {
-        let depth = self.depths[node];
+        let depth = self.read(node);
         depth != NO_DEPTH && depth as usize + 1 == far
     }
 }

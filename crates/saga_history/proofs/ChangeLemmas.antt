@@ -3,7 +3,7 @@ use Rattle.std.proofs.Common.{◌≡◌, ℕ, false, List, ◌∷◌, eqb, refl,
 use Rattle.std.proofs.lemmas.Bool.{cases_Bool, eqb-true}
 use Rattle.saga_def.specs.Contents.{Contents}
 use Rattle.saga_history.specs.declared.transitions.Transition.{Transition}
-use Rattle.saga_history.specs.Changes.{Change, opens, moves, starts_plan, drops_plan, adopts, aborts}
+use Rattle.saga_history.specs.Changes.{Change, opens, moves, starts_plan}
 use Rattle.saga_history.specs.States.{same_transition, state_after, transitions, state, end_state}
 use Rattle.saga_history.specs.Rules.{StepMay}
 use Rattle.saga_history.specs.Headline.{starts_undo_of}
@@ -34,9 +34,7 @@ leaves_or_moves s (moves t m) l = elim (cases_Bool (eqb s t)) [
   | inr other ↦ inl (record { stays = rw other refl; silent = rw other refl })
 ]
 leaves_or_moves s starts_plan l = inl (record { stays = refl; silent = refl })
-leaves_or_moves s drops_plan l = inl (record { stays = refl; silent = refl })
-leaves_or_moves s (adopts a) l = inl (record { stays = refl; silent = refl })
-leaves_or_moves s aborts l = inl (record { stays = refl; silent = refl })
+leaves_or_moves s _ l = inl (record { stays = refl; silent = refl })
 
 pub moved_state : (s : ℕ) (e : Change) (l : List Change) → (q : MovesStep s e l) → state (e ∷ l) s ≡ state_after q.move
 moved_state s e l q = ap end_state q.grows
@@ -44,11 +42,7 @@ moved_state s e l q = ap end_state q.grows
 -- what came before the last change of a legal saga is legal
 pub legal_tail : (d : Contents) (e : Change) (l : List Change) → IsLegalUnder d (e ∷ l) → IsLegalUnder d l
 legal_tail d (opens k) l legal = rw legal tt
-legal_tail d (moves s m) l legal = legal.1
-legal_tail d starts_plan l legal = legal.1
-legal_tail d drops_plan l legal = legal.1
-legal_tail d (adopts a) l legal = legal.1
-legal_tail d aborts l legal = legal.1
+legal_tail d _ l legal = legal.1
 
 pub step_may : (d : Contents) (e : Change) (l : List Change) (s : ℕ) (m : Transition) → IsLegalUnder d (e ∷ l) → e ≡ moves s m → StepMay d l s m
 step_may d e l s m legal is = let r : IsLegalUnder d (moves s m ∷ l) = subst (λ (v : Change). IsLegalUnder d (v ∷ l)) is legal in r.0

@@ -1,5 +1,6 @@
 -- How many events a saga has.
 use Rattle.std.proofs.Common.{◌≡◌, ◌≢◌, ℕ, zero, suc, ◌+◌, ◌<◌, ◌≤◌, Bool, true, false, cond, List, [], ◌∷◌, length, eqb, refl, sym, ap, ◌∙◌, inl, inr, arith}
+use Rattle.saga_history.specs.Merges.{is_opening}
 use Rattle.std.specs.Prelude.{All, if◌then◌else◌, count_by, sum_by}
 use Rattle.std.proofs.lemmas.Bool.{cases_Bool, eq-eqb, ne_eqb}
 use Rattle.std.proofs.lemmas.Option.{slice_get-get_or}
@@ -9,7 +10,7 @@ use Rattle.saga_def.specs.Sound.{IsSound}
 use Rattle.saga_case.specs.declared.answers.Answer.{Answer}
 use Rattle.saga_case.specs.declared.answers.Answer.TheVariants as answer
 use Rattle.saga_case.specs.declared.states.StepState.{StepState}
-use Rattle.saga_case.specs.declared.states.StepState.TheVariants.{Waiting, Running, Committed, Failed, Undoing, Undone, Fixed}
+use Rattle.saga_case.specs.declared.states.StepState.TheVariants.{Waiting}
 use Rattle.saga_case.specs.Flow.{sum_below}
 use Rattle.saga_case.proofs.SumLemmas.{sum_same, sum_le, sum_add, sum_zero, sum_one}
 use Rattle.saga_history.specs.declared.events.Event.{Event}
@@ -35,39 +36,21 @@ debt Draining = 1
 debt Planning = 1
 debt Stuck = 0
 
-abbrev is_open : Change → Bool
-is_open (opens d) = true
-is_open (moves s m) = false
-is_open starts_plan = false
-is_open drops_plan = false
-is_open (adopts a) = false
-is_open aborts = false
-
 abbrev is_moved : Change → Bool
-is_moved (opens d) = false
 is_moved (moves s m) = true
-is_moved starts_plan = false
-is_moved drops_plan = false
-is_moved (adopts a) = false
-is_moved aborts = false
+is_moved _ = false
 
 abbrev is_plan : Change → Bool
-is_plan (opens d) = false
-is_plan (moves s m) = false
 is_plan starts_plan = true
-is_plan drops_plan = false
-is_plan (adopts a) = false
-is_plan aborts = false
+is_plan _ = false
 
 abbrev in_plan : Turn → ℕ
-in_plan Going = 0
-in_plan Draining = 0
 in_plan Planning = 1
-in_plan Stuck = 0
+in_plan _ = 0
 
 -- all seven counts after one more change
 record Counts (e : Change) (l : List Change) : Type 0 where
-  n_opened : count_by is_open (e ∷ l) ≡ one (is_open e) + count_by is_open l
+  n_opened : count_by is_opening (e ∷ l) ≡ one (is_opening e) + count_by is_opening l
   n_moved : count_by is_moved (e ∷ l) ≡ one (is_moved e) + count_by is_moved l
   n_planned : count_by is_plan (e ∷ l) ≡ one (is_plan e) + count_by is_plan l
   n_dropped : count_by is_drop (e ∷ l) ≡ one (is_drop e) + count_by is_drop l
@@ -77,7 +60,7 @@ record Counts (e : Change) (l : List Change) : Type 0 where
 
 counts : (e : Change) (l : List Change) → Counts e l
 counts e l = record {
-  n_opened = count-cons is_open e l;
+  n_opened = count-cons is_opening e l;
   n_moved = count-cons is_moved e l;
   n_planned = count-cons is_plan e l;
   n_dropped = count-cons is_drop e l;
@@ -91,8 +74,8 @@ record Kept (l : List Change) : Type 0 where
   paid : count_by is_adoption l + debt (turn l) ≤ count_by is_failure l + count_by is_abort l
   planned : count_by is_plan l ≡ count_by is_drop l + count_by is_adoption l + in_plan (turn l)
   once : count_by is_abort l ≡ one (aborted l)
-  opened_once : count_by is_open l ≤ 1
-  in_all : length l ≡ count_by is_open l + count_by is_moved l + count_by is_plan l + count_by is_drop l + count_by is_adoption l + count_by is_abort l
+  opened_once : count_by is_opening l ≤ 1
+  in_all : length l ≡ count_by is_opening l + count_by is_moved l + count_by is_plan l + count_by is_drop l + count_by is_adoption l + count_by is_abort l
 
 debt_answer : (a : Answer) → (debt (turn_of_answer a) ≡ 0) × (in_plan (turn_of_answer a) ≡ 0)
 debt_answer (answer.Plan plan) = (refl, refl)
@@ -100,35 +83,16 @@ debt_answer (answer.Blocked chain) = (refl, refl)
 
 debt_move : (m : Transition) (t : Turn) → debt (turn_after_transition m t) ≤ debt t + one (is_final_failure m)
 debt_move transition.StartRun t = omega arith
-debt_move transition.Commit t = omega arith
-debt_move transition.Missed t = omega arith
-debt_move transition.Fail t = omega arith
-debt_move transition.StartUndo t = omega arith
-debt_move transition.Undone t = omega arith
-debt_move transition.UndoMissed t = omega arith
-debt_move transition.UndoFail t = omega arith
+debt_move _ t = omega arith
 
 plan_move : (m : Transition) (t : Turn) → (t ≡ Planning → ⊥) → in_plan (turn_after_transition m t) ≡ in_plan t
-plan_move transition.StartRun t none = refl
-plan_move transition.Commit t none = refl
-plan_move transition.Missed t none = refl
-plan_move transition.Fail Going none = refl
-plan_move transition.Fail Draining none = refl
 plan_move transition.Fail Planning none = absurd (none refl)
-plan_move transition.Fail Stuck none = refl
-plan_move transition.StartUndo t none = refl
-plan_move transition.Undone t none = refl
-plan_move transition.UndoMissed t none = refl
-plan_move transition.UndoFail Going none = refl
-plan_move transition.UndoFail Draining none = refl
 plan_move transition.UndoFail Planning none = absurd (none refl)
-plan_move transition.UndoFail Stuck none = refl
+plan_move _ _ none = refl
 
 plan_abort : (t : Turn) → (in_plan (turn_after_abort t) ≡ in_plan t) × (debt (turn_after_abort t) ≤ debt t + 1)
 plan_abort Going = (refl, omega arith)
-plan_abort Draining = (refl, omega arith)
-plan_abort Planning = (refl, omega arith)
-plan_abort Stuck = (refl, omega arith)
+plan_abort _ = (refl, omega arith)
 
 kept_none : Kept []
 kept_none = record { paid = omega arith; planned = omega arith; once = refl; opened_once = omega arith; in_all = omega arith }
@@ -137,7 +101,7 @@ keeps : (d : Contents) (l : List Change) → IsLegalUnder d l → Kept l
 keeps d [] legal = kept_none
 keeps d (opens k ∷ l) legal =
     let n = counts (opens k) l in
-    let empty : count_by is_open l ≡ 0 = rw legal refl in
+    let empty : count_by is_opening l ≡ 0 = rw legal refl in
     let rest : Kept l = rw legal kept_none in
     record { paid = omega (arith, n, rest); planned = omega (arith, n, rest); once = omega (arith, n, rest); opened_once = omega (arith, n, empty); in_all = omega (arith, n, rest) }
 keeps d (moves s m ∷ l) legal =
@@ -174,12 +138,8 @@ keeps d (aborts ∷ l) legal =
 
 -- ---- sums over the steps
 abbrev weight : (Transition → ℕ) → Change → ℕ
-weight w (opens d) = 0
 weight w (moves s m) = w m
-weight w starts_plan = 0
-weight w drops_plan = 0
-weight w (adopts a) = 0
-weight w aborts = 0
+weight w _ = 0
 
 abbrev at_step : ℕ → ℕ → ℕ → ℕ
 at_step t v s = if eqb s t then v else 0
@@ -210,10 +170,7 @@ by_steps w d (moves t m ∷ l) legal =
     let rest = by_steps w d l legal.1 in
     let here = sum_by-cons (weight w) (moves t m) l in
     omega (arith, more, parts, alone, itself, rest, here)
-by_steps w d (starts_plan ∷ l) legal = omega (arith, sum_by-cons (weight w) starts_plan l, by_steps w d l legal.1)
-by_steps w d (drops_plan ∷ l) legal = omega (arith, sum_by-cons (weight w) drops_plan l, by_steps w d l legal.1)
-by_steps w d (adopts a ∷ l) legal = omega (arith, sum_by-cons (weight w) (adopts a) l, by_steps w d l legal.1)
-by_steps w d (aborts ∷ l) legal = omega (arith, sum_by-cons (weight w) aborts l, by_steps w d l legal.1)
+by_steps w d (e ∷ l) legal = omega (arith, sum_by-cons (weight w) e l, by_steps w d l legal.1)
 
 -- ---- the number of events of a saga
 abbrev unit : Transition → ℕ
@@ -228,13 +185,7 @@ length-unit (m ∷ ms) = omega (arith, sum_by-cons unit m ms, length-unit ms)
 
 failure_parts : (m : Transition) → final_failure m ≡ one (same_transition transition.Fail m) + one (same_transition transition.UndoFail m)
 failure_parts transition.StartRun = omega arith
-failure_parts transition.Commit = omega arith
-failure_parts transition.Missed = omega arith
-failure_parts transition.Fail = omega arith
-failure_parts transition.StartUndo = omega arith
-failure_parts transition.Undone = omega arith
-failure_parts transition.UndoMissed = omega arith
-failure_parts transition.UndoFail = omega arith
+failure_parts _ = omega arith
 
 failures_in : (ms : List Transition) → sum_by final_failure ms ≡ count_of transition.Fail ms + count_of transition.UndoFail ms
 failures_in [] = omega arith
@@ -242,12 +193,7 @@ failures_in (m ∷ ms) = omega (arith, sum_by-cons final_failure m ms, failures_
 
 failures_by_state : (x : StepState) (a b : ℕ) → a ≡ one (has_failed x) → b ≡ one (has_fixed x) → a + b ≤ 1
 failures_by_state Waiting a b p q = omega arith
-failures_by_state Running a b p q = omega arith
-failures_by_state Committed a b p q = omega arith
-failures_by_state Failed a b p q = omega arith
-failures_by_state Undoing a b p q = omega arith
-failures_by_state Undone a b p q = omega arith
-failures_by_state Fixed a b p q = omega arith
+failures_by_state _ a b p q = omega arith
 
 -- a step fails for good at most once
 fails_once : (d : Contents) (l : List Change) (s : ℕ) → IsLegalUnder d l → sum_by final_failure (transitions l s) ≤ 1
@@ -257,19 +203,11 @@ fails_once d l s legal =
 
 weigh_moved : (e : Change) → weight unit e ≡ one (is_moved e)
 weigh_moved (opens k) = refl
-weigh_moved (moves s m) = refl
-weigh_moved starts_plan = refl
-weigh_moved drops_plan = refl
-weigh_moved (adopts a) = refl
-weigh_moved aborts = refl
+weigh_moved _ = refl
 
 weigh_failed : (e : Change) → weight final_failure e ≡ one (is_failure e)
 weigh_failed (opens k) = refl
-weigh_failed (moves s m) = refl
-weigh_failed starts_plan = refl
-weigh_failed drops_plan = refl
-weigh_failed (adopts a) = refl
-weigh_failed aborts = refl
+weigh_failed _ = refl
 
 moved_in : (l : List Change) → sum_by (weight unit) l ≡ count_by is_moved l
 moved_in [] = refl
@@ -297,9 +235,7 @@ step_short d l sound legal s lt =
 
 plan_debt : (t : Turn) → in_plan t ≤ debt t
 plan_debt Going = omega arith
-plan_debt Draining = omega arith
-plan_debt Planning = omega arith
-plan_debt Stuck = omega arith
+plan_debt _ = omega arith
 
 once_at_most : (b : Bool) → one b ≤ 1
 once_at_most true = omega arith

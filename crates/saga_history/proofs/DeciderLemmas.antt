@@ -8,7 +8,7 @@ use Rattle.saga_history.specs.declared.events.Event.TheVariants as event
 use Rattle.saga_history.specs.declared.transitions.Transition.{Transition}
 use Rattle.saga_history.specs.declared.transitions.Transition.TheVariants as transition
 use Rattle.saga_history.specs.declared.turns.Turn.{Turn}
-use Rattle.saga_history.specs.declared.turns.Turn.TheVariants.{Going, Draining, Planning, Stuck}
+use Rattle.saga_history.specs.declared.turns.Turn.TheVariants.{Draining, Planning}
 use Rattle.saga_history.specs.Changes.{Change, opens, moves, starts_plan, drops_plan, adopts, aborts}
 use Rattle.saga_history.specs.Counts.{is_final_failure}
 use Rattle.saga_history.specs.Deciders.{decides_turn, decides_goal, LastDecidesTurn, LastDecidesGoal, LastOpens, OpensByOpenings}
@@ -18,14 +18,9 @@ use Rattle.saga_history.specs.Turns.{turn_after_transition, turn_after_abort, tu
 use Rattle.saga_history.proofs.MergeLemmas.{or_parts}
 
 quiet_transition : (t : Transition) (now : Turn) → is_final_failure t ≡ false → turn_after_transition t now ≡ now
-quiet_transition transition.StartRun now quiet = refl
-quiet_transition transition.Commit now quiet = refl
-quiet_transition transition.Missed now quiet = refl
 quiet_transition transition.Fail now quiet = cc
-quiet_transition transition.StartUndo now quiet = refl
-quiet_transition transition.Undone now quiet = refl
-quiet_transition transition.UndoMissed now quiet = refl
 quiet_transition transition.UndoFail now quiet = cc
+quiet_transition _ now quiet = refl
 
 -- changes that do not decide the turn leave it
 turn_stays : (later l : List Change) → list_any decides_turn later ≡ false → turn (later ++ l) ≡ turn l
@@ -35,15 +30,11 @@ turn_stays (moves s t ∷ later) l none =
     let parts = or_parts (is_final_failure t) (list_any decides_turn later) none in
     quiet_transition t (turn (later ++ l)) parts.0 ∙ turn_stays later l parts.1
 turn_stays (starts_plan ∷ later) l none = cc
-turn_stays (drops_plan ∷ later) l none = cc
-turn_stays (adopts a ∷ later) l none = cc
-turn_stays (aborts ∷ later) l none = cc
+turn_stays (_ ∷ later) l none = cc
 
 abort_drains : (t : Turn) → t ≢ Planning → turn_after_abort t ≡ Draining
-abort_drains Going other = refl
-abort_drains Draining other = refl
 abort_drains Planning other = absurd (other refl)
-abort_drains Stuck other = refl
+abort_drains _ other = refl
 
 pub last_decides_turn : LastDecidesTurn
 last_decides_turn = λ later earlier none. record {
@@ -82,11 +73,7 @@ last_decides_goal = λ later earlier none. record {
 opening_stays : (later l : List Change) → list_any is_opening later ≡ false → opened_with (later ++ l) ≡ opened_with l
 opening_stays [] l none = refl
 opening_stays (opens k ∷ later) l none = cc
-opening_stays (moves s t ∷ later) l none = opening_stays later l none
-opening_stays (starts_plan ∷ later) l none = opening_stays later l none
-opening_stays (drops_plan ∷ later) l none = opening_stays later l none
-opening_stays (adopts a ∷ later) l none = opening_stays later l none
-opening_stays (aborts ∷ later) l none = opening_stays later l none
+opening_stays (_ ∷ later) l none = opening_stays later l none
 
 pub last_opens : LastOpens
 last_opens = λ later earlier none. record {
@@ -97,33 +84,11 @@ last_opens = λ later earlier none. record {
 opened_append : (g h : List Event) → opened_sagas (g ++ h) ≡ opened_sagas g ++ opened_sagas h
 opened_append [] h = refl
 opened_append (event.Open i k ∷ g) h = ap (λ (l : List ℕ). i ∷ l) (opened_append g h)
-opened_append (event.StartRun i s ∷ g) h = opened_append g h
-opened_append (event.Commit i s ∷ g) h = opened_append g h
-opened_append (event.Fail i s ∷ g) h = opened_append g h
-opened_append (event.StartUndo i s ∷ g) h = opened_append g h
-opened_append (event.Undone i s ∷ g) h = opened_append g h
-opened_append (event.UndoFail i s ∷ g) h = opened_append g h
-opened_append (event.StartPlan i ∷ g) h = opened_append g h
-opened_append (event.DropPlan i ∷ g) h = opened_append g h
-opened_append (event.Adopt i a ∷ g) h = opened_append g h
-opened_append (event.Missed i s ∷ g) h = opened_append g h
-opened_append (event.UndoMissed i s ∷ g) h = opened_append g h
-opened_append (event.Abort i ∷ g) h = opened_append g h
+opened_append (_ ∷ g) h = opened_append g h
 
 opens_none : (e : Event) → ((i k : ℕ) → e ≢ event.Open i k) → opened_sagas (e ∷ []) ≡ []
 opens_none (event.Open i k) other = absurd (other i k refl)
-opens_none (event.StartRun i s) other = refl
-opens_none (event.Commit i s) other = refl
-opens_none (event.Fail i s) other = refl
-opens_none (event.StartUndo i s) other = refl
-opens_none (event.Undone i s) other = refl
-opens_none (event.UndoFail i s) other = refl
-opens_none (event.StartPlan i) other = refl
-opens_none (event.DropPlan i) other = refl
-opens_none (event.Adopt i a) other = refl
-opens_none (event.Missed i s) other = refl
-opens_none (event.UndoMissed i s) other = refl
-opens_none (event.Abort i) other = refl
+opens_none _ other = refl
 
 pub opens_by_openings : (events : List Event) → OpensByOpenings events
 opens_by_openings events = record {

@@ -9,7 +9,7 @@ use Rattle.saga_def.specs.Order.{IsClosed}
 use Rattle.saga_case.specs.declared.answers.Answer.{Answer}
 use Rattle.saga_case.specs.declared.answers.Answer.TheVariants as answer
 use Rattle.saga_case.specs.declared.states.StepState.{StepState}
-use Rattle.saga_case.specs.declared.states.StepState.TheVariants.{Waiting, Running, Committed, Failed, Undoing, Undone, Fixed}
+use Rattle.saga_case.specs.declared.states.StepState.TheVariants.{Waiting, Committed, Failed, Undone, Fixed}
 use Rattle.saga_def.specs.declared.steps.Price.TheVariants.{Never}
 use Rattle.saga_case.specs.Prices.{stand_of}
 use Rattle.saga_case.specs.Terms.{terms_of, price_in}
@@ -41,13 +41,8 @@ one_some true n e t = omega arith
 one_some false n e t = cc
 
 leaves : (x : StepState) → has_undone x ≡ true → is_leaving x ≡ true
-leaves Waiting t = cc
-leaves Running t = cc
-leaves Committed t = cc
-leaves Failed t = cc
-leaves Undoing t = cc
 leaves Undone t = refl
-leaves Fixed t = cc
+leaves _ t = cc
 
 -- what came before the last change that passes is legal too
 before_run : (d : Contents) (p : Change → Bool) (l : List Change) → IsLegalUnder d l → IsLegalUnder d (before_last p l)
@@ -72,29 +67,19 @@ closed_answer d l (answer.Blocked chain) right was = was
 pub goal_closed : (d : Contents) (l : List Change) → IsLegalUnder d l → IsClosed d.needs (goal l)
 goal_closed d [] legal = record { holds = λ a b here order. refl }
 goal_closed d (opens k ∷ l) legal = rw legal (record { holds = λ a b here order. refl })
-goal_closed d (moves s t ∷ l) legal = goal_closed d l legal.1
-goal_closed d (starts_plan ∷ l) legal = goal_closed d l legal.1
-goal_closed d (drops_plan ∷ l) legal = goal_closed d l legal.1
 goal_closed d (adopts a ∷ l) legal = closed_answer d l a legal.0.1 (goal_closed d l legal.1)
-goal_closed d (aborts ∷ l) legal = goal_closed d l legal.1
+goal_closed d (_ ∷ l) legal = goal_closed d l legal.1
 
 stands_once : (x : StepState) (c u : ℕ) → IsTrue (is_standing x) → c ≡ one (has_committed x) → u ≡ one (has_undone x) → (c ≡ 1) × (u ≡ 0)
-stands_once Waiting c u t p q = cc
-stands_once Running c u t p q = cc
 stands_once Committed c u t p q = (p, q)
-stands_once Failed c u t p q = cc
-stands_once Undoing c u t p q = cc
-stands_once Undone c u t p q = cc
 stands_once Fixed c u t p q = (p, q)
+stands_once _ c u t p q = cc
 
 off_once : (x : StepState) (c u : ℕ) → IsTrue (is_off x) → 0 < c → c ≡ one (has_committed x) → u ≡ one (has_undone x) → (c ≡ 1) × (u ≡ 1)
 off_once Waiting c u t some p q = absurd (omega arith)
-off_once Running c u t some p q = cc
-off_once Committed c u t some p q = cc
 off_once Failed c u t some p q = absurd (omega arith)
-off_once Undoing c u t some p q = cc
 off_once Undone c u t some p q = (p, q)
-off_once Fixed c u t some p q = cc
+off_once _ c u t some p q = cc
 
 pub has_its_goal : (d : Contents) (l : List Change) → IsLegalUnder d l → IsEnded d l → HasExactlyItsGoal d l
 has_its_goal d l legal ended = record {

@@ -21,24 +21,19 @@ has_one_phase d l phase.Going phase.Ended a b = absurd (a.1 b)
 has_one_phase d l phase.Going phase.Stuck a b = absurd (cc (a.0, b))
 has_one_phase d l phase.Draining phase.Going a b = absurd (cc (a, b.0))
 has_one_phase d l phase.Draining phase.Draining a b = refl
-has_one_phase d l phase.Draining phase.Planning a b = absurd (cc (a, b))
 has_one_phase d l phase.Draining phase.Ended a b = absurd (cc (a, b.going))
-has_one_phase d l phase.Draining phase.Stuck a b = absurd (cc (a, b))
 has_one_phase d l phase.Planning phase.Going a b = absurd (cc (a, b.0))
-has_one_phase d l phase.Planning phase.Draining a b = absurd (cc (a, b))
 has_one_phase d l phase.Planning phase.Planning a b = refl
 has_one_phase d l phase.Planning phase.Ended a b = absurd (cc (a, b.going))
-has_one_phase d l phase.Planning phase.Stuck a b = absurd (cc (a, b))
 has_one_phase d l phase.Ended phase.Going a b = absurd (b.1 a)
 has_one_phase d l phase.Ended phase.Draining a b = absurd (cc (a.going, b))
 has_one_phase d l phase.Ended phase.Planning a b = absurd (cc (a.going, b))
 has_one_phase d l phase.Ended phase.Ended a b = refl
 has_one_phase d l phase.Ended phase.Stuck a b = absurd (cc (a.going, b))
 has_one_phase d l phase.Stuck phase.Going a b = absurd (cc (a, b.0))
-has_one_phase d l phase.Stuck phase.Draining a b = absurd (cc (a, b))
-has_one_phase d l phase.Stuck phase.Planning a b = absurd (cc (a, b))
 has_one_phase d l phase.Stuck phase.Ended a b = absurd (cc (a, b.going))
 has_one_phase d l phase.Stuck phase.Stuck a b = refl
+has_one_phase d l _ _ a b = absurd (cc (a, b))
 
 pub goal_is_closed : (shelf : List Contents) (h : List Event) → Headline shelf h → GoalIsClosed shelf h
 goal_is_closed shelf h head i d runs ended = (head.ended i d runs ended).closed

@@ -41,18 +41,15 @@ merged_first i _ _ _ (from_second e a b c m) none =
     let parts = or_parts (eqb i (saga_of e)) (names_saga i b) none in
     changes_first i e c ∙ ap (λ (l : List Change). changes i (past c) ++ l) (changes_other i e [] parts.0) ∙ append-nil (changes i (past c)) ∙ merged_first i a b c m parts.1
 
-pub merged_second : (i : ℕ) (a b c : List Event) → IsMerge a b c → names_saga i a ≡ false → changes i (past c) ≡ changes i (past b)
-merged_second i _ _ _ nothing none = refl
-merged_second i _ _ _ (from_second e a b c m) none =
-    changes_first i e c ∙ ap (λ (l : List Change). l ++ changes i (e ∷ [])) (merged_second i a b c m none) ∙ sym (changes_first i e b)
-merged_second i _ _ _ (from_first e a b c m) none =
-    let parts = or_parts (eqb i (saga_of e)) (names_saga i a) none in
-    changes_first i e c ∙ ap (λ (l : List Change). changes i (past c) ++ l) (changes_other i e [] parts.0) ∙ append-nil (changes i (past c)) ∙ merged_second i a b c m parts.1
+pub swapped : (a b c : List Event) → IsMerge a b c → IsMerge b a c
+swapped _ _ _ nothing = nothing
+swapped _ _ _ (from_first e a b c m) = from_second e b a c (swapped a b c m)
+swapped _ _ _ (from_second e a b c m) = from_first e b a c (swapped a b c m)
 
 pub merges_are_legal : (shelf : List Contents) (a b : List Event) → MergesAreLegal shelf a b
 merges_are_legal shelf a b = λ of_a of_b apart c m. legal_from shelf (past c) (λ i. elim (cases_Bool (names_saga i a)) [
   | inl named ↦ subst (IsLegalSaga shelf) (sym (merged_first i a b c m (apart i named))) (saga_is_legal shelf i (past a) of_a)
-  | inr other ↦ subst (IsLegalSaga shelf) (sym (merged_second i a b c m other)) (saga_is_legal shelf i (past b) of_b)
+  | inr other ↦ subst (IsLegalSaga shelf) (sym (merged_first i b a c (swapped a b c m) other)) (saga_is_legal shelf i (past b) of_b)
 ])
 
 -- what comes before an event

@@ -17,88 +17,56 @@ use Rattle.saga_history.proofs.ChangeLemmas.{LeavesOrMoves, leaves_or_moves, leg
 -- running, committed, undoing or fixed: what the step needs must stand
 abbrev pub is_active : StepState → Bool
 is_active Waiting = false
-is_active Running = true
-is_active Committed = true
 is_active Failed = false
-is_active Undoing = true
 is_active Undone = false
-is_active Fixed = true
+is_active _ = true
 
 abbrev pub is_waiting : StepState → Bool
 is_waiting Waiting = true
-is_waiting Running = false
-is_waiting Committed = false
-is_waiting Failed = false
-is_waiting Undoing = false
-is_waiting Undone = false
-is_waiting Fixed = false
+is_waiting _ = false
 
 stood : (a : StepState) → IsTrue (is_standing a) → IsTrue (has_committed a)
-stood Waiting t = cc
-stood Running t = cc
 stood Committed t = refl
-stood Failed t = cc
-stood Undoing t = cc
-stood Undone t = cc
 stood Fixed t = refl
+stood _ t = cc
 
 -- the step that needs moves
 user_moves : (m : Transition) (z a : StepState) → z ≡ state_before m → (m ≡ transition.StartRun → IsTrue (is_standing a)) → SuitsNeed z a → SuitsNeed (state_after m) a
 user_moves transition.StartRun z a f start fit = start refl
-user_moves transition.Commit z a f start fit = let k : SuitsNeed Running a = rw f at fit in k
 user_moves transition.Missed z a f start fit = tt
 user_moves transition.Fail z a f start fit = let k : SuitsNeed Running a = rw f at fit in stood a k
-user_moves transition.StartUndo z a f start fit = let k : SuitsNeed Committed a = rw f at fit in k
 user_moves transition.Undone z a f start fit = let k : SuitsNeed Undoing a = rw f at fit in stood a k
-user_moves transition.UndoMissed z a f start fit = let k : SuitsNeed Undoing a = rw f at fit in k
-user_moves transition.UndoFail z a f start fit = let k : SuitsNeed Undoing a = rw f at fit in k
+user_moves m z a f start fit = let k : SuitsNeed (state_before m) a = rw f at fit in k
 
 from_waiting : (b y : StepState) → is_waiting b ≡ true → SuitsNeed b y
 from_waiting Waiting y t = tt
-from_waiting Running y t = cc
-from_waiting Committed y t = cc
-from_waiting Failed y t = cc
-from_waiting Undoing y t = cc
-from_waiting Undone y t = cc
-from_waiting Fixed y t = cc
+from_waiting _ y t = cc
 
 waiting_from : (b a : StepState) → has_committed a ≡ false → SuitsNeed b a → is_waiting b ≡ true
 waiting_from Waiting a never fit = refl
-waiting_from Running a never fit = let c = stood a fit in cc
-waiting_from Committed a never fit = let c = stood a fit in cc
 waiting_from Failed a never fit = cc
-waiting_from Undoing a never fit = let c = stood a fit in cc
 waiting_from Undone a never fit = cc
-waiting_from Fixed a never fit = let c = stood a fit in cc
+waiting_from _ a never fit = let c = stood a fit in cc
 
 from_off : (b y : StepState) → IsTrue (is_off b) → IsTrue (has_committed y) → SuitsNeed b y
 from_off Waiting y t c = tt
-from_off Running y t c = cc
-from_off Committed y t c = cc
 from_off Failed y t c = c
-from_off Undoing y t c = cc
 from_off Undone y t c = c
-from_off Fixed y t c = cc
+from_off _ y t c = cc
 
 off_from : (b a : StepState) → is_standing a ≡ false → SuitsNeed b a → IsTrue (is_off b)
 off_from Waiting a never fit = refl
-off_from Running a never fit = cc
-off_from Committed a never fit = cc
 off_from Failed a never fit = refl
-off_from Undoing a never fit = cc
 off_from Undone a never fit = refl
-off_from Fixed a never fit = cc
+off_from _ a never fit = cc
 
 -- the needed step moves
 needed_moves : (b z : StepState) (m : Transition) → z ≡ state_before m → (m ≡ transition.StartUndo → IsTrue (is_off b)) → SuitsNeed b z → SuitsNeed b (state_after m)
-needed_moves b z transition.StartRun f off fit = from_waiting b Running (waiting_from b z (ap has_committed f) fit)
-needed_moves b z transition.Commit f off fit = from_waiting b Committed (waiting_from b z (ap has_committed f) fit)
-needed_moves b z transition.Missed f off fit = from_waiting b Waiting (waiting_from b z (ap has_committed f) fit)
-needed_moves b z transition.Fail f off fit = from_waiting b Failed (waiting_from b z (ap has_committed f) fit)
 needed_moves b z transition.StartUndo f off fit = from_off b Undoing (off refl) refl
 needed_moves b z transition.Undone f off fit = from_off b Undone (off_from b z (ap is_standing f) fit) refl
 needed_moves b z transition.UndoMissed f off fit = from_off b Committed (off_from b z (ap is_standing f) fit) refl
 needed_moves b z transition.UndoFail f off fit = from_off b Fixed (off_from b z (ap is_standing f) fit) refl
+needed_moves b z m f off fit = from_waiting b (state_after m) (waiting_from b z (ap has_committed f) fit)
 
 pub starts_standing : (d : Contents) (l : List Change) (s a : ℕ) (m : Transition) → NeedsDirectly d.needs s a → MeetsCondition d l s m → m ≡ transition.StartRun → IsTrue (is_standing (state l a))
 starts_standing d l s a m need condition is = let f : MeetsCondition d l s transition.StartRun = subst (MeetsCondition d l s) is condition in f.2 a need
@@ -109,13 +77,8 @@ undo_off d l s b m need condition is = let f : MeetsCondition d l s transition.S
 -- a step that needs itself never moves
 itself : (z : StepState) (m : Transition) → z ≡ state_before m → (m ≡ transition.StartRun → IsTrue (is_standing z)) → (m ≡ transition.StartUndo → IsTrue (is_off z)) → SuitsNeed z z → ⊥
 itself z transition.StartRun f start go fit = let s = start refl in let t : IsTrue (is_standing Waiting) = rw f at s in cc
-itself z transition.Commit f start go fit = let t : SuitsNeed Running Running = rw f at fit in cc
-itself z transition.Missed f start go fit = let t : SuitsNeed Running Running = rw f at fit in cc
-itself z transition.Fail f start go fit = let t : SuitsNeed Running Running = rw f at fit in cc
 itself z transition.StartUndo f start go fit = let s = go refl in let t : IsTrue (is_off Committed) = rw f at s in cc
-itself z transition.Undone f start go fit = let t : SuitsNeed Undoing Undoing = rw f at fit in cc
-itself z transition.UndoMissed f start go fit = let t : SuitsNeed Undoing Undoing = rw f at fit in cc
-itself z transition.UndoFail f start go fit = let t : SuitsNeed Undoing Undoing = rw f at fit in cc
+itself z m f start go fit = let t : SuitsNeed (state_before m) (state_before m) = rw f at fit in cc
 
 same_step : (b a : ℕ) (m n : Transition) (e : Change) → e ≡ moves b m → e ≡ moves a n → a ≡ b
 same_step b a m n e p q = let both = sym p ∙ q in cc

@@ -1,11 +1,12 @@
 -- Compensations stand in reverse order.
 use Rattle.std.proofs.Common.{◌≡◌, ℕ, zero, suc, Bool, true, false, List, [], ◌∷◌, refl, sym, ap, ◌∙◌, subst, inl, inr}
+use Rattle.std.proofs.lemmas.Bool.{false_from_ne_true}
 use Rattle.std.specs.Prelude.{IsTrue}
 use Rattle.saga_def.specs.declared.steps.Need.{Need}
 use Rattle.saga_def.specs.Contents.{Contents}
 use Rattle.saga_def.specs.Order.{NeedsDirectly, Leads, Precedes}
 use Rattle.saga_case.specs.declared.states.StepState.{StepState}
-use Rattle.saga_case.specs.declared.states.StepState.TheVariants.{Waiting, Running, Committed, Failed, Undoing, Undone, Fixed}
+use Rattle.saga_case.specs.declared.states.StepState.TheVariants.{Waiting, Committed, Failed, Undoing, Undone, Fixed}
 use Rattle.saga_history.specs.declared.transitions.Transition.{Transition}
 use Rattle.saga_history.specs.declared.transitions.Transition.TheVariants as transition
 use Rattle.saga_history.specs.Changes.{Change, moves}
@@ -19,21 +20,14 @@ use Rattle.saga_history.proofs.NeedLemmas.{is_active, pairs, undo_off}
 
 pub active_stands : (b a : StepState) → is_active b ≡ true → SuitsNeed b a → is_standing a ≡ true
 active_stands Waiting a t fit = cc
-active_stands Running a t fit = fit
-active_stands Committed a t fit = fit
 active_stands Failed a t fit = cc
-active_stands Undoing a t fit = fit
 active_stands Undone a t fit = cc
-active_stands Fixed a t fit = fit
+active_stands _ a t fit = fit
 
 pub stands_active : (a : StepState) → is_standing a ≡ true → is_active a ≡ true
-stands_active Waiting t = cc
-stands_active Running t = cc
 stands_active Committed t = refl
-stands_active Failed t = cc
-stands_active Undoing t = cc
-stands_active Undone t = cc
 stands_active Fixed t = refl
+stands_active _ t = cc
 
 -- where a step is active, all that a chain of needs leads to is
 active_down : (d : Contents) (l : List Change) → IsLegalUnder d l → (n q p : ℕ) → Leads d.needs n q p → is_active (state l q) ≡ true → is_active (state l p) ≡ true
@@ -59,12 +53,9 @@ held d l legal p q order now =
 
 off_inactive : (a : StepState) → IsTrue (is_off a) → is_active a ≡ false
 off_inactive Waiting t = refl
-off_inactive Running t = cc
-off_inactive Committed t = cc
 off_inactive Failed t = refl
-off_inactive Undoing t = cc
 off_inactive Undone t = refl
-off_inactive Fixed t = cc
+off_inactive _ t = cc
 
 -- where those that need p directly are off, none that it precedes is active
 dependants_off : (d : Contents) (l : List Change) → IsLegalUnder d l → (p q : ℕ) → Precedes d.needs p q → ((b : ℕ) → NeedsDirectly d.needs b p → IsTrue (is_off (state l b))) → is_active (state l q) ≡ true → ⊥
@@ -75,50 +66,28 @@ dependants_off d l legal p q order off now =
     cc
 
 undone_from : (x : StepState) → is_active x ≡ false → has_committed x ≡ true → has_undone x ≡ true
-undone_from Waiting a c = cc
-undone_from Running a c = cc
-undone_from Committed a c = cc
-undone_from Failed a c = cc
-undone_from Undoing a c = cc
 undone_from Undone a c = refl
-undone_from Fixed a c = cc
+undone_from _ a c = cc
 
 was_active : (m : Transition) (z : StepState) → z ≡ state_before m → has_committed (state_after m) ≡ true → is_active z ≡ true
 was_active transition.StartRun z f c = cc
-was_active transition.Commit z f c = ap is_active f
 was_active transition.Missed z f c = cc
 was_active transition.Fail z f c = cc
-was_active transition.StartUndo z f c = ap is_active f
-was_active transition.Undone z f c = ap is_active f
-was_active transition.UndoMissed z f c = ap is_active f
-was_active transition.UndoFail z f c = ap is_active f
+was_active _ z f c = ap is_active f
 
 -- undoing or undone
 abbrev pub is_leaving : StepState → Bool
-is_leaving Waiting = false
-is_leaving Running = false
-is_leaving Committed = false
-is_leaving Failed = false
 is_leaving Undoing = true
 is_leaving Undone = true
-is_leaving Fixed = false
+is_leaving _ = false
 
 leaving_down : (x : StepState) → is_leaving x ≡ true → is_standing x ≡ true → ⊥
 leaving_down Waiting l s = cc
-leaving_down Running l s = cc
-leaving_down Committed l s = cc
-leaving_down Failed l s = cc
-leaving_down Undoing l s = cc
-leaving_down Undone l s = cc
-leaving_down Fixed l s = cc
+leaving_down _ l s = cc
 
 -- the claim: a step that is leaving, and one that it precedes and that has committed
 abbrev pub WasUndoneBefore : List Change → ℕ → ℕ → Type 0
 WasUndoneBefore l p q = is_leaving (state l p) ≡ true → has_committed (state l q) ≡ true → has_undone (state (before_last (starts_undo_of p) l) q) ≡ true
-
-inactive : (b : Bool) → (b ≡ true → ⊥) → b ≡ false
-inactive true f = absurd (f refl)
-inactive false f = refl
 
 -- q does not move to a committed state while p is leaving
 q_stays : (d : Contents) (e : Change) (l : List Change) → IsLegalUnder d (e ∷ l) → (p q : ℕ) → Precedes d.needs p q → is_leaving (state l p) ≡ true → LeavesOrMoves q e l → has_committed (state (e ∷ l) q) ≡ true → has_committed (state l q) ≡ true
@@ -143,18 +112,13 @@ had d e l p q was is (inr t) committed =
 
 -- p moves
 p_moves : (d : Contents) (e : Change) (l : List Change) → IsLegalUnder d (e ∷ l) → (p q : ℕ) → Precedes d.needs p q → (m : Transition) → StepMay d l p m → state (e ∷ l) p ≡ state_after m → starts_undo_of p e ≡ same_transition transition.StartUndo m → e ≡ moves p m → WasUndoneBefore l p q → WasUndoneBefore (e ∷ l) p q
-p_moves d e l legal p q order transition.StartRun may now begins is rec = λ leaving committed. let t : is_leaving Running ≡ true = ap is_leaving (sym now) ∙ leaving in cc
-p_moves d e l legal p q order transition.Commit may now begins is rec = λ leaving committed. let t : is_leaving Committed ≡ true = ap is_leaving (sym now) ∙ leaving in cc
-p_moves d e l legal p q order transition.Missed may now begins is rec = λ leaving committed. let t : is_leaving Waiting ≡ true = ap is_leaving (sym now) ∙ leaving in cc
-p_moves d e l legal p q order transition.Fail may now begins is rec = λ leaving committed. let t : is_leaving Failed ≡ true = ap is_leaving (sym now) ∙ leaving in cc
-p_moves d e l legal p q order transition.UndoMissed may now begins is rec = λ leaving committed. let t : is_leaving Committed ≡ true = ap is_leaving (sym now) ∙ leaving in cc
-p_moves d e l legal p q order transition.UndoFail may now begins is rec = λ leaving committed. let t : is_leaving Fixed ≡ true = ap is_leaving (sym now) ∙ leaving in cc
 p_moves d e l legal p q order transition.StartUndo may now begins is rec = λ leaving committed.
-    let quiet : is_active (state l q) ≡ false = inactive _ (dependants_off d l (legal_tail d e l legal) p q order (λ b need. undo_off d l p b transition.StartUndo need may.condition refl)) in
+    let quiet : is_active (state l q) ≡ false = false_from_ne_true _ (dependants_off d l (legal_tail d e l legal) p q order (λ b need. undo_off d l p b transition.StartUndo need may.condition refl)) in
     rw begins (undone_from (state l q) quiet (had d e l p q may.begins is (leaves_or_moves q e l) committed))
 p_moves d e l legal p q order transition.Undone may now begins is rec = λ leaving committed.
     let going : is_leaving (state l p) ≡ true = ap is_leaving may.begins in
     rw begins (rec going (q_stays d e l legal p q order going (leaves_or_moves q e l) committed))
+p_moves d e l legal p q order m may now begins is rec = λ leaving committed. let t : is_leaving (state_after m) ≡ true = ap is_leaving (sym now) ∙ leaving in cc
 
 was_step : (d : Contents) (e : Change) (l : List Change) → IsLegalUnder d (e ∷ l) → (p q : ℕ) → Precedes d.needs p q → LeavesOrMoves p e l → WasUndoneBefore l p q → WasUndoneBefore (e ∷ l) p q
 was_step d e l legal p q order (inl quiet) rec = p_stays d e l legal p q order quiet rec

@@ -1,13 +1,13 @@
 -- The places of a history, one event more, and sagas by their numbers.
 use Rattle.std.proofs.Common.{◌≡◌, ℕ, suc, ◌+◌, ◌*◌, ◌%◌, ◌<◌, Bool, true, false, ◌||◌, List, [], ◌∷◌, ◌++◌, Some, None, length, take, drop, get_or, eqb, refl, sym, ap, ◌∙◌, subst, inl, inr, arith}
 use Rattle.std.specs.Prelude.{slice_get, slice_index}
-use Rattle.std.proofs.lemmas.Bool.{cases_Bool, cases_lt, cases_order, ne_eqb, eqb-true}
+use Rattle.std.proofs.lemmas.Bool.{cases_Bool, cases_lt, cases_order, ne_eqb, eqb-true, false_from_ne_true}
 use Rattle.std.proofs.lemmas.Nat.{mod-mul-add}
 use Rattle.std.proofs.lemmas.List.{take_more, take-append-drop, take-take}
 use Rattle.std.proofs.lemmas.Option.{slice_get-get_or, slice_get_past}
 use Rattle.saga_def.specs.Contents.{Contents}
 use Rattle.saga_history.specs.declared.events.Event.{Event}
-use Rattle.saga_history.specs.Changes.{Change, opens, moves, starts_plan, drops_plan, adopts, aborts, saga_of, change_of, past, changes}
+use Rattle.saga_history.specs.Changes.{Change, opens, saga_of, change_of, past, changes}
 use Rattle.saga_history.specs.States.{state}
 use Rattle.saga_history.specs.Turns.{opened_with, in_goal}
 use Rattle.saga_history.specs.Rules.{HasPhase, definition, IsAllowed, IsLegal}
@@ -82,19 +82,11 @@ among i (x ∷ xs) = eqb i x || among i xs
 opened_append : (l m : List Change) → opened_with l ≡ None → opened_with m ≡ None → opened_with (l ++ m) ≡ None
 opened_append [] m p q = q
 opened_append (opens k ∷ l) m p q = cc
-opened_append (moves s t ∷ l) m p q = opened_append l m p q
-opened_append (starts_plan ∷ l) m p q = opened_append l m p q
-opened_append (drops_plan ∷ l) m p q = opened_append l m p q
-opened_append (adopts a ∷ l) m p q = opened_append l m p q
-opened_append (aborts ∷ l) m p q = opened_append l m p q
+opened_append (_ ∷ l) m p q = opened_append l m p q
 
 not_opening : (c : Change) → is_opening c ≡ false → opened_with (c ∷ []) ≡ None
 not_opening (opens k) e = cc
-not_opening (moves s t) e = refl
-not_opening starts_plan e = refl
-not_opening drops_plan e = refl
-not_opening (adopts a) e = refl
-not_opening aborts e = refl
+not_opening _ e = refl
 
 -- a saga that is not among those that a history opens is not opened in it
 not_opened : (i : ℕ) (h : List Event) → among i (opened_sagas h) ≡ false → opened_with (changes i (past h)) ≡ None
@@ -153,10 +145,6 @@ first_of first stride h i lt numbered found =
     let is : i ≡ p.0 * stride + first = omega (arith, p.2, numbered p.0 p.1) in
     ap (λ (v : ℕ). v % stride) is ∙ mod-mul-add p.0 stride first lt
 
-in_one : (b : Bool) → (b ≡ true → ⊥) → b ≡ false
-in_one true f = absurd (f refl)
-in_one false f = refl
-
 pub numbered_apart : (shelf : List Contents) (a b : List Event) → NumberedApart shelf a b
 numbered_apart shelf a b = λ first other stride lt below apart of_a of_b num_a num_b i named.
-    in_one (names_saga i b) (λ too. apart (sym (first_of first stride a i lt num_a (named_among shelf i a of_a named)) ∙ first_of other stride b i below num_b (named_among shelf i b of_b too)))
+    false_from_ne_true (names_saga i b) (λ too. apart (sym (first_of first stride a i lt num_a (named_among shelf i a of_a named)) ∙ first_of other stride b i below num_b (named_among shelf i b of_b too)))

@@ -39,18 +39,13 @@ IsPriced ab step true Failed = ⊥
 IsPriced ab step true Undoing = ⊥
 IsPriced ab step true Undone = ⊥
 IsPriced ab step true Fixed = Unit {0}
-IsPriced ab step false Waiting = step.skip ≢ Never
 IsPriced ab step false Running = ⊥
-IsPriced ab step false Committed = step.skip ≢ Never
-IsPriced ab step false Failed = step.skip ≢ Never
-IsPriced ab step false Undoing = step.skip ≢ Never
-IsPriced ab step false Undone = step.skip ≢ Never
 IsPriced ab step false Fixed = Unit {0}
+IsPriced ab step false _ = step.skip ≢ Never
 
 priced_move : (ab : Bool) (step : Step) (b : Bool) (z : StepState) (m : Transition) → z ≡ state_before m → (m ≡ transition.StartRun → b ≡ true) → (m ≡ transition.StartUndo → b ≡ false) → (m ≡ transition.Fail → ⊥) → IsPriced ab step b z → IsPriced ab step b (state_after m)
 priced_move ab step true z transition.StartRun f starting undo fail was = let w : IsPriced ab step true Waiting = rw f at was in w
 priced_move ab step false z transition.StartRun f starting undo fail was = let e = starting refl in cc
-priced_move ab step true z transition.Commit f starting undo fail was = tt
 priced_move ab step false z transition.Commit f starting undo fail was = let w : IsPriced ab step false Running = rw f at was in absurd w
 priced_move ab step true z transition.Missed f starting undo fail was = let w : IsPriced ab step true Running = rw f at was in w
 priced_move ab step false z transition.Missed f starting undo fail was = let w : IsPriced ab step false Running = rw f at was in absurd w
@@ -59,10 +54,8 @@ priced_move ab step true z transition.StartUndo f starting undo fail was = let e
 priced_move ab step false z transition.StartUndo f starting undo fail was = let w : IsPriced ab step false Committed = rw f at was in w
 priced_move ab step true z transition.Undone f starting undo fail was = let w : IsPriced ab step true Undoing = rw f at was in absurd w
 priced_move ab step false z transition.Undone f starting undo fail was = let w : IsPriced ab step false Undoing = rw f at was in w
-priced_move ab step true z transition.UndoMissed f starting undo fail was = tt
 priced_move ab step false z transition.UndoMissed f starting undo fail was = let w : IsPriced ab step false Undoing = rw f at was in w
-priced_move ab step true z transition.UndoFail f starting undo fail was = tt
-priced_move ab step false z transition.UndoFail f starting undo fail was = tt
+priced_move ab step _ z _ f starting undo fail was = tt
 
 plus_left : (p q : Price) → plus p q ≢ Never → p ≢ Never
 plus_left (Of a) q some e = cc
@@ -92,27 +85,19 @@ priced_stand ab Undone step q p = absurd (p (stand_undone ab step))
 priced_stand ab Fixed step q p = tt
 
 priced_leave : (ab : Bool) (x : StepState) (step : Step) → is_busy x ≡ false → leave_of x step ≢ Never → IsPriced ab step false x
-priced_leave ab Waiting step q p = p
 priced_leave ab Running step q p = cc
 priced_leave ab Committed step q p = plus_right step.undo step.skip p
-priced_leave ab Failed step q p = p
 priced_leave ab Undoing step q p = cc
-priced_leave ab Undone step q p = p
 priced_leave ab Fixed step q p = tt
+priced_leave ab _ step q p = p
 
 -- a step is where a plan in force lets it be
 abbrev IsForced : Contents → List Change → Type 0
 IsForced d l = (s : ℕ) → s < length d.steps → IsPriced (aborted l) (step_at d s) (goal l s) (state l s)
 
 no_failure : (t : Transition) (b : Bool) → (not (same_transition transition.Fail t) && b) ≡ true → (b ≡ true) × (t ≡ transition.Fail → ⊥)
-no_failure transition.StartRun b e = (e, λ is. cc)
-no_failure transition.Commit b e = (e, λ is. cc)
-no_failure transition.Missed b e = (e, λ is. cc)
 no_failure transition.Fail b e = cc
-no_failure transition.StartUndo b e = (e, λ is. cc)
-no_failure transition.Undone b e = (e, λ is. cc)
-no_failure transition.UndoMissed b e = (e, λ is. cc)
-no_failure transition.UndoFail b e = (e, λ is. cc)
+no_failure _ b e = (e, λ is. cc)
 
 forced_move : (d : Contents) (l : List Change) (r : ℕ) (t : Transition) → StepMay d l r t → (t ≡ transition.Fail → ⊥) → IsForced d l → IsForced d (moves r t ∷ l)
 forced_move d l r t may quiet forced = λ s lt. elim (cases_Bool (eqb s r)) [
@@ -183,17 +168,14 @@ price_of : (ab : Bool) (step : Step) (b : Bool) (x : StepState) → is_busy x �
 price_of ab step true Waiting q keep f = λ e. plus_both step.run step.keep f.1 keep (sym (stand_waiting ab step f.0) ∙ e)
 price_of ab step true Running q keep f = cc
 price_of ab step true Committed q keep f = λ e. keep (sym (stand_committed ab step) ∙ e)
-price_of ab step true Failed q keep f = absurd f
-price_of ab step true Undoing q keep f = absurd f
-price_of ab step true Undone q keep f = absurd f
 price_of ab step true Fixed q keep f = λ e. keep (sym (stand_fixed ab step) ∙ e)
 price_of ab step false Waiting q keep f = f
-price_of ab step false Running q keep f = absurd f
 price_of ab step false Committed q keep f = λ e. keep (sym (stand_committed ab step) ∙ e)
 price_of ab step false Failed q keep f = f
 price_of ab step false Undoing q keep f = cc
 price_of ab step false Undone q keep f = f
 price_of ab step false Fixed q keep f = λ e. keep (sym (stand_fixed ab step) ∙ e)
+price_of ab step _ _ q keep f = absurd f
 
 sum_number : (n : ℕ) (price : ℕ → Price) → ((s : ℕ) → s < n → price s ≢ Never) → prices_below n price ≢ Never
 unfolding prices_below

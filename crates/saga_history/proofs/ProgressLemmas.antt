@@ -1,13 +1,13 @@
 -- Where no task is allowed in a saga, it is ended, stuck or planning, or has a busy step.
 use Rattle.std.proofs.Common.{IsSomeAnd, ◌≡◌, ℕ, zero, suc, ◌<◌, Bool, true, false, ◌&&◌, List, length, Option, Some, refl, sym, ap, ◌∙◌, subst, ◌⊎◌, inl, inr, arith}
 use Rattle.std.specs.Prelude.{All, not}
-use Rattle.std.proofs.lemmas.Bool.{cases_Bool, cases_eq, and_parts}
+use Rattle.std.proofs.lemmas.Bool.{cases_Bool, cases_eq, and_parts, false_from_ne_true, not-true, not_from_false}
 use Rattle.saga_def.specs.Contents.{Contents}
 use Rattle.saga_def.specs.Sound.{IsSound}
 use Rattle.saga_def.specs.Order.{IsClosed}
 use Rattle.saga_def.proofs.OrderLemmas.{known_on, known_step}
 use Rattle.saga_case.specs.declared.states.StepState.{StepState}
-use Rattle.saga_case.specs.declared.states.StepState.TheVariants.{Waiting, Running, Committed, Failed, Undoing, Undone, Fixed}
+use Rattle.saga_case.specs.declared.states.StepState.TheVariants.{Waiting, Running, Committed, Undoing, Fixed}
 use Rattle.saga_case.proofs.ClosedLemmas.{closed_direct}
 use Rattle.saga_order.specs.Shape.{shape_of}
 use Rattle.saga_order.proofs.LawLemmas.{sets_have_first, sets_have_last, ordered_from_sound}
@@ -38,80 +38,39 @@ search_below p (suc n) = below_more p n (cases_Bool (p n)) (search_below p n)
 
 waits_from : (x : StepState) → is_busy x ≡ false → suits true x ≡ true → is_standing x ≡ false → is_waiting x ≡ true
 waits_from Waiting q m s = refl
-waits_from Running q m s = cc
-waits_from Committed q m s = cc
-waits_from Failed q m s = cc
-waits_from Undoing q m s = cc
-waits_from Undone q m s = cc
-waits_from Fixed q m s = cc
+waits_from _ q m s = cc
 
 stands_from : (x : StepState) → is_busy x ≡ false → suits true x ≡ true → (is_waiting x ≡ true → ⊥) → is_standing x ≡ true
 stands_from Waiting q m s = absurd (s refl)
-stands_from Running q m s = cc
 stands_from Committed q m s = refl
-stands_from Failed q m s = cc
-stands_from Undoing q m s = cc
-stands_from Undone q m s = cc
 stands_from Fixed q m s = refl
+stands_from _ q m s = cc
 
 is_waiting-eq : (x : StepState) → is_waiting x ≡ true → x ≡ Waiting
 is_waiting-eq Waiting t = refl
-is_waiting-eq Running t = cc
-is_waiting-eq Committed t = cc
-is_waiting-eq Failed t = cc
-is_waiting-eq Undoing t = cc
-is_waiting-eq Undone t = cc
-is_waiting-eq Fixed t = cc
+is_waiting-eq _ t = cc
 
 abbrev is_committed : StepState → Bool
-is_committed Waiting = false
-is_committed Running = false
 is_committed Committed = true
-is_committed Failed = false
-is_committed Undoing = false
-is_committed Undone = false
-is_committed Fixed = false
+is_committed _ = false
 
 commits_from : (x : StepState) → is_busy x ≡ false → suits false x ≡ true → is_off x ≡ false → is_committed x ≡ true
-commits_from Waiting q m s = cc
-commits_from Running q m s = cc
 commits_from Committed q m s = refl
-commits_from Failed q m s = cc
-commits_from Undoing q m s = cc
-commits_from Undone q m s = cc
-commits_from Fixed q m s = cc
+commits_from _ q m s = cc
 
 off_from : (x : StepState) → is_busy x ≡ false → suits false x ≡ true → (is_committed x ≡ true → ⊥) → is_off x ≡ true
-off_from Waiting q m s = refl
 off_from Running q m s = cc
 off_from Committed q m s = absurd (s refl)
-off_from Failed q m s = refl
 off_from Undoing q m s = cc
-off_from Undone q m s = refl
 off_from Fixed q m s = cc
+off_from _ q m s = refl
 
 is_committed-eq : (x : StepState) → is_committed x ≡ true → x ≡ Committed
-is_committed-eq Waiting t = cc
-is_committed-eq Running t = cc
 is_committed-eq Committed t = refl
-is_committed-eq Failed t = cc
-is_committed-eq Undoing t = cc
-is_committed-eq Undone t = cc
-is_committed-eq Fixed t = cc
+is_committed-eq _ t = cc
 
 both : (a b : Bool) → a ≡ true → b ≡ true → (a && b) ≡ true
 both a b p q = rw (p, q) refl
-
-not_true : (b : Bool) → b ≡ false → not b ≡ true
-not_true b e = rw e refl
-
-true_not : (b : Bool) → not b ≡ true → b ≡ false
-true_not true e = cc
-true_not false e = refl
-
-in_or_out : (b : Bool) → (b ≡ true → ⊥) → b ≡ false
-in_or_out true f = absurd (f refl)
-in_or_out false f = refl
 
 -- what a saga that is going and has no busy step has
 record Still (d : Contents) (l : List Change) : Type 0 where
@@ -146,9 +105,9 @@ run_first d l g s lt wanted down =
 undo_last : (d : Contents) (l : List Change) → Still d l → (s : ℕ) → s < length d.steps → goal l s ≡ false → is_off (state l s) ≡ false → (t : ℕ) × StepMay d l t transition.StartUndo
 undo_last d l g s lt away up =
     let stands = commits_from (state l s) (g.none_busy s lt) (rw away at (g.suit s lt)) up in
-    let f = sets_have_last (shape_of d) (ordered_from_sound d g.sound) (λ (t : ℕ). not (goal l t) && is_committed (state l t)) s lt (both _ _ (not_true _ away) stands) in
+    let f = sets_have_last (shape_of d) (ordered_from_sound d g.sound) (λ (t : ℕ). not (goal l t) && is_committed (state l t)) s lt (both _ _ (not_from_false _ away) stands) in
     let here = and_parts (not (goal l f.last)) (is_committed (state l f.last)) f.in_set in
-    let out = true_not _ here.0 in (
+    let out = not-true _ here.0 in (
       f.last,
       record {
         is_step = f.within;
@@ -158,8 +117,8 @@ undo_last d l g s lt away up =
           out,
           λ b need.
               let below = known_step d.needs (length d.steps) g.sound.known b f.last need in
-              let away' : goal l b ≡ false = in_or_out _ (λ kept. let low = closed_direct d.needs (goal l) g.closed b f.last kept need in let bad : true ≡ false = sym low ∙ out in cc) in
-              off_from (state l b) (g.none_busy b below) (rw away' at (g.suit b below)) (λ committed. f.needed_by_none b need (both _ _ (not_true _ away') committed)),
+              let away' : goal l b ≡ false = false_from_ne_true _ (λ kept. let low = closed_direct d.needs (goal l) g.closed b f.last kept need in let bad : true ≡ false = sym low ∙ out in cc) in
+              off_from (state l b) (g.none_busy b below) (rw away' at (g.suit b below)) (λ committed. f.needed_by_none b need (both _ _ (not_from_false _ away') committed)),
         );
       },
     )

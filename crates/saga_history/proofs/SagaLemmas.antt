@@ -53,11 +53,7 @@ holds_none shelf l P none holds = subst (λ o. IsSomeAnd (definition_at shelf o)
 pub unopened : (shelf : List Contents) (l : List Change) → IsLegalSaga shelf l → opened_with l ≡ None → l ≡ []
 unopened shelf [] life none = refl
 unopened shelf (opens k ∷ l) life none = cc
-unopened shelf (moves s m ∷ l) life none = absurd (holds_none shelf l _ none life.0)
-unopened shelf (starts_plan ∷ l) life none = absurd (holds_none shelf l _ none life.0)
-unopened shelf (drops_plan ∷ l) life none = absurd (holds_none shelf l _ none life.0)
-unopened shelf (adopts a ∷ l) life none = absurd (holds_none shelf l _ none life.0)
-unopened shelf (aborts ∷ l) life none = absurd (holds_none shelf l _ none life.0)
+unopened shelf (_ ∷ l) life none = absurd (holds_none shelf l _ none life.0)
 
 pub holds_at : (o : Option Contents) (d : Contents) (P : Contents → Type 0) → o ≡ Some d → IsSomeAnd o P → P d
 holds_at o d P is holds = subst (λ v. IsSomeAnd v P) is holds
@@ -66,11 +62,7 @@ holds_at o d P is holds = subst (λ v. IsSomeAnd v P) is holds
 pub legal_under : (shelf : List Contents) (d : Contents) (l : List Change) → IsLegalSaga shelf l → definition shelf l ≡ Some d → IsLegalUnder d l
 legal_under shelf d [] life is = tt
 legal_under shelf d (opens k ∷ l) life is = unopened shelf l life.1 life.0.0
-legal_under shelf d (moves s m ∷ l) life is = (holds_at _ d _ is life.0, legal_under shelf d l life.1 is)
-legal_under shelf d (starts_plan ∷ l) life is = (holds_at _ d _ is life.0, legal_under shelf d l life.1 is)
-legal_under shelf d (drops_plan ∷ l) life is = (holds_at _ d _ is life.0, legal_under shelf d l life.1 is)
-legal_under shelf d (adopts a ∷ l) life is = (holds_at _ d _ is life.0, legal_under shelf d l life.1 is)
-legal_under shelf d (aborts ∷ l) life is = (holds_at _ d _ is life.0, legal_under shelf d l life.1 is)
+legal_under shelf d (_ ∷ l) life is = (holds_at _ d _ is life.0, legal_under shelf d l life.1 is)
 
 holds_both : (o : Option Contents) (d : Contents) (P : Contents → Type 0) → o ≡ Some d → IsSomeAnd o P ↔ P d
 holds_both o d P is = (λ holds. holds_at o d P is holds, λ p. subst (λ v. IsSomeAnd v P) (sym is) p)

@@ -5,10 +5,10 @@ use Rattle.std.proofs.lemmas.Bool.{cases_Bool, eqb-true}
 use Rattle.std.proofs.lemmas.List.Sums.{sum_by-cons}
 use Rattle.saga_def.specs.Contents.{Contents}
 use Rattle.saga_case.specs.declared.states.StepState.{StepState}
-use Rattle.saga_case.specs.declared.states.StepState.TheVariants.{Waiting, Running, Committed, Failed, Undoing, Undone, Fixed}
+use Rattle.saga_case.specs.declared.states.StepState.TheVariants.{Waiting}
 use Rattle.saga_history.specs.declared.transitions.Transition.{Transition}
 use Rattle.saga_history.specs.declared.transitions.Transition.TheVariants as transition
-use Rattle.saga_history.specs.Changes.{Change, opens, moves, starts_plan, drops_plan, adopts, aborts}
+use Rattle.saga_history.specs.Changes.{Change, opens, moves, starts_plan}
 use Rattle.saga_history.specs.States.{same_transition, state_before, state_after, transitions, end_state}
 use Rattle.saga_history.specs.Rules.{tries, undo_tries, MeetsCondition, StepMay}
 use Rattle.saga_history.specs.Tallies.{count_of, one, was_begun, has_committed, has_failed, undo_begun, has_undone, has_fixed, Tally}
@@ -16,28 +16,18 @@ use Rattle.saga_history.proofs.SagaLemmas.{IsLegalUnder}
 
 -- a sequence of one step with so many tries: each transition begins where the last one ended, and misses are counted
 abbrev pub IsCounted : ℕ → ℕ → List Transition → Transition → Type 0
-IsCounted t u ms transition.StartRun = Unit {0}
-IsCounted t u ms transition.Commit = Unit {0}
 IsCounted t u ms transition.Missed = count_of transition.Missed ms + 1 < t
-IsCounted t u ms transition.Fail = Unit {0}
-IsCounted t u ms transition.StartUndo = Unit {0}
-IsCounted t u ms transition.Undone = Unit {0}
 IsCounted t u ms transition.UndoMissed = count_of transition.UndoMissed ms + 1 < u
-IsCounted t u ms transition.UndoFail = Unit {0}
+IsCounted t u ms _ = Unit {0}
 
 abbrev pub AreInSequence : ℕ → ℕ → List Transition → Type 0
 AreInSequence t u [] = Unit {0}
 AreInSequence t u (m ∷ ms) = (end_state ms ≡ state_before m) × IsCounted t u ms m × AreInSequence t u ms
 
 counted : (d : Contents) (l : List Change) (s : ℕ) (m : Transition) → MeetsCondition d l s m → IsCounted (tries d s) (undo_tries d s) (transitions l s) m
-counted d l s transition.StartRun condition = tt
-counted d l s transition.Commit condition = tt
 counted d l s transition.Missed condition = condition
-counted d l s transition.Fail condition = tt
-counted d l s transition.StartUndo condition = tt
-counted d l s transition.Undone condition = tt
 counted d l s transition.UndoMissed condition = condition
-counted d l s transition.UndoFail condition = tt
+counted d l s _ condition = tt
 
 pub transitions_own : (s t : ℕ) (m : Transition) (l : List Change) → eqb s t ≡ true → transitions (moves t m ∷ l) s ≡ m ∷ transitions l s
 transitions_own s t m l is = rw is refl
@@ -57,9 +47,7 @@ in_sequence d s (moves t m ∷ l) legal = elim (cases_Bool (eqb s t)) [
   | inr other ↦ rw (transitions_other s t m l other) (in_sequence d s l legal.1)
 ]
 in_sequence d s (starts_plan ∷ l) legal = in_sequence d s l legal.1
-in_sequence d s (drops_plan ∷ l) legal = in_sequence d s l legal.1
-in_sequence d s (adopts a ∷ l) legal = in_sequence d s l legal.1
-in_sequence d s (aborts ∷ l) legal = in_sequence d s l legal.1
+in_sequence d s (_ ∷ l) legal = in_sequence d s l legal.1
 
 pub count-cons : {A : Type 0} (p : A → Bool) (e : A) (h : List A) → count_by p (e ∷ h) ≡ one (p e) + count_by p h
 count-cons p e h = sum_by-cons (λ x. cond (p x) 1 0) e h
@@ -89,13 +77,7 @@ counts m ms = record {
 
 tally_more : (m : Transition) (ms : List Transition) → Counts m ms → Tally ms (state_before m) → Tally (m ∷ ms) (state_after m)
 tally_more transition.StartRun ms n t = record { committed = omega (arith, n, t); undone = omega (arith, n, t); failed = omega (arith, n, t); fixed = omega (arith, n, t); started = omega (arith, n, t); undo_started = omega (arith, n, t); in_all = omega (arith, n, t) }
-tally_more transition.Commit ms n t = record { committed = omega (arith, n, t); undone = omega (arith, n, t); failed = omega (arith, n, t); fixed = omega (arith, n, t); started = omega (arith, n, t); undo_started = omega (arith, n, t); in_all = omega (arith, n, t) }
-tally_more transition.Missed ms n t = record { committed = omega (arith, n, t); undone = omega (arith, n, t); failed = omega (arith, n, t); fixed = omega (arith, n, t); started = omega (arith, n, t); undo_started = omega (arith, n, t); in_all = omega (arith, n, t) }
-tally_more transition.Fail ms n t = record { committed = omega (arith, n, t); undone = omega (arith, n, t); failed = omega (arith, n, t); fixed = omega (arith, n, t); started = omega (arith, n, t); undo_started = omega (arith, n, t); in_all = omega (arith, n, t) }
-tally_more transition.StartUndo ms n t = record { committed = omega (arith, n, t); undone = omega (arith, n, t); failed = omega (arith, n, t); fixed = omega (arith, n, t); started = omega (arith, n, t); undo_started = omega (arith, n, t); in_all = omega (arith, n, t) }
-tally_more transition.Undone ms n t = record { committed = omega (arith, n, t); undone = omega (arith, n, t); failed = omega (arith, n, t); fixed = omega (arith, n, t); started = omega (arith, n, t); undo_started = omega (arith, n, t); in_all = omega (arith, n, t) }
-tally_more transition.UndoMissed ms n t = record { committed = omega (arith, n, t); undone = omega (arith, n, t); failed = omega (arith, n, t); fixed = omega (arith, n, t); started = omega (arith, n, t); undo_started = omega (arith, n, t); in_all = omega (arith, n, t) }
-tally_more transition.UndoFail ms n t = record { committed = omega (arith, n, t); undone = omega (arith, n, t); failed = omega (arith, n, t); fixed = omega (arith, n, t); started = omega (arith, n, t); undo_started = omega (arith, n, t); in_all = omega (arith, n, t) }
+tally_more _ ms n t = record { committed = omega (arith, n, t); undone = omega (arith, n, t); failed = omega (arith, n, t); fixed = omega (arith, n, t); started = omega (arith, n, t); undo_started = omega (arith, n, t); in_all = omega (arith, n, t) }
 
 pub tally : (t u : ℕ) (ms : List Transition) → AreInSequence t u ms → Tally ms (end_state ms)
 tally t u [] steps = record { committed = refl; undone = refl; failed = refl; fixed = refl; started = omega arith; undo_started = omega arith; in_all = omega arith }
@@ -107,14 +89,9 @@ pub record FewMisses (t u : ℕ) (ms : List Transition) : Type 0 where
   pub few_undo : count_of transition.UndoMissed ms < u
 
 misses_more : (t u : ℕ) (m : Transition) (ms : List Transition) → Counts m ms → IsCounted t u ms m → FewMisses t u ms → FewMisses t u (m ∷ ms)
-misses_more t u transition.StartRun ms n c f = record { few = omega (arith, n, f); few_undo = omega (arith, n, f) }
-misses_more t u transition.Commit ms n c f = record { few = omega (arith, n, f); few_undo = omega (arith, n, f) }
 misses_more t u transition.Missed ms n c f = record { few = omega (arith, n, f, c); few_undo = omega (arith, n, f) }
-misses_more t u transition.Fail ms n c f = record { few = omega (arith, n, f); few_undo = omega (arith, n, f) }
-misses_more t u transition.StartUndo ms n c f = record { few = omega (arith, n, f); few_undo = omega (arith, n, f) }
-misses_more t u transition.Undone ms n c f = record { few = omega (arith, n, f); few_undo = omega (arith, n, f) }
 misses_more t u transition.UndoMissed ms n c f = record { few = omega (arith, n, f); few_undo = omega (arith, n, f, c) }
-misses_more t u transition.UndoFail ms n c f = record { few = omega (arith, n, f); few_undo = omega (arith, n, f) }
+misses_more t u _ ms n c f = record { few = omega (arith, n, f); few_undo = omega (arith, n, f) }
 
 pub few_misses : (t u : ℕ) (ms : List Transition) → 1 ≤ t → 1 ≤ u → AreInSequence t u ms → FewMisses t u ms
 few_misses t u [] some some_undo steps = record { few = omega (arith, some); few_undo = omega (arith, some_undo) }
@@ -122,12 +99,7 @@ few_misses t u (m ∷ ms) some some_undo steps = misses_more t u m ms (counts m 
 
 events_by_state : (x : StepState) (a b c d e f g h t u n : ℕ) → b ≡ one (has_committed x) → f ≡ one (has_undone x) → d ≡ one (has_failed x) → h ≡ one (has_fixed x) → a ≡ c + one (was_begun x) → e ≡ g + one (undo_begun x) → n ≡ a + b + c + d + e + f + g + h → c < t → g < u → n ≤ 2 * (t + u)
 events_by_state Waiting a b c d e f g h t u n p q r s v w y few fewu = omega arith
-events_by_state Running a b c d e f g h t u n p q r s v w y few fewu = omega arith
-events_by_state Committed a b c d e f g h t u n p q r s v w y few fewu = omega arith
-events_by_state Failed a b c d e f g h t u n p q r s v w y few fewu = omega arith
-events_by_state Undoing a b c d e f g h t u n p q r s v w y few fewu = omega arith
-events_by_state Undone a b c d e f g h t u n p q r s v w y few fewu = omega arith
-events_by_state Fixed a b c d e f g h t u n p q r s v w y few fewu = omega arith
+events_by_state _ a b c d e f g h t u n p q r s v w y few fewu = omega arith
 
 -- at most two events for each try
 pub few_moves : (t u : ℕ) (ms : List Transition) → 1 ≤ t → 1 ≤ u → AreInSequence t u ms → length ms ≤ 2 * (t + u)

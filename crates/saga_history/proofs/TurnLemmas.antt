@@ -13,7 +13,7 @@ use Rattle.saga_def.specs.Order.{Steps, member}
 use Rattle.saga_case.specs.declared.answers.Answer.{Answer}
 use Rattle.saga_case.specs.declared.answers.Answer.TheVariants as answer
 use Rattle.saga_case.specs.declared.states.StepState.{StepState}
-use Rattle.saga_case.specs.declared.states.StepState.TheVariants.{Waiting, Running, Committed, Failed, Undoing, Undone, Fixed}
+use Rattle.saga_case.specs.declared.states.StepState.TheVariants.{Waiting, Running, Failed, Undoing, Undone, Fixed}
 use Rattle.saga_case.specs.States.{IsBusy}
 use Rattle.saga_case.specs.Prices.{stand_of, leave_of}
 use Rattle.saga_case.specs.Situation.{AreDrained}
@@ -27,7 +27,7 @@ use Rattle.saga_history.specs.Changes.{changes, Change, opens, moves, starts_pla
 use Rattle.saga_history.specs.States.{state_before, state_after, state, is_busy, states}
 use Rattle.saga_history.specs.Turns.{turn, turn_of_answer, turn_after_transition, turn_after_abort, aborted, present_case, goal}
 use Rattle.saga_history.specs.declared.turns.Turn.{Turn}
-use Rattle.saga_history.specs.declared.turns.Turn.TheVariants.{Going, Draining, Planning, Stuck}
+use Rattle.saga_history.specs.declared.turns.Turn.TheVariants.{Going, Planning}
 use Rattle.saga_history.specs.Rules.{SagaMay, definition, IsLegal, StepMay}
 use Rattle.saga_history.proofs.SagaLemmas.{saga_is_legal, legal_under, IsLegalUnder}
 
@@ -36,22 +36,14 @@ abbrev pub NoStepIsBusy : Contents → List Change → Type 0
 NoStepIsBusy d l = (s : ℕ) → s < length d.steps → is_busy (state l s) ≡ false
 
 none_busy_state : (x : StepState) → (IsBusy x → ⊥) → is_busy x ≡ false
-none_busy_state Waiting q = refl
 none_busy_state Running q = absurd (q tt)
-none_busy_state Committed q = refl
-none_busy_state Failed q = refl
 none_busy_state Undoing q = absurd (q tt)
-none_busy_state Undone q = refl
-none_busy_state Fixed q = refl
+none_busy_state _ q = refl
 
 state_none_busy : (x : StepState) → is_busy x ≡ false → IsBusy x → ⊥
-state_none_busy Waiting q b = b
 state_none_busy Running q b = cc
-state_none_busy Committed q b = b
-state_none_busy Failed q b = b
 state_none_busy Undoing q b = cc
-state_none_busy Undone q b = b
-state_none_busy Fixed q b = b
+state_none_busy _ q b = b
 
 -- the state of a step in the present case
 pub state_at : (d : Contents) (l : List Change) (s : ℕ) (x : StepState) → s < length d.steps → get_or (states d l) s x ≡ state l s
@@ -71,29 +63,17 @@ drained_from d l none_busy = λ s x lt busy.
 -- no step makes a transition while its saga is planned
 pub no_move : (d : Contents) (l : List Change) (s : ℕ) (t : Transition) → StepMay d l s t → turn l ≡ Planning → NoStepIsBusy d l → ⊥
 no_move d l s transition.StartRun may now none_busy = let bad : Planning ≡ Going = sym now ∙ may.condition.0 in cc
-no_move d l s transition.Commit may now none_busy = let b = none_busy s may.is_step in let c : is_busy (state l s) ≡ true = ap is_busy may.begins in cc
-no_move d l s transition.Missed may now none_busy = let b = none_busy s may.is_step in let c : is_busy (state l s) ≡ true = ap is_busy may.begins in cc
-no_move d l s transition.Fail may now none_busy = let b = none_busy s may.is_step in let c : is_busy (state l s) ≡ true = ap is_busy may.begins in cc
 no_move d l s transition.StartUndo may now none_busy = let bad : Planning ≡ Going = sym now ∙ may.condition.0 in cc
-no_move d l s transition.Undone may now none_busy = let b = none_busy s may.is_step in let c : is_busy (state l s) ≡ true = ap is_busy may.begins in cc
-no_move d l s transition.UndoMissed may now none_busy = let b = none_busy s may.is_step in let c : is_busy (state l s) ≡ true = ap is_busy may.begins in cc
-no_move d l s transition.UndoFail may now none_busy = let b = none_busy s may.is_step in let c : is_busy (state l s) ≡ true = ap is_busy may.begins in cc
+no_move d l s _ may now none_busy = let b = none_busy s may.is_step in let c : is_busy (state l s) ≡ true = ap is_busy may.begins in cc
 
 was_planning : (t : Transition) (turn : Turn) → turn_after_transition t turn ≡ Planning → turn ≡ Planning
-was_planning transition.StartRun turn e = e
-was_planning transition.Commit turn e = e
-was_planning transition.Missed turn e = e
 was_planning transition.Fail turn e = cc
-was_planning transition.StartUndo turn e = e
-was_planning transition.Undone turn e = e
-was_planning transition.UndoMissed turn e = e
 was_planning transition.UndoFail turn e = cc
+was_planning _ turn e = e
 
 abort_planning : (turn : Turn) → turn_after_abort turn ≡ Planning → turn ≡ Planning
-abort_planning Going e = cc
-abort_planning Draining e = cc
 abort_planning Planning e = refl
-abort_planning Stuck e = cc
+abort_planning _ e = cc
 
 answer_not_planning : (a : Answer) → turn_of_answer a ≡ Planning → ⊥
 answer_not_planning (answer.Plan plan) e = cc
@@ -136,45 +116,27 @@ stand_undone false step = refl
 
 -- ---- where a step of the goal may be, and where another one
 abbrev pub suits : Bool → StepState → Bool
-suits true Waiting = true
-suits true Running = true
-suits true Committed = true
 suits true Failed = false
 suits true Undoing = false
 suits true Undone = false
-suits true Fixed = true
-suits false Waiting = true
 suits false Running = false
-suits false Committed = true
-suits false Failed = true
-suits false Undoing = true
-suits false Undone = true
 suits false Fixed = false
+suits _ _ = true
 
 suits_move : (b : Bool) (z : StepState) (t : Transition) (turn : Turn) → z ≡ state_before t → (t ≡ transition.StartRun → b ≡ true) → (t ≡ transition.StartUndo → b ≡ false) → turn_after_transition t turn ≡ Going → suits b z ≡ true → suits b (state_after t) ≡ true
 suits_move b z transition.StartRun turn f starting undoing going was = rw (starting refl) refl
-suits_move true z transition.Commit turn f starting undoing going was = refl
-suits_move false z transition.Commit turn f starting undoing going was = refl
-suits_move true z transition.Missed turn f starting undoing going was = refl
-suits_move false z transition.Missed turn f starting undoing going was = refl
 suits_move b z transition.Fail turn f starting undoing going was = cc
 suits_move b z transition.StartUndo turn f starting undoing going was = rw (undoing refl) refl
-suits_move true z transition.Undone turn f starting undoing going was = let w : suits true Undoing ≡ true = rw f at was in cc
-suits_move false z transition.Undone turn f starting undoing going was = refl
-suits_move true z transition.UndoMissed turn f starting undoing going was = refl
-suits_move false z transition.UndoMissed turn f starting undoing going was = refl
 suits_move b z transition.UndoFail turn f starting undoing going was = cc
+suits_move true z transition.Undone turn f starting undoing going was = let w : suits true Undoing ≡ true = rw f at was in cc
+suits_move true z _ turn f starting undoing going was = refl
+suits_move false z _ turn f starting undoing going was = refl
 
 -- a saga that goes on after a transition was going before
 pub going_on : (t : Transition) (turn : Turn) → turn_after_transition t turn ≡ Going → turn ≡ Going
-going_on transition.StartRun turn e = e
-going_on transition.Commit turn e = e
-going_on transition.Missed turn e = e
 going_on transition.Fail turn e = cc
-going_on transition.StartUndo turn e = e
-going_on transition.Undone turn e = e
-going_on transition.UndoMissed turn e = e
 going_on transition.UndoFail turn e = cc
+going_on _ turn e = e
 
 pub starts_in_goal : (d : Contents) (l : List Change) (s : ℕ) (t : Transition) → StepMay d l s t → t ≡ transition.StartRun → goal l s ≡ true
 starts_in_goal d l s t may is = let f : StepMay d l s transition.StartRun = subst (StepMay d l s) is may in f.condition.1
@@ -186,22 +148,17 @@ abbrev pub GoalSuits : Contents → List Change → Type 0
 GoalSuits d l = turn l ≡ Going → (s : ℕ) → s < length d.steps → suits (goal l s) (state l s) ≡ true
 
 stand_suits : (ab : Bool) (x : StepState) (step : Step) → is_busy x ≡ false → stand_of ab x step ≢ Never → suits true x ≡ true
-stand_suits ab Waiting step q p = refl
 stand_suits ab Running step q p = cc
-stand_suits ab Committed step q p = refl
 stand_suits ab Failed step q p = absurd (p (stand_failed ab step))
 stand_suits ab Undoing step q p = cc
 stand_suits ab Undone step q p = absurd (p (stand_undone ab step))
-stand_suits ab Fixed step q p = refl
+stand_suits ab _ step q p = refl
 
 leave_suits : (x : StepState) (step : Step) → is_busy x ≡ false → leave_of x step ≢ Never → suits false x ≡ true
-leave_suits Waiting step q p = refl
 leave_suits Running step q p = cc
-leave_suits Committed step q p = refl
-leave_suits Failed step q p = refl
 leave_suits Undoing step q p = cc
-leave_suits Undone step q p = refl
 leave_suits Fixed step q p = absurd (p refl)
+leave_suits _ step q p = refl
 
 not_never : (c : ℕ) → Of c ≡ Never → ⊥
 not_never c e = cc
@@ -232,9 +189,7 @@ suits_moves d l r t may was = λ going s lt.
 
 abort_not_going : (turn : Turn) → turn_after_abort turn ≡ Going → ⊥
 abort_not_going Going e = cc
-abort_not_going Draining e = cc
-abort_not_going Planning e = cc
-abort_not_going Stuck e = cc
+abort_not_going _ e = cc
 
 -- while it goes, each step is where its goal lets it be
 pub goal_suits : (d : Contents) (l : List Change) → IsLegalUnder d l → GoalSuits d l

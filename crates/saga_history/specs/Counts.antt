@@ -5,7 +5,7 @@ use Rattle.saga_case.specs.Flow.{sum_below}
 use Rattle.saga_history.specs.declared.events.Event.{Event}
 use Rattle.saga_history.specs.declared.transitions.Transition.{Transition}
 use Rattle.saga_history.specs.declared.transitions.Transition.TheVariants as transition
-use Rattle.saga_history.specs.Changes.{Change, opens, moves, starts_plan, drops_plan, adopts, aborts, changes}
+use Rattle.saga_history.specs.Changes.{Change, moves, drops_plan, adopts, changes}
 use Rattle.saga_history.specs.States.{transitions, same_transition}
 use Rattle.saga_history.specs.Turns.{is_abort}
 use Rattle.saga_history.specs.Rules.{tries, undo_tries, definition}
@@ -15,28 +15,16 @@ abbrev pub is_final_failure : Transition → Bool
 is_final_failure t = same_transition transition.Fail t || same_transition transition.UndoFail t
 
 abbrev pub is_failure : Change → Bool
-is_failure (opens k) = false
 is_failure (moves s t) = is_final_failure t
-is_failure starts_plan = false
-is_failure drops_plan = false
-is_failure (adopts a) = false
-is_failure aborts = false
+is_failure _ = false
 
 abbrev pub is_drop : Change → Bool
-is_drop (opens k) = false
-is_drop (moves s t) = false
-is_drop starts_plan = false
 is_drop drops_plan = true
-is_drop (adopts a) = false
-is_drop aborts = false
+is_drop _ = false
 
 abbrev pub is_adoption : Change → Bool
-is_adoption (opens k) = false
-is_adoption (moves s t) = false
-is_adoption starts_plan = false
-is_adoption drops_plan = false
 is_adoption (adopts a) = true
-is_adoption aborts = false
+is_adoption _ = false
 
 -- two for each try of a step and of its compensation
 abbrev pub most_events : Contents → ℕ → ℕ

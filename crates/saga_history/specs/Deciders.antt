@@ -18,19 +18,12 @@ use Rattle.saga_history.specs.Turns.{turn, goal, opened_with}
 abbrev pub decides_turn : Change → Bool
 decides_turn (opens k) = false
 decides_turn (moves s t) = is_final_failure t
-decides_turn starts_plan = true
-decides_turn drops_plan = true
-decides_turn (adopts a) = true
-decides_turn aborts = true
+decides_turn _ = true
 
 -- a plan that is adopted decides the goal
 abbrev pub decides_goal : Change → Bool
-decides_goal (opens k) = false
-decides_goal (moves s t) = false
-decides_goal starts_plan = false
-decides_goal drops_plan = false
 decides_goal (adopts a) = is_plan a
-decides_goal aborts = false
+decides_goal _ = false
 
 -- the turn by the last change that decides it: without one the saga is going; an abort leaves it in planning, where it was
 pub record HasTurnDecided (later earlier : List Change) : Type 0 where

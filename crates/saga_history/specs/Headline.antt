@@ -23,12 +23,8 @@ pub record HasExactlyItsGoal (d : Contents) (l : List Change) : Type 0 where
 
 -- whether a compensation of that step begins
 abbrev pub starts_undo_of : ℕ → Change → Bool
-starts_undo_of s (opens k) = false
 starts_undo_of s (moves r t) = if s == r then same_transition transition.StartUndo t else false
-starts_undo_of s starts_plan = false
-starts_undo_of s drops_plan = false
-starts_undo_of s (adopts a) = false
-starts_undo_of s aborts = false
+starts_undo_of s _ = false
 
 -- what came before the last change that passes the test
 abbrev pub before_last : (Change → Bool) → List Change → List Change

@@ -1,7 +1,7 @@
 -- Histories that are merged, and what each saga has of them.
 use Rattle.std.specs.Prelude.{◌≡◌, ℕ, ◌<◌, ◌+◌, ◌*◌, Bool, true, false, ◌==◌, ◌||◌, List, [], ◌∷◌, length, slice_index, if◌then◌else◌}
 use Rattle.saga_history.specs.declared.events.Event.{Event}
-use Rattle.saga_history.specs.Changes.{Change, opens, moves, starts_plan, drops_plan, adopts, aborts, saga_of, change_of}
+use Rattle.saga_history.specs.Changes.{Change, opens, saga_of, change_of}
 
 -- a merge of two histories has all events of both, and keeps the order within each
 pub data IsMerge : List Event → List Event → List Event → Type 0 where
@@ -35,11 +35,7 @@ AllDisjoint (a ∷ rest) = EachHistory (AreDisjoint a) rest × AllDisjoint rest
 
 abbrev pub is_opening : Change → Bool
 is_opening (opens k) = true
-is_opening (moves s t) = false
-is_opening starts_plan = false
-is_opening drops_plan = false
-is_opening (adopts a) = false
-is_opening aborts = false
+is_opening _ = false
 
 -- the sagas that a history opens, in order
 abbrev pub opened_sagas : List Event → List ℕ

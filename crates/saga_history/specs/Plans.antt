@@ -9,7 +9,7 @@ use Rattle.saga_case.specs.declared.answers.Answer.TheVariants as answer
 use Rattle.saga_case.specs.Terms as case
 use Rattle.saga_history.specs.declared.events.Event.{Event}
 use Rattle.saga_history.specs.declared.transitions.Transition.TheVariants as transition
-use Rattle.saga_history.specs.Changes.{Change, opens, moves, starts_plan, drops_plan, adopts, aborts, changes}
+use Rattle.saga_history.specs.Changes.{Change, moves, starts_plan, adopts, aborts, changes}
 use Rattle.saga_history.specs.States.{same_transition}
 use Rattle.saga_history.specs.Turns.{present_case}
 use Rattle.saga_history.specs.Rules.{SagaMay, definition}
@@ -21,12 +21,10 @@ is_plan (answer.Blocked chain) = false
 -- the answer adopted last is a plan, and since then no step failed and the saga was not aborted
 abbrev pub plan_in_force : List Change → Bool
 plan_in_force [] = false
-plan_in_force (opens k ∷ l) = plan_in_force l
 plan_in_force (moves s t ∷ l) = not (same_transition transition.Fail t) && plan_in_force l
-plan_in_force (starts_plan ∷ l) = plan_in_force l
-plan_in_force (drops_plan ∷ l) = plan_in_force l
 plan_in_force (adopts a ∷ l) = is_plan a
 plan_in_force (aborts ∷ l) = false
+plan_in_force (_ ∷ l) = plan_in_force l
 
 -- no step of the definition has the keep price never
 abbrev pub NoKeepIsNever : Contents → Type 0

@@ -4,7 +4,7 @@ use Rattle.saga_def.specs.Contents.{Contents}
 use Rattle.saga_def.specs.Order.{NeedsDirectly}
 use Rattle.saga_case.specs.Situation.{AreDrained}
 use Rattle.saga_case.specs.declared.states.StepState.{StepState}
-use Rattle.saga_case.specs.declared.states.StepState.TheVariants.{Waiting, Running, Committed, Failed, Undoing, Undone, Fixed}
+use Rattle.saga_case.specs.declared.states.StepState.TheVariants.{Waiting, Committed, Failed, Undoing, Undone, Fixed}
 use Rattle.saga_history.specs.declared.events.Event.{Event}
 use Rattle.saga_history.specs.declared.transitions.Transition.{Transition}
 use Rattle.saga_history.specs.declared.transitions.Transition.TheVariants as transition
@@ -20,58 +20,33 @@ one b = if b then 1 else 0
 -- its action has begun and was not missed
 abbrev pub was_begun : StepState → Bool
 was_begun Waiting = false
-was_begun Running = true
-was_begun Committed = true
-was_begun Failed = true
-was_begun Undoing = true
-was_begun Undone = true
-was_begun Fixed = true
+was_begun _ = true
 
 abbrev pub has_committed : StepState → Bool
-has_committed Waiting = false
-has_committed Running = false
 has_committed Committed = true
-has_committed Failed = false
 has_committed Undoing = true
 has_committed Undone = true
 has_committed Fixed = true
+has_committed _ = false
 
 abbrev pub has_failed : StepState → Bool
-has_failed Waiting = false
-has_failed Running = false
-has_failed Committed = false
 has_failed Failed = true
-has_failed Undoing = false
-has_failed Undone = false
-has_failed Fixed = false
+has_failed _ = false
 
 -- its compensation has begun and was not missed
 abbrev pub undo_begun : StepState → Bool
-undo_begun Waiting = false
-undo_begun Running = false
-undo_begun Committed = false
-undo_begun Failed = false
 undo_begun Undoing = true
 undo_begun Undone = true
 undo_begun Fixed = true
+undo_begun _ = false
 
 abbrev pub has_undone : StepState → Bool
-has_undone Waiting = false
-has_undone Running = false
-has_undone Committed = false
-has_undone Failed = false
-has_undone Undoing = false
 has_undone Undone = true
-has_undone Fixed = false
+has_undone _ = false
 
 abbrev pub has_fixed : StepState → Bool
-has_fixed Waiting = false
-has_fixed Running = false
-has_fixed Committed = false
-has_fixed Failed = false
-has_fixed Undoing = false
-has_fixed Undone = false
 has_fixed Fixed = true
+has_fixed _ = false
 
 -- how often a transition stands in a list
 abbrev pub count_of : Transition → List Transition → ℕ
@@ -92,12 +67,9 @@ pub record Tally (ts : List Transition) (x : StepState) : Type 0 where
 -- how far a step must have come that a step in that state needs directly
 abbrev pub SuitsNeed : StepState → StepState → Type 0
 SuitsNeed Waiting needed = Unit {0}
-SuitsNeed Running needed = is_standing needed ≡ true
-SuitsNeed Committed needed = is_standing needed ≡ true
 SuitsNeed Failed needed = has_committed needed ≡ true
-SuitsNeed Undoing needed = is_standing needed ≡ true
 SuitsNeed Undone needed = has_committed needed ≡ true
-SuitsNeed Fixed needed = is_standing needed ≡ true
+SuitsNeed _ needed = is_standing needed ≡ true
 
 -- each step made the transitions that its state tells, was missed less often than it is tried, and what it needs has
 -- come as far as it must; while the saga is planned, no step is busy

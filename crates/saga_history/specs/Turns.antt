@@ -14,14 +14,9 @@ use Rattle.saga_history.specs.States.{states}
 
 -- a failure that is not tried again makes the saga drain
 abbrev pub turn_after_transition : Transition → Turn → Turn
-turn_after_transition transition.StartRun turn = turn
-turn_after_transition transition.Commit turn = turn
-turn_after_transition transition.Missed turn = turn
 turn_after_transition transition.Fail turn = Draining
-turn_after_transition transition.StartUndo turn = turn
-turn_after_transition transition.Undone turn = turn
-turn_after_transition transition.UndoMissed turn = turn
 turn_after_transition transition.UndoFail turn = Draining
+turn_after_transition _ turn = turn
 
 -- with a plan it goes on, with a chain it is stuck
 abbrev pub turn_of_answer : Answer → Turn
@@ -30,10 +25,8 @@ turn_of_answer (answer.Blocked chain) = Stuck
 
 -- an abort makes it drain, unless it is being planned
 abbrev pub turn_after_abort : Turn → Turn
-turn_after_abort Going = Draining
-turn_after_abort Draining = Draining
 turn_after_abort Planning = Planning
-turn_after_abort Stuck = Draining
+turn_after_abort _ = Draining
 
 -- what a change makes of the turn
 abbrev pub turn_after : Change → Turn → Turn
@@ -51,9 +44,7 @@ turn (c ∷ l) = turn_after c (turn l)
 
 abbrev pub is_going : Turn → Bool
 is_going Going = true
-is_going Draining = false
-is_going Planning = false
-is_going Stuck = false
+is_going _ = false
 
 -- what a change makes of the goal: a plan that is adopted sets it to the steps that it keeps
 abbrev pub goal_of_answer : Answer → Steps → Steps
@@ -61,12 +52,8 @@ goal_of_answer (answer.Plan plan) goal = member plan.kept
 goal_of_answer (answer.Blocked chain) goal = goal
 
 abbrev pub goal_after : Change → Steps → Steps
-goal_after (opens k) goal = goal
-goal_after (moves s t) goal = goal
-goal_after starts_plan goal = goal
-goal_after drops_plan goal = goal
 goal_after (adopts a) goal = goal_of_answer a goal
-goal_after aborts goal = goal
+goal_after _ goal = goal
 
 -- the goal: all steps until a plan is adopted, then the set that the last plan keeps
 abbrev pub goal : List Change → Steps
@@ -79,12 +66,8 @@ in_goal l s = is_going (turn l) && goal l s
 
 -- the saga was aborted
 abbrev pub is_abort : Change → Bool
-is_abort (opens k) = false
-is_abort (moves s t) = false
-is_abort starts_plan = false
-is_abort drops_plan = false
-is_abort (adopts a) = false
 is_abort aborts = true
+is_abort _ = false
 
 abbrev pub aborted : List Change → Bool
 aborted [] = false
@@ -94,11 +77,7 @@ aborted (c ∷ l) = is_abort c || aborted l
 abbrev pub opened_with : List Change → Option ℕ
 opened_with [] = None
 opened_with (opens k ∷ l) = Some k
-opened_with (moves s t ∷ l) = opened_with l
-opened_with (starts_plan ∷ l) = opened_with l
-opened_with (drops_plan ∷ l) = opened_with l
-opened_with (adopts a ∷ l) = opened_with l
-opened_with (aborts ∷ l) = opened_with l
+opened_with (_ ∷ l) = opened_with l
 
 -- the present case: what a plan is made for now
 abbrev pub present_case : Contents → List Change → Situation

@@ -1,5 +1,6 @@
 -- What a write does to the steps that words hold.
-use Rattle.std.proofs.Common.{ℕ, ◌≡◌, ◌≢◌, ◌<◌, ◌≤◌, ◌*◌, ◌/◌, ◌%◌, ◌^◌, ◌∙◌, max, List, Bool, true, false, zero, suc, length, get_or, set, refl, sym, ap, inl, inr, arith, w64, bit_or, get_or-set_same, get_or-set_other}
+use Rattle.std.proofs.Math.Bool.{or-false}
+use Rattle.std.proofs.Common.{ℕ, ◌≡◌, ◌≢◌, ◌<◌, ◌≤◌, ◌*◌, ◌/◌, ◌%◌, ◌^◌, ◌∙◌, max, List, Bool, false, zero, suc, length, get_or, set, refl, sym, ap, inl, inr, arith, w64, bit_or, get_or-set_same, get_or-set_other}
 use Rattle.std.specs.Prelude.{◌==◌, ◌||◌}
 use Rattle.std.specs.Int.{bit_at}
 use Rattle.std.proofs.lemmas.Bool.{cases_eq, cases_lt}
@@ -16,10 +17,6 @@ or_bits (suc zero) zero p q = refl
 or_bits (suc zero) (suc zero) p q = refl
 or_bits (suc zero) (suc (suc b)) p q = absurd (omega arith)
 or_bits (suc (suc a)) b p q = absurd (omega arith)
-
-or_false : (b : Bool) → b ≡ (b || false)
-or_false true = refl
-or_false false = refl
 
 -- whether a bit of a word is set
 abbrev test : ℕ → ℕ → Bool
@@ -63,7 +60,7 @@ joined_words old more new sized front rest = record {
             let none : test (get_or more (s / 64) 0) (s % 64) ≡ false =
             ap (λ (w : ℕ). test w (s % 64)) (get_or_past more (s / 64) 0 past) ∙ ap (λ (b : ℕ). b == 1) (bit_at-zero (s % 64)) in
             ap (λ (w : ℕ). test w (s % 64)) (rest (s / 64) past)
-            ∙ or_false (test (get_or old (s / 64) 0) (s % 64))
+            ∙ sym (or-false (test (get_or old (s / 64) 0) (s % 64)))
             ∙ ap (λ (b : Bool). test (get_or old (s / 64) 0) (s % 64) || b) (sym none)
       ];
 }

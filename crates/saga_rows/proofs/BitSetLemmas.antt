@@ -4,7 +4,7 @@ use Rattle.std.specs.Prelude.{Bool, true, false, not, ◌==◌, cond}
 use Rattle.std.specs.Int.{bit_at, bit_not, trailing_zeros}
 use Rattle.std.specs.Int.RustNames.{bit_or}
 use lib.Bits.{bit_and}
-use Rattle.std.proofs.lemmas.Bool.{cases_eq, cases_lt, eq-eqb, eqb-true, false≢true}
+use Rattle.std.proofs.lemmas.Bool.{cases_eq, cases_lt, eq-eqb, eqb-true, false≢true, ne_eqb}
 use Rattle.std.proofs.lemmas.Bool.Decides.{nat_tests}
 use Rattle.std.proofs.lemmas.List.{length-set, get_or-set_same, get_or-set_other, same_lists, length-replicate, get_or-replicate, get_or_past, length_push, get_or_push, get_or_append_left}
 use Rattle.std.proofs.lemmas.List.FromFn.{map-range_with_len_more, length-map-range_with_len, get_or-map-range_with_len}
@@ -27,9 +27,6 @@ set_marks words words' len i on lt here others = same_lists (marks words' len) (
       | inl e ↦ rw e (marks_at words' len i d lt ∙ here ∙ sym (get_or-set_same (marks words len) i on d (omega (arith, marks_long words len))))
       | inr ne ↦ marks_at words' len k d kl ∙ others k kl ne ∙ sym (get_or-set_other (marks words len) i k on d ne ∙ marks_at words len k d kl)
     ])
-
-eqb_no : (a b : ℕ) → (a ≡ b → ⊥) → (a == b) ≡ false
-eqb_no a b h = grind (arith, nat_tests)
 
 pub put_on : (word b : ℕ) → b < 64 → IsPut word b true (bit_or word (1 * 2 ^ b % 2 ^ 64))
 put_on word b lt = record {
@@ -92,7 +89,7 @@ bit_zero words i e = ap (λ x. x == 1) (ap (λ x. bit_at x (i % 64)) e ∙ bit_a
 summed_zero : (word : ℕ) → summed word ≡ 0 → word ≡ 0
 summed_zero word h = elim (cases_eq word 0) [
   | inl e ↦ e
-  | inr ne ↦ let one : summed word ≡ 1 = ap (λ b. cond b 0 1) (eqb_no word 0 ne) in absurd (omega (arith, h, one))
+  | inr ne ↦ let one : summed word ≡ 1 = ap (λ b. cond b 0 1) (ne_eqb word 0 ne) in absurd (omega (arith, h, one))
 ]
 
 some_word : (word : ℕ) → summed word ≡ 1 → 0 < word

@@ -50,13 +50,7 @@ other l s u t apart = transitions_other u s t l (ne_eqb u s apart)
 
 miss_small : (t : Transition) → (miss_in t ≤ 1) × (undo_miss_in t ≤ 1)
 miss_small transition.StartRun = (omega arith, omega arith)
-miss_small transition.Commit = (omega arith, omega arith)
-miss_small transition.Missed = (omega arith, omega arith)
-miss_small transition.Fail = (omega arith, omega arith)
-miss_small transition.StartUndo = (omega arith, omega arith)
-miss_small transition.Undone = (omega arith, omega arith)
-miss_small transition.UndoMissed = (omega arith, omega arith)
-miss_small transition.UndoFail = (omega arith, omega arith)
+miss_small _ = (omega arith, omega arith)
 
 most_tries : (d : Contents) (s : ℕ) → IsSound d → s < length d.steps → (tries d s ≤ 9) × (undo_tries d s ≤ 9)
 most_tries d s sound lt =
@@ -297,10 +291,8 @@ module _ (shelf : List Contents) (row : Row) (l : List Change) (f : Follows shel
 
   pub phase_into : (p : Phase) → RowHasPhase row p → HasPhase row.definition l p
   phase_into phase.Going is = (sym f.turn_is ∙ is.0, λ ended. is.1 (ended_from ended))
-  phase_into phase.Draining is = sym f.turn_is ∙ is
-  phase_into phase.Planning is = sym f.turn_is ∙ is
   phase_into phase.Ended is = ended_into is
-  phase_into phase.Stuck is = sym f.turn_is ∙ is
+  phase_into _ is = sym f.turn_is ∙ is
 
 -- a row in which nothing has happened follows an opening
 pub follows_open : (shelf : List Contents) (k : ℕ) (c : Contents) → slice_get shelf k ≡ Some c → IsSound c → Follows shelf (new_row c) (opens k ∷ [])

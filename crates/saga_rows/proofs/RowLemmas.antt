@@ -2,8 +2,7 @@
 use Rattle.std.proofs.Common.{ℕ, ◌≡◌, ◌<◌, ◌≤◌, ◌+◌, ◌*◌, ◌∙◌, inl, inr, List, [], ◌∷◌, length, take, replicate, get_or, set, ap, sym, subst, refl, arith, suc, zero}
 use Rattle.std.specs.Prelude.{◌↔◌, IsTrue, Bool, true, false, not, ◌==◌, ◌&&◌, All, Contains}
 use Rattle.std.specs.List.{count_by, sum_by}
-use Rattle.std.proofs.lemmas.Bool.{cases_Bool, cases_eq, cases_lt, eq-eqb, eqb-true, false≢true, true≢false}
-use Rattle.std.proofs.lemmas.Bool.Decides.{nat_tests}
+use Rattle.std.proofs.lemmas.Bool.{cases_Bool, cases_eq, cases_lt, eq-eqb, eqb-true, false≢true, ne_eqb, not-false, not-true}
 use Rattle.std.proofs.lemmas.List.{length-set, get_or-set_same, get_or-set_other, get_or-replicate, get_or_past, length-replicate}
 use Rattle.std.proofs.lemmas.List.Sums.{sum_by-cons, sum_by_more_le, sum_by-set, sum_by-le, get_or-le-sum_by, count_by-le-length}
 use Rattle.std.proofs.lemmas.List.Elements.{All-from_get_or, Contains-get_or}
@@ -16,7 +15,7 @@ use Rattle.saga_def.proofs.AdjacencyLemmas.{sum_of, sum_on, occurs_both, needs_o
 use Rattle.saga_case.specs.Flow.{sum_below}
 use Rattle.saga_case.proofs.SumLemmas.{sum_none, sum_more, sum_same, sum_zero}
 use Rattle.saga_case.specs.declared.states.StepState.{StepState}
-use Rattle.saga_case.specs.declared.states.StepState.TheVariants.{Waiting, Running, Committed, Failed, Undoing, Undone, Fixed}
+use Rattle.saga_case.specs.declared.states.StepState.TheVariants.{Waiting, Committed}
 use Rattle.saga_history.specs.declared.turns.Turn.{Turn}
 use Rattle.saga_history.specs.declared.turns.Turn.TheVariants.{Going, Draining}
 use Rattle.saga_history.specs.States.{is_standing, is_off, is_busy}
@@ -25,14 +24,11 @@ use Rattle.saga_rows.specs.declared.tasks.RowTask.TheVariants.{Run, Undo, Plan}
 use Rattle.saga_rows.specs.Row.{Row, MayRun, MayUndo, MayPlan, RowAllows, RowAllowsNone, task_step, state_at, mark_at, is_finished, one_if}
 use Rattle.saga_rows.specs.Tables.{IsRow, unmet_of, held_of, is_ready, ready_at, unfinished_at, unfinished_in, occurs, AreShifted, AreRefreshed}
 
-eqb_no : (a b : ℕ) → (a ≡ b → ⊥) → (a == b) ≡ false
-eqb_no a b h = grind (arith, nat_tests)
-
 one_yes : (a b : ℕ) → a ≡ b → one_if (a == b) ≡ 1
 one_yes a b e = ap one_if (eq-eqb a b e)
 
 one_no : (a b : ℕ) → (a ≡ b → ⊥) → one_if (a == b) ≡ 0
-one_no a b ne = ap one_if (eqb_no a b ne)
+one_no a b ne = ap one_if (ne_eqb a b ne)
 
 -- one more stands in the list than in what lies before it
 pub occurs_more : (steps : List ℕ) (i : ℕ) → i < length steps → occurs (get_or steps i 0) (take i steps) + 1 ≤ occurs (get_or steps i 0) steps
@@ -119,7 +115,7 @@ sum_few (suc n) f few =
     let e : n + 1 ≡ suc n = omega arith in
     subst (λ m. sum_below m f ≤ m) e (rw (sum_more n f) (omega (arith, sum_few n f few, few n)))
 
-one_if_few : (b : Bool) → one_if b ≤ 1
+pub one_if_few : (b : Bool) → one_if b ≤ 1
 one_if_few true = omega arith
 one_if_few false = omega arith
 
@@ -239,10 +235,6 @@ one_zero : (b : Bool) → one_if b ≡ 0 → b ≡ false
 one_zero true e = absurd (omega (arith, e))
 one_zero false e = refl
 
-not_false : (b : Bool) → not b ≡ false → b ≡ true
-not_false true e = refl
-not_false false e = absurd (true≢false e)
-
 and_both : (a b : Bool) → (a && b) ≡ true → (a ≡ true) × (b ≡ true)
 and_both true b e = (refl, e)
 and_both false b e = absurd (false≢true e)
@@ -256,7 +248,7 @@ all_pass q key other needs s all =
     each : (n : Need) → (key n ≡ s → q (other n) ≡ true) → one_if (key n == s) * one_if (not (q (other n))) ≤ 0
     each n pass = elim (cases_eq (key n) s) [
       | inl e ↦ rw (pass e) (omega arith)
-      | inr ne ↦ rw (eqb_no (key n) s ne) (omega arith)
+      | inr ne ↦ rw (ne_eqb (key n) s ne) (omega arith)
     ]
 
 pass_all : (q : ℕ → Bool) (key other : Need → ℕ) (needs : List Need) (s : ℕ) (n : Need) → sum_by (λ (n : Need). one_if (key n == s) * one_if (not (q (other n)))) needs ≡ 0 → Contains needs n → key n ≡ s → q (other n) ≡ true
@@ -265,17 +257,11 @@ pass_all q key other needs s n none (k, lt, is) e =
     let le = get_or-le-sum_by f needs k n lt in
     let here : f (get_or needs k n) ≡ f n = ap f is in
     let one : f n ≡ one_if (not (q (other n))) = rw (eq-eqb (key n) s e) (omega arith) in
-    not_false _ (one_zero _ (omega (arith, le, here, one, none)))
-
-need_step : (n : Need) (s : ℕ) → n.step ≡ s → n ≡ record { step = s; on = n.on }
-need_step n s same = let f : ℕ → Need = λ x. record { step = x; on = n.on } in ap f same
-
-need_on : (n : Need) (s : ℕ) → n.on ≡ s → n ≡ record { step = n.step; on = s }
-need_on n s same = let f : ℕ → Need = λ x. record { step = n.step; on = x } in ap f same
+    not-false _ (one_zero _ (omega (arith, le, here, one, none)))
 
 no_waits : (c : Contents) (states : List StepState) (s : ℕ) → IsSound c → ((a : ℕ) → NeedsDirectly c.needs s a → is_standing (state_at states a) ≡ true) → unmet_of c states s ≡ 0
 no_waits c states s sound all = sum_of (λ a. one_if (not (is_standing (state_at states a)))) c s sound.known
-    ∙ all_pass (λ a. is_standing (state_at states a)) (λ (n : Need). n.step) (λ (n : Need). n.on) c.needs s (λ n has e. all n.on (subst (Contains c.needs) (need_step n s e) has))
+    ∙ all_pass (λ a. is_standing (state_at states a)) (λ (n : Need). n.step) (λ (n : Need). n.on) c.needs s (λ n has e. all n.on (let whole : Contains c.needs (record { step = n.step; on = n.on }) = has in rw e at whole))
 
 waits_none : (c : Contents) (states : List StepState) (s a : ℕ) → IsSound c → unmet_of c states s ≡ 0 → NeedsDirectly c.needs s a → is_standing (state_at states a) ≡ true
 waits_none c states s a sound none needed = pass_all (λ a. is_standing (state_at states a)) (λ (n : Need). n.step) (λ (n : Need). n.on) c.needs s (record { step = s; on = a })
@@ -283,7 +269,7 @@ waits_none c states s a sound none needed = pass_all (λ a. is_standing (state_a
 
 no_holds : (c : Contents) (states : List StepState) (s : ℕ) → IsSound c → ((b : ℕ) → NeedsDirectly c.needs b s → is_off (state_at states b) ≡ true) → held_of c states s ≡ 0
 no_holds c states s sound all = sum_on (λ b. one_if (not (is_off (state_at states b)))) c s sound.known
-    ∙ all_pass (λ b. is_off (state_at states b)) (λ (n : Need). n.on) (λ (n : Need). n.step) c.needs s (λ n has e. all n.step (subst (Contains c.needs) (need_on n s e) has))
+    ∙ all_pass (λ b. is_off (state_at states b)) (λ (n : Need). n.on) (λ (n : Need). n.step) c.needs s (λ n has e. all n.step (let whole : Contains c.needs (record { step = n.step; on = n.on }) = has in rw e at whole))
 
 holds_none : (c : Contents) (states : List StepState) (s b : ℕ) → IsSound c → held_of c states s ≡ 0 → NeedsDirectly c.needs b s → is_off (state_at states b) ≡ true
 holds_none c states s b sound none needed = pass_all (λ b. is_off (state_at states b)) (λ (n : Need). n.on) (λ (n : Need). n.step) c.needs s (record { step = b; on = s })
@@ -291,16 +277,8 @@ holds_none c states s b sound none needed = pass_all (λ b. is_off (state_at sta
 
 committed_from : (x : StepState) (g : Bool) (u h : ℕ) → is_ready x g u h ≡ true → (x ≡ Waiting → ⊥) → x ≡ Committed
 committed_from Waiting g u h e ne = absurd (ne refl)
-committed_from Running g u h e ne = absurd (false≢true e)
 committed_from Committed g u h e ne = refl
-committed_from Failed g u h e ne = absurd (false≢true e)
-committed_from Undoing g u h e ne = absurd (false≢true e)
-committed_from Undone g u h e ne = absurd (false≢true e)
-committed_from Fixed g u h e ne = absurd (false≢true e)
-
-not_true : (b : Bool) → not b ≡ true → b ≡ false
-not_true true e = absurd (false≢true e)
-not_true false e = refl
+committed_from _ g u h e ne = absurd (false≢true e)
 
 -- what a row's tables say
 module _ (c : Contents) (states : List StepState) (goal : List Bool) (turn : Turn) (misses undo_misses : List ℕ) (aborted : Bool) (unmet held : List ℕ) (busy unfinished : ℕ) (ready : List Bool) (old : IsRow c states goal unmet held busy unfinished ready) where
@@ -327,7 +305,7 @@ module _ (c : Contents) (states : List StepState) (goal : List Bool) (turn : Tur
       record {
         is_step = lt;
         going = going;
-        unwanted = not_true _ two.0;
+        unwanted = not-true _ two.0;
         committed = committed;
         off = λ b needed. holds_none c states s b old.sound (sym (old.counted.held_is s lt) ∙ eqb-true _ _ two.1) needed;
       }
@@ -418,7 +396,7 @@ fresh c states goal unmet held unfinished ready sound is isg sized each ish left
 pub ended_from : (c : Contents) (states : List StepState) (goal : List Bool) (unfinished : ℕ) → unfinished ≡ unfinished_in c states goal → (unfinished == 0) ≡ true → (s : ℕ) → s < length c.steps → is_finished (mark_at goal s) (state_at states s) ≡ true
 ended_from c states goal unfinished is none s lt =
     let zero_s : unfinished_at states goal s ≡ 0 = omega (arith, sum_has (length c.steps) (unfinished_at states goal) s lt, is, eqb-true unfinished 0 none) in
-    not_false (is_finished (mark_at goal s) (state_at states s)) (one_zero (not (is_finished (mark_at goal s) (state_at states s))) zero_s)
+    not-false (is_finished (mark_at goal s) (state_at states s)) (one_zero (not (is_finished (mark_at goal s) (state_at states s))) zero_s)
 
 pub ended_into : (c : Contents) (states : List StepState) (goal : List Bool) (unfinished : ℕ) → unfinished ≡ unfinished_in c states goal → ((s : ℕ) → s < length c.steps → is_finished (mark_at goal s) (state_at states s) ≡ true) → (unfinished == 0) ≡ true
 ended_into c states goal unfinished is all = eq-eqb unfinished 0 (is ∙ sum_zero (length c.steps) (unfinished_at states goal) (λ s lt. ap (λ b. one_if (not b)) (all s lt)))

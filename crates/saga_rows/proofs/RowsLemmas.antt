@@ -1,4 +1,5 @@
 -- What a change of one row makes of the marks and the count of all rows.
+use Rattle.saga_rows.proofs.RowLemmas.{one_if_few}
 use Rattle.std.proofs.Common.{ℕ, ◌≡◌, ◌<◌, ◌≤◌, ◌+◌, ◌∙◌, inl, inr, List, [], ◌∷◌, ◌++◌, length, get_or, set, ap, sym, refl, suc, arith}
 use Rattle.std.specs.Prelude.{Bool, true, false, not, ◌==◌}
 use Rattle.std.specs.List.{count_by}
@@ -107,10 +108,6 @@ pub count_enough : (rows : List Row) (i : ℕ) (was : Bool) (count : ℕ) → Is
 count_enough rows i was count but lt is =
     let one : one_if was ≡ 1 = ap one_if is in
     omega (arith, but, one, get_or-le-sum_by (λ r. one_if (is_open r)) rows i no_row lt)
-
-one_if_few : (b : Bool) → one_if b ≤ 1
-one_if_few true = omega arith
-one_if_few false = omega arith
 
 pub count_room : (rows : List Row) (i : ℕ) (was : Bool) (count : ℕ) → IsCountBut rows i was count → length rows ≤ max_rows → count ≤ 65535
 count_room rows i was count but few = omega (arith, but, one_if_few was, count_by-le-length is_open rows)

@@ -6,7 +6,7 @@ use Rattle.saga_def.specs.Neighbours.{needs_of, needed_by}
 use Rattle.saga_def.specs.Sound.{IsSound}
 use Rattle.saga_case.specs.Flow.{sum_below}
 use Rattle.saga_case.specs.declared.states.StepState.{StepState}
-use Rattle.saga_case.specs.declared.states.StepState.TheVariants.{Waiting, Running, Committed, Failed, Undoing, Undone, Fixed}
+use Rattle.saga_case.specs.declared.states.StepState.TheVariants.{Waiting, Committed}
 use Rattle.saga_history.specs.States.{is_standing, is_busy, is_off}
 use Rattle.saga_rows.specs.Row.{state_at, mark_at, is_finished, one_if}
 
@@ -21,12 +21,8 @@ held_of c states s = count_by (λ b. not (is_off (state_at states b))) (needed_b
 -- whether a step may be started while its saga is going
 abbrev pub is_ready : StepState → Bool → ℕ → ℕ → Bool
 is_ready Waiting wanted unmet held = wanted && unmet == 0
-is_ready Running wanted unmet held = false
 is_ready Committed wanted unmet held = not wanted && held == 0
-is_ready Failed wanted unmet held = false
-is_ready Undoing wanted unmet held = false
-is_ready Undone wanted unmet held = false
-is_ready Fixed wanted unmet held = false
+is_ready _ wanted unmet held = false
 
 abbrev pub ready_at : List StepState → List Bool → List ℕ → List ℕ → ℕ → Bool
 ready_at states goal unmet held s =

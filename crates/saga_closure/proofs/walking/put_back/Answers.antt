@@ -4,5 +4,5 @@ use Rattle.saga_closure.specs.Nets.{terms_in}
 use Rattle.saga_closure.proofs.ArcLemmas.{arcs_sized}
 use Rattle.saga_closure.proofs.walking.put_back.Goals as goal
 
-pub head-requires-clause-inside : goal.head-requires-clause-inside
-head-requires-clause-inside c = omega (arith, c.requires.steps c.loop-over.over-index (record { arc = 0; forward = false }) c.loop-over-test.true, arcs_sized (terms_in c.args.net.now))
+pub ends-requires-clause-inside : goal.ends-requires-clause-inside
+ends-requires-clause-inside c = omega (arith, c.requires.steps c.loop-over.over-index (record { arc = 0; forward = false }) c.loop-over-test.true, arcs_sized (terms_in c.args.net.now))

@@ -40,8 +40,8 @@ loop-v-preserved-in-Some c =
       trail = rw c.in_ok-push-in-Some.ensures.items (trail_front (Climbs (arcs_in net) on (node_level c.args.depth level)) c.loop-v.path.items c.in-Some.back.by (2 + c.in-Some.back.from) (2 + c.loop-v.v) 1 one c.loop-v.invariant.trail);
     }
 
-pub head-v-requires-clause-inside : goal.head-v-requires-clause-inside
-head-v-requires-clause-inside c =
+pub ends-v-requires-clause-inside : goal.ends-v-requires-clause-inside
+ends-v-requires-clause-inside c =
     let many : c.steps-count.result ≡ length c.args.residual.now.net.now.definition.now.steps = c.steps-count.ensures.count in
     let popped = trail_pop (terms_in c.args.residual.now.net.now) c.args.residual.now.on.now c.args.level.now c.args.depth c.loop-v.v c.loop-v.path.items c.pop.new.self.items c.in-Some-pop.over c.args.residual.now.net.now.known c.in-Some-pop.ensures.items c.loop-v.invariant.trail (omega (arith, many, c.if-over-count.false)) in
     popped.0
@@ -51,10 +51,10 @@ loop-v-preserved c =
     let many : c.steps-count.result ≡ length c.args.residual.now.net.now.definition.now.steps = c.steps-count.ensures.count in
     let popped = trail_pop (terms_in c.args.residual.now.net.now) c.args.residual.now.on.now c.args.level.now c.args.depth c.loop-v.v c.loop-v.path.items c.pop.new.self.items c.in-Some-pop.over c.args.residual.now.net.now.known c.in-Some-pop.ensures.items c.loop-v.invariant.trail (omega (arith, many, c.if-over-count.false)) in
     record {
-      inside = c.head-v.ensures.inside;
-      low = rw c.head-v.ensures.is popped.1;
+      inside = c.ends-v.ensures.head_inside;
+      low = rw c.ends-v.ensures.head popped.1;
       left = c.loop-v.invariant.left;
-      trail = rw c.head-v.ensures.is popped.2;
+      trail = rw c.ends-v.ensures.head popped.2;
     }
 
 pub returns-clause-found : goal.returns-clause-found

@@ -1,0 +1,35 @@
+-- The residual arcs over the needs of a step, in either direction.
+use Rattle.std.specs.Prelude.{ℕ, Bool, List, length, slice_index, slice_get, Some, IsTrue, if◌then◌else◌, ◌⊎◌, ◌≡◌, ◌<◌, ◌≤◌, ◌+◌}
+use Rattle.saga_def.specs.declared.steps.Need.{Need}
+use Rattle.saga_def.specs.Neighbours.{a_need}
+use Rattle.saga_case.specs.Terms.{Terms}
+use Rattle.saga_flow.specs.declared.residual_arcs.ResidualArc.{ResidualArc}
+
+-- the need over which a residual arc goes from one step to another, along the need or back
+abbrev pub need_over : Bool → ℕ → ℕ → Need
+need_over forward from to = if forward then a_need from to else a_need to from
+
+-- the residual arc over the need at a place
+abbrev pub arc_over : ℕ → Bool → ℕ → ResidualArc
+arc_over count forward k = record { arc = count + (count + k); forward = forward }
+
+-- along a need any amount goes, and back what it carries
+abbrev pub LetsThrough : List ℕ → ResidualArc → Type 0
+LetsThrough on over = IsTrue over.forward ⊎ (0 < slice_index on over.arc)
+
+-- the steps to which residual arcs of a direction lead over the needs of a step, and beside each the place of the need
+pub record AreLinks (needs : List Need) (count : ℕ) (forward : Bool) (v : ℕ) (steps places : List ℕ) : Type 0 where
+  pub sized : length places ≡ length steps
+  pub inside : (e : ℕ) → e < length steps → slice_index steps e < count
+  pub each : (e : ℕ) → e < length steps → slice_get needs (slice_index places e) ≡ Some (need_over forward v (slice_index steps e))
+  pub all : (k w : ℕ) → slice_get needs k ≡ Some (need_over forward v w) → (e : ℕ) × (e < length steps) × (slice_index steps e ≡ w) × (slice_index places e ≡ k)
+
+-- the steps to which they lead have a level of at most this
+abbrev pub AreLinkedUpTo : Terms → List ℕ → List ℕ → Bool → ℕ → ℕ → Type 0
+AreLinkedUpTo t on level forward v most =
+    (k w : ℕ) → slice_get t.needs k ≡ Some (need_over forward v w) → LetsThrough on (arc_over t.count forward k) → slice_index level w ≤ most
+
+-- those of the first so many entries have
+abbrev pub IsUpTo : Terms → List ℕ → List ℕ → Bool → List ℕ → List ℕ → ℕ → ℕ → Type 0
+IsUpTo t on level forward steps places most count =
+    (e : ℕ) → e < count → LetsThrough on (arc_over t.count forward (slice_index places e)) → slice_index level (slice_index steps e) ≤ most
