@@ -4,7 +4,7 @@
 ghost use Rattle.std.specs.Prelude.{◌≡◌, ◌++◌, ℕ, List, IfOk, OnErr};
 ghost use Rattle.saga_history.specs.Changes.{past};
 ghost use Rattle.saga_core.specs.Tasks.{NoTaskIsAllowed};
-ghost use Rattle.saga_kept.specs.BookLog.{IsBookLog};
+ghost use Rattle.saga_logged.specs.BookLog.{IsBookLog};
 ghost use Rattle.saga_drive.specs.Replies.{lines_of};
 ghost use Rattle.saga_drive.specs.Answers.{IsAnswer, IsMet};
 ghost use Rattle.saga_drive.specs.declared.requests.Request.TheVariants as request;

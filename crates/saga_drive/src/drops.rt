@@ -4,7 +4,7 @@ ghost use Rattle.saga_history.specs.Changes.{past};
 ghost use Rattle.saga_history.specs.declared.tasks.Phase.TheVariants as phase;
 ghost use Rattle.saga_core.specs.Book.{Book};
 ghost use Rattle.saga_core.specs.Tasks.{StandsAt};
-ghost use Rattle.saga_kept.specs.BookLog.{IsBookLog};
+ghost use Rattle.saga_logged.specs.BookLog.{IsBookLog};
 ghost use Rattle.saga_drive.specs.Drops.{DropsPlans, NoneIsPlanned, next_of};
 ghost use Rattle.saga_drive.specs.Replies.{lines_of, text_of};
 

@@ -1,14 +1,14 @@
 -- The world outside, as a drive sees it.
 use Rattle.std.specs.Prelude.{ℕ, Bool, List, ◌++◌, Option, Result, codes}
 use Rattle.saga_serve.specs.declared.outside.FileFault.{FileFault}
-use Rattle.saga_serve.specs.declared.outside.KeepFault.{KeepFault}
+use Rattle.saga_serve.specs.declared.outside.OpenFault.{OpenFault}
 
 abbrev pub Text : Type 0
 Text = List ℕ
 
 -- what the log of a path may give, up to a limit, where it is opened to be gone on with
 abbrev pub LogGives : Type 1
-LogGives = Text → ℕ → Result Text KeepFault → Type 0
+LogGives = Text → ℕ → Result Text OpenFault → Type 0
 
 -- the path of the file of definitions beside the log of a path
 abbrev pub beside : Text → Text

@@ -2,7 +2,8 @@
 ghost use Rattle.std.specs.Prelude.{◌≡◌, ◌≢◌, ◌≤◌, ◌↔◌, IfErr, IfOk, IsTrue, Ok, OnOk, Some, None, length, map};
 ghost use Rattle.saga_texts.specs.Beside.{definitions_file};
 ghost use Rattle.saga_serve.specs.Drives.{BesideEnds, HaltsAs, IsDefined, IsDiffering};
-ghost use Rattle.saga_serve.specs.Limits.{max_beside, max_kept};
+ghost use Rattle.saga_serve.specs.Limits.{max_beside};
+ghost use Rattle.saga_texts.specs.Limits.{max_log};
 
 use crate::endings::{Ending, Stream};
 use crate::limits::MAX_BESIDE;
@@ -25,10 +26,10 @@ fn difference(alloc: Global, found: &[u8], definitions: &[&[u8]]) -> Result<Endi
     requires { found.now ≢ definitions_file (map (λ t. t.now) definitions.now) }
     ensures { IfOk result (IsDiffering found.now (map (λ t. t.now) definitions.now)) }
 {
-    let Some(kept) = definitions_of(alloc, found)? else {
+    let Some(stored) = definitions_of(alloc, found)? else {
         return Ok(Ending::BadDefinitions);
     };
-    match first_other(&kept, definitions) {
+    match first_other(&stored, definitions) {
         Some(place) => Ok(Ending::OtherDefinition(place)),
         None => unreachable!(),
     }
@@ -55,7 +56,7 @@ fn make<W: Outside>(
     path: &str,
     definitions: &[&[u8]],
 ) -> Result<(), Halt>
-    requires short { length text.now ≤ max_kept }
+    requires short { length text.now ≤ max_log }
     requires none { (W.world outside.now).beside_gives path.now max_beside (Ok None) }
     ensures defined { OnOk result (IsDefined (W.world outside.now) path.now (map (λ t. t.now) definitions.now)) }
     ensures stop { IfErr result (HaltsAs (BesideEnds (W.world outside.now) path.now
@@ -82,7 +83,7 @@ pub fn define<W: Outside>(
     path: &str,
     definitions: &[&[u8]],
 ) -> Result<(), Halt>
-    requires short { length text.now ≤ max_kept }
+    requires short { length text.now ≤ max_log }
     ensures defined { OnOk result (IsDefined (W.world outside.now) path.now (map (λ t. t.now) definitions.now)) }
     ensures stop { IfErr result (HaltsAs (BesideEnds (W.world outside.now) path.now
         (map (λ t. t.now) definitions.now) shelf.now text.now)) }

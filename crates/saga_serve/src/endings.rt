@@ -30,7 +30,7 @@ pub enum Ending {
     /// The first definition with a fault, from 0.
     Definition { place: usize, why: TextFault },
     LogTooLong,
-    /// The first place, from 0, where the definitions are not those that are kept beside the log.
+    /// The first place, from 0, where the definitions are not those that are stored beside the log.
     OtherDefinition(usize),
     /// What stands beside the log is no file of definitions.
     BadDefinitions,

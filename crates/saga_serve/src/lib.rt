@@ -2,7 +2,7 @@
 //!
 //! [`drive_texts`] reads the definitions of texts, goes on from a log where there is one, and answers requests, a line each, until
 //! they end. It does so over whatever [`Outside`] it is given. [`drive_log`], which it calls where there is a log, says that what was
-//! told survives. [`drive_lines`] writes no log: it shows the lines of each reply before it, for a program that keeps them.
+//! told survives. [`drive_lines`] writes no log: it shows the lines of each reply before it, for a program that stores them.
 #![tactic(auto)]
 
 mod besides;
@@ -18,9 +18,9 @@ mod stops;
 mod talks;
 
 pub use endings::{Ending, Stream};
-pub use limits::{MAX_BESIDE, MAX_KEPT};
+pub use limits::MAX_BESIDE;
 pub use lines::drive_lines;
-pub use outside::{FileFault, KeepFault, Outside};
+pub use outside::{FileFault, OpenFault, Outside};
 pub use sides::Ahead;
 pub use starts::{LogOf, drive_log, drive_texts};
 pub use stops::Halt;

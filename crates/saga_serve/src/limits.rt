@@ -1,8 +1,5 @@
 //! The limits of a drive.
 
-/// The most bytes of a log that is gone on with: no more than an audit reads.
-pub const MAX_KEPT: usize = 67_108_864;
-
 /// How many bytes of standard input are taken at once.
 pub const AT_ONCE: usize = 65_536;
 

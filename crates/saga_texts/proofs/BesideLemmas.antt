@@ -1,4 +1,4 @@
--- The definitions of a file, one further; and those that are kept beside those that are given.
+-- The definitions of a file, one further; and those that are stored beside those that are given.
 use Rattle.std.proofs.Common.{◌≡◌, ◌∙◌, ℕ, zero, suc, ◌<◌, ◌≤◌, ◌+◌, ◌^◌, List, [], ◌∷◌, ◌++◌, length, length-append, map, take, drop, get_or, ap, sym, subst, refl, arith, inl, inr}
 use Rattle.std.specs.Prelude.{slice_get, Option, Some, None, codes, decimal}
 use Rattle.std.specs.Str.Parse.{AllDigits}
@@ -185,7 +185,7 @@ pub some_read : (file : List ℕ) (texts : List (List ℕ)) → 0 < length file 
 some_read file [] some is = absurd (omega (arith, some, ap length is))
 some_read file (t ∷ texts) some is = omega arith
 
--- ---- those that are kept, and those that are given
+-- ---- those that are stored, and those that are given
 
 more_is : (texts : List (Bor (List ℕ))) (i : ℕ) (d : Bor (List ℕ)) → i < length texts → take (i + 1) (now_of texts) ≡ take i (now_of texts) ++ (get_or texts i d).now ∷ []
 more_is texts i d lt =
@@ -194,11 +194,11 @@ more_is texts i d lt =
     take_more (now_of texts) i x (slice_get_within (now_of texts) i x here) ∙ ap (λ z. take i (now_of texts) ++ z ∷ []) (get_or_from_slice_get (now_of texts) i x x here)
 
 -- one more is the same
-pub same_more : (kept given : List (Bor (List ℕ))) (i : ℕ) (d e : Bor (List ℕ)) → i < length kept → i < length given → take i (now_of kept) ≡ take i (now_of given)
-    → (get_or kept i d).now ≡ (get_or given i e).now → take (i + 1) (now_of kept) ≡ take (i + 1) (now_of given)
-same_more kept given i d e kept_lt given_lt same is =
-    more_is kept i d kept_lt
-    ∙ (ap (λ (l : List (List ℕ)). l ++ (get_or kept i d).now ∷ []) same
+pub same_more : (stored given : List (Bor (List ℕ))) (i : ℕ) (d e : Bor (List ℕ)) → i < length stored → i < length given → take i (now_of stored) ≡ take i (now_of given)
+    → (get_or stored i d).now ≡ (get_or given i e).now → take (i + 1) (now_of stored) ≡ take (i + 1) (now_of given)
+same_more stored given i d e stored_lt given_lt same is =
+    more_is stored i d stored_lt
+    ∙ (ap (λ (l : List (List ℕ)). l ++ (get_or stored i d).now ∷ []) same
     ∙ (ap (λ (x : List ℕ). take i (now_of given) ++ x ∷ []) is ∙ sym (more_is given i e given_lt)))
 
 differs : (xs ys : List (List ℕ)) (i : ℕ) → i < length xs → length ys ≤ i → slice_get xs i ≡ slice_get ys i → ⊥
@@ -207,10 +207,10 @@ differs (a ∷ xs) ys i lt le same =
     let x = get_or (a ∷ xs) i a in
     absurd (omega (arith, le, slice_get_within ys i x (sym same ∙ slice_get-get_or (a ∷ xs) i a lt)))
 
--- one more is kept than is given
-pub one_less : (kept given : List (Bor (List ℕ))) (i : ℕ) → i ≡ length given → take i (now_of kept) ≡ take i (now_of given) → length given < length kept
-    → IsFirstOther (now_of kept) (now_of given) (length given)
-one_less kept given i is same lt = record {
-  before = subst (λ (n : ℕ). take n (now_of kept) ≡ take n (now_of given)) is same;
-  other = differs (now_of kept) (now_of given) (length given) (omega (arith, lt, length-map kept (λ (s : Bor (List ℕ)). s.now))) (omega (arith, length-map given (λ (s : Bor (List ℕ)). s.now)));
+-- one more is stored than is given
+pub one_less : (stored given : List (Bor (List ℕ))) (i : ℕ) → i ≡ length given → take i (now_of stored) ≡ take i (now_of given) → length given < length stored
+    → IsFirstOther (now_of stored) (now_of given) (length given)
+one_less stored given i is same lt = record {
+  before = subst (λ (n : ℕ). take n (now_of stored) ≡ take n (now_of given)) is same;
+  other = differs (now_of stored) (now_of given) (length given) (omega (arith, lt, length-map stored (λ (s : Bor (List ℕ)). s.now))) (omega (arith, length-map given (λ (s : Bor (List ℕ)). s.now)));
 }

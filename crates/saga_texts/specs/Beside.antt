@@ -1,4 +1,4 @@
--- The file of the definitions that are kept beside a log.
+-- The file of the definitions that are stored beside a log.
 use Rattle.std.specs.Prelude.{ℕ, List, ◌++◌, codes, decimal, length, take, slice_get, flat_map, ◌≡◌, ◌≢◌, ◌<◌}
 use Rattle.saga_texts.specs.Lines.{line_feed}
 
@@ -23,7 +23,7 @@ pub record HoldsDefinitions (file : List ℕ) (texts : List (List ℕ)) : Type 0
 abbrev pub HoldsNone : List ℕ → Type 0
 HoldsNone file = (texts : List (List ℕ)) → HoldsDefinitions file texts → ⊥
 
--- the first place where the definitions that are given are not those that are kept: another text, or one of the two has none there
-pub record IsFirstOther (kept given : List (List ℕ)) (place : ℕ) : Type 0 where
-  pub before : take place kept ≡ take place given
-  pub other : slice_get kept place ≢ slice_get given place
+-- the first place where the definitions that are given are not those that are stored: another text, or one of the two has none there
+pub record IsFirstOther (stored given : List (List ℕ)) (place : ℕ) : Type 0 where
+  pub before : take place stored ≡ take place given
+  pub other : slice_get stored place ≢ slice_get given place

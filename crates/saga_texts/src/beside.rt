@@ -1,4 +1,4 @@
-//! The file of the definitions that are kept beside a log. A line with its length stands before each, so that it stands there
+//! The file of the definitions that are stored beside a log. A line with its length stands before each, so that it stands there
 //! byte for byte.
 ghost use Rattle.std.specs.Prelude.{◌≡◌, ◌<◌, ◌^◌, ◌++◌, ◌∷◌, ◌↔◌, ℕ, List, IfNone, IfOk, IfSome, IsTrue, OnOk, Some, decimal, length, map};
 ghost use Rattle.std.specs.String.{string_bytes};
@@ -129,18 +129,18 @@ pub fn definitions_of<'a>(
     Ok(Some(texts))
 }
 
-/// The first place where the definitions that are given are not those that are kept; none where they are the same.
-pub fn first_other(kept: &[&[u8]], given: &[&[u8]]) -> Option<usize>
-    ensures none { IfNone result (map (λ t. t.now) kept.now ≡ map (λ t. t.now) given.now) }
+/// The first place where the definitions that are given are not those that are stored; none where they are the same.
+pub fn first_other(stored: &[&[u8]], given: &[&[u8]]) -> Option<usize>
+    ensures none { IfNone result (map (λ t. t.now) stored.now ≡ map (λ t. t.now) given.now) }
     ensures other { IfSome result
-        (IsFirstOther (map (λ t. t.now) kept.now) (map (λ t. t.now) given.now)) }
+        (IsFirstOther (map (λ t. t.now) stored.now) (map (λ t. t.now) given.now)) }
 {
     for place in 0..given.len() {
-        if place >= kept.len() || !is_same(kept[place], given[place]) {
+        if place >= stored.len() || !is_same(stored[place], given[place]) {
             return Some(place);
         }
     }
-    if given.len() < kept.len() {
+    if given.len() < stored.len() {
         Some(given.len())
     } else {
         None

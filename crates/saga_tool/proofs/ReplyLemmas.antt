@@ -11,13 +11,15 @@ use Rattle.saga_tool.specs.declared.files.Unread.{Unread}
 use Rattle.saga_tool.specs.declared.files.Unread.TheVariants.{Unreadable, OutOfMemory}
 use Rattle.saga_serve.specs.declared.outside.FileFault.TheVariants as file
 use Rattle.saga_texts.specs.declared.runs.RunOutput.{RunOutput}
-use Rattle.saga_serve.specs.Limits.{max_beside, max_kept}
+use Rattle.saga_serve.specs.Limits.{max_beside}
 use Rattle.saga_serve.specs.Outside.{beside}
-use Rattle.saga_tool.specs.Limits.{max_definition, max_script}
+use Rattle.saga_text.specs.Limits.{max_definition}
+use Rattle.saga_script.specs.Limits.{max_script}
+use Rattle.saga_texts.specs.Limits.{max_log}
 use Rattle.saga_tool.specs.Outside.{Text, FileGives, World}
 use Rattle.saga_texts.specs.Runs.{IsRunOutput}
 use Rattle.saga_tool.specs.Responses.{IsAlone}
-use Rattle.saga_tool.specs.Program.{AreFor, AreGiven, IsFirstUnreadable, IsKeptUnread, IsUnreadFor, IsUnreadable, RunsFiles, AuditsFiles, DrivesFiles, IsOptional, IsOptionalUnreadable, ShowsFiles, IsMisused, DrivesBy, CommandReplies, Ends, IsResponseOf, StopsBy}
+use Rattle.saga_tool.specs.Program.{AreFor, AreGiven, IsFirstUnreadable, IsBesideUnread, IsUnreadFor, IsUnreadable, RunsFiles, AuditsFiles, DrivesFiles, IsOptional, IsOptionalUnreadable, ShowsFiles, IsMisused, DrivesBy, CommandReplies, Ends, IsResponseOf, StopsBy}
 use Rattle.saga_texts.proofs.ListLemmas.{text_here}
 
 abbrev Files : Type 0
@@ -76,7 +78,7 @@ show_unread world from defs (Unreadable response) stops = inr stops
 show_unread world from defs OutOfMemory stops = tt
 
 pub show_unread_from : (world : World) (from : Option Text) (defs texts : List Text) (stop : Unread) → AreFor world.file_gives None defs texts
-    → StopsBy (IsOptionalUnreadable world.file_gives from max_kept) stop → Ends (ShowsFiles world from defs) (Err stop)
+    → StopsBy (IsOptionalUnreadable world.file_gives from max_log) stop → Ends (ShowsFiles world from defs) (Err stop)
 show_unread_from world from defs texts (Unreadable response) given stops = inl (texts, given, inr stops)
 show_unread_from world from defs texts OutOfMemory given stops = tt
 
@@ -140,7 +142,7 @@ its_response Replies ended response ends is = elim is [
   | inr e ↦ subst (Ends Replies) e ends
 ]
 
--- ---- definitions that are given, or kept beside a log
+-- ---- definitions that are given, or stored beside a log
 
 pub given_for : (gives : FileGives) (log : Option Text) (defs texts : List Text) → 0 < length defs → AreGiven gives max_definition defs texts → AreFor gives log defs texts
 given_for gives None [] texts some given = absurd (omega (arith, some))
@@ -157,7 +159,7 @@ unread_for gives (Some path) (def ∷ more) response some unread = unread
 
 -- what stands beside a log cannot be read
 pub kept_unread : (gives : FileGives) (log path : Text) (stop : Unread) → path ≡ beside log
-    → StopsBy (λ response. gives path max_beside (Err file.Unreadable) × IsAlone (IsUnreadable path) response) stop → StopsBy (IsKeptUnread gives log) stop
+    → StopsBy (λ response. gives path max_beside (Err file.Unreadable) × IsAlone (IsUnreadable path) response) stop → StopsBy (IsBesideUnread gives log) stop
 kept_unread gives log path (Unreadable response) is stops =
     inl (subst (λ (p : Text). gives p max_beside (Err file.Unreadable) × IsAlone (IsUnreadable p) response) is stops)
 kept_unread gives log path OutOfMemory is stops = tt

@@ -4,8 +4,8 @@ use Rattle.std.specs.declared.io.ErrorKind.{ErrorKind}
 use Rattle.std.specs.declared.io.ErrorKind.TheVariants as kind
 use Rattle.saga_serve.specs.declared.outside.FileFault.{FileFault}
 use Rattle.saga_serve.specs.declared.outside.FileFault.TheVariants.{Unreadable, OutOfMemory}
-use Rattle.saga_serve.specs.declared.outside.KeepFault.{KeepFault}
-use Rattle.saga_serve.specs.declared.outside.KeepFault.TheVariants as keep
+use Rattle.saga_serve.specs.declared.outside.OpenFault.{OpenFault}
+use Rattle.saga_serve.specs.declared.outside.OpenFault.TheVariants as opening
 use Rattle.saga_serve.specs.Drives.{IsDriveOutput, IsLinesOutput}
 use Rattle.saga_serve.specs.Outside.{World as DriveWorld}
 use Rattle.saga_texts.specs.declared.outputs.Output.{Output}
@@ -51,7 +51,7 @@ pub record World : Type 1 where
 
 -- how a drive may end in the one world, it may in the other: with a log or without one, and where it shows its lines
 pub record DrivesWithin (seen world : DriveWorld) : Type 0 where
-  pub keeps : (log : Option Text) (texts : List Text) (output : Output) → IsDriveOutput seen log texts output → IsDriveOutput world log texts output
+  pub drives : (log : Option Text) (texts : List Text) (output : Output) → IsDriveOutput seen log texts output → IsDriveOutput world log texts output
   pub shows : (text : Text) (texts : List Text) (output : Output) → IsLinesOutput seen text texts output → IsLinesOutput world text texts output
 
 -- want of memory is told apart from every other error
@@ -60,9 +60,9 @@ file_fault_of kind.OutOfMemory = OutOfMemory
 file_fault_of _ = Unreadable
 
 -- the same of a log
-abbrev pub keep_fault_of : FileFault → KeepFault
-keep_fault_of OutOfMemory = keep.OutOfMemory
-keep_fault_of Unreadable = keep.Unreadable
+abbrev pub open_fault_of : FileFault → OpenFault
+open_fault_of OutOfMemory = opening.OutOfMemory
+open_fault_of Unreadable = opening.Unreadable
 
 -- of the system nothing is known but that no more than one byte past a limit is read
 abbrev pub IsWithin : {E : Type 0} → ℕ → Result Text E → Type 0

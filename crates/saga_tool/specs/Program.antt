@@ -18,13 +18,15 @@ use Rattle.saga_tool.specs.declared.words.Words.{Words}
 use Rattle.saga_tool.specs.declared.words.WordsFault.{WordsFault}
 use Rattle.saga_tool.specs.declared.words.WordsFault.TheVariants.{Usage, Help, OutOfMemory}
 use Rattle.saga_texts.specs.Limits.{max_certificate, max_log}
-use Rattle.saga_tool.specs.Limits.{max_definition, max_script, max_input}
+use Rattle.saga_text.specs.Limits.{max_definition}
+use Rattle.saga_script.specs.Limits.{max_script}
+use Rattle.saga_tool.specs.Limits.{max_input}
 use Rattle.saga_texts.specs.Lines.{line_feed}
 use Rattle.saga_texts.specs.Texts.{IsCheckOutput, IsPlanOutput, IsDrawOutput}
 use Rattle.saga_tool.specs.Input.{AnswersInput}
 use Rattle.saga_texts.specs.Audits.{IsAuditOutput}
 use Rattle.saga_serve.specs.Drives.{IsDriveOutput, IsLinesOutput}
-use Rattle.saga_serve.specs.Limits.{max_beside, max_kept}
+use Rattle.saga_serve.specs.Limits.{max_beside}
 use Rattle.saga_serve.specs.Outside.{beside}
 use Rattle.saga_texts.specs.Beside.{HoldsDefinitions, HoldsNone}
 use Rattle.saga_tool.specs.Responses.{IsAlone, IsLogFor}
@@ -79,25 +81,25 @@ pub record IsNoDefinitions (output : Output) : Type 0 where
   pub status : output.status ≡ 3
 
 -- the file beside a log has these definitions
-abbrev pub AreKept : FileGives → Text → List Text → Type 0
-AreKept gives log texts = (found : Text) × gives (beside log) max_beside (Ok found) × HoldsDefinitions found texts
+abbrev pub AreBeside : FileGives → Text → List Text → Type 0
+AreBeside gives log texts = (found : Text) × gives (beside log) max_beside (Ok found) × HoldsDefinitions found texts
 
 -- the file beside a log cannot be read, or has no definitions, and the output says so
-abbrev pub IsKeptUnread : FileGives → Text → Response → Type 0
-IsKeptUnread gives log response =
+abbrev pub IsBesideUnread : FileGives → Text → Response → Type 0
+IsBesideUnread gives log response =
     (gives (beside log) max_beside (Err file.Unreadable) × IsAlone (IsUnreadable (beside log)) response)
     ⊎ ((found : Text) × gives (beside log) max_beside (Ok found) × HoldsNone found × IsAlone IsNoDefinitions response)
 
--- the definitions of these files; or without any, those that are kept beside the log, where there is one
+-- the definitions of these files; or without any, those that are stored beside the log, where there is one
 abbrev pub AreFor : FileGives → Option Text → List Text → List Text → Type 0
 AreFor gives None [] texts = ⊥
-AreFor gives (Some log) [] texts = AreKept gives log texts
+AreFor gives (Some log) [] texts = AreBeside gives log texts
 AreFor gives log (def ∷ more) texts = AreGiven gives max_definition (def ∷ more) texts
 
 -- there are none that can be read, and the output says so
 abbrev pub IsUnreadFor : FileGives → Option Text → List Text → Response → Type 0
 IsUnreadFor gives None [] response = IsAlone (IsMisused (codes "error: the argument '<DEF>' is required where no '--log <F>' is given")) response
-IsUnreadFor gives (Some log) [] response = IsKeptUnread gives log response
+IsUnreadFor gives (Some log) [] response = IsBesideUnread gives log response
 IsUnreadFor gives log (def ∷ more) response = IsFirstUnreadable gives max_definition (def ∷ more) response
 
 -- the output follows from the definitions
@@ -191,7 +193,7 @@ DrivesFiles world log defs =
 abbrev pub ShowsFiles : World → Option Text → List Text → Response → Type 0
 ShowsFiles world from defs =
     AfterDefinitions world.file_gives None defs (λ texts.
-    AfterOptional world.file_gives from max_kept (λ text. IsAlone (IsLinesOutput world.drive text texts)))
+    AfterOptional world.file_gives from max_log (λ text. IsAlone (IsLinesOutput world.drive text texts)))
 
 -- whether lines are shown, the log that is written, and that which is only read: lines are shown where no log is written, and a log is
 -- only read where lines are shown

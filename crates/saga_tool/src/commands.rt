@@ -11,7 +11,7 @@ use crate::outside::{Locked, Outside};
 use crate::responses::{Response, alone, log_for};
 use crate::words::Words;
 use saga_script::MAX_SCRIPT;
-use saga_serve::{MAX_KEPT, drive_lines, drive_texts};
+use saga_serve::{drive_lines, drive_texts};
 use saga_text::MAX_DEFINITION;
 use saga_texts::{
     MAX_CERTIFICATE, MAX_LOG, Output, RunOutput, Scene, audit_text, check_text, draw_text,
@@ -219,7 +219,7 @@ fn drive_sagas<R: Wait, W: Outside>(
     Ok(alone(output))
 }
 
-/// Drives sagas for another program that keeps their log itself; the output is what is said in the end.
+/// Drives sagas for another program that writes their log itself; the output is what is said in the end.
 fn show_sagas<R: Wait, W: Outside>(
     rt: &R,
     outside: &W,
@@ -231,7 +231,7 @@ fn show_sagas<R: Wait, W: Outside>(
 {
     let texts = texts_for(outside, alloc, None, &given.files)?;
     let definitions = slices_of(alloc, &texts)?;
-    let text = text_if_any(outside, alloc, given.from, MAX_KEPT)?;
+    let text = text_if_any(outside, alloc, given.from, MAX_LOG)?;
     let output = drive_lines(rt, outside.drive(), alloc, &definitions, text)?;
     Ok(alone(output))
 }

@@ -1,6 +1,6 @@
 //! The texts of files, read in order.
 ghost use Rattle.std.specs.Prelude.{◌≡◌, ◌<◌, ◌^◌, Ok, Err, IfErr, IfOk, map, option_map};
-ghost use Rattle.saga_tool.specs.Program.{IsUnreadable, AreFor, AreGiven, AreKept, IsFirstUnreadable, IsKeptUnread, IsMisused, IsNoDefinitions, IsUnreadFor, StopsBy, IsOutOfMemory, IsResponseOf};
+ghost use Rattle.saga_tool.specs.Program.{IsUnreadable, AreFor, AreGiven, AreBeside, IsFirstUnreadable, IsBesideUnread, IsMisused, IsNoDefinitions, IsUnreadFor, StopsBy, IsOutOfMemory, IsResponseOf};
 ghost use Rattle.saga_tool.specs.Responses.{IsAlone};
 
 use crate::outside::Outside;
@@ -124,21 +124,21 @@ fn owned(alloc: Global, texts: &[&[u8]]) -> Result<Vec<Vec<u8>>, AllocError>
     Ok(owned)
 }
 
-/// The texts of the definitions that are kept beside a log.
-fn texts_kept<W: Outside>(outside: &W, alloc: Global, log: &str) -> Result<Vec<Vec<u8>>, Unread>
-    ensures texts { IfOk result (λ texts. AreKept (W.world outside.now).file_gives log.now
+/// The texts of the definitions that are stored beside a log.
+fn texts_beside<W: Outside>(outside: &W, alloc: Global, log: &str) -> Result<Vec<Vec<u8>>, Unread>
+    ensures texts { IfOk result (λ texts. AreBeside (W.world outside.now).file_gives log.now
         (map (λ t. t.items) texts.items)) }
-    ensures stop { IfErr result (StopsBy (IsKeptUnread (W.world outside.now).file_gives log.now)) }
+    ensures stop { IfErr result (StopsBy (IsBesideUnread (W.world outside.now).file_gives log.now)) }
 {
     let path = format!(in alloc; "{log}.definitions")?;
     let file = text_of(outside, alloc, path.as_str(), MAX_BESIDE)?;
-    let Some(kept) = definitions_of(alloc, &file)? else {
+    let Some(stored) = definitions_of(alloc, &file)? else {
         return Err(Unread::Unreadable(alone(no_definitions(alloc)?)));
     };
-    Ok(owned(alloc, &kept)?)
+    Ok(owned(alloc, &stored)?)
 }
 
-/// The texts of definitions: those of the files, or without any, those that are kept beside the log, where there is one.
+/// The texts of definitions: those of the files, or without any, those that are stored beside the log, where there is one.
 pub fn texts_for<W: Outside>(
     outside: &W,
     alloc: Global,
@@ -155,7 +155,7 @@ pub fn texts_for<W: Outside>(
         return texts_of(outside, alloc, paths, MAX_DEFINITION);
     }
     match log {
-        Some(log) => texts_kept(outside, alloc, log),
+        Some(log) => texts_beside(outside, alloc, log),
         None => Err(Unread::Unreadable(alone(misused(alloc, NO_DEFINITION)?))),
     }
 }

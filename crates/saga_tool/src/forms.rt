@@ -131,7 +131,7 @@ const WRITTEN: Parameter<'static> = Parameter {
     help: "the file to write the log to, after the report is printed",
 };
 
-const KEPT: Parameter<'static> = Parameter {
+const PERSISTED: Parameter<'static> = Parameter {
     kind: Kind::Path,
     name: "log",
     shown: "F",
@@ -159,7 +159,7 @@ const FIRST: Parameter<'static> = Parameter {
     help: "the first definition of the shelf, a TOML file",
 };
 
-/// For a log, beside which they may be kept.
+/// For a log, beside which they may be stored.
 const ANY: Parameter<'static> = Parameter {
     kind: Kind::Files,
     name: "DEF",
@@ -220,7 +220,7 @@ pub fn form_of(name: Name) -> Form<'static>
             title: "sagas drive",
             brief: "drives sagas for another program",
             about: "Drives sagas for another program, which does the actions: reads one JSON request a line from standard input, and prints one output a line",
-            parameters: &[KEPT, LINES, FROM, ANY],
+            parameters: &[PERSISTED, LINES, FROM, ANY],
         },
     }
 }

@@ -25,7 +25,7 @@ returns g c =
       texts,
       subst (λ (fs : List (Bor (List ℕ))). AreFor world.file_gives (option_map (λ s. s.now) c.args.given.now.log) (map (λ s. s.now) fs) texts) c.deref.ensures.value c.in_ok-texts.ensures.texts,
       subst (λ (r : Response). IsAlone (IsDriveOutput world.drive log texts) r) (sym c.alone.ensures) (record {
-        replies = c.drive.ensures.keeps log texts c.in_ok-output.output (search rules);
+        replies = c.drive.ensures.drives log texts c.in_ok-output.output (search rules);
         none = refl;
       }),
     )

@@ -1,7 +1,7 @@
 use Rattle.std.proofs.Common.{◌≡◌, arith, rules, inl, inr, map, refl, subst, List, ℕ}
 use Rattle.std.specs.Prelude.{Err}
 use Rattle.std.specs.Borrow.{Bor}
-use Rattle.saga_tool.specs.Limits.{max_definition}
+use Rattle.saga_text.specs.Limits.{max_definition}
 use Rattle.saga_tool.specs.Program.{AreGiven, IsFirstUnreadable, StopsBy}
 use Rattle.saga_tool.proofs.ReplyLemmas.{run_shown, run_unread}
 use Rattle.saga_tool.proofs.commands.run_sagas.Goals as goal
