@@ -10,10 +10,9 @@ use Rattle.saga_history.specs.declared.tasks.Outcome.{Outcome}
 use Rattle.saga_history.specs.declared.tasks.Task.TheVariants as task
 use Rattle.saga_history.specs.declared.transitions.Transition.{Transition}
 use Rattle.saga_history.specs.declared.transitions.Transition.TheVariants as transition
-use Rattle.saga_history.specs.Changes.{past, changes, mark_of, step_event}
-use Rattle.saga_history.specs.Rules.{IsAllowed}
+use Rattle.saga_history.specs.Changes.{Change, mark_of, step_event}
 use Rattle.saga_history.specs.Tasks.{IsEndOf, missed}
-use Rattle.saga_core.specs.Book.{Book, with_event, Allows, changes_in}
+use Rattle.saga_core.specs.Book.{Book, with_event, Allows}
 use Rattle.saga_core.specs.Refusals.{IsPresentCase, OfSaga}
 use Rattle.saga_core.specs.Tasks.{AllAreOver, IsFirstTask, NoTaskIsAllowed}
 use Rattle.saga_desk.specs.Job.{Job, kind_of}
@@ -45,20 +44,23 @@ start_of true = transition.StartUndo
 abbrev pub IsNamed : Contents → ℕ → List ℕ → Type 0
 IsNamed d s name = IsSomeAnd (slice_get d.steps s) (λ (step : Step). step.name ≡ name)
 
--- the job of seat k at step s of saga i: its action or its compensation, with the step's name; the attempts are counted
--- from 1
-pub record IsJob (book : Book) (k i s : ℕ) (undo : Bool) (job : Job) : Type 0 where
+-- of a saga with that definition and those changes the job is the next attempt at its step, counted from 1, and has the
+-- step's name
+pub record IsAttempt (d : Contents) (l : List Change) (job : Job) : Type 0 where
+  pub name : IsNamed d job.step job.name
+  pub attempt : job.attempt ≡ missed (kind_of job.is_undo) l job.step + 1
+
+-- the same of the job's saga in a book
+abbrev pub IsNextAttempt : Book → Job → Type 0
+IsNextAttempt b job = OfSaga b job.saga (λ d l. IsAttempt d l job)
+
+-- the job of seat k at step s of saga i: its action or its compensation, the next attempt at it
+pub record IsJob (b : Book) (k i s : ℕ) (undo : Bool) (job : Job) : Type 0 where
   pub seat : job.seat ≡ k
   pub saga : job.saga ≡ i
   pub step : job.step ≡ s
   pub is_undo : job.is_undo ≡ undo
-  pub name : OfSaga book i (λ d l. IsNamed d s job.name)
-  pub attempt : job.attempt ≡ missed (kind_of undo) (changes_in book i) s + 1
-
--- after these events the job is the next attempt at its step, and has the step's name
-pub record IsNextAttempt (shelf : List Contents) (h : List Event) (job : Job) : Type 0 where
-  pub name : OfSaga shelf h job.saga (λ d l. IsNamed d job.step job.name)
-  pub attempt : job.attempt ≡ missed (kind_of job.is_undo) (changes job.saga h) job.step + 1
+  pub next : IsNextAttempt b job
 
 -- of the tasks of the book the first was claimed, and nothing else happened
 abbrev pub ClaimsFirst : Book → Book → Seat → Seat → Claim → Type 0
@@ -94,7 +96,7 @@ IsSettled claim = claim ≡ Settled
 
 -- the job, which was the next attempt at its step, ended by its outcome, with a transition that was allowed
 pub record EndsBy (old new : Book) (before after : Seat) (job : Job) (outcome : Outcome) (t : Transition) : Type 0 where
-  pub next : IsNextAttempt old.shelf (past old.history) job
+  pub next : IsNextAttempt old job
   pub ends : IsEndOf (kind_of job.is_undo) outcome t
   pub allowed : Allows old (step_event job.saga job.step t)
   pub records : Records old new before after (step_event job.saga job.step t) (before.claims - 1)

@@ -1,9 +1,6 @@
 -- Why a call is refused.
-use Rattle.std.specs.Prelude.{◌≡◌, ℕ, ◌<◌, ◌≤◌, List, length}
+use Rattle.std.specs.Prelude.{◌≡◌, ℕ, ◌<◌, ◌≤◌, length}
 use Rattle.saga_case.specs.Situation.{Situation}
-use Rattle.saga_def.specs.Contents.{Contents}
-use Rattle.saga_history.specs.declared.events.Event.{Event}
-use Rattle.saga_history.specs.Changes.{past}
 use Rattle.saga_history.specs.Tasks.{busy_state}
 use Rattle.saga_core.specs.Book.{Book}
 use Rattle.saga_core.specs.Refusals.{AdoptIsRefused, DropRefused, OfSaga, ReportRefused}
@@ -12,7 +9,7 @@ use Rattle.saga_core.specs.declared.refusals.DropRefusal.{DropRefusal}
 use Rattle.saga_core.specs.declared.refusals.OpenRefusal.{OpenRefusal}
 use Rattle.saga_core.specs.declared.refusals.OpenRefusal.TheVariants as opening
 use Rattle.saga_core.specs.declared.refusals.ReportRefusal.{ReportRefusal}
-use Rattle.saga_desk.specs.Effects.{IsNextAttempt}
+use Rattle.saga_desk.specs.Effects.{IsAttempt}
 use Rattle.saga_desk.specs.Job.{Job, PlanJob, kind_of}
 use Rattle.saga_desk.specs.Seat.{Seat}
 use Rattle.saga_desk.specs.declared.refusals.EndRefusal.{EndRefusal}
@@ -31,8 +28,8 @@ OpenIsRefused shelf k opening.Full = k < shelf
 OpenIsRefused shelf k opening.OutOfMemory = k < shelf
 
 -- there is such a step, and the job is not the next attempt at it, or has another name
-abbrev pub IsOfAnother : List Contents → List Event → Job → Type 0
-IsOfAnother shelf h job = OfSaga shelf h job.saga (λ d l. job.step < length d.steps) × (IsNextAttempt shelf h job → ⊥)
+abbrev pub IsOfAnother : Book → Job → Type 0
+IsOfAnother b job = OfSaga b job.saga (λ d l. (job.step < length d.steps) × (IsAttempt d l job → ⊥))
 
 -- why the end of what a seat of that number claimed is not taken: another seat hands it in, it is of another attempt, or the book
 -- refuses it
@@ -44,7 +41,7 @@ EndIsRefused number seat other P (end.Book why) = HasClaimed number seat × P wh
 -- why a report, an adoption or a plan that is given back is not taken
 abbrev pub ReportIsRefused : Book → Seat → Job → EndRefusal ReportRefusal → Type 0
 ReportIsRefused book seat job why =
-    EndIsRefused job.seat seat (IsOfAnother book.shelf (past book.history) job)
+    EndIsRefused job.seat seat (IsOfAnother book job)
     (ReportRefused book job.saga job.step (busy_state (kind_of job.is_undo))) why
 
 abbrev pub AdoptionIsRefused : Book → Seat → PlanJob → Situation → EndRefusal AdoptRefusal → Type 0

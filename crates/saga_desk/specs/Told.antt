@@ -1,5 +1,5 @@
 -- What a book holds of what it was told.
-use Rattle.std.specs.Prelude.{◌≡◌, ℕ, List, [], ◌∷◌}
+use Rattle.std.specs.Prelude.{◌≡◌, ℕ, List, [], ◌∷◌, IsSomeAnd}
 use Rattle.saga_def.specs.Contents.{Contents}
 use Rattle.saga_history.specs.declared.events.Event.{Event}
 use Rattle.saga_history.specs.declared.events.Mark.{Mark}
@@ -7,10 +7,11 @@ use Rattle.saga_history.specs.declared.events.Mark.TheVariants as mark
 use Rattle.saga_history.specs.declared.tasks.Outcome.{Outcome}
 use Rattle.saga_history.specs.declared.transitions.Transition.{Transition}
 use Rattle.saga_history.specs.declared.transitions.Transition.TheVariants as transition
-use Rattle.saga_history.specs.Changes.{mark_of, past}
+use Rattle.saga_history.specs.Changes.{changes, mark_of, past}
+use Rattle.saga_history.specs.Rules.{definition}
 use Rattle.saga_history.specs.Tasks.{IsEndOf}
 use Rattle.saga_core.specs.Book.{Book}
-use Rattle.saga_desk.specs.Effects.{IsNextAttempt}
+use Rattle.saga_desk.specs.Effects.{IsAttempt}
 use Rattle.saga_desk.specs.Job.{Job, kind_of}
 
 -- after these events, step s of saga i ends by this transition: that is an outcome that may be reported of the job at it, which is the
@@ -19,7 +20,7 @@ pub record EndIsTold (may : Job → Outcome → Type 0) (shelf : List Contents) 
   pub job : Job
   pub saga : job.saga ≡ i
   pub step : job.step ≡ s
-  pub next : IsNextAttempt shelf h job
+  pub next : IsSomeAnd (definition shelf (changes i h)) (λ d. IsAttempt d (changes i h) job)
   pub outcome : Outcome
   pub ends : IsEndOf (kind_of job.is_undo) outcome t
   pub told : may job outcome

@@ -236,8 +236,8 @@ impl<'d, P: Policy> Slot<'d, P> {
 /// may wait for the lock. What a call does to the seat is told here.
 #[derive(Drop)]
 pub struct Desk<'d, P: Policy = Brand> {
-    definitions: &'d [Definition],
-    seat_count: u32,
+    shelf: &'d [Definition],
+    seats: u32,
     slots: Vec<Slot<'d, P>>,
 }
 
@@ -249,10 +249,10 @@ impl<'d, P: Policy> Model for Desk<'d, P> {
     ghost Value = { Desk };
 
     ghost view = { λ d. record
-        { shelf = d.definitions.now; seats = d.seat_count; shards = vec_len d.slots } };
+        { shelf = d.shelf.now; seats = d.seats; shards = vec_len d.slots } };
 
-    ghost invariant = { λ d. (0 < vec_len d.slots) × (vec_len d.slots ≤ 16) × (0 < d.seat_count)
-        × (d.seat_count ≤ 16)
+    ghost invariant = { λ d. (0 < vec_len d.slots) × (vec_len d.slots ≤ 16) × (0 < d.seats)
+        × (d.seats ≤ 16)
         × ((k : ℕ) (s : Slot P) → slice_get d.slots.items k ≡ Some s → s.number ≡ k) };
 }
 
@@ -300,8 +300,8 @@ impl<'d, P: Policy> Desk<'d, P> {
             all.push_reserved(Seat::new(alloc, number));
         }
         let desk = Desk {
-            definitions: shelf,
-            seat_count: seats,
+            shelf,
+            seats,
             slots,
         };
         Ok((desk, all))
@@ -330,7 +330,7 @@ impl<'d, P: Policy> Desk<'d, P> {
         ensures err { OnErr result (seat.new ≡ seat.old) }
         ensures why { IfErr result (λ why. OpenIsRefused (length self.now.shelf) definition why) }
     {
-        let shelf = self.definitions.len();
+        let shelf = self.shelf.len();
         self.slots[shard as usize].open_saga(rt, seat, shelf, definition)
     }
 

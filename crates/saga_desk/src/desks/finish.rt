@@ -46,7 +46,7 @@ impl<'d, P: Policy> Desk<'d, P> {
         if !are_own(&self, seats.as_slice()) {
             return Err(FinishRefused::Stranger(self, seats));
         }
-        if seats.len() != self.seat_count as usize {
+        if seats.len() != self.seats as usize {
             return Err(FinishRefused::Missing(self, seats));
         }
         let alloc = *self.slots.allocator();
@@ -61,15 +61,15 @@ impl<'d, P: Policy> Desk<'d, P> {
             return Err(FinishRefused::OutOfMemory(self, seats));
         };
         let Desk {
-            definitions,
-            seat_count: _,
+            shelf,
+            seats: _,
             slots,
         } = self;
         for slot in slots {
             books.push_reserved(slot.into_book());
         }
         see_histories(books.as_slice());
-        if !are_of_shards(definitions, count, books.as_slice()) {
+        if !are_of_shards(shelf, count, books.as_slice()) {
             return Err(FinishRefused::Torn(books, seats));
         }
         let agree = agree(
@@ -81,7 +81,7 @@ impl<'d, P: Policy> Desk<'d, P> {
         if !agree {
             return Err(FinishRefused::Torn(books, seats));
         }
-        are_sound(definitions);
+        are_sound(shelf);
         Ok(books)
     }
 }
@@ -100,7 +100,7 @@ fn are_own<P: Policy>(desk: &Desk<'_, P>, seats: &[Seat]) -> bool
     ensures { IsTrue result ↔ AreOwn desk.now seats.now }
 {
     for i in 0..seats.len() {
-        if seats[i].number() >= desk.seat_count {
+        if seats[i].number() >= desk.seats {
             return false;
         }
         if !is_new(seats, i) {
