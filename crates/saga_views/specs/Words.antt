@@ -1,6 +1,8 @@
 -- Words and lists of texts.
 use Rattle.std.specs.Prelude.{ℕ, List, Bool, true, false, codes}
 use Rattle.std.specs.List.{join_by}
+use Rattle.saga_history.specs.declared.tasks.Kind.{Kind}
+use Rattle.saga_history.specs.declared.tasks.Kind.TheVariants as kind
 use Rattle.saga_history.specs.declared.tasks.Phase.{Phase}
 use Rattle.saga_history.specs.declared.tasks.Phase.TheVariants as phase
 
@@ -14,6 +16,10 @@ phase_word phase.Draining = codes "draining"
 phase_word phase.Planning = codes "planning"
 phase_word phase.Ended = codes "ended"
 phase_word phase.Stuck = codes "stuck"
+
+abbrev pub kind_word : Kind → List ℕ
+kind_word kind.Run = codes "run"
+kind_word kind.Undo = codes "undo"
 
 -- texts, with what stands between two of them
 abbrev pub listed : List ℕ → List (List ℕ) → List ℕ

@@ -2,7 +2,7 @@
 ghost use Rattle.std.specs.Prelude.{◌≡◌, IfOk, codes, map, string_bytes};
 ghost use Rattle.saga_views.specs.Words as spec;
 
-use saga_history::Phase;
+use saga_history::{Kind, Phase};
 use std::alloc::{AllocError, Global};
 
 /// The word of a phase.
@@ -15,6 +15,16 @@ pub fn phase_word(phase: Phase) -> &'static str
         Phase::Planning => "planning",
         Phase::Ended => "ended",
         Phase::Stuck => "stuck",
+    }
+}
+
+/// The word of what is done at a step.
+pub fn kind_word(kind: Kind) -> &'static str
+    ensures { result.now ≡ spec.kind_word kind }
+{
+    match kind {
+        Kind::Run => "run",
+        Kind::Undo => "undo",
     }
 }
 
