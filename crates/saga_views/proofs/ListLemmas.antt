@@ -4,7 +4,6 @@ use Rattle.std.proofs.Math.Seq.{get_or-append_right}
 use Rattle.std.proofs.Math.ListN.{get_or-append}
 use Rattle.std.proofs.lemmas.Bool.{cases_lt}
 use Rattle.saga_history.specs.declared.tasks.Phase.{Phase}
-use Rattle.saga_history.specs.Changes.{past}
 use Rattle.saga_core.specs.Book.{Book, number}
 use Rattle.saga_core.specs.Tasks.{StandsAt}
 use Rattle.saga_views.specs.Lists.{is_told_at, text_at, text_if, told_up_to}

@@ -6,15 +6,14 @@ use Rattle.std.proofs.Math.Seq.{get_or-append_right}
 use Rattle.std.proofs.lemmas.List.Elements.{All-get_or, All-nil, All-push, All-weaker, Contains-append_left, Contains-push}
 use Rattle.std.proofs.lemmas.List.Quantifiers.{all_pairs_push}
 use Rattle.saga_def.specs.Contents.{Contents}
-use Rattle.saga_history.specs.declared.events.Event.{Event}
 use Rattle.saga_history.specs.declared.tasks.Task.{Task}
 use Rattle.saga_history.specs.declared.tasks.Task.TheVariants.{Run, Undo, Plan}
-use Rattle.saga_history.specs.Changes.{changes}
-use Rattle.saga_history.specs.Rules.{definition, definition_at}
-use Rattle.saga_history.specs.Tasks.{TaskIsAllowed}
+use Rattle.saga_history.specs.Rules.{definition_at}
 use Rattle.saga_history.specs.Turns.{opened_with}
 use Rattle.saga_history.proofs.SagaLemmas.{holds_at}
-use Rattle.saga_core.specs.Tasks.{IsFirstTaskFrom, IsNotAfter, NoTaskIsAllowedFrom, saga_of_task, step_of_task}
+use Rattle.saga_core.specs.Book.{Book, changes_in, definition_in}
+use Rattle.saga_core.specs.Refusals.{IsUnknown}
+use Rattle.saga_core.specs.Tasks.{IsFirstTaskFrom, IsNotAfter, MayBegin, NoTaskIsAllowedFrom, saga_of_task, step_of_task}
 use Rattle.saga_views.specs.Ready.{AddsOf, IsAdded, IsNotCut, IsReady, IsReadyUpTo, IsUpTo, ListsAll, place_of}
 use Rattle.saga_views.specs.Limits.{enough_tasks}
 
@@ -77,78 +76,78 @@ up_to_wider : (u : Task) (i n : ℕ) → IsUpTo i n u → IsUpTo i (n + 1) u
 up_to_wider u i n (inl less) = inl less
 up_to_wider u i n (inr (is, lt)) = inr (is, omega (arith, lt))
 
-module _ (shelf : List Contents) (h : List Event) (from : ℕ) where
+module _ (book : Book) (from : ℕ) where
   -- a place is passed
-  pub passed : (i n : ℕ) (t : Task) (old new : List Task) → from ≤ i → saga_of_task t ≡ i → place_of t ≡ n → IsAdded shelf h t old new
-      → ListsAll (IsReadyUpTo shelf h from i n) old → ListsAll (IsReadyUpTo shelf h from i (n + 1)) new
-  passed i n t old new far own here (inl (may, is)) lists = subst (λ (ts : List Task). ListsAll (IsReadyUpTo shelf h from i (n + 1)) ts) (sym is)
-      (lists_push (IsReadyUpTo shelf h from i n) (IsReadyUpTo shelf h from i (n + 1)) old t lists (may, omega (arith, far, own), inr (own, omega (arith, here)))
+  pub passed : (i n : ℕ) (t : Task) (old new : List Task) → from ≤ i → saga_of_task t ≡ i → place_of t ≡ n → IsAdded book t old new
+      → ListsAll (IsReadyUpTo book from i n) old → ListsAll (IsReadyUpTo book from i (n + 1)) new
+  passed i n t old new far own here (inl (may, is)) lists = subst (λ (ts : List Task). ListsAll (IsReadyUpTo book from i (n + 1)) ts) (sym is)
+      (lists_push (IsReadyUpTo book from i n) (IsReadyUpTo book from i (n + 1)) old t lists (may, omega (arith, far, own), inr (own, omega (arith, here)))
       (λ u p. (p.0, p.1, up_to_wider u i n p.2))
       (λ u q. elim (up_to_more u t i n own here q.2) [ inl below ↦ inl (q.0, q.1, below) | inr same ↦ inr same ])
       (λ u p. comes_before u t i n own here p.2))
-  passed i n t old new far own here (inr (not, is)) lists = subst (λ (ts : List Task). ListsAll (IsReadyUpTo shelf h from i (n + 1)) ts) (sym is)
-      (lists_same (IsReadyUpTo shelf h from i n) (IsReadyUpTo shelf h from i (n + 1)) old
+  passed i n t old new far own here (inr (not, is)) lists = subst (λ (ts : List Task). ListsAll (IsReadyUpTo book from i (n + 1)) ts) (sym is)
+      (lists_same (IsReadyUpTo book from i n) (IsReadyUpTo book from i (n + 1)) old
       (λ u p. (p.0, p.1, up_to_wider u i n p.2))
-      (λ u q. elim (up_to_more u t i n own here q.2) [ inl below ↦ (q.0, q.1, below) | inr same ↦ absurd (not (subst (TaskIsAllowed shelf h) same q.0)) ]) lists)
+      (λ u q. elim (up_to_more u t i n own here q.2) [ inl below ↦ (q.0, q.1, below) | inr same ↦ absurd (not (subst (MayBegin book) same q.0)) ]) lists)
 
   -- a saga begins, and ends behind its last place
-  pub begins_saga : (i : ℕ) (ts : List Task) → ListsAll (IsReady shelf h from (Some i)) ts → ListsAll (IsReadyUpTo shelf h from i 0) ts
-  begins_saga i ts lists = lists_same (IsReady shelf h from (Some i)) (IsReadyUpTo shelf h from i 0) ts
+  pub begins_saga : (i : ℕ) (ts : List Task) → ListsAll (IsReady book from (Some i)) ts → ListsAll (IsReadyUpTo book from i 0) ts
+  begins_saga i ts lists = lists_same (IsReady book from (Some i)) (IsReadyUpTo book from i 0) ts
       (λ u p. (p.0, p.1, inl p.2))
       (λ u q. (q.0, q.1, elim q.2 [ inl less ↦ less | inr none ↦ absurd (omega (arith, none.1)) ])) lists
 
-  place_few : (u : Task) (d : Contents) → definition shelf (changes (saga_of_task u) h) ≡ Some d → TaskIsAllowed shelf h u → place_of u < 2 * length d.steps + 1
-  place_few (Run i s) d at may = let is = (holds_at (definition shelf (changes i h)) d _ at may).is_step in omega (arith, is)
-  place_few (Undo i s) d at may = let is = (holds_at (definition shelf (changes i h)) d _ at may).is_step in omega (arith, is)
+  place_few : (u : Task) (d : Contents) → definition_in book (saga_of_task u) ≡ Some d → MayBegin book u → place_of u < 2 * length d.steps + 1
+  place_few (Run i s) d at may = let is = (holds_at (definition_in book i) d _ at may).is_step in omega (arith, is)
+  place_few (Undo i s) d at may = let is = (holds_at (definition_in book i) d _ at may).is_step in omega (arith, is)
   place_few (Plan i) d at may = omega arith
 
-  pub ends_saga : (i : ℕ) (d : Contents) (ts : List Task) → definition shelf (changes i h) ≡ Some d
-      → ListsAll (IsReadyUpTo shelf h from i (2 * length d.steps + 1)) ts → ListsAll (IsReady shelf h from (Some (i + 1))) ts
-  ends_saga i d ts at lists = lists_same (IsReadyUpTo shelf h from i (2 * length d.steps + 1)) (IsReady shelf h from (Some (i + 1))) ts
+  pub ends_saga : (i : ℕ) (d : Contents) (ts : List Task) → definition_in book i ≡ Some d
+      → ListsAll (IsReadyUpTo book from i (2 * length d.steps + 1)) ts → ListsAll (IsReady book from (Some (i + 1))) ts
+  ends_saga i d ts at lists = lists_same (IsReadyUpTo book from i (2 * length d.steps + 1)) (IsReady book from (Some (i + 1))) ts
       (λ u p. (p.0, p.1, elim p.2 [ inl less ↦ omega (arith, less) | inr own ↦ omega (arith, own.0) ]))
       (λ u q. (
         q.0,
         q.1,
         elim (cases_eq (saga_of_task u) i) [
-          | inl e ↦ inr (e, place_few u d (ap (λ (v : ℕ). definition shelf (changes v h)) e ∙ at) q.0)
+          | inl e ↦ inr (e, place_few u d (ap (λ (v : ℕ). definition_in book v) e ∙ at) q.0)
           | inr ne ↦ inl (let lt = q.2 in omega (arith, lt, ne))
         ],
       )) lists
 
   -- a saga that is not there has no task
-  pub no_saga : (i : ℕ) (ts : List Task) → opened_with (changes i h) ≡ None
-      → ListsAll (IsReady shelf h from (Some i)) ts → ListsAll (IsReady shelf h from (Some (i + 1))) ts
-  no_saga i ts unknown lists = lists_same (IsReady shelf h from (Some i)) (IsReady shelf h from (Some (i + 1))) ts
+  pub no_saga : (i : ℕ) (ts : List Task) → IsUnknown book i
+      → ListsAll (IsReady book from (Some i)) ts → ListsAll (IsReady book from (Some (i + 1))) ts
+  no_saga i ts unknown lists = lists_same (IsReady book from (Some i)) (IsReady book from (Some (i + 1))) ts
       (λ u p. (p.0, p.1, let lt = p.2 in omega (arith, lt)))
       (λ u q. (
         q.0,
         q.1,
         elim (cases_eq (saga_of_task u) i) [
-          | inl e ↦ absurd (none_of u (subst (λ (v : ℕ). opened_with (changes v h) ≡ None) (sym e) unknown) q.0)
+          | inl e ↦ absurd (none_of u (subst (λ (v : ℕ). IsUnknown book v) (sym e) unknown) q.0)
           | inr ne ↦ let lt = q.2 in omega (arith, lt, ne)
         ],
       )) lists
     where
-      none_at : (o : Option ℕ) (P : Contents → Type 0) → o ≡ None → IsSomeAnd (definition_at shelf o) P → ⊥
-      none_at o P none holds = subst (λ (o : Option ℕ). IsSomeAnd (definition_at shelf o) P) none holds
+      none_at : (o : Option ℕ) (P : Contents → Type 0) → o ≡ None → IsSomeAnd (definition_at book.shelf o) P → ⊥
+      none_at o P none holds = subst (λ (o : Option ℕ). IsSomeAnd (definition_at book.shelf o) P) none holds
 
-      none_of : (u : Task) → opened_with (changes (saga_of_task u) h) ≡ None → TaskIsAllowed shelf h u → ⊥
-      none_of (Run i s) none may = none_at (opened_with (changes i h)) _ none may
-      none_of (Undo i s) none may = none_at (opened_with (changes i h)) _ none may
-      none_of (Plan i) none may = none_at (opened_with (changes i h)) _ none may
+      none_of : (u : Task) → IsUnknown book (saga_of_task u) → MayBegin book u → ⊥
+      none_of (Run i s) none may = none_at (opened_with (changes_in book i)) _ none may
+      none_of (Undo i s) none may = none_at (opened_with (changes_in book i)) _ none may
+      none_of (Plan i) none may = none_at (opened_with (changes_in book i)) _ none may
 
   -- ---- from one saga with a task to the next
 
-  pub begins_none : ListsAll (IsReady shelf h from (Some from)) []
+  pub begins_none : ListsAll (IsReady book from (Some from)) []
   begins_none = record {
-    only = All-nil (IsReady shelf h from (Some from));
+    only = All-nil (IsReady book from (Some from));
     all = λ t is. absurd (let lt = is.2 in omega (arith, lt, is.1));
     ordered = λ i j d before within. absurd (omega (arith, within));
   }
 
-  pub up_to_next : (i : ℕ) (t : Task) (ts : List Task) → from ≤ i → IsFirstTaskFrom shelf h i t
-      → ListsAll (IsReady shelf h from (Some i)) ts → ListsAll (IsReady shelf h from (Some (saga_of_task t))) ts
-  up_to_next i t ts far first lists = lists_same (IsReady shelf h from (Some i)) (IsReady shelf h from (Some (saga_of_task t))) ts
+  pub up_to_next : (i : ℕ) (t : Task) (ts : List Task) → from ≤ i → IsFirstTaskFrom book i t
+      → ListsAll (IsReady book from (Some i)) ts → ListsAll (IsReady book from (Some (saga_of_task t))) ts
+  up_to_next i t ts far first lists = lists_same (IsReady book from (Some i)) (IsReady book from (Some (saga_of_task t))) ts
       (λ u p. (p.0, p.1, let lt = p.2 in omega (arith, lt, first.within)))
       (λ u q. (
         q.0,
@@ -159,8 +158,8 @@ module _ (shelf : List Contents) (h : List Event) (from : ℕ) where
         ],
       )) lists
 
-  pub up_to_all : (i : ℕ) (ts : List Task) → NoTaskIsAllowedFrom shelf h i → ListsAll (IsReady shelf h from (Some i)) ts → ListsAll (IsReady shelf h from None) ts
-  up_to_all i ts none lists = lists_same (IsReady shelf h from (Some i)) (IsReady shelf h from None) ts
+  pub up_to_all : (i : ℕ) (ts : List Task) → NoTaskIsAllowedFrom book i → ListsAll (IsReady book from (Some i)) ts → ListsAll (IsReady book from None) ts
+  up_to_all i ts none lists = lists_same (IsReady book from (Some i)) (IsReady book from None) ts
       (λ u p. (p.0, p.1, tt))
       (λ u q. (q.0, q.1, elim (cases_lt (saga_of_task u) i) [ inl less ↦ less | inr more ↦ absurd (none u q.0 more) ])) lists
 
@@ -169,11 +168,11 @@ module _ (shelf : List Contents) (h : List Event) (from : ℕ) where
 pub adds_none : (i : ℕ) (ts : List Task) → AddsOf i ts ts
 adds_none i ts = ([], sym (append-nil ts), All-nil (λ t. saga_of_task t ≡ i))
 
-pub adds_one : (shelf : List Contents) (h : List Event) (i : ℕ) (t : Task) (ts old new : List Task) → saga_of_task t ≡ i
-    → AddsOf i ts old → IsAdded shelf h t old new → AddsOf i ts new
-adds_one shelf h i t ts old new own (added, is, all) (inl (may, grown)) =
+pub adds_one : (book : Book) (i : ℕ) (t : Task) (ts old new : List Task) → saga_of_task t ≡ i
+    → AddsOf i ts old → IsAdded book t old new → AddsOf i ts new
+adds_one book i t ts old new own (added, is, all) (inl (may, grown)) =
     (added ++ t ∷ [], grown ∙ ap (λ (v : List Task). v ++ t ∷ []) is ∙ append_assoc ts added (t ∷ []), All-push (λ t. saga_of_task t ≡ i) added t all own)
-adds_one shelf h i t ts old new own (added, is, all) (inr (not, same)) = (added, same ∙ is, all)
+adds_one book i t ts old new own (added, is, all) (inr (not, same)) = (added, same ∙ is, all)
 
 pub few_not_cut : (ts : List Task) → length ts < enough_tasks → IsNotCut ts
 few_not_cut ts few k d many within = absurd (omega (arith, few, many, within))

@@ -9,13 +9,9 @@ use Rattle.saga_history.proofs.MergeLemmas.{each_below, past_append, past_push}
 use Rattle.saga_history.proofs.SagaLemmas.{changes_other, changes_own, saga_is_legal, unopened}
 use Rattle.saga_views.specs.Shown.{last_answer, shown_text}
 
-pub shown_same : (head head' name name' phase phase' : List ℕ) (i : ℕ) (tail tail' : List ℕ) → head ≡ head' → name ≡ name' → phase ≡ phase'
-    → tail ≡ tail' → shown_text head name phase i tail ≡ shown_text head' name' phase' i tail'
-shown_same head head' name name' phase phase' i tail tail' a b c d =
-    ap (λ t. shown_text t name phase i tail) a
-    ∙ (ap (λ t. shown_text head' t phase i tail) b
-    ∙ (ap (λ t. shown_text head' name' t i tail) c
-    ∙ ap (λ t. shown_text head' name' phase' i t) d))
+pub shown_same : (head head' name name' phase phase' : List ℕ) (i i' : ℕ) (tail tail' : List ℕ) → head ≡ head' → name ≡ name' → phase ≡ phase'
+    → i ≡ i' → tail ≡ tail' → shown_text head name phase i tail ≡ shown_text head' name' phase' i' tail'
+shown_same head head' name name' phase phase' i i' tail tail' a b c d e = cc
 
 -- ---- back over the events
 

@@ -4,10 +4,7 @@ use Rattle.std.specs.List.{concat, range_with_len}
 use Rattle.saga_def.specs.Contents.{Contents}
 use Rattle.saga_history.specs.declared.tasks.Phase.{Phase}
 use Rattle.saga_history.specs.declared.tasks.Phase.TheVariants.{Going}
-use Rattle.saga_history.specs.declared.events.Event.{Event}
-use Rattle.saga_history.specs.Changes.{changes, past}
-use Rattle.saga_history.specs.Rules.{definition}
-use Rattle.saga_core.specs.Book.{Book, number, sagas_in}
+use Rattle.saga_core.specs.Book.{Book, definition_in, number, sagas_in}
 use Rattle.saga_views.specs.Phases.{ArePhases, same_phase}
 use Rattle.saga_views.specs.Ready.{more_text}
 use Rattle.saga_history.specs.Tasks.{phase_word}
@@ -28,8 +25,8 @@ abbrev pub named_text : List ℕ → List ℕ → ℕ → List ℕ
 named_text name phase i =
     concat (codes "{\"name\":\"" ∷ name ∷ codes "\",\"phase\":\"" ∷ phase ∷ codes "\",\"saga\":" ∷ decimal i ∷ codes "}" ∷ [])
 
-abbrev pub saga_text : List Contents → List Event → Phase → ℕ → List ℕ
-saga_text shelf h phase i = named_text (name_by (definition shelf (changes i h))) (phase_word phase) i
+abbrev pub saga_text : Book → Phase → ℕ → List ℕ
+saga_text book phase i = named_text (name_by (definition_in book i)) (phase_word phase) i
 
 -- a saga in a place: its number and its phase; whether it is told, by these two; and its text
 abbrev pub number_at : Book → ℕ → ℕ
@@ -45,7 +42,7 @@ abbrev pub is_told_at : Book → ℕ → Option Phase → List Phase → ℕ →
 is_told_at book from wanted phases k = is_told from wanted (number_at book k) (phase_at phases k)
 
 abbrev pub text_at : Book → List Phase → ℕ → List ℕ
-text_at book phases k = saga_text book.shelf (past book.history) (phase_at phases k) (number_at book k)
+text_at book phases k = saga_text book (phase_at phases k) (number_at book k)
 
 abbrev pub text_if : Bool → List ℕ → List (List ℕ)
 text_if true text = text ∷ []

@@ -2,7 +2,6 @@
 use Rattle.std.specs.Prelude.{◌≡◌, ℕ, ◌<◌, Bool, true, false, List, length, slice_index_or}
 use Rattle.saga_history.specs.declared.tasks.Phase.{Phase}
 use Rattle.saga_history.specs.declared.tasks.Phase.TheVariants.{Going, Draining, Planning, Ended, Stuck}
-use Rattle.saga_history.specs.Changes.{past}
 use Rattle.saga_core.specs.Book.{Book, number, sagas_in}
 use Rattle.saga_core.specs.Tasks.{StandsAt}
 

@@ -2,7 +2,6 @@
 use Rattle.std.specs.Prelude.{◌≡◌, ℕ, ◌++◌, Bool, true, false, List, [], ◌∷◌, Option, Some, None, codes, decimal, flat_map, length, map}
 use Rattle.std.specs.List.{concat, range_with_len}
 use Rattle.serde_json.specs.Written.{compact_text}
-use Rattle.saga_def.specs.Contents.{Contents}
 use Rattle.saga_case.specs.States.{word_of}
 use Rattle.saga_case.specs.declared.answers.Answer.{Answer}
 use Rattle.saga_cert.specs.Answers.{answer_form}
@@ -10,8 +9,10 @@ use Rattle.saga_history.specs.declared.tasks.Phase.{Phase}
 use Rattle.saga_history.specs.Changes.{Change, opens, moves, starts_plan, drops_plan, adopts, aborts}
 use Rattle.saga_history.specs.Rules.{HasPhase}
 use Rattle.saga_history.specs.States.{state}
-use Rattle.saga_history.specs.Turns.{aborted, in_goal}
 use Rattle.saga_history.specs.Tasks.{phase_word}
+use Rattle.saga_history.specs.Turns.{aborted, in_goal}
+use Rattle.saga_core.specs.Book.{Book}
+use Rattle.saga_core.specs.Saga.{HasSaga, Saga}
 use Rattle.saga_views.specs.Words.{listed, truth_text}
 
 -- the answer that the saga adopted last, if it adopted one
@@ -53,15 +54,18 @@ abbrev pub shown_text : List ℕ → List ℕ → List ℕ → ℕ → List ℕ 
 shown_text head name phase i tail =
     head ++ codes ",\"name\":\"" ++ name ++ codes "\",\"phase\":\"" ++ phase ++ codes "\",\"saga\":" ++ decimal i ++ tail
 
--- of a saga with that definition and those changes, in that phase; a definition has a step at least
-abbrev pub show_text : Contents → List Change → Phase → ℕ → List ℕ
-show_text d l phase i =
+-- of a saga in that phase; a definition has a step at least
+abbrev pub show_text : Saga → Phase → List ℕ
+show_text saga phase =
     shown_text
-    (head_text (truth_text (aborted l)) (answer_text (last_answer l)) (listed (codes ",") (kept_below l (length d.steps)))) d.name (phase_word phase) i
-    (tail_text (listed (codes "\",\"") (states_below l (length d.steps))))
+    (head_text (truth_text (aborted saga.changes)) (answer_text (last_answer saga.changes))
+    (listed (codes ",") (kept_below saga.changes (length saga.definition.steps)))) saga.definition.name (phase_word phase) saga.number
+    (tail_text (listed (codes "\",\"") (states_below saga.changes (length saga.definition.steps))))
 
--- that is told, with the phase in which it is
-pub record TellsSaga (d : Contents) (l : List Change) (i : ℕ) (text : List ℕ) : Type 0 where
+-- that is told of the saga of a number, with the phase in which it is
+pub record TellsSaga (book : Book) (i : ℕ) (text : List ℕ) : Type 0 where
+  pub saga : Saga
+  pub is : HasSaga book i saga
   pub phase : Phase
-  pub has : HasPhase d l phase
-  pub text_is : text ≡ show_text d l phase i
+  pub has : HasPhase saga.definition saga.changes phase
+  pub text_is : text ≡ show_text saga phase

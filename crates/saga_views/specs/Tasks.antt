@@ -3,41 +3,27 @@ use Rattle.std.specs.Prelude.{ℕ, ◌+◌, List, [], ◌∷◌, Option, Some, N
 use Rattle.std.specs.List.{concat}
 use Rattle.saga_def.specs.Contents.{Contents}
 use Rattle.saga_def.specs.declared.steps.Step.{Step}
+use Rattle.saga_history.specs.declared.tasks.Kind.{Kind}
 use Rattle.saga_history.specs.Changes.{Change}
-use Rattle.saga_history.specs.Rules.{misses_of, undo_misses_of}
+use Rattle.saga_history.specs.Tasks.{missed}
+use Rattle.saga_core.specs.Saga.{Saga}
+use Rattle.saga_views.specs.Words.{kind_word}
 
--- an action or a compensation: which attempt it is, and the name of its step
-pub record TakenTask : Type 0 where
-  pub attempt : ℕ
-  pub name : List ℕ
-  pub saga : ℕ
-  pub step : ℕ
-  pub task : List ℕ
-
-abbrev pub task_text : TakenTask → List ℕ
-task_text t =
-    concat (codes "{\"attempt\":" ∷ decimal t.attempt ∷ codes ",\"name\":\"" ∷ t.name ∷ codes "\",\"saga\":" ∷ decimal t.saga
-    ∷ codes ",\"step\":" ∷ decimal t.step ∷ codes ",\"task\":\"" ∷ t.task ∷ codes "\"}" ∷ [])
+-- the saga of that number, with that definition and those changes
+abbrev pub saga_of : ℕ → Contents → List Change → Saga
+saga_of i d l = record { number = i; definition = d; changes = l }
 
 abbrev pub name_in : Option Step → List ℕ
 name_in None = []
 name_in (Some step) = step.name
 
--- of a saga with that definition and those changes, an action and a compensation: each miss is followed by one more attempt
-abbrev pub run_task : Contents → List Change → ℕ → ℕ → TakenTask
-run_task d l i s = record {
-  attempt = misses_of l s + 1;
-  name = name_in (slice_get d.steps s);
-  saga = i;
-  step = s;
-  task = codes "run";
-}
+-- an attempt at what is done at a step: its number, the names and the numbers of step and saga, and which of the two it is
+abbrev pub task_text : ℕ → List ℕ → ℕ → ℕ → List ℕ → List ℕ
+task_text attempt name i s task =
+    concat (codes "{\"attempt\":" ∷ decimal attempt ∷ codes ",\"name\":\"" ∷ name ∷ codes "\",\"saga\":" ∷ decimal i ∷ codes ",\"step\":" ∷ decimal s
+    ∷ codes ",\"task\":\"" ∷ task ∷ codes "\"}" ∷ [])
 
-abbrev pub undo_task : Contents → List Change → ℕ → ℕ → TakenTask
-undo_task d l i s = record {
-  attempt = undo_misses_of l s + 1;
-  name = name_in (slice_get d.steps s);
-  saga = i;
-  step = s;
-  task = codes "undo";
-}
+-- the action or the compensation of a step, as one that is taken: each miss is followed by one more attempt
+abbrev pub taken_text : Kind → Saga → ℕ → List ℕ
+taken_text kind saga s =
+    task_text (missed kind saga.changes s + 1) (name_in (slice_get saga.definition.steps s)) saga.number s (kind_word kind)

@@ -1,57 +1,47 @@
 //! What was taken and not reported.
 ghost use Rattle.std.specs.Prelude.{◌≡◌, ◌<◌, ◌++◌, OnOk, IfOk, length, map, string_bytes};
-ghost use Rattle.saga_history.specs.Changes.{changes, past};
 ghost use Rattle.saga_history.specs.States.{state};
-ghost use Rattle.saga_core.specs.Book.{sagas_in, changes_in};
-ghost use Rattle.saga_core.specs.Tasks.{IsDefinedBy};
+ghost use Rattle.saga_core.specs.Book.{sagas_in};
 ghost use Rattle.saga_views.specs.Busy as spec;
 
-use crate::tasks::{run_text, state_of, undo_text};
+use crate::tasks::taken_text;
 use crate::words::listed;
 use saga_case::StepState;
-use saga_core::Book;
-use saga_def::Definition;
+use saga_core::{Book, Saga};
+use saga_history::Kind;
 use std::alloc::{AllocError, Global};
 
 /// Adds the task of a step, where the step is busy.
 fn push_busy_step(
     alloc: Global,
     texts: &mut Vec<String>,
-    book: &Book<'_>,
-    definition: &Definition,
-    saga: u32,
+    saga: &Saga<'_, '_>,
     step: u16,
 ) -> Result<(), AllocError>
-    requires defined { IsDefinedBy book.now saga definition.now }
-    requires step { step < length definition.now.steps }
+    requires { step < length saga.now.definition.steps }
     ensures { OnOk result (map string_bytes texts.new.items ≡ map string_bytes texts.old.items
-        ++ spec.busy_in (state (changes_in book.now saga) step) definition.now
-        (changes_in book.now saga) saga step) }
+        ++ spec.busy_in (state saga.now.changes step) saga.now step) }
 {
-    match state_of(book, definition, saga, step) {
-        StepState::Running => texts.push(run_text(alloc, book, definition, saga, step)?)?,
-        StepState::Undoing => texts.push(undo_text(alloc, book, definition, saga, step)?)?,
+    match saga.state(step) {
+        StepState::Running => texts.push(taken_text(alloc, saga, step, Kind::Run)?)?,
+        StepState::Undoing => texts.push(taken_text(alloc, saga, step, Kind::Undo)?)?,
         _ => {}
     }
     Ok(())
 }
 
-/// Adds the tasks of the busy steps of a saga with that definition.
+/// Adds the tasks of the busy steps of a saga.
 fn push_busy_steps(
     alloc: Global,
     texts: &mut Vec<String>,
-    book: &Book<'_>,
-    definition: &Definition,
-    saga: u32,
+    saga: &Saga<'_, '_>,
 ) -> Result<(), AllocError>
-    requires { IsDefinedBy book.now saga definition.now }
     ensures { OnOk result (map string_bytes texts.new.items ≡ map string_bytes texts.old.items
-        ++ spec.busy_below definition.now (changes_in book.now saga) saga
-        (length definition.now.steps)) }
+        ++ spec.busy_below saga.now (length saga.now.definition.steps)) }
 {
-    let count = definition.steps();
+    let count = saga.definition().steps();
     for step in 0..count as u16 {
-        push_busy_step(alloc, texts, book, definition, saga, step)?;
+        push_busy_step(alloc, texts, saga, step)?;
     }
     Ok(())
 }
@@ -64,11 +54,11 @@ fn push_busy_saga(
     saga: u32,
 ) -> Result<(), AllocError>
     ensures { OnOk result (map string_bytes texts.new.items ≡ map string_bytes texts.old.items
-        ++ spec.busy_of book.now.shelf (past book.now.history) saga) }
+        ++ spec.busy_of book.now saga) }
 {
-    match book.definition(saga) {
+    match book.saga(saga) {
         None => Ok(()),
-        Some(definition) => push_busy_steps(alloc, texts, book, definition, saga),
+        Some(saga) => push_busy_steps(alloc, texts, &saga),
     }
 }
 

@@ -20,5 +20,5 @@ pub use lists::list_text;
 pub use ready::ready_text;
 pub use shown::show_text;
 pub use status::status_text;
-pub use tasks::{missed, run_text, state_of, undo_text};
+pub use tasks::taken_text;
 pub use words::truth_text;

@@ -1,7 +1,6 @@
 //! The sagas from a number on, and where each stands.
 ghost use Rattle.std.specs.Prelude.{◌≡◌, ◌++◌, IfOk, OnOk, map, string_bytes};
-ghost use Rattle.saga_core.specs.Tasks.{StandsAt};
-ghost use Rattle.saga_history.specs.Changes.{past};
+ghost use Rattle.saga_core.specs.Book.{definition_in};
 ghost use Rattle.saga_views.specs.Phases.{ArePhases};
 ghost use Rattle.saga_views.specs.Lists as spec;
 
@@ -58,16 +57,14 @@ fn named_text(alloc: Global, name: &str, phase: &str, saga: u32) -> Result<Strin
     .concat(alloc)
 }
 
-/// The same of a saga of a book.
-fn saga_text(alloc: Global, book: &Book<'_>, phase: Phase, saga: u32) -> Result<String, AllocError>
-    requires { StandsAt book.now saga phase }
-    ensures { IfOk result (λ text. string_bytes text
-        ≡ spec.saga_text book.now.shelf (past book.now.history) phase saga) }
+/// The name of a saga; a saga that is not there has none.
+fn name_of<'d>(book: &Book<'d>, saga: u32) -> &'d str
+    ensures { result.now ≡ spec.name_by (definition_in book.now saga) }
 {
-    let Some(definition) = book.definition(saga) else {
-        unreachable!()
-    };
-    named_text(alloc, definition.name(), phase.word(), saga)
+    match book.saga(saga) {
+        None => "",
+        Some(saga) => saga.definition().name(),
+    }
 }
 
 /// Adds the text of a saga, where it is told.
@@ -79,12 +76,12 @@ fn push_saga(
     phase: Phase,
     saga: u32,
 ) -> Result<(), AllocError>
-    requires { StandsAt book.now saga phase }
     ensures { OnOk result (map string_bytes texts.new.items ≡ map string_bytes texts.old.items
-        ++ spec.text_if told (spec.saga_text book.now.shelf (past book.now.history) phase saga)) }
+        ++ spec.text_if told (spec.saga_text book.now phase saga)) }
 {
     if told {
-        texts.push(saga_text(alloc, book, phase, saga)?)?;
+        let name = name_of(book, saga);
+        texts.push(named_text(alloc, name, phase.word(), saga)?)?;
     }
     Ok(())
 }

@@ -1,17 +1,16 @@
 //! Which tasks may begin.
 ghost use Rattle.std.specs.Prelude.{ℕ, ◌≡◌, ◌<◌, ◌≤◌, ◌+◌, ◌*◌, ◌∷◌, [], All, IfOk, IfSome, IfNone, OnOk, Some, None, codes, length, map, option_map, string_bytes};
 ghost use Rattle.std.specs.List.{concat};
-ghost use Rattle.saga_history.specs.Changes.{past};
-ghost use Rattle.saga_history.specs.Tasks.{TaskIsAllowed};
+ghost use Rattle.saga_core.specs.Refusals.{OfSaga};
 ghost use Rattle.saga_core.specs.Tasks.{saga_of_task, MayBegin};
 ghost use Rattle.saga_views.specs.Ready as spec;
 ghost use Rattle.saga_views.specs.Ready.{AddsOf, AreReady, IsAdded, IsReady, ListsAll, TellsReady};
 
-use crate::tasks::{run_text, undo_text};
+use crate::tasks::taken_text;
 use crate::words::listed;
 use itoa::Buffer;
 use saga_core::Book;
-use saga_history::Task;
+use saga_history::{Kind, Task};
 use std::alloc::{AllocError, Global};
 
 /// How many tasks are enough, so that no further saga is begun.
@@ -27,7 +26,7 @@ struct ReadyTasks {
 /// Adds a task, where it may begin.
 fn push_task(tasks: &mut Vec<Task>, book: &Book<'_>, task: Task) -> Result<(), AllocError>
     ensures { OnOk result
-        (IsAdded book.now.shelf (past book.now.history) task tasks.old.items tasks.new.items) }
+        (IsAdded book.now task tasks.old.items tasks.new.items) }
 {
     if book.may_begin(task) {
         tasks.push(task)?;
@@ -38,8 +37,8 @@ fn push_task(tasks: &mut Vec<Task>, book: &Book<'_>, task: Task) -> Result<(), A
 /// Adds the tasks of a saga that may begin. Takes time linear in its steps.
 fn push_tasks(tasks: &mut Vec<Task>, book: &Book<'_>, saga: u32) -> Result<(), AllocError>
     ensures all { OnOk result ((from : ℕ) → from ≤ saga
-        → ListsAll (IsReady book.now.shelf (past book.now.history) from (Some saga)) tasks.old.items
-        → ListsAll (IsReady book.now.shelf (past book.now.history) from (Some (saga + 1)))
+        → ListsAll (IsReady book.now from (Some saga)) tasks.old.items
+        → ListsAll (IsReady book.now from (Some (saga + 1)))
         tasks.new.items) }
     ensures only { OnOk result (AddsOf saga tasks.old.items tasks.new.items) }
 {
@@ -66,7 +65,7 @@ fn saga_of(task: Task) -> u32
 /// The tasks that may begin of the sagas from a number on. Goes over the sagas for each one that has tasks to give, without a look at
 /// their steps; over the steps it goes of those alone whose tasks are given.
 fn ready_tasks(alloc: Global, book: &Book<'_>, from: u32) -> Result<ReadyTasks, AllocError>
-    ensures { IfOk result (λ ready. AreReady book.now.shelf (past book.now.history) from
+    ensures { IfOk result (λ ready. AreReady book.now from
         ready.tasks.items ready.more) }
 {
     let mut tasks = Vec::new(alloc);
@@ -98,18 +97,32 @@ fn plan_text(alloc: Global, saga: u32) -> Result<String, AllocError>
     .concat(alloc)
 }
 
+/// The text of the action or the compensation of a step; a saga that is not there has none.
+fn step_text(
+    alloc: Global,
+    book: &Book<'_>,
+    saga: u32,
+    step: u16,
+    kind: Kind,
+) -> Result<String, AllocError>
+    requires { OfSaga book.now saga (λ d l. step < length d.steps) }
+    ensures { IfOk result
+        (λ text. string_bytes text ≡ spec.step_text book.now kind saga step) }
+{
+    match book.saga(saga) {
+        None => Ok(String::new(alloc)),
+        Some(saga) => taken_text(alloc, &saga, step, kind),
+    }
+}
+
 /// The text of a task that may begin.
 fn text_of(alloc: Global, book: &Book<'_>, task: Task) -> Result<String, AllocError>
     requires { MayBegin book.now task }
-    ensures { IfOk result (λ text. string_bytes text
-        ≡ spec.text_of book.now.shelf (past book.now.history) task) }
+    ensures { IfOk result (λ text. string_bytes text ≡ spec.text_of book.now task) }
 {
-    let Some(definition) = book.definition(saga_of(task)) else {
-        unreachable!()
-    };
     match task {
-        Task::Run(saga, step) => run_text(alloc, book, definition, saga, step),
-        Task::Undo(saga, step) => undo_text(alloc, book, definition, saga, step),
+        Task::Run(saga, step) => step_text(alloc, book, saga, step, Kind::Run),
+        Task::Undo(saga, step) => step_text(alloc, book, saga, step, Kind::Undo),
         Task::Plan(saga) => plan_text(alloc, saga),
     }
 }
@@ -118,7 +131,7 @@ fn text_of(alloc: Global, book: &Book<'_>, task: Task) -> Result<String, AllocEr
 fn texts_of(alloc: Global, book: &Book<'_>, tasks: &[Task]) -> Result<Vec<String>, AllocError>
     requires { All (λ t. MayBegin book.now t) tasks.now }
     ensures { IfOk result (λ texts. map string_bytes texts.items
-        ≡ map (spec.text_of book.now.shelf (past book.now.history)) tasks.now) }
+        ≡ map (spec.text_of book.now) tasks.now) }
 {
     let mut texts = Vec::new(alloc);
     for task in tasks {

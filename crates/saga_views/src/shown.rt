@@ -1,33 +1,16 @@
 //! How a saga stands, as text.
-ghost use Rattle.std.specs.Prelude.{◌≡◌, ◌<◌, ◌++◌, OnOk, IfOk, Some, length, map, option_map, string_bytes};
-ghost use Rattle.saga_history.specs.Changes.{changes, past};
-ghost use Rattle.saga_history.specs.Rules.{HasPhase};
-ghost use Rattle.saga_history.specs.Turns.{aborted, in_goal};
-ghost use Rattle.saga_core.specs.Tasks.{IsDefinedBy};
-ghost use Rattle.saga_views.specs.Shown as spec;
+ghost use Rattle.std.specs.Prelude.{◌≡◌, ◌++◌, OnOk, IfOk, MatchOption, Some, length, map, option_map, string_bytes};
 ghost use Rattle.saga_core.specs.Book.{changes_in};
+ghost use Rattle.saga_core.specs.Refusals.{IsUnknown};
+ghost use Rattle.saga_views.specs.Shown as spec;
 
-use crate::tasks::state_of;
 use crate::words::{listed, listed_words, truth_text};
 use itoa::Buffer;
 use saga_case::Answer;
 use saga_cert::write_answer;
-use saga_core::Book;
-use saga_def::Definition;
-use saga_history::{Event, Phase};
+use saga_core::{Book, Saga};
+use saga_history::Event;
 use std::alloc::{AllocError, Global};
-
-fn is_kept(book: &Book<'_>, definition: &Definition, saga: u32, step: u16) -> bool
-    requires defined { IsDefinedBy book.now saga definition.now }
-    requires step { step < length definition.now.steps }
-    ensures { result ≡ in_goal (changes_in book.now saga) step }
-{
-    let _ = definition;
-    match book.in_goal(saga, step) {
-        Some(wanted) => wanted,
-        None => unreachable!(),
-    }
-}
 
 /// The number of a step, where the step is kept.
 fn push_number(
@@ -46,64 +29,29 @@ fn push_number(
 }
 
 /// The numbers of the steps in the goal.
-fn kept_numbers(
-    alloc: Global,
-    book: &Book<'_>,
-    definition: &Definition,
-    saga: u32,
-) -> Result<Vec<String>, AllocError>
-    requires { IsDefinedBy book.now saga definition.now }
+fn kept_numbers(alloc: Global, saga: &Saga<'_, '_>) -> Result<Vec<String>, AllocError>
     ensures { IfOk result (λ numbers. map string_bytes numbers.items
-        ≡ spec.kept_below (changes_in book.now saga) (length definition.now.steps)) }
+        ≡ spec.kept_below saga.now.changes (length saga.now.definition.steps)) }
 {
     let mut numbers = Vec::new(alloc);
-    let count = definition.steps();
+    let count = saga.definition().steps();
     for step in 0..count as u16 {
-        let kept = is_kept(book, definition, saga, step);
-        push_number(alloc, &mut numbers, kept, step)?;
+        push_number(alloc, &mut numbers, saga.in_goal(step), step)?;
     }
     Ok(numbers)
 }
 
 /// The words of the states of the steps.
-fn state_words(
-    alloc: Global,
-    book: &Book<'_>,
-    definition: &Definition,
-    saga: u32,
-) -> Result<Vec<&'static str>, AllocError>
-    requires { IsDefinedBy book.now saga definition.now }
+fn state_words(alloc: Global, saga: &Saga<'_, '_>) -> Result<Vec<&'static str>, AllocError>
     ensures { IfOk result (λ words. map (λ w. w.now) words.items
-        ≡ spec.states_below (changes_in book.now saga) (length definition.now.steps)) }
+        ≡ spec.states_below saga.now.changes (length saga.now.definition.steps)) }
 {
     let mut words: Vec<&'static str> = Vec::new(alloc);
-    let count = definition.steps();
+    let count = saga.definition().steps();
     for step in 0..count as u16 {
-        words.push(state_of(book, definition, saga, step).word())?;
+        words.push(saga.state(step).word())?;
     }
     Ok(words)
-}
-
-fn is_aborted(book: &Book<'_>, definition: &Definition, saga: u32) -> bool
-    requires { IsDefinedBy book.now saga definition.now }
-    ensures { result ≡ aborted (changes_in book.now saga) }
-{
-    let _ = definition;
-    match book.is_aborted(saga) {
-        Some(aborted) => aborted,
-        None => unreachable!(),
-    }
-}
-
-fn phase_of(book: &Book<'_>, definition: &Definition, saga: u32) -> Phase
-    requires { IsDefinedBy book.now saga definition.now }
-    ensures { HasPhase definition.now (changes_in book.now saga) result }
-{
-    let _ = definition;
-    match book.phase(saga) {
-        Some(phase) => phase,
-        None => unreachable!(),
-    }
 }
 
 /// The answer that a saga adopted last. Goes back over the events as far as that, or to the opening of the saga.
@@ -186,25 +134,22 @@ fn shown_text(
     Ok(text)
 }
 
-/// How a saga with that definition stands.
-pub fn show_text(
-    alloc: Global,
-    book: &Book<'_>,
-    definition: &Definition,
-    saga: u32,
-) -> Result<String, AllocError>
-    requires { IsDefinedBy book.now saga definition.now }
-    ensures { IfOk result (λ text. spec.TellsSaga definition.now
-        (changes_in book.now saga) saga (string_bytes text)) }
+/// How the saga of a number stands, or none where there is no such saga.
+pub fn show_text(alloc: Global, book: &Book<'_>, saga: u32) -> Result<Option<String>, AllocError>
+    ensures { IfOk result (λ shown. MatchOption shown (IsUnknown book.now saga)
+        (λ text. spec.TellsSaga book.now saga (string_bytes text))) }
 {
-    let aborted = truth_text(is_aborted(book, definition, saga));
-    let phase = phase_of(book, definition, saga).word();
-    let kept = listed(alloc, &kept_numbers(alloc, book, definition, saga)?)?;
-    let states = listed_words(alloc, &state_words(alloc, book, definition, saga)?)?;
+    let Some(found) = book.saga(saga) else {
+        return Ok(None);
+    };
+    let aborted = truth_text(found.is_aborted());
+    let phase = found.phase().word();
+    let kept = listed(alloc, &kept_numbers(alloc, &found)?)?;
+    let states = listed_words(alloc, &state_words(alloc, &found)?)?;
     let answer = answer_text(alloc, book, saga)?;
     let head = head_text(alloc, aborted, answer.as_str(), kept.as_str())?;
     let tail = tail_text(alloc, states.as_str())?;
-    let name = definition.name();
+    let name = found.definition().name();
     let text = shown_text(alloc, head.as_str(), name, phase, saga, tail.as_str())?;
-    Ok(text)
+    Ok(Some(text))
 }

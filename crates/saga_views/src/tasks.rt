@@ -1,48 +1,13 @@
 //! The texts of tasks: an action or a compensation, which attempt it is, and the name of its step.
 ghost use Rattle.std.specs.Prelude.{◌≡◌, ◌<◌, IfOk, length, slice_get, string_bytes};
-ghost use Rattle.saga_history.specs.Changes.{changes, past};
-ghost use Rattle.saga_history.specs.States.{state};
-ghost use Rattle.saga_history.specs.Tasks.{missed};
-ghost use Rattle.saga_core.specs.Tasks.{IsDefinedBy};
 ghost use Rattle.saga_views.specs.Tasks as spec;
-ghost use Rattle.saga_core.specs.Book.{changes_in};
 
+use crate::words::kind_word;
 use itoa::Buffer;
-use saga_case::StepState;
-use saga_core::Book;
+use saga_core::Saga;
 use saga_def::Definition;
 use saga_history::Kind;
 use std::alloc::{AllocError, Global};
-
-/// The state of a step of a saga with that definition.
-pub fn state_of(book: &Book<'_>, definition: &Definition, saga: u32, step: u16) -> StepState
-    requires defined { IsDefinedBy book.now saga definition.now }
-    requires step { step < length definition.now.steps }
-    ensures { result ≡ state (changes_in book.now saga) step }
-{
-    let _ = definition;
-    match book.state(saga, step) {
-        Some(state) => state,
-        None => unreachable!(),
-    }
-}
-
-/// How often the action of the step was missed, or its compensation.
-pub fn missed(book: &Book<'_>, definition: &Definition, saga: u32, step: u16, kind: Kind) -> u8
-    requires defined { IsDefinedBy book.now saga definition.now }
-    requires step { step < length definition.now.steps }
-    ensures { result ≡ missed kind (changes_in book.now saga) step }
-{
-    let _ = definition;
-    let misses = match kind {
-        Kind::Run => book.misses(saga, step),
-        Kind::Undo => book.undo_misses(saga, step),
-    };
-    match misses {
-        Some(misses) => misses,
-        None => unreachable!(),
-    }
-}
 
 fn name_of<'d>(definition: &'d Definition, step: u16) -> &'d str
     requires { step < length definition.now.steps }
@@ -60,13 +25,8 @@ fn task_text(
     step: u16,
     task: &str,
 ) -> Result<String, AllocError>
-    ensures { IfOk result (λ text. string_bytes text ≡ spec.task_text (record {
-      attempt = attempt;
-      name = name.now;
-      saga = saga;
-      step = step;
-      task = task.now;
-    })) }
+    ensures { IfOk result (λ text. string_bytes text
+        ≡ spec.task_text attempt name.now saga step task.now) }
 {
     let mut first = Buffer::new();
     let mut second = Buffer::new();
@@ -90,47 +50,18 @@ fn task_text(
     .concat(alloc)
 }
 
-/// The text of the action of a step, as one that is taken.
-pub fn run_text(
+/// The text of the action or the compensation of a step, as one that is taken.
+pub fn taken_text(
     alloc: Global,
-    book: &Book<'_>,
-    definition: &Definition,
-    saga: u32,
+    saga: &Saga<'_, '_>,
     step: u16,
+    kind: Kind,
 ) -> Result<String, AllocError>
-    requires defined { IsDefinedBy book.now saga definition.now }
-    requires step { step < length definition.now.steps }
+    requires { step < length saga.now.definition.steps }
     ensures { IfOk result
-        (λ text. string_bytes text
-        ≡ spec.task_text
-        (spec.run_task definition.now (changes_in book.now saga) saga step)) }
+        (λ text. string_bytes text ≡ spec.taken_text kind saga.now step) }
 {
-    let attempt = u16::from(missed(book, definition, saga, step, Kind::Run)) + 1;
-    task_text(alloc, attempt, name_of(definition, step), saga, step, "run")
-}
-
-/// The text of the compensation of a step, as one that is taken.
-pub fn undo_text(
-    alloc: Global,
-    book: &Book<'_>,
-    definition: &Definition,
-    saga: u32,
-    step: u16,
-) -> Result<String, AllocError>
-    requires defined { IsDefinedBy book.now saga definition.now }
-    requires step { step < length definition.now.steps }
-    ensures { IfOk result
-        (λ text. string_bytes text
-        ≡ spec.task_text
-        (spec.undo_task definition.now (changes_in book.now saga) saga step)) }
-{
-    let attempt = u16::from(missed(book, definition, saga, step, Kind::Undo)) + 1;
-    task_text(
-        alloc,
-        attempt,
-        name_of(definition, step),
-        saga,
-        step,
-        "undo",
-    )
+    let attempt = u16::from(saga.missed(kind, step)) + 1;
+    let name = name_of(saga.definition(), step);
+    task_text(alloc, attempt, name, saga.number(), step, kind_word(kind))
 }

@@ -2,7 +2,18 @@
 ghost use Rattle.std.specs.Prelude.{◌≡◌, IfOk, codes, map, string_bytes};
 ghost use Rattle.saga_views.specs.Words as spec;
 
+use saga_history::Kind;
 use std::alloc::{AllocError, Global};
+
+/// The word of what is done at a step.
+pub fn kind_word(kind: Kind) -> &'static str
+    ensures { result.now ≡ spec.kind_word kind }
+{
+    match kind {
+        Kind::Run => "run",
+        Kind::Undo => "undo",
+    }
+}
 
 /// A truth value as JSON has it.
 pub fn truth_text(truth: bool) -> &'static str

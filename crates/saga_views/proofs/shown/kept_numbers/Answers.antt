@@ -1,5 +1,4 @@
 use Rattle.std.proofs.Common.{◌∙◌, ◌++◌, [], ap, ℕ, List}
-use Rattle.saga_history.specs.Changes.{changes, past}
 use Rattle.saga_history.specs.Turns.{in_goal}
 use Rattle.saga_views.proofs.RangeLemmas.{flat_more}
 use Rattle.saga_views.specs.Shown.{number_if}
@@ -7,7 +6,6 @@ use Rattle.saga_views.proofs.shown.kept_numbers.Goals as goal
 
 pub loop-step-preserved : goal.loop-step-preserved
 loop-step-preserved c =
-    let l = changes c.args.saga (past c.args.book.now.history) in
-    let number : ℕ → List (List ℕ) = λ s. number_if (in_goal l s) s in
-    (rw c.is_kept-kept.ensures at c.in_ok-push_number.ensures)
+    let number : ℕ → List (List ℕ) = λ s. number_if (in_goal c.args.saga.now.changes s) s in
+    (rw c.in_goal.ensures at c.in_ok-push_number.ensures)
     ∙ (ap (λ t. t ++ number c.loop-step.step) c.loop-step.invariant ∙ flat_more number [] c.loop-step.step)

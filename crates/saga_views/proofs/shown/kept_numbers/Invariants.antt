@@ -1,7 +1,6 @@
 use Rattle.std.proofs.Common.{◌≡◌, map, string_bytes}
-use Rattle.saga_history.specs.Changes.{changes, past}
 use Rattle.saga_views.specs.Shown.{kept_below}
 use Rattle.saga_views.proofs.shown.kept_numbers.Given as goal
 
 abbrev pub invariant-loop-step : goal.invariant-loop-step
-invariant-loop-step l = map string_bytes l.numbers.items ≡ kept_below (changes l.saga (past l.book.history)) l.step
+invariant-loop-step l = map string_bytes l.numbers.items ≡ kept_below l.saga.changes l.step

@@ -1,5 +1,5 @@
-use Rattle.std.proofs.Common.{◌∙◌, ap, codes, map, string_bytes}
-use Rattle.saga_history.specs.Changes.{changes, past}
+use Rattle.std.proofs.Common.{◌∙◌, ap, codes, map, string_bytes, sym}
+use Rattle.saga_def.specs.Contents.{Contents}
 use Rattle.saga_history.specs.Turns.{aborted}
 use Rattle.saga_views.specs.Shown.{answer_text, head_text, last_answer, tail_text}
 use Rattle.saga_views.specs.Words.{listed, truth_text}
@@ -8,9 +8,11 @@ use Rattle.saga_views.proofs.shown.show_text.Goals as goal
 
 pub returns : goal.returns
 returns c =
-    let l = changes c.args.saga (past c.args.book.now.history) in
+    let saga = c.in-Some.found in
+    let is = c.in-Some.ensures in
+    let l = saga.changes in
     let flag = c.truth_text-aborted.ensures ∙ ap truth_text c.is_aborted.ensures in
-    let answer = c.as_str.ensures.value ∙ c.in_ok-answer.ensures in
+    let answer = c.as_str.ensures.value ∙ (c.in_ok-answer.ensures ∙ ap (λ l. answer_text (last_answer l)) (sym is.changed)) in
     let kept = c.as_str-2.ensures.value ∙ (c.in_ok-kept.ensures ∙ ap (listed (codes ",")) (ap (map string_bytes) c.deref.ensures.value ∙ c.in_ok-kept_numbers.ensures)) in
     let states = c.as_str-3.ensures.value ∙ (c.in_ok-states.ensures ∙ ap (listed (codes "\",\"")) (ap (map (λ w. w.now)) c.deref-2.ensures.value ∙ c.in_ok-state_words.ensures)) in
     let head = c.as_str-4.ensures.value ∙ (c.in_ok-head.ensures
@@ -18,8 +20,11 @@ returns c =
     ∙ (ap (λ a. head_text (truth_text (aborted l)) a c.as_str-2.result.now) answer
     ∙ ap (head_text (truth_text (aborted l)) (answer_text (last_answer l))) kept))) in
     let tail = c.as_str-5.ensures.value ∙ (c.in_ok-tail.ensures ∙ ap tail_text states) in
+    let name = c.name-name.ensures ∙ ap (λ (d : Contents). d.name) c.definition.ensures in
     record {
-      phase = c.phase_of.result;
-      has = c.phase_of.ensures;
-      text_is = c.in_ok-text.ensures ∙ shown_same _ _ _ _ _ _ c.args.saga _ _ head c.name-name.ensures c.word-phase.ensures tail;
+      saga = saga;
+      is = is;
+      phase = c.phase.result;
+      has = c.phase.ensures;
+      text_is = c.in_ok-text.ensures ∙ shown_same _ _ _ _ _ _ c.args.saga saga.number _ _ head name c.word-phase.ensures (sym is.numbered) tail;
     }
