@@ -1,6 +1,5 @@
 -- An answer keeps a legal history legal.
-use Rattle.std.proofs.Common.{◌≡◌, inl, inr, ℕ, List, [], ◌∷◌, ◌++◌, Option, Some, None, Result, Ok, Err, IsSomeAnd, sym, subst, refl, append-nil, append_assoc}
-use Rattle.saga_def.specs.Contents.{Contents}
+use Rattle.std.proofs.Common.{◌≡◌, inl, inr, ℕ, List, [], ◌∷◌, ◌++◌, Result, Ok, Err, sym, subst, refl, append-nil, append_assoc}
 use Rattle.saga_case.specs.Right.{IsRight}
 use Rattle.saga_case.specs.Terms.{terms_of}
 use Rattle.saga_case.specs.declared.answers.Answer.{Answer}
@@ -9,76 +8,63 @@ use Rattle.saga_history.specs.declared.events.Event.TheVariants as event
 use Rattle.saga_history.specs.declared.tasks.Task.{Task}
 use Rattle.saga_history.specs.declared.tasks.Task.TheVariants.{Run, Undo, Plan}
 use Rattle.saga_history.specs.declared.turns.Turn.TheVariants.{Planning}
-use Rattle.saga_history.specs.Changes.{Change, changes, past, starts_plan, step_event}
-use Rattle.saga_history.specs.Rules.{IsAllowed, IsLegal, definition}
-use Rattle.saga_history.specs.Tasks.{TaskIsAllowed}
+use Rattle.saga_history.specs.Changes.{past, starts_plan, step_event}
+use Rattle.saga_history.specs.Rules.{IsLegal}
 use Rattle.saga_history.specs.Turns.{present_case, turn}
 use Rattle.saga_history.proofs.MergeLemmas.{past_push}
-use Rattle.saga_core.specs.Book.{Book, Allows, IsLegalBook}
+use Rattle.saga_core.specs.Book.{Book, Allows, IsLegalBook, with_event}
 use Rattle.saga_core.specs.Refusals.{OfSaga}
-use Rattle.saga_views.specs.Shown.{TellsSaga}
 use Rattle.saga_drive.specs.declared.replies.Reply.{Reply}
 use Rattle.saga_drive.specs.declared.requests.Request.{Request}
 use Rattle.saga_drive.specs.declared.requests.Request.TheVariants as request
 use Rattle.saga_drive.specs.declared.requests.RequestFault.{RequestFault}
-use Rattle.saga_drive.specs.Answers.{Gains, IsReplied, Meets, Tells, TellsEvent}
-use Rattle.saga_drive.specs.Begins.{Begins, after}
+use Rattle.saga_drive.specs.Answers.{Gains, IsReplied, Meets, TellsEvent}
+use Rattle.saga_drive.specs.Begins.{Begins, after, task_of}
 use Rattle.saga_drive.specs.Laws.{KeepsLegal}
 use Rattle.saga_drive.specs.Many.{BeginInTurn}
 use Rattle.saga_drive.specs.Replies.{text_of}
+use Rattle.saga_drive.proofs.KnownLemmas.{weaker}
 use Rattle.saga_drive.proofs.PlanLemmas.{begun}
 use Rattle.saga_core.specs.Tasks.{MayBegin}
 
 -- the history is legal with those events behind it
 abbrev StaysLegal : Book → List Event → Type 0
-StaysLegal book gained = IsLegal book.shelf (past (book.history ++ gained))
+StaysLegal book gained = IsLegalBook (after book gained)
 
-abbrev IsLegalNow : Book → Type 0
-IsLegalNow book = IsLegalBook book
-
-none_legal : (book : Book) (gained : List Event) → IsLegalNow book → gained ≡ [] → StaysLegal book gained
+none_legal : (book : Book) (gained : List Event) → IsLegalBook book → gained ≡ [] → StaysLegal book gained
 none_legal book gained legal none = subst (StaysLegal book) (sym none) (subst (λ (h : List Event). IsLegal book.shelf (past h)) (sym (append-nil book.history)) legal)
 
-one_legal : (book : Book) (e : Event) (gained : List Event) → IsLegalNow book → Allows book e → gained ≡ e ∷ [] → StaysLegal book gained
+one_legal : (book : Book) (e : Event) (gained : List Event) → IsLegalBook book → Allows book e → gained ≡ e ∷ [] → StaysLegal book gained
 one_legal book e gained legal allowed only = subst (StaysLegal book) (sym only) (subst (IsLegal book.shelf) (sym (past_push book.history e)) (allowed, legal))
 
-told_legal : (book : Book) (e : Event) (gained : List Event) (text : List ℕ) → IsLegalNow book → TellsEvent book e gained text → StaysLegal book gained
+told_legal : (book : Book) (e : Event) (gained : List Event) (text : List ℕ) → IsLegalBook book → TellsEvent book e gained text → StaysLegal book gained
 told_legal book e gained text legal tells = one_legal book e gained legal tells.allowed tells.only
 
 -- a plan that begins may end by an answer that is right for the present case
-may_adopt : (shelf : List Contents) (h : List Event) (i : ℕ) (a : Answer) → OfSaga shelf (past h) i (λ d l. IsRight (terms_of (present_case d l)) a)
-    → IsAllowed shelf (past (h ++ event.StartPlan i ∷ [])) (event.Adopt i a)
-may_adopt shelf h i a right = rw (begun i h) (at_definition (definition shelf (changes i (past h))) right)
-  where
-    at_definition : (o : Option Contents) → IsSomeAnd o (λ d. IsRight (terms_of (present_case d (changes i (past h)))) a)
-        → IsSomeAnd o (λ d. (turn (starts_plan ∷ changes i (past h)) ≡ Planning) × IsRight (terms_of (present_case d (starts_plan ∷ changes i (past h)))) a)
-    at_definition None none = none
-    at_definition (Some d) right = (refl, right)
+may_adopt : (b : Book) (i : ℕ) (a : Answer) → OfSaga b i (λ d l. IsRight (terms_of (present_case d l)) a)
+    → Allows (with_event b (event.StartPlan i)) (event.Adopt i a)
+may_adopt b i a right = rw (begun i b.history) (weaker b i (λ d l. IsRight (terms_of (present_case d l)) a)
+    (λ d l. (turn (starts_plan ∷ l) ≡ Planning) × IsRight (terms_of (present_case d (starts_plan ∷ l))) a) (λ d l right. (refl, right)) right)
 
-begun_legal : (book : Book) (t : Task) (gained : List Event) (text : List ℕ) → IsLegalNow book → MayBegin book t → Begins book t gained text
+begun_legal : (book : Book) (t : Task) (gained : List Event) (text : List ℕ) → IsLegalBook book → MayBegin book t → Begins book t gained text
     → StaysLegal book gained
 begun_legal book (Run i s) gained text legal allowed takes = one_legal book (event.StartRun i s) gained legal allowed takes.only
 begun_legal book (Undo i s) gained text legal allowed takes = one_legal book (event.StartUndo i s) gained legal allowed takes.only
 begun_legal book (Plan i) gained text legal allowed plans =
     let first : StaysLegal book (event.StartPlan i ∷ []) = one_legal book (event.StartPlan i) (event.StartPlan i ∷ []) legal allowed refl in
     let both : StaysLegal (after book (event.StartPlan i ∷ [])) (event.Adopt i plans.answer ∷ []) =
-    one_legal (after book (event.StartPlan i ∷ [])) (event.Adopt i plans.answer) _ first (may_adopt book.shelf book.history i plans.answer plans.right) refl in
+    one_legal (after book (event.StartPlan i ∷ [])) (event.Adopt i plans.answer) _ first (may_adopt book i plans.answer plans.right) refl in
     subst (StaysLegal book) (sym plans.both)
     (subst (λ (h : List Event). IsLegal book.shelf (past h)) (append_assoc book.history (event.StartPlan i ∷ []) (event.Adopt i plans.answer ∷ [])) both)
 
-in_turn_legal : (tasks : List Task) (book : Book) (gained : List Event) (told : List (List ℕ)) → IsLegalNow book → BeginInTurn tasks book gained told → StaysLegal book gained
+in_turn_legal : (tasks : List Task) (book : Book) (gained : List Event) (told : List (List ℕ)) → IsLegalBook book → BeginInTurn tasks book gained told → StaysLegal book gained
 in_turn_legal [] book gained told legal begun = none_legal book gained legal begun.0
 in_turn_legal (t ∷ tasks) book gained told legal (first, text, rest, texts, is_first, begins, more, all, all_told) =
     let begun : StaysLegal book first = begun_legal book t first text legal is_first.allowed begins in
     subst (StaysLegal book) (sym all)
     (subst (λ (h : List Event). IsLegal book.shelf (past h)) (append_assoc book.history first rest) (in_turn_legal tasks (after book first) rest texts begun more))
 
-shown_legal : (book : Book) (o : Option Contents) (i : ℕ) (l : List Change) (gained : List Event) (text : List ℕ) → IsLegalNow book
-    → IsSomeAnd o (λ d. Tells (TellsSaga d l i) gained text) → StaysLegal book gained
-shown_legal book None i l gained text legal shown = absurd shown
-shown_legal book (Some d) i l gained text legal shown = none_legal book gained legal shown.none
-
-meets_legal : (book : Book) (r : Request) (gained : List Event) (text : List ℕ) → IsLegalNow book → Meets book r gained text → StaysLegal book gained
+meets_legal : (book : Book) (r : Request) (gained : List Event) (text : List ℕ) → IsLegalBook book → Meets book r gained text → StaysLegal book gained
 meets_legal book (request.Open wanted saga) gained text legal (inl opens) = told_legal book _ gained text legal opens.3
 meets_legal book (request.Open wanted saga) gained text legal (inr (inl refused)) = none_legal book gained legal refused.1.none
 meets_legal book (request.Open wanted saga) gained text legal (inr (inr (inl refused))) = none_legal book gained legal refused.2.none
@@ -86,11 +72,10 @@ meets_legal book (request.Open wanted saga) gained text legal (inr (inr (inr ref
 meets_legal book request.Next gained text legal (inl first) = begun_legal book first.0 gained first.2.0 legal first.1.allowed first.2.1
 meets_legal book request.Next gained text legal (inr idle) = none_legal book gained legal idle.said.none
 meets_legal book (request.NextMany most) gained text legal takes = in_turn_legal takes.tasks book gained takes.told legal takes.begin
-meets_legal book (request.TakeStep i s) gained text legal (inl run) = begun_legal book (Run i s) gained run.1.0 legal run.0 run.1.1
-meets_legal book (request.TakeStep i s) gained text legal (inr (inl undo)) = begun_legal book (Undo i s) gained undo.1.0 legal undo.0 undo.1.1
+meets_legal book (request.TakeStep i s) gained text legal (inl (kind, may, begins)) = begun_legal book (task_of kind i s) gained begins.0 legal may begins.1
+meets_legal book (request.TakeStep i s) gained text legal (inr (inl refused)) = none_legal book gained legal refused.1.none
 meets_legal book (request.TakeStep i s) gained text legal (inr (inr (inl refused))) = none_legal book gained legal refused.1.none
-meets_legal book (request.TakeStep i s) gained text legal (inr (inr (inr (inl refused)))) = none_legal book gained legal refused.1.none
-meets_legal book (request.TakeStep i s) gained text legal (inr (inr (inr (inr refused)))) = none_legal book gained legal refused.1.none
+meets_legal book (request.TakeStep i s) gained text legal (inr (inr (inr refused))) = none_legal book gained legal refused.1.none
 meets_legal book (request.TakePlan i) gained text legal (inl plans) = begun_legal book (Plan i) gained plans.1.0 legal plans.0 plans.1.1
 meets_legal book (request.TakePlan i) gained text legal (inr (inl refused)) = none_legal book gained legal refused.1.none
 meets_legal book (request.TakePlan i) gained text legal (inr (inr refused)) = none_legal book gained legal refused.1.none
@@ -102,18 +87,17 @@ meets_legal book (request.Report i s meant outcome) gained text legal (inr (inr 
 meets_legal book (request.Abort i) gained text legal (inl tells) = told_legal book (event.Abort i) gained text legal tells
 meets_legal book (request.Abort i) gained text legal (inr (inl refused)) = none_legal book gained legal refused.1.none
 meets_legal book (request.Abort i) gained text legal (inr (inr refused)) = none_legal book gained legal refused.1.none
-meets_legal book (request.Show i) gained text legal (inl shown) =
-    shown_legal book (definition book.shelf (changes i (past book.history))) i (changes i (past book.history)) gained text legal shown
+meets_legal book (request.Show i) gained text legal (inl shown) = none_legal book gained legal shown.none
 meets_legal book (request.Show i) gained text legal (inr refused) = none_legal book gained legal refused.1.none
 meets_legal book request.Busy gained text legal said = none_legal book gained legal said.none
 meets_legal book (request.Ready from) gained text legal tells = none_legal book gained legal tells.none
 meets_legal book (request.Sagas from phase) gained text legal tells = none_legal book gained legal tells.none
 meets_legal book request.Status gained text legal tells = none_legal book gained legal tells.none
 
-gains_legal : (old new : Book) (reply : Reply) (gained : List Event) → Gains old new reply gained → StaysLegal old gained → IsLegalNow new
-gains_legal old new reply gained gains legal = subst IsLegalNow (sym gains.grows) legal
+gains_legal : (old new : Book) (reply : Reply) (gained : List Event) → Gains old new reply gained → StaysLegal old gained → IsLegalBook new
+gains_legal old new reply gained gains legal = subst IsLegalBook (sym gains.grows) legal
 
-replied_legal : (old new : Book) (read : Result Request RequestFault) (reply : Reply) → IsLegalNow old → IsReplied old new read reply → IsLegalNow new
+replied_legal : (old new : Book) (read : Result Request RequestFault) (reply : Reply) → IsLegalBook old → IsReplied old new read reply → IsLegalBook new
 replied_legal old new (Ok r) reply legal met = gains_legal old new reply met.gained met.gains (meets_legal old r met.gained (text_of reply) legal met.meets)
 replied_legal old new (Err fault) reply legal told = gains_legal old new reply [] told.0 (none_legal old [] legal refl)
 

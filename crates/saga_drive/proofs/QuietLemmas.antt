@@ -23,21 +23,23 @@ use Rattle.saga_history.specs.declared.tasks.Phase.{Phase}
 use Rattle.saga_history.specs.declared.tasks.Phase.TheVariants.{Ended, Stuck}
 use Rattle.saga_history.specs.declared.tasks.Task.{Task}
 use Rattle.saga_history.specs.declared.tasks.Task.TheVariants.{Run, Undo, Plan}
-use Rattle.saga_history.specs.Changes.{Change, aborts, changes, past, starts_plan}
-use Rattle.saga_history.specs.Rules.{HasPhase, SagaMay, definition, definition_at}
+use Rattle.saga_history.specs.Changes.{Change, aborts, starts_plan}
+use Rattle.saga_history.specs.Rules.{HasPhase, SagaMay}
 use Rattle.saga_history.specs.States.{state}
 use Rattle.saga_history.specs.Tasks.{busy_state}
 use Rattle.saga_history.proofs.LawLemmas.{has_one_phase}
-use Rattle.saga_core.specs.Book.{Book, number}
-use Rattle.saga_core.specs.Refusals.{IsUnknown, OfSaga}
+use Rattle.saga_core.specs.Book.{Book, changes_in, definition_in, number}
+use Rattle.saga_core.specs.Refusals.{IsUnknown}
+use Rattle.saga_core.specs.Saga.{HasSaga, Saga}
 use Rattle.saga_core.specs.Tasks.{AllAreOver, StandsAt}
 use Rattle.saga_views.specs.Lists.{AreTold, GoesTo, TellsList, is_told_at, list_text, text_at, text_if, told_up_to}
 use Rattle.saga_views.specs.Phases.{ArePhases}
 use Rattle.saga_views.specs.Shown.{TellsSaga, show_text}
+use Rattle.saga_views.specs.Tasks.{saga_of}
 use Rattle.saga_views.specs.Status.{TellsStatus, count_in, status_text}
 use Rattle.saga_drive.specs.declared.attempts.Attempt.{Attempt}
 use Rattle.saga_drive.specs.declared.openings.Wanted.{Wanted}
-use Rattle.saga_drive.specs.declared.openings.Wanted.TheVariants.{Place, Name}
+use Rattle.saga_drive.specs.declared.openings.Wanted.TheVariants.{Index, Name}
 use Rattle.saga_drive.specs.declared.replies.Reply.{Reply}
 use Rattle.saga_drive.specs.declared.requests.Request.{Request}
 use Rattle.saga_drive.specs.declared.requests.Request.TheVariants as request
@@ -45,9 +47,9 @@ use Rattle.saga_drive.specs.declared.requests.RequestFault.{RequestFault}
 use Rattle.saga_drive.specs.declared.requests.RequestFault.TheVariants.{TooLong, Form}
 use Rattle.saga_drive.specs.declared.verbs.Verb.{Verb}
 use Rattle.saga_drive.specs.declared.verbs.Verb.TheVariants as verb
-use Rattle.saga_drive.specs.Answers.{IsAnswer, IsIdle, IsMet, IsReplied, IsSaid, Meets, NeitherMay, Tells}
+use Rattle.saga_drive.specs.Answers.{IsAnswer, IsIdle, IsMet, IsReplied, IsSaid, Meets, NeitherMay}
 use Rattle.saga_drive.specs.Attempts.{IsNotTaken, IsOtherAttempt}
-use Rattle.saga_drive.specs.Begins.{Begins, after}
+use Rattle.saga_drive.specs.Begins.{Begins, after, task_of}
 use Rattle.saga_drive.specs.Fields.{attempt_of, count_of, max_most, most_of, u32_if, wanted_of}
 use Rattle.saga_drive.specs.Laws.{HasOneText}
 use Rattle.saga_drive.specs.Many.{AreTheFirst, AreTheLast, BeginInTurn, TakesMany}
@@ -55,7 +57,7 @@ use Rattle.saga_drive.specs.Openings.{IsNext, IsNotNext, IsWanted, NoneIsWanted}
 use Rattle.saga_drive.specs.Replies.{fault_text, idle_text, last_tasks_text, memory_word, text_of, word_of_fault}
 use Rattle.saga_drive.specs.Verbs.{keys_of, optional_keys_of}
 use Rattle.saga_drive.specs.Requests.{ReadsRequest, fields_of, from_of, next_of, outcome_of, phase_of, request_by, request_of, request_of_text, request_of_verb, sagas_of, taken_of, verb_of}
-use Rattle.saga_drive.proofs.PlanLemmas.{both}
+use Rattle.saga_drive.proofs.KnownLemmas.{apart, of_saga, unknown}
 use Rattle.saga_drive.proofs.ReadyLawLemmas.{ready_one}
 
 -- ---- nothing was gained
@@ -77,12 +79,13 @@ same_said word text other a b = a.text_is ∙ sym b.text_is
 
 -- ---- sagas
 
-unknown : (shelf : List Contents) (h : List Event) (i : ℕ) (P : Contents → List Change → Type 0) → IsUnknown h i → OfSaga shelf h i P → ⊥
-unknown shelf h i P none holds = subst (λ (o : Option Contents). IsSomeAnd o (λ d. P d (changes i h))) (ap (λ k. definition_at shelf k) none) holds
-
-apart : (shelf : List Contents) (h : List Event) (i : ℕ) (P Q : Contents → List Change → Type 0) → ((d : Contents) (l : List Change) → P d l → Q d l → ⊥)
-    → OfSaga shelf h i P → OfSaga shelf h i Q → ⊥
-apart shelf h i P Q exclude p q = both (λ d. P d (changes i h)) (λ d. Q d (changes i h)) (λ d. exclude d (changes i h)) (definition shelf (changes i h)) p q
+same_saga : (b : Book) (i : ℕ) (x y : Saga) → HasSaga b i x → HasSaga b i y → x ≡ y
+same_saga b i x y a c =
+    let defined : ◌≡◌ {A = Option Contents} (Some x.definition) (Some y.definition) = sym a.defined ∙ c.defined in
+    let definition : x.definition ≡ y.definition = cc in
+    ap (λ k. saga_of k x.definition x.changes) (a.numbered ∙ sym c.numbered)
+    ∙ ap (λ d. saga_of y.number d x.changes) definition
+    ∙ ap (λ l. saga_of y.number y.definition l) (a.changed ∙ sym c.changed)
 
 same_bool : (P : Type 0) (a b : Bool) → (IsTrue a ↔ P) → (IsTrue b ↔ P) → a ≡ b
 same_bool P true true x y = refl
@@ -97,11 +100,8 @@ taken_or_not d l s kind.Undo none busy = none.2 busy
 -- ---- each request
 
 module _ (book : Book) where
-  abbrev h : List Event
-  h = past book.history
-
   wanted_or_none : (wanted : Wanted) (k : ℕ) → length book.shelf ≤ 2 ^ 32 → NoneIsWanted book.shelf wanted → IsWanted book.shelf wanted k → ⊥
-  wanted_or_none (Place p) k few none is = omega (arith, none, is.1)
+  wanted_or_none (Index j) k few none is = omega (arith, none, is.1)
   wanted_or_none (Name name) k few none is = none k (omega (arith, few, is.0)) is.1
 
   next_or_not : (saga : Option ℕ) → IsNext saga book → IsNotNext saga book → ⊥
@@ -123,33 +123,31 @@ module _ (book : Book) where
   opens_one wanted saga text other few (inr (inr (inr a))) (inr (inr (inr b))) = same_said _ text other a.2 b.2
 
   step_one : (i s : ℕ) (text other : List ℕ) → Meets book (request.TakeStep i s) [] text → Meets book (request.TakeStep i s) [] other → text ≡ other
-  step_one i s text other (inl a) b = absurd (begins_some book (Run i s) a.1.0 a.1.1)
-  step_one i s text other (inr (inl a)) b = absurd (begins_some book (Undo i s) a.1.0 a.1.1)
-  step_one i s text other a (inl b) = absurd (begins_some book (Run i s) b.1.0 b.1.1)
-  step_one i s text other a (inr (inl b)) = absurd (begins_some book (Undo i s) b.1.0 b.1.1)
+  step_one i s text other (inl a) b = absurd (begins_some book (task_of a.0 i s) a.2.0 a.2.1)
+  step_one i s text other a (inl b) = absurd (begins_some book (task_of b.0 i s) b.2.0 b.2.1)
+  step_one i s text other (inr (inl a)) (inr (inl b)) = same_said _ text other a.1 b.1
+  step_one i s text other (inr (inl a)) (inr (inr (inl b))) = absurd (unknown book i (λ d l. length d.steps ≤ s) a.0 b.0)
+  step_one i s text other (inr (inl a)) (inr (inr (inr b))) = absurd (unknown book i (λ d l. NeitherMay d l s) a.0 b.0)
+  step_one i s text other (inr (inr (inl a))) (inr (inl b)) = absurd (unknown book i (λ d l. length d.steps ≤ s) b.0 a.0)
+  step_one i s text other (inr (inr (inr a))) (inr (inl b)) = absurd (unknown book i (λ d l. NeitherMay d l s) b.0 a.0)
   step_one i s text other (inr (inr (inl a))) (inr (inr (inl b))) = same_said _ text other a.1 b.1
-  step_one i s text other (inr (inr (inl a))) (inr (inr (inr (inl b)))) = absurd (unknown book.shelf h i (λ d l. length d.steps ≤ s) a.0 b.0)
-  step_one i s text other (inr (inr (inl a))) (inr (inr (inr (inr b)))) = absurd (unknown book.shelf h i (λ d l. NeitherMay d l s) a.0 b.0)
-  step_one i s text other (inr (inr (inr (inl a)))) (inr (inr (inl b))) = absurd (unknown book.shelf h i (λ d l. length d.steps ≤ s) b.0 a.0)
-  step_one i s text other (inr (inr (inr (inr a)))) (inr (inr (inl b))) = absurd (unknown book.shelf h i (λ d l. NeitherMay d l s) b.0 a.0)
-  step_one i s text other (inr (inr (inr (inl a)))) (inr (inr (inr (inl b)))) = same_said _ text other a.1 b.1
-  step_one i s text other (inr (inr (inr (inl a)))) (inr (inr (inr (inr b)))) =
-      absurd (apart book.shelf h i (λ d l. length d.steps ≤ s) (λ d l. NeitherMay d l s) (λ d l p q. omega (arith, p, q.0)) a.0 b.0)
-  step_one i s text other (inr (inr (inr (inr a)))) (inr (inr (inr (inl b)))) =
-      absurd (apart book.shelf h i (λ d l. length d.steps ≤ s) (λ d l. NeitherMay d l s) (λ d l p q. omega (arith, p, q.0)) b.0 a.0)
-  step_one i s text other (inr (inr (inr (inr a)))) (inr (inr (inr (inr b)))) = same_said _ text other a.1 b.1
+  step_one i s text other (inr (inr (inl a))) (inr (inr (inr b))) =
+      absurd (apart book i (λ d l. length d.steps ≤ s) (λ d l. NeitherMay d l s) (λ d l p q. omega (arith, p, q.0)) a.0 b.0)
+  step_one i s text other (inr (inr (inr a))) (inr (inr (inl b))) =
+      absurd (apart book i (λ d l. length d.steps ≤ s) (λ d l. NeitherMay d l s) (λ d l p q. omega (arith, p, q.0)) b.0 a.0)
+  step_one i s text other (inr (inr (inr a))) (inr (inr (inr b))) = same_said _ text other a.1 b.1
 
   plan_one : (i : ℕ) (text other : List ℕ) → Meets book (request.TakePlan i) [] text → Meets book (request.TakePlan i) [] other → text ≡ other
   plan_one i text other (inl a) b = absurd (begins_some book (Plan i) a.1.0 a.1.1)
   plan_one i text other a (inl b) = absurd (begins_some book (Plan i) b.1.0 b.1.1)
   plan_one i text other (inr (inl a)) (inr (inl b)) = same_said _ text other a.1 b.1
-  plan_one i text other (inr (inl a)) (inr (inr b)) = absurd (unknown book.shelf h i (λ d l. SagaMay d l starts_plan → ⊥) a.0 b.0)
-  plan_one i text other (inr (inr a)) (inr (inl b)) = absurd (unknown book.shelf h i (λ d l. SagaMay d l starts_plan → ⊥) b.0 a.0)
+  plan_one i text other (inr (inl a)) (inr (inr b)) = absurd (unknown book i (λ d l. SagaMay d l starts_plan → ⊥) a.0 b.0)
+  plan_one i text other (inr (inr a)) (inr (inl b)) = absurd (unknown book i (λ d l. SagaMay d l starts_plan → ⊥) b.0 a.0)
   plan_one i text other (inr (inr a)) (inr (inr b)) = same_said _ text other a.1 b.1
 
   idle_one : (text other : List ℕ) → IsIdle book [] text → IsIdle book [] other → text ≡ other
   idle_one text other a b =
-      a.said.text_is ∙ ap idle_text (same_bool (AllAreOver book.shelf h) a.settled b.settled a.settled_is b.settled_is) ∙ sym b.said.text_is
+      a.said.text_is ∙ ap idle_text (same_bool (AllAreOver book) a.settled b.settled a.settled_is b.settled_is) ∙ sym b.said.text_is
 
   next_one : (text other : List ℕ) → Meets book request.Next [] text → Meets book request.Next [] other → text ≡ other
   next_one text other (inl a) b = absurd (begins_some book a.0 a.2.0 a.2.1)
@@ -161,46 +159,50 @@ module _ (book : Book) where
   report_one i s meant outcome text other (inl a) b = absurd (never _ [] a.1.only)
   report_one i s meant outcome text other a (inl b) = absurd (never _ [] b.1.only)
   report_one i s meant outcome text other (inr (inl a)) (inr (inl b)) = same_said _ text other a.1 b.1
-  report_one i s meant outcome text other (inr (inl a)) (inr (inr (inl b))) = absurd (unknown book.shelf h i (λ d l. length d.steps ≤ s) a.0 b.0)
-  report_one i s meant outcome text other (inr (inl a)) (inr (inr (inr (inl b)))) = absurd (unknown book.shelf h i (λ d l. IsNotTaken d l s) a.0 b.0)
-  report_one i s meant outcome text other (inr (inl a)) (inr (inr (inr (inr b)))) = absurd (unknown book.shelf h i (λ d l. IsOtherAttempt meant d l s) a.0 b.0)
-  report_one i s meant outcome text other (inr (inr (inl a))) (inr (inl b)) = absurd (unknown book.shelf h i (λ d l. length d.steps ≤ s) b.0 a.0)
-  report_one i s meant outcome text other (inr (inr (inr (inl a)))) (inr (inl b)) = absurd (unknown book.shelf h i (λ d l. IsNotTaken d l s) b.0 a.0)
-  report_one i s meant outcome text other (inr (inr (inr (inr a)))) (inr (inl b)) = absurd (unknown book.shelf h i (λ d l. IsOtherAttempt meant d l s) b.0 a.0)
+  report_one i s meant outcome text other (inr (inl a)) (inr (inr (inl b))) = absurd (unknown book i (λ d l. length d.steps ≤ s) a.0 b.0)
+  report_one i s meant outcome text other (inr (inl a)) (inr (inr (inr (inl b)))) = absurd (unknown book i (λ d l. IsNotTaken d l s) a.0 b.0)
+  report_one i s meant outcome text other (inr (inl a)) (inr (inr (inr (inr b)))) = absurd (unknown book i (λ d l. IsOtherAttempt meant d l s) a.0 b.0)
+  report_one i s meant outcome text other (inr (inr (inl a))) (inr (inl b)) = absurd (unknown book i (λ d l. length d.steps ≤ s) b.0 a.0)
+  report_one i s meant outcome text other (inr (inr (inr (inl a)))) (inr (inl b)) = absurd (unknown book i (λ d l. IsNotTaken d l s) b.0 a.0)
+  report_one i s meant outcome text other (inr (inr (inr (inr a)))) (inr (inl b)) = absurd (unknown book i (λ d l. IsOtherAttempt meant d l s) b.0 a.0)
   report_one i s meant outcome text other (inr (inr (inl a))) (inr (inr (inl b))) = same_said _ text other a.1 b.1
   report_one i s meant outcome text other (inr (inr (inl a))) (inr (inr (inr (inl b)))) =
-      absurd (apart book.shelf h i (λ d l. length d.steps ≤ s) (λ d l. IsNotTaken d l s) (λ d l p q. omega (arith, p, q.0)) a.0 b.0)
+      absurd (apart book i (λ d l. length d.steps ≤ s) (λ d l. IsNotTaken d l s) (λ d l p q. omega (arith, p, q.0)) a.0 b.0)
   report_one i s meant outcome text other (inr (inr (inl a))) (inr (inr (inr (inr b)))) =
-      absurd (apart book.shelf h i (λ d l. length d.steps ≤ s) (λ d l. IsOtherAttempt meant d l s) (λ d l p q. omega (arith, p, q.is_step)) a.0 b.0)
+      absurd (apart book i (λ d l. length d.steps ≤ s) (λ d l. IsOtherAttempt meant d l s) (λ d l p q. omega (arith, p, q.is_step)) a.0 b.0)
   report_one i s meant outcome text other (inr (inr (inr (inl a)))) (inr (inr (inl b))) =
-      absurd (apart book.shelf h i (λ d l. length d.steps ≤ s) (λ d l. IsNotTaken d l s) (λ d l p q. omega (arith, p, q.0)) b.0 a.0)
+      absurd (apart book i (λ d l. length d.steps ≤ s) (λ d l. IsNotTaken d l s) (λ d l p q. omega (arith, p, q.0)) b.0 a.0)
   report_one i s meant outcome text other (inr (inr (inr (inr a)))) (inr (inr (inl b))) =
-      absurd (apart book.shelf h i (λ d l. length d.steps ≤ s) (λ d l. IsOtherAttempt meant d l s) (λ d l p q. omega (arith, p, q.is_step)) b.0 a.0)
+      absurd (apart book i (λ d l. length d.steps ≤ s) (λ d l. IsOtherAttempt meant d l s) (λ d l p q. omega (arith, p, q.is_step)) b.0 a.0)
   report_one i s meant outcome text other (inr (inr (inr (inl a)))) (inr (inr (inr (inl b)))) = same_said _ text other a.1 b.1
   report_one i s meant outcome text other (inr (inr (inr (inl a)))) (inr (inr (inr (inr b)))) =
-      absurd (apart book.shelf h i (λ d l. IsNotTaken d l s) (λ d l. IsOtherAttempt meant d l s) (λ d l p q. taken_or_not d l s q.kind p q.busy) a.0 b.0)
+      absurd (apart book i (λ d l. IsNotTaken d l s) (λ d l. IsOtherAttempt meant d l s) (λ d l p q. taken_or_not d l s q.kind p q.busy) a.0 b.0)
   report_one i s meant outcome text other (inr (inr (inr (inr a)))) (inr (inr (inr (inl b)))) =
-      absurd (apart book.shelf h i (λ d l. IsNotTaken d l s) (λ d l. IsOtherAttempt meant d l s) (λ d l p q. taken_or_not d l s q.kind p q.busy) b.0 a.0)
+      absurd (apart book i (λ d l. IsNotTaken d l s) (λ d l. IsOtherAttempt meant d l s) (λ d l p q. taken_or_not d l s q.kind p q.busy) b.0 a.0)
   report_one i s meant outcome text other (inr (inr (inr (inr a)))) (inr (inr (inr (inr b)))) = same_said _ text other a.1 b.1
 
   abort_one : (i : ℕ) (text other : List ℕ) → Meets book (request.Abort i) [] text → Meets book (request.Abort i) [] other → text ≡ other
   abort_one i text other (inl a) b = absurd (never _ [] a.only)
   abort_one i text other a (inl b) = absurd (never _ [] b.only)
   abort_one i text other (inr (inl a)) (inr (inl b)) = same_said _ text other a.1 b.1
-  abort_one i text other (inr (inl a)) (inr (inr b)) = absurd (unknown book.shelf h i (λ d l. SagaMay d l aborts → ⊥) a.0 b.0)
-  abort_one i text other (inr (inr a)) (inr (inl b)) = absurd (unknown book.shelf h i (λ d l. SagaMay d l aborts → ⊥) b.0 a.0)
+  abort_one i text other (inr (inl a)) (inr (inr b)) = absurd (unknown book i (λ d l. SagaMay d l aborts → ⊥) a.0 b.0)
+  abort_one i text other (inr (inr a)) (inr (inl b)) = absurd (unknown book i (λ d l. SagaMay d l aborts → ⊥) b.0 a.0)
   abort_one i text other (inr (inr a)) (inr (inr b)) = same_said _ text other a.1 b.1
 
-  shown_one : (i : ℕ) (l : List Change) (o : Option Contents) (text other : List ℕ) → IsSomeAnd o (λ d. Tells (TellsSaga d l i) [] text)
-      → IsSomeAnd o (λ d. Tells (TellsSaga d l i) [] other) → text ≡ other
-  shown_one i l None text other a b = absurd a
-  shown_one i l (Some d) text other a b =
-      a.told.text_is ∙ ap (λ p. show_text d l p i) (has_one_phase d l a.told.phase b.told.phase a.told.has b.told.has) ∙ sym b.told.text_is
+  shown_one : (x y : Saga) (p q : Phase) → x ≡ y → HasPhase x.definition x.changes p → HasPhase y.definition y.changes q → show_text x p ≡ show_text y q
+  shown_one x y p q same a b =
+      ap (λ (s : Saga). show_text s p) same
+      ∙ ap (show_text y) (has_one_phase y.definition y.changes p q (subst (λ (s : Saga). HasPhase s.definition s.changes p) same a) b)
+
+  not_there : (i : ℕ) (text : List ℕ) → IsUnknown book i → TellsSaga book i text → ⊥
+  not_there i text none tells = unknown book i (λ d l. Unit {0}) none (of_saga book i tells.saga (λ d l. Unit {0}) tells.is tt)
 
   show_one : (i : ℕ) (text other : List ℕ) → Meets book (request.Show i) [] text → Meets book (request.Show i) [] other → text ≡ other
-  show_one i text other (inl a) (inl b) = shown_one i (changes i h) (definition book.shelf (changes i h)) text other a b
-  show_one i text other (inl a) (inr b) = absurd (unknown book.shelf h i (λ d l. Tells (TellsSaga d l i) [] text) b.0 a)
-  show_one i text other (inr a) (inl b) = absurd (unknown book.shelf h i (λ d l. Tells (TellsSaga d l i) [] other) a.0 b)
+  show_one i text other (inl a) (inl b) =
+      let same = same_saga book i a.told.saga b.told.saga a.told.is b.told.is in
+      a.told.text_is ∙ shown_one a.told.saga b.told.saga a.told.phase b.told.phase same a.told.has b.told.has ∙ sym b.told.text_is
+  show_one i text other (inl a) (inr b) = absurd (not_there i text b.0 a.told)
+  show_one i text other (inr a) (inl b) = absurd (not_there i other a.0 b.told)
   show_one i text other (inr a) (inr b) = same_said _ text other a.1 b.1
 
   -- ---- many tasks
@@ -214,17 +216,17 @@ module _ (book : Book) where
       front_none [] rest is = refl
       front_none (e ∷ first) rest is = absurd (never e (first ++ rest) is)
 
-  alone : (most : ℕ) (text : List ℕ) → 0 < most → TakesMany book most [] text → (settled : Bool) × (IsTrue settled ↔ AllAreOver book.shelf h) × (text ≡ last_tasks_text settled [])
+  alone : (most : ℕ) (text : List ℕ) → 0 < most → TakesMany book most [] text → (settled : Bool) × (IsTrue settled ↔ AllAreOver book) × (text ≡ last_tasks_text settled [])
   alone most text some takes = by takes.end
     where
       told : takes.told ≡ []
       told = no_tasks takes.tasks takes.told takes.begin
 
-      same : past (after book []).history ≡ h
-      same = ap past (append-nil book.history)
+      same : after book [] ≡ book
+      same = ap (λ (h : List Event). record book { history = h }) (append-nil book.history)
 
-      by : AreTheLast (after book []) takes.told text ⊎ AreTheFirst most takes.told text → (settled : Bool) × (IsTrue settled ↔ AllAreOver book.shelf h) × (text ≡ last_tasks_text settled [])
-      by (inl last) = (last.settled, subst (λ (g : List Event). IsTrue last.settled ↔ AllAreOver book.shelf g) same last.settled_is, last.text_is ∙ ap (last_tasks_text last.settled) told)
+      by : AreTheLast (after book []) takes.told text ⊎ AreTheFirst most takes.told text → (settled : Bool) × (IsTrue settled ↔ AllAreOver book) × (text ≡ last_tasks_text settled [])
+      by (inl last) = (last.settled, subst (λ (b : Book). IsTrue last.settled ↔ AllAreOver b) same last.settled_is, last.text_is ∙ ap (last_tasks_text last.settled) told)
       by (inr first) = absurd (count first.count)
         where
           count : (length takes.told ≡ most) ⊎ (0 < length takes.told) → ⊥
@@ -235,20 +237,20 @@ module _ (book : Book) where
   many_one most text other some a b =
       let x = alone most text some a in
       let y = alone most other some b in
-      x.2 ∙ ap (λ (settled : Bool). last_tasks_text settled []) (same_bool (AllAreOver book.shelf h) x.0 y.0 x.1 y.1) ∙ sym y.2
+      x.2 ∙ ap (λ (settled : Bool). last_tasks_text settled []) (same_bool (AllAreOver book) x.0 y.0 x.1 y.1) ∙ sym y.2
 
   -- ---- where all sagas stand
 
-  one_phase : (i : ℕ) (p q : Phase) → StandsAt book.shelf h i p → StandsAt book.shelf h i q → p ≡ q
-  one_phase i p q a b = by (definition book.shelf (changes i h)) a b
+  one_phase : (i : ℕ) (p q : Phase) → StandsAt book i p → StandsAt book i q → p ≡ q
+  one_phase i p q a b = by (definition_in book i) a b
     where
-      by : (o : Option Contents) → IsSomeAnd o (λ d. HasPhase d (changes i h) p) → IsSomeAnd o (λ d. HasPhase d (changes i h) q) → p ≡ q
+      by : (o : Option Contents) → IsSomeAnd o (λ d. HasPhase d (changes_in book i) p) → IsSomeAnd o (λ d. HasPhase d (changes_in book i) q) → p ≡ q
       by None a b = absurd a
-      by (Some d) a b = has_one_phase d (changes i h) p q a b
+      by (Some d) a b = has_one_phase d (changes_in book i) p q a b
 
   one_phases : (ps qs : List Phase) → ArePhases book ps → ArePhases book qs → ps ≡ qs
   one_phases ps qs a b =
-      same_list (λ k p. StandsAt book.shelf h (number book.first book.stride k) p) (λ k p q. one_phase (number book.first book.stride k) p q) ps qs (a.sized ∙ sym b.sized)
+      same_list (λ k p. StandsAt book (number book.first book.stride k) p) (λ k p q. one_phase (number book.first book.stride k) p q) ps qs (a.sized ∙ sym b.sized)
       (λ k p lt. a.each k p (subst (λ (n : ℕ). k < n) a.sized lt)) (λ k p lt. b.each k p (subst (λ (n : ℕ). k < n) b.sized lt))
     where
       same_list : (P : ℕ → Phase → Type 0) → ((k : ℕ) (p q : Phase) → P k p → P k q → p ≡ q) → (ps qs : List Phase) → length ps ≡ length qs

@@ -3,39 +3,36 @@ use Rattle.std.proofs.Common.{◌≡◌, ◌≢◌, ◌∙◌, ◌⊎◌, inl, i
 use Rattle.std.specs.Prelude.{AllPairs, Contains, slice_index_or}
 use Rattle.std.proofs.lemmas.Bool.{cases_lt}
 use Rattle.std.proofs.lemmas.List.{get_or_append_left, length-append}
-use Rattle.saga_def.specs.Contents.{Contents}
-use Rattle.saga_history.specs.declared.events.Event.{Event}
 use Rattle.saga_history.specs.declared.tasks.Task.{Task}
 use Rattle.saga_history.specs.declared.tasks.Task.TheVariants.{Run, Undo, Plan}
 use Rattle.saga_history.specs.declared.transitions.Transition.TheVariants.{StartRun, StartUndo}
-use Rattle.saga_history.specs.Changes.{changes, moves, past, starts_plan}
-use Rattle.saga_history.specs.Rules.{SagaMay, definition}
-use Rattle.saga_history.specs.Tasks.{TaskIsAllowed}
+use Rattle.saga_history.specs.Changes.{moves, starts_plan}
+use Rattle.saga_history.specs.Rules.{SagaMay}
 use Rattle.saga_core.specs.Book.{Book}
-use Rattle.saga_core.specs.Tasks.{IsNotAfter, saga_of_task, step_of_task}
+use Rattle.saga_core.specs.Tasks.{IsNotAfter, MayBegin, saga_of_task, step_of_task}
 use Rattle.saga_views.specs.Ready.{AreReady, IsBefore, IsReady, ListsAll, TellsReady, ready_text}
 use Rattle.saga_views.specs.Limits.{enough_tasks}
-use Rattle.saga_drive.proofs.PlanLemmas.{both}
+use Rattle.saga_drive.proofs.KnownLemmas.{apart}
 
 -- ---- two tasks that are allowed
 
-module _ (shelf : List Contents) (h : List Event) where
-  run_or_undo : (i j s r : ℕ) → i ≡ j → s ≡ r → TaskIsAllowed shelf h (Run i s) → TaskIsAllowed shelf h (Undo j r) → ⊥
+module _ (book : Book) where
+  run_or_undo : (i j s r : ℕ) → i ≡ j → s ≡ r → MayBegin book (Run i s) → MayBegin book (Undo j r) → ⊥
   run_or_undo i j s r saga step run undo =
-      both (λ d. SagaMay d (changes i h) (moves s StartRun)) (λ d. SagaMay d (changes i h) (moves s StartUndo)) (λ d a b. absurd (cc (a.begins, b.begins))) (definition shelf (changes i h)) run
-      (subst (λ (k : ℕ). TaskIsAllowed shelf h (Undo i k)) (sym step) (subst (λ (k : ℕ). TaskIsAllowed shelf h (Undo k r)) (sym saga) undo))
+      apart book i (λ d l. SagaMay d l (moves s StartRun)) (λ d l. SagaMay d l (moves s StartUndo)) (λ d l a b. absurd (cc (a.begins, b.begins))) run
+      (subst (λ (k : ℕ). MayBegin book (Undo i k)) (sym step) (subst (λ (k : ℕ). MayBegin book (Undo k r)) (sym saga) undo))
 
-  run_or_plan : (i j s : ℕ) → i ≡ j → TaskIsAllowed shelf h (Run i s) → TaskIsAllowed shelf h (Plan j) → ⊥
+  run_or_plan : (i j s : ℕ) → i ≡ j → MayBegin book (Run i s) → MayBegin book (Plan j) → ⊥
   run_or_plan i j s saga run plan =
-      both (λ d. SagaMay d (changes i h) (moves s StartRun)) (λ d. SagaMay d (changes i h) starts_plan) (λ d a b. absurd (cc (a.condition.0, b.0))) (definition shelf (changes i h)) run
-      (subst (λ (k : ℕ). TaskIsAllowed shelf h (Plan k)) (sym saga) plan)
+      apart book i (λ d l. SagaMay d l (moves s StartRun)) (λ d l. SagaMay d l starts_plan) (λ d l a b. absurd (cc (a.condition.0, b.0))) run
+      (subst (λ (k : ℕ). MayBegin book (Plan k)) (sym saga) plan)
 
-  undo_or_plan : (i j s : ℕ) → i ≡ j → TaskIsAllowed shelf h (Undo i s) → TaskIsAllowed shelf h (Plan j) → ⊥
+  undo_or_plan : (i j s : ℕ) → i ≡ j → MayBegin book (Undo i s) → MayBegin book (Plan j) → ⊥
   undo_or_plan i j s saga undo plan =
-      both (λ d. SagaMay d (changes i h) (moves s StartUndo)) (λ d. SagaMay d (changes i h) starts_plan) (λ d a b. absurd (cc (a.condition.0, b.0))) (definition shelf (changes i h)) undo
-      (subst (λ (k : ℕ). TaskIsAllowed shelf h (Plan k)) (sym saga) plan)
+      apart book i (λ d l. SagaMay d l (moves s StartUndo)) (λ d l. SagaMay d l starts_plan) (λ d l a b. absurd (cc (a.condition.0, b.0))) undo
+      (subst (λ (k : ℕ). MayBegin book (Plan k)) (sym saga) plan)
 
-  same_place : (t u : Task) → saga_of_task t ≡ saga_of_task u → step_of_task t ≡ step_of_task u → TaskIsAllowed shelf h t → TaskIsAllowed shelf h u → t ≡ u
+  same_place : (t u : Task) → saga_of_task t ≡ saga_of_task u → step_of_task t ≡ step_of_task u → MayBegin book t → MayBegin book u → t ≡ u
   same_place (Run i s) (Run j r) saga step a b = ap (λ (k : ℕ). Run k s) saga ∙ ap (Run j) step
   same_place (Run i s) (Undo j r) saga step a b = absurd (run_or_undo i j s r saga step a b)
   same_place (Run i s) (Plan j) saga step a b = absurd (run_or_plan i j s saga a b)
@@ -46,7 +43,7 @@ module _ (shelf : List Contents) (h : List Event) where
   same_place (Plan i) (Undo j r) saga step a b = absurd (undo_or_plan j i r (sym saga) b a)
   same_place (Plan i) (Plan j) saga step a b = ap Plan saga
 
-  neither_after : (t u : Task) → TaskIsAllowed shelf h t → TaskIsAllowed shelf h u → IsNotAfter t u → IsNotAfter u t → t ≡ u
+  neither_after : (t u : Task) → MayBegin book t → MayBegin book u → IsNotAfter t u → IsNotAfter u t → t ≡ u
   neither_after t u a b (inl x) (inl y) = absurd (omega (arith, x, y))
   neither_after t u a b (inl x) (inr y) = absurd (omega (arith, x, y.0))
   neither_after t u a b (inr x) (inl y) = absurd (omega (arith, x.0, y))
@@ -123,12 +120,12 @@ same_lists P one ts us a b =
 
 -- ---- what is told
 
-module _ (shelf : List Contents) (h : List Event) (from : ℕ) where
-  one_place : (more : Option ℕ) (t u : Task) → IsReady shelf h from more t → IsReady shelf h from more u → IsNotAfter t u → IsNotAfter u t → t ≡ u
-  one_place more t u a b = neither_after shelf h t u a.0 b.0
+module _ (book : Book) (from : ℕ) where
+  one_place : (more : Option ℕ) (t u : Task) → IsReady book from more t → IsReady book from more u → IsNotAfter t u → IsNotAfter u t → t ≡ u
+  one_place more t u a b = neither_after book t u a.0 b.0
 
   -- it stops nowhere but at the first saga behind enough tasks
-  stops : (ts us : List Task) (m : ℕ) (more : Option ℕ) → ((t : Task) → saga_of_task t ≤ m → IsBefore more t) → AreReady shelf h from ts (Some m) → AreReady shelf h from us more → ⊥
+  stops : (ts us : List Task) (m : ℕ) (more : Option ℕ) → ((t : Task) → saga_of_task t ≤ m → IsBefore more t) → AreReady book from ts (Some m) → AreReady book from us more → ⊥
   stops ts us m more before a b = by (b.each.all w (a.rest.allowed, omega (arith, within, a.rest.saga), before w (omega (arith, a.rest.saga))))
     where
       w : Task
@@ -140,13 +137,13 @@ module _ (shelf : List Contents) (h : List Event) (from : ℕ) where
       some : enough_tasks - 1 < length ts
       some = omega (arith, a.rest.enough, enough)
 
-      first : IsReady shelf h from (Some m) (slice_index_or ts (enough_tasks - 1) w)
+      first : IsReady book from (Some m) (slice_index_or ts (enough_tasks - 1) w)
       first = a.each.only (enough_tasks - 1) w some
 
       within : from ≤ m
       within = omega (arith, first.1, first.2)
 
-      beside : (u : Task) → IsReady shelf h from more u → IsReady shelf h from (Some m) u ⊎ ((t : Task) → IsReady shelf h from (Some m) t → IsNotAfter u t → ⊥)
+      beside : (u : Task) → IsReady book from more u → IsReady book from (Some m) u ⊎ ((t : Task) → IsReady book from (Some m) t → IsNotAfter u t → ⊥)
       beside u q = elim (cases_lt (saga_of_task u) m) [
         | inl lt ↦ inl (q.0, q.1, lt)
         | inr le ↦ inr (λ t p after. later u t le p.2 after)
@@ -157,7 +154,7 @@ module _ (shelf : List Contents) (h : List Event) (from : ℕ) where
           later u t le lt (inr x) = omega (arith, le, lt, x.0)
 
       all : (rest : List Task) × (us ≡ ts ++ rest)
-      all = begins_with (IsReady shelf h from (Some m)) (IsReady shelf h from more) (one_place more) (λ t p. (p.0, p.1, before t (omega (arith, p.2)))) beside ts us a.each b.each
+      all = begins_with (IsReady book from (Some m)) (IsReady book from more) (one_place more) (λ t p. (p.0, p.1, before t (omega (arith, p.2)))) beside ts us a.each b.each
 
       in_front : (k : ℕ) → k < length ts → slice_index_or us k w ≡ slice_index_or ts k w
       in_front k lt = ap (λ (l : List Task). slice_index_or l k w) all.1 ∙ get_or_append_left ts all.0 w k lt
@@ -168,7 +165,7 @@ module _ (shelf : List Contents) (h : List Event) (from : ℕ) where
         | inr le ↦ omega (arith, first.2, b.not_cut k w (omega (arith, le, a.rest.enough)) lt, ap saga_of_task is, ap saga_of_task (in_front (enough_tasks - 1) some), a.rest.saga)
       ]
 
-  one_end : (ts us : List Task) (a b : Option ℕ) → AreReady shelf h from ts a → AreReady shelf h from us b → a ≡ b
+  one_end : (ts us : List Task) (a b : Option ℕ) → AreReady book from ts a → AreReady book from us b → a ≡ b
   one_end ts us None None x y = refl
   one_end ts us (Some m) None x y = absurd (stops ts us m None (λ t le. tt) x y)
   one_end ts us None (Some n) x y = absurd (stops us ts n None (λ t le. tt) y x)
@@ -182,8 +179,7 @@ module _ (shelf : List Contents) (h : List Event) (from : ℕ) where
 
 pub ready_one : (book : Book) (from : ℕ) (text other : List ℕ) → TellsReady book from text → TellsReady book from other → text ≡ other
 ready_one book from text other a b =
-    let h = past book.history in
-    let more : a.more ≡ b.more = one_end book.shelf h from a.tasks b.tasks a.more b.more a.ready b.ready in
-    let ready : AreReady book.shelf h from a.tasks b.more = subst (λ (m : Option ℕ). AreReady book.shelf h from a.tasks m) more a.ready in
-    let tasks : a.tasks ≡ b.tasks = same_lists (IsReady book.shelf h from b.more) (one_place book.shelf h from b.more) a.tasks b.tasks ready.each b.ready.each in
-    a.text_is ∙ ap (ready_text book.shelf h a.tasks) more ∙ ap (λ (l : List Task). ready_text book.shelf h l b.more) tasks ∙ sym b.text_is
+    let more : a.more ≡ b.more = one_end book from a.tasks b.tasks a.more b.more a.ready b.ready in
+    let ready : AreReady book from a.tasks b.more = subst (λ (m : Option ℕ). AreReady book from a.tasks m) more a.ready in
+    let tasks : a.tasks ≡ b.tasks = same_lists (IsReady book from b.more) (one_place book from b.more) a.tasks b.tasks ready.each b.ready.each in
+    a.text_is ∙ ap (ready_text book a.tasks) more ∙ ap (λ (l : List Task). ready_text book l b.more) tasks ∙ sym b.text_is

@@ -1,17 +1,18 @@
 -- Reports and openings that are met.
-use Rattle.std.proofs.Common.{codes, ◌≡◌, ◌∙◌, ℕ, List, [], ◌∷◌, ◌++◌, Option, None, Some, IsSomeAnd, append-nil, ap, inl, refl, subst, sym}
-use Rattle.saga_def.specs.Contents.{Contents}
+use Rattle.std.proofs.Common.{codes, ◌≡◌, ◌≢◌, ◌∙◌, ◌<◌, ◌≤◌, ℕ, List, [], ◌∷◌, ◌++◌, Option, None, Some, append-nil, ap, arith, inl, length, refl, subst, sym}
 use Rattle.saga_history.specs.declared.events.Event.{Event}
 use Rattle.saga_history.specs.declared.tasks.Kind.{Kind}
 use Rattle.saga_history.specs.declared.tasks.Outcome.{Outcome}
 use Rattle.saga_history.specs.declared.transitions.Transition.{Transition}
-use Rattle.saga_history.specs.Changes.{changes, past, saga_of, step_event}
+use Rattle.saga_history.specs.Changes.{saga_of, step_event}
 use Rattle.saga_history.specs.declared.events.Event.TheVariants as event
-use Rattle.saga_history.specs.Rules.{IsAllowed}
-use Rattle.saga_history.specs.Tasks.{IsEndOf}
+use Rattle.saga_history.specs.States.{state}
+use Rattle.saga_history.specs.Tasks.{IsEndOf, busy_state}
 use Rattle.saga_core.specs.Book.{Book, with_event, Allows}
-use Rattle.saga_core.specs.Refusals.{IsReported}
-use Rattle.saga_core.specs.Tasks.{IsDefinedBy, StandsAt}
+use Rattle.saga_core.specs.Refusals.{IsReported, OfSaga, ReportRefused}
+use Rattle.saga_core.specs.Tasks.{StandsAt}
+use Rattle.saga_core.specs.declared.refusals.ReportRefusal.{ReportRefusal}
+use Rattle.saga_core.specs.declared.refusals.ReportRefusal.TheVariants as report
 use Rattle.saga_log.specs.Back.{IsReadBack}
 use Rattle.saga_log.specs.Logs.{event_line}
 use Rattle.saga_drive.specs.declared.attempts.Attempt.{Attempt}
@@ -19,12 +20,12 @@ use Rattle.saga_drive.specs.declared.openings.Wanted.{Wanted}
 use Rattle.saga_drive.specs.declared.replies.Reply.{Reply}
 use Rattle.saga_drive.specs.declared.requests.Request.TheVariants as request
 use Rattle.saga_drive.specs.Answers.{IsEnd, IsMet, TellsEvent}
-use Rattle.saga_drive.specs.Attempts.{IsMeant, number_of}
+use Rattle.saga_drive.specs.Attempts.{IsMeantAttempt}
 use Rattle.saga_drive.specs.Happenings.{IsHeld}
 use Rattle.saga_drive.specs.Openings.{IsNext, IsNotNext, IsWanted, next_number}
 use Rattle.saga_drive.specs.Replies.{event_front, lines_of, text_of}
 use Rattle.saga_history.specs.Tasks.{phase_word}
-use Rattle.saga_drive.proofs.KnownLemmas.{saga_of-step_event}
+use Rattle.saga_drive.proofs.KnownLemmas.{apart, saga_of-step_event, unknown, weaker}
 
 -- the event is told, with where its saga stands then
 pub tells_event : (old new : Book) (e : Event) (i : ℕ) (front : List ℕ) (reply : Reply) → saga_of e ≡ i → Allows old e
@@ -34,20 +35,28 @@ tells_event old new e i front reply of allowed grows is (phase, stands, text) = 
   only = refl;
   phase = phase;
   stands =
-      subst (λ j. StandsAt old.shelf (past (old.history ++ e ∷ [])) j phase) (sym of)
+      subst (λ j. StandsAt (with_event old e) j phase) (sym of)
       (subst (λ (book : Book). StandsAt book i phase) grows stands);
   text_is = text ∙ ap (λ l. l ++ (phase_word phase ++ codes "\"}\n")) is;
 }
 
-pub reported : (old new : Book) (i s : ℕ) (kind : Kind) (meant : Option Attempt) (outcome : Outcome) (t : Transition) (d : Contents) (front : List ℕ) (reply : Reply)
+-- an attempt that is meant may be reported
+pub no_report_refused : (b : Book) (i s : ℕ) (kind : Kind) (meant : Option Attempt) (why : ReportRefusal) → OfSaga b i (λ d l. IsMeantAttempt meant kind d l s)
+    → ReportRefused b i s (busy_state kind) why → ⊥
+no_report_refused b i s kind meant report.NoSuchSaga attempt none = unknown b i (λ d l. IsMeantAttempt meant kind d l s) none attempt
+no_report_refused b i s kind meant report.NoSuchStep attempt none =
+    apart b i (λ d l. IsMeantAttempt meant kind d l s) (λ d l. length d.steps ≤ s) (λ d l a le. let lt = a.is_step in omega (arith, lt, le)) attempt none
+no_report_refused b i s kind meant report.NotTaken attempt none =
+    apart b i (λ d l. IsMeantAttempt meant kind d l s) (λ d l. (s < length d.steps) × (state l s ≢ busy_state kind)) (λ d l a not. not.1 a.busy) attempt none
+
+pub reported : (old new : Book) (i s : ℕ) (kind : Kind) (meant : Option Attempt) (outcome : Outcome) (t : Transition) (front : List ℕ) (reply : Reply)
     → IsEndOf kind outcome t
     → ((u : Transition) → IsEndOf kind outcome u → Allows old (step_event i s u) → u ≡ t)
     → IsReported kind old new i s outcome
-    → IsDefinedBy old i d
-    → IsMeant meant kind (number_of kind (changes i (past old.history)) s)
+    → OfSaga old i (λ d l. IsMeantAttempt meant kind d l s)
     → front ≡ event_front (step_event i s t) → lines_of reply ≡ event_line (step_event i s t) → IsReadBack (step_event i s t) → IsHeld new i front reply
     → IsMet old new (request.Report i s meant outcome) reply
-reported old new i s kind meant outcome t d front reply ends only (u, ends_too, gains) defined is_meant is lines back held =
+reported old new i s kind meant outcome t front reply ends only (u, ends_too, gains) attempt is lines back held =
     let same : u ≡ t = only u ends_too gains.allowed in
     let grows : new ≡ with_event old (step_event i s t) = subst (λ v. new ≡ with_event old (step_event i s v)) same gains.gains in
     let allowed : Allows old (step_event i s t) =
@@ -58,7 +67,7 @@ reported old new i s kind meant outcome t d front reply ends only (u, ends_too, 
       meets = inl (
         t,
         tells_event old new (step_event i s t) i front reply (saga_of-step_event i s t) allowed grows is held,
-        subst (λ (o : Option Contents). IsSomeAnd o (λ d. IsEnd meant outcome s t d (changes i (past old.history)))) (sym defined) (kind, ends, is_meant),
+        weaker old i (λ d l. IsMeantAttempt meant kind d l s) (IsEnd meant outcome s t) (λ d l a. (kind, ends, a.is_meant)) attempt,
       );
     }
 

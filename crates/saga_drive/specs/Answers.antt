@@ -7,15 +7,15 @@ use Rattle.saga_history.specs.declared.tasks.Kind.{Kind}
 use Rattle.saga_history.specs.declared.tasks.Outcome.{Outcome}
 use Rattle.saga_history.specs.declared.tasks.Phase.{Phase}
 use Rattle.saga_history.specs.declared.tasks.Task.{Task}
-use Rattle.saga_history.specs.declared.tasks.Task.TheVariants.{Run, Undo, Plan}
+use Rattle.saga_history.specs.declared.tasks.Task.TheVariants.{Plan}
 use Rattle.saga_history.specs.declared.transitions.Transition.{Transition}
 use Rattle.saga_history.specs.declared.transitions.Transition.TheVariants.{StartRun, StartUndo}
-use Rattle.saga_history.specs.Changes.{Change, aborts, past, saga_of, starts_plan, step_event}
-use Rattle.saga_history.specs.Rules.{IsAllowed, StepMay}
+use Rattle.saga_history.specs.Changes.{Change, aborts, saga_of, starts_plan, step_event}
+use Rattle.saga_history.specs.Rules.{StepMay}
 use Rattle.saga_history.specs.Tasks.{IsEndOf}
-use Rattle.saga_core.specs.Book.{Book, Allows}
+use Rattle.saga_core.specs.Book.{Book, Allows, with_event}
 use Rattle.saga_core.specs.Refusals.{IsUnknown, OfSaga, OpenRefused, SagaRefused}
-use Rattle.saga_core.specs.Tasks.{AllAreOver, IsFirstTask, NoTaskIsAllowed, StandsAt}
+use Rattle.saga_core.specs.Tasks.{AllAreOver, IsFirstTask, MayBegin, NoTaskIsAllowed, StandsAt}
 use Rattle.saga_core.specs.declared.refusals.OpenRefusal.TheVariants as opening
 use Rattle.saga_core.specs.declared.refusals.SagaRefusal.TheVariants as saga
 use Rattle.saga_log.specs.Logs.{event_line}
@@ -31,7 +31,7 @@ use Rattle.saga_drive.specs.declared.requests.Request.{Request}
 use Rattle.saga_drive.specs.declared.requests.Request.TheVariants as request
 use Rattle.saga_drive.specs.declared.requests.RequestFault.{RequestFault}
 use Rattle.saga_drive.specs.Attempts.{IsMeant, IsNotTaken, IsOtherAttempt, number_of}
-use Rattle.saga_drive.specs.Begins.{AreReadBack, Begins, after}
+use Rattle.saga_drive.specs.Begins.{AreReadBack, Begins, after, task_of}
 use Rattle.saga_drive.specs.Many.{TakesMany}
 use Rattle.saga_drive.specs.Openings.{IsNext, IsNotNext, IsWanted, NoneIsWanted, next_number}
 use Rattle.saga_drive.specs.Replies.{text_of, lines_of, fault_text, refusal_text, memory_word, word_of_fault, event_text, idle_text}
@@ -55,7 +55,7 @@ pub record TellsEvent (book : Book) (e : Event) (gained : List Event) (text : Li
   pub allowed : Allows book e
   pub only : gained ≡ e ∷ []
   pub phase : Phase
-  pub stands : StandsAt book.shelf (past (book.history ++ e ∷ [])) (saga_of e) phase
+  pub stands : StandsAt (with_event book e) (saga_of e) phase
   pub text_is : text ≡ event_text e phase
 
 -- ---- each request
@@ -79,8 +79,7 @@ NeitherMay d l s = (s < length d.steps) × (StepMay d l s StartRun → ⊥) × (
 
 abbrev pub TakesStep : Book → ℕ → ℕ → List Event → List ℕ → Type 0
 TakesStep book i s gained text =
-    (Allows book (event.StartRun i s) × BeginsAlone book (Run i s) gained text)
-    ⊎ (Allows book (event.StartUndo i s) × BeginsAlone book (Undo i s) gained text)
+    ((kind : Kind) × MayBegin book (task_of kind i s) × BeginsAlone book (task_of kind i s) gained text)
     ⊎ (IsUnknown book i × IsRefusal (codes "no-such-saga") gained text)
     ⊎ (OfSaga book i (λ d l. length d.steps ≤ s) × IsRefusal (codes "no-such-step") gained text)
     ⊎ (OfSaga book i (λ d l. NeitherMay d l s) × IsRefusal (codes "not-now") gained text)
@@ -126,7 +125,7 @@ Aborts book i gained text =
 -- how the saga stands
 abbrev pub Shows : Book → ℕ → List Event → List ℕ → Type 0
 Shows book i gained text =
-    OfSaga book i (λ d l. Tells (TellsSaga d l i) gained text)
+    Tells (TellsSaga book i) gained text
     ⊎ (IsUnknown book i × IsRefusal (codes "no-such-saga") gained text)
 
 abbrev pub Meets : Book → Request → List Event → List ℕ → Type 0

@@ -17,6 +17,12 @@ IsMeant (Some attempt) kind number = (attempt.task ≡ kind) × (attempt.number 
 abbrev pub number_of : Kind → List Change → ℕ → ℕ
 number_of kind l s = missed kind l s + 1
 
+-- the step's action, or its compensation, is on its way, as an attempt that is meant
+pub record IsMeantAttempt (meant : Option Attempt) (kind : Kind) (d : Contents) (l : List Change) (s : ℕ) : Type 0 where
+  pub is_step : s < length d.steps
+  pub busy : state l s ≡ busy_state kind
+  pub is_meant : IsMeant meant kind (number_of kind l s)
+
 -- the step's action or compensation is on its way, as another attempt than is meant
 pub record IsOtherAttempt (meant : Option Attempt) (d : Contents) (l : List Change) (s : ℕ) : Type 0 where
   pub is_step : s < length d.steps

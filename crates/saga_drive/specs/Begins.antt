@@ -1,28 +1,29 @@
 -- How a task begins: which events the history gains, and what is told of it.
 use Rattle.std.specs.Prelude.{◌≡◌, ℕ, ◌∷◌, ◌++◌, [], List, Bool, true, false, flat_map}
-use Rattle.saga_def.specs.Contents.{Contents}
 use Rattle.saga_case.specs.Right.{IsRight}
 use Rattle.saga_case.specs.Situation.{Situation}
 use Rattle.saga_case.specs.Terms.{terms_of}
 use Rattle.saga_case.specs.declared.answers.Answer.{Answer}
 use Rattle.saga_history.specs.declared.events.Event.{Event}
 use Rattle.saga_history.specs.declared.events.Event.TheVariants as event
+use Rattle.saga_history.specs.declared.tasks.Kind.{Kind}
+use Rattle.saga_history.specs.declared.tasks.Kind.TheVariants as kind
 use Rattle.saga_history.specs.declared.tasks.Phase.{Phase}
 use Rattle.saga_history.specs.declared.tasks.Task.{Task}
 use Rattle.saga_history.specs.declared.tasks.Task.TheVariants.{Run, Undo, Plan}
 use Rattle.saga_history.specs.declared.transitions.Transition.{Transition}
+use Rattle.saga_history.specs.declared.transitions.Transition.TheVariants as transition
 use Rattle.saga_history.specs.declared.turns.Turn.TheVariants.{Planning}
-use Rattle.saga_history.specs.Changes.{Change, past}
-use Rattle.saga_history.specs.Tasks.{TaskIsAllowed}
+use Rattle.saga_history.specs.Changes.{step_event}
 use Rattle.saga_history.specs.Turns.{present_case, turn}
 use Rattle.saga_core.specs.Book.{Book}
-use Rattle.saga_core.specs.Refusals.{OfSaga, TakeRefused}
+use Rattle.saga_core.specs.Refusals.{OfSaga}
+use Rattle.saga_core.specs.Saga.{HasSaga, Saga}
 use Rattle.saga_core.specs.Tasks.{IsFirstTask, NoTaskIsAllowed, StandsAt, MayBegin}
-use Rattle.saga_core.specs.declared.refusals.TakeRefusal.TheVariants as take
 use Rattle.saga_log.specs.Back.{IsReadBack}
 use Rattle.saga_log.specs.Logs.{event_line}
 use Rattle.saga_drive.specs.declared.tellings.Telling.{Telling}
-use Rattle.saga_views.specs.Tasks.{TakenTask, run_task, task_text, undo_task}
+use Rattle.saga_views.specs.Tasks.{taken_text}
 use Rattle.saga_drive.specs.Replies.{plan_text}
 use Rattle.saga_drive.specs.Tellings.{TellsMore, TellsSame}
 
@@ -30,10 +31,21 @@ use Rattle.saga_drive.specs.Tellings.{TellsMore, TellsSame}
 abbrev pub after : Book → List Event → Book
 after book gained = record book { history = book.history ++ gained }
 
+-- the action, or the compensation, of a step as a task, and the transition with which it begins
+abbrev pub task_of : Kind → ℕ → ℕ → Task
+task_of kind.Run i s = Run i s
+task_of kind.Undo i s = Undo i s
+
+abbrev pub begin_of : Kind → Transition
+begin_of kind.Run = transition.StartRun
+begin_of kind.Undo = transition.StartUndo
+
 -- an action or a compensation begins, and it is told which
-pub record Takes (book : Book) (e : Event) (i : ℕ) (taken : Contents → List Change → TakenTask) (gained : List Event) (told : List ℕ) : Type 0 where
-  pub only : gained ≡ e ∷ []
-  pub told_is : OfSaga book i (λ d l. told ≡ task_text (taken d l))
+pub record Takes (book : Book) (kind : Kind) (i s : ℕ) (gained : List Event) (told : List ℕ) : Type 0 where
+  pub only : gained ≡ step_event i s (begin_of kind) ∷ []
+  pub saga : Saga
+  pub is : HasSaga book i saga
+  pub told_is : told ≡ taken_text kind saga s
 
 -- a plan begins and ends, with an answer that is right for the present case; it is told where the saga stands then
 pub record Plans (book : Book) (i : ℕ) (gained : List Event) (told : List ℕ) : Type 0 where
@@ -41,16 +53,16 @@ pub record Plans (book : Book) (i : ℕ) (gained : List Event) (told : List ℕ)
   pub right : OfSaga book i (λ d l. IsRight (terms_of (present_case d l)) answer)
   pub both : gained ≡ event.StartPlan i ∷ event.Adopt i answer ∷ []
   pub phase : Phase
-  pub stands : StandsAt book.shelf (past (book.history ++ gained)) i phase
+  pub stands : StandsAt (after book gained) i phase
   pub told_is : told ≡ plan_text answer phase i
 
 -- the saga is being planned, and that is its present case
-abbrev pub HoldsPlan : List Contents → List Event → ℕ → Situation → Type 0
-HoldsPlan shelf h i case = OfSaga shelf h i (λ d l. (turn l ≡ Planning) × (case ≡ present_case d l))
+abbrev pub HoldsPlan : Book → ℕ → Situation → Type 0
+HoldsPlan book i case = OfSaga book i (λ d l. (turn l ≡ Planning) × (case ≡ present_case d l))
 
 abbrev pub Begins : Book → Task → List Event → List ℕ → Type 0
-Begins book (Run i s) gained told = Takes book (event.StartRun i s) i (λ d l. run_task d l i s) gained told
-Begins book (Undo i s) gained told = Takes book (event.StartUndo i s) i (λ d l. undo_task d l i s) gained told
+Begins book (Run i s) gained told = Takes book kind.Run i s gained told
+Begins book (Undo i s) gained told = Takes book kind.Undo i s gained told
 Begins book (Plan i) gained told = Plans book i gained told
 
 -- each event is read back from its line
@@ -67,16 +79,6 @@ pub record Begun (old new : Book) (t : Task) (before behind : Telling) : Type 0 
   pub more : TellsMore before behind told (flat_map event_line gained)
   pub allowed : MayBegin old t
   pub begins : Begins old t gained told
-
--- nothing happened, since the step may not make the transition
-pub record IsLeft (old new : Book) (i s : ℕ) (t : Transition) (before behind : Telling) : Type 0 where
-  pub same : new ≡ old
-  pub untold : TellsSame before behind
-  pub why : TakeRefused old i s t take.NotNow
-
-abbrev pub IsBegunOr : Bool → Book → Book → Task → ℕ → ℕ → Transition → Telling → Telling → Type 0
-IsBegunOr true old new task i s t before behind = Begun old new task before behind
-IsBegunOr false old new task i s t before behind = IsLeft old new i s t before behind
 
 -- the first task began, or there is none
 abbrev pub NextIsBegun : Bool → Book → Book → Telling → Telling → Type 0

@@ -11,7 +11,7 @@ use Rattle.saga_json.specs.Keys.{has_key}
 use Rattle.saga_json.specs.Reads.{◌>>=◌}
 use Rattle.saga_drive.specs.declared.attempts.Attempt.{Attempt}
 use Rattle.saga_drive.specs.declared.openings.Wanted.{Wanted}
-use Rattle.saga_drive.specs.declared.openings.Wanted.TheVariants.{Place, Name}
+use Rattle.saga_drive.specs.declared.openings.Wanted.TheVariants.{Index, Name}
 
 -- a whole number of 32 bits, where the key is there
 abbrev pub u32_if : List ℕ → Data → Result (Option ℕ) JsonFault
@@ -27,7 +27,7 @@ bytes_of _ = Err BadType
 abbrev pub wanted_of : Data → Result Wanted JsonFault
 wanted_of value =
     if has_key (codes "def") value
-    then (if has_key (codes "name") value then Err UnknownKey else at_key u32_of (codes "def") value >>= (λ k. Ok (Place k)))
+    then (if has_key (codes "name") value then Err UnknownKey else at_key u32_of (codes "def") value >>= (λ k. Ok (Index k)))
     else (at_key bytes_of (codes "name") value >>= (λ name. Ok (Name name)))
 
 -- an action or a compensation, by its word

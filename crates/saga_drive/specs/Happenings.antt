@@ -1,7 +1,6 @@
 -- The reply to an event, which tells where its saga stands.
 use Rattle.std.specs.Prelude.{◌≡◌, ◌++◌, ℕ, List, codes}
 use Rattle.saga_history.specs.declared.tasks.Phase.{Phase}
-use Rattle.saga_history.specs.Changes.{past}
 use Rattle.saga_core.specs.Book.{Book}
 use Rattle.saga_core.specs.Tasks.{StandsAt}
 use Rattle.saga_drive.specs.declared.replies.Reply.{Reply}

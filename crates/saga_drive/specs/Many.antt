@@ -2,7 +2,6 @@
 use Rattle.std.specs.Prelude.{◌≡◌, ℕ, ◌<◌, ◌≤◌, ◌⊎◌, ◌↔◌, ◌∷◌, ◌++◌, [], List, Bool, IsTrue, length}
 use Rattle.saga_history.specs.declared.events.Event.{Event}
 use Rattle.saga_history.specs.declared.tasks.Task.{Task}
-use Rattle.saga_history.specs.Changes.{past}
 use Rattle.saga_core.specs.Book.{Book}
 use Rattle.saga_core.specs.Tasks.{AllAreOver, IsFirstTask, NoTaskIsAllowed}
 use Rattle.saga_drive.specs.Begins.{Begins, after}

@@ -3,20 +3,20 @@ use Rattle.std.specs.Prelude.{◌≡◌, ◌≢◌, ℕ, ◌<◌, ◌≤◌, ◌
 use Rattle.saga_def.specs.Contents.{Contents}
 use Rattle.saga_core.specs.Book.{Book, number, sagas_in}
 use Rattle.saga_drive.specs.declared.openings.Wanted.{Wanted}
-use Rattle.saga_drive.specs.declared.openings.Wanted.TheVariants.{Place, Name}
+use Rattle.saga_drive.specs.declared.openings.Wanted.TheVariants.{Index, Name}
 
--- the definition at that place has that name
+-- the definition at that index has that name
 abbrev pub HasName : List Contents → List ℕ → ℕ → Type 0
 HasName shelf name k = (d : Contents) × (slice_get shelf k ≡ Some d) × (d.name ≡ name)
 
--- the definition at that place is meant: of several with a name the first
+-- the definition at that index is meant: of several with a name the first
 abbrev pub IsWanted : List Contents → Wanted → ℕ → Type 0
-IsWanted shelf (Place p) k = (k ≡ p) × (p < length shelf)
+IsWanted shelf (Index j) k = (k ≡ j) × (j < length shelf)
 IsWanted shelf (Name name) k = (k < length shelf) × HasName shelf name k × ((j : ℕ) → j < k → HasName shelf name j → ⊥)
 
--- there is no such definition; places are numbers of 32 bits
+-- there is no such definition; indices are numbers of 32 bits
 abbrev pub NoneIsWanted : List Contents → Wanted → Type 0
-NoneIsWanted shelf (Place p) = length shelf ≤ p
+NoneIsWanted shelf (Index j) = length shelf ≤ j
 NoneIsWanted shelf (Name name) = (j : ℕ) → j < 2 ^ 32 → HasName shelf name j → ⊥
 
 -- the number that the saga will have which is opened next

@@ -1,25 +1,26 @@
 //! Answers: a request is met, and the reply tells what happened.
 //!
 //! What will be told is written before it happens, so where memory lacks, nothing has happened.
-ghost use Rattle.std.specs.Prelude.{◌≡◌, ◌++◌, ℕ, List, IfOk, OnErr};
-ghost use Rattle.saga_history.specs.Changes.{past};
-ghost use Rattle.saga_core.specs.Tasks.{NoTaskIsAllowed};
+ghost use Rattle.std.specs.Prelude.{◌≡◌, ◌++◌, ℕ, List, IfOk, MatchOption, OnErr};
+ghost use Rattle.saga_history.specs.declared.tasks.Task.TheVariants as task;
+ghost use Rattle.saga_core.specs.Tasks.{MayBegin, NoTaskIsAllowed};
 ghost use Rattle.saga_logged.specs.BookLog.{IsBookLog};
 ghost use Rattle.saga_drive.specs.Replies.{lines_of};
 ghost use Rattle.saga_drive.specs.Answers.{IsAnswer, IsMet};
+ghost use Rattle.saga_drive.specs.Begins.{task_of};
 ghost use Rattle.saga_drive.specs.declared.requests.Request.TheVariants as request;
 
-use crate::beginnings::{begin_next, begin_run, begin_undo, plan_case};
+use crate::beginnings::{begin_next, begin_step, plan_case};
 use crate::happenings::Happening;
 use crate::many::next_many;
-use crate::openings::{Wanted, is_next, place_of_wanted};
+use crate::openings::{Wanted, index_of_wanted, is_next};
 use crate::questions::{busy, ready, sagas, show, status};
 use crate::replies::{Reply, out_of_memory, reply_of_idle, reply_to_fault};
 use crate::reports::report;
 use crate::requests::{Request, read_request};
 use crate::tellings::Telling;
 use saga_core::{Book, OpenRefusal, SagaRefusal};
-use saga_history::Event;
+use saga_history::{Event, Kind, Task};
 use std::alloc::{AllocError, Global};
 
 fn open(
@@ -31,7 +32,7 @@ fn open(
     ensures ok { IfOk result (IsMet book.old book.new (request.Open wanted saga)) }
     ensures err { OnErr result (book.new ≡ book.old) }
 {
-    let Some(definition) = place_of_wanted(book.shelf(), &wanted) else {
+    let Some(definition) = index_of_wanted(book.shelf(), &wanted) else {
         return Ok(Reply::Refusal("{\"refused\":\"no-such-definition\"}\n"));
     };
     if !is_next(book, saga) {
@@ -68,25 +69,39 @@ fn next(alloc: Global, book: &mut Book<'_>) -> Result<Reply, AllocError>
     }
 }
 
+/// Which may begin at a step: its action or its compensation.
+fn kind_of_next(book: &Book<'_>, saga: u32, step: u16) -> Option<Kind>
+    ensures { MatchOption result
+        ((MayBegin book.now (task.Run saga step) → ⊥)
+        × (MayBegin book.now (task.Undo saga step) → ⊥))
+        (λ kind. MayBegin book.now (task_of kind saga step)) }
+{
+    if book.may_begin(Task::Run(saga, step)) {
+        return Some(Kind::Run);
+    }
+    if book.may_begin(Task::Undo(saga, step)) {
+        return Some(Kind::Undo);
+    }
+    None
+}
+
 /// The task of a step is taken, whichever of the two may begin.
 fn take_step(alloc: Global, book: &mut Book<'_>, saga: u32, step: u16) -> Result<Reply, AllocError>
     ensures ok { IfOk result (IsMet book.old book.new (request.TakeStep saga step)) }
     ensures err { OnErr result (book.new ≡ book.old) }
 {
-    let Some(definition) = book.definition(saga) else {
+    let Some(found) = book.saga(saga) else {
         return Ok(Reply::Refusal("{\"refused\":\"no-such-saga\"}\n"));
     };
-    if step as usize >= definition.steps() {
+    if !found.has_step(step) {
         return Ok(Reply::Refusal("{\"refused\":\"no-such-step\"}\n"));
     }
+    let Some(kind) = kind_of_next(book, saga, step) else {
+        return Ok(Reply::Refusal("{\"refused\":\"not-now\"}\n"));
+    };
     let mut telling = Telling::new(alloc)?;
-    if begin_run(alloc, book, definition, saga, step, &mut telling)? {
-        return Ok(telling.end("", "\n"));
-    }
-    if begin_undo(alloc, book, definition, saga, step, &mut telling)? {
-        return Ok(telling.end("", "\n"));
-    }
-    Ok(Reply::Refusal("{\"refused\":\"not-now\"}\n"))
+    begin_step(alloc, book, saga, step, kind, &mut telling)?;
+    Ok(telling.end("", "\n"))
 }
 
 /// The plan of a saga is made.

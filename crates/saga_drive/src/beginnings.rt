@@ -1,14 +1,13 @@
 //! How tasks begin: what will be told is written before, so where memory lacks nothing has happened.
-ghost use Rattle.std.specs.Prelude.{◌≡◌, ◌<◌, true, false, IfOk, OnErr, OnOk, length};
-ghost use Rattle.saga_history.specs.Changes.{past};
-ghost use Rattle.saga_history.specs.Rules.{IsAllowed};
+ghost use Rattle.std.specs.Prelude.{◌≡◌, true, IfErr, IfOk, OnErr, OnOk};
+ghost use Rattle.saga_history.specs.Changes.{step_event};
 ghost use Rattle.saga_history.specs.declared.events.Event.TheVariants as event;
 ghost use Rattle.saga_history.specs.declared.tasks.Task.TheVariants as task;
-ghost use Rattle.saga_history.specs.declared.transitions.Transition.TheVariants as transition;
 ghost use Rattle.saga_core.specs.Book.{with_event, Allows};
-ghost use Rattle.saga_core.specs.Refusals.{IsPresentCase};
-ghost use Rattle.saga_core.specs.Tasks.{IsDefinedBy, IsFirstTask};
-ghost use Rattle.saga_drive.specs.Begins.{Begun, HoldsPlan, IsBegunOr, IsUntouched, NextIsBegun};
+ghost use Rattle.saga_core.specs.Refusals.{IsPresentCase, TakeRefused};
+ghost use Rattle.saga_core.specs.Tasks.{IsFirstTask, MayBegin};
+ghost use Rattle.saga_drive.specs.Begins as spec;
+ghost use Rattle.saga_drive.specs.Begins.{Begun, HoldsPlan, IsUntouched, NextIsBegun, task_of};
 
 use crate::phases::{phase_in, word_of};
 use crate::replies::{item_of_plan, item_of_task};
@@ -16,65 +15,60 @@ use crate::tellings::Telling;
 use saga_case::Case;
 use saga_check::{Verdict, verify};
 use saga_core::{Book, SagaRefusal, TakeRefusal};
-use saga_def::Definition;
-use saga_history::{Event, Task};
+use saga_history::{Event, Kind, Task, Transition};
 use saga_plan::plan;
-use saga_views::{run_text, undo_text};
+use saga_views::taken_text;
 use std::alloc::{AllocError, Global};
 
-/// The action of a step begins, if it may.
-pub fn begin_run(
-    alloc: Global,
-    book: &mut Book<'_>,
-    definition: &Definition,
-    saga: u32,
-    step: u16,
-    telling: &mut Telling,
-) -> Result<bool, AllocError>
-    requires defined { IsDefinedBy book.old saga definition.now }
-    requires step { step < length definition.now.steps }
-    ensures ok { IfOk result (λ begun. IsBegunOr begun book.old book.new (task.Run saga step)
-        saga step transition.StartRun telling.old telling.new) }
-    ensures err { OnErr result (IsUntouched book.old book.new telling.old telling.new) }
+/// The transition with which an action or a compensation begins.
+fn begin_of(kind: Kind) -> Transition
+    ensures { result ≡ spec.begin_of kind }
 {
-    let text = run_text(alloc, book, definition, saga, step)?;
-    let item = item_of_task(alloc, text, &Event::StartRun(saga, step))?;
-    telling.make_room(&item)?;
-    match book.take_run(saga, step) {
-        Ok(()) => {
-            telling.add(&item, "");
-            Ok(true)
-        }
-        Err(TakeRefusal::NotNow) => Ok(false),
-        Err(TakeRefusal::OutOfMemory) => Err(AllocError),
-        Err(_) => unreachable!(),
+    match kind {
+        Kind::Run => Transition::StartRun,
+        Kind::Undo => Transition::StartUndo,
     }
 }
 
-/// The compensation of a step begins, if it may.
-pub fn begin_undo(
+/// The action or the compensation of a step is taken.
+fn take(book: &mut Book<'_>, saga: u32, step: u16, kind: Kind) -> Result<(), TakeRefusal>
+    ensures ok { OnOk result
+        (book.new ≡ with_event book.old (step_event saga step (spec.begin_of kind))) }
+    ensures err { OnErr result (book.new ≡ book.old) }
+    ensures why { IfErr result
+        (λ why. TakeRefused book.old saga step (spec.begin_of kind) why) }
+{
+    match kind {
+        Kind::Run => book.take_run(saga, step),
+        Kind::Undo => book.take_undo(saga, step),
+    }
+}
+
+/// The action or the compensation of a step begins: one that may.
+pub fn begin_step(
     alloc: Global,
     book: &mut Book<'_>,
-    definition: &Definition,
     saga: u32,
     step: u16,
+    kind: Kind,
     telling: &mut Telling,
-) -> Result<bool, AllocError>
-    requires defined { IsDefinedBy book.old saga definition.now }
-    requires step { step < length definition.now.steps }
-    ensures ok { IfOk result (λ begun. IsBegunOr begun book.old book.new (task.Undo saga step)
-        saga step transition.StartUndo telling.old telling.new) }
+) -> Result<(), AllocError>
+    requires { MayBegin book.old (task_of kind saga step) }
+    ensures ok { OnOk result
+        (Begun book.old book.new (task_of kind saga step) telling.old telling.new) }
     ensures err { OnErr result (IsUntouched book.old book.new telling.old telling.new) }
 {
-    let text = undo_text(alloc, book, definition, saga, step)?;
-    let item = item_of_task(alloc, text, &Event::StartUndo(saga, step))?;
+    let Some(found) = book.saga(saga) else {
+        unreachable!()
+    };
+    let text = taken_text(alloc, &found, step, kind)?;
+    let item = item_of_task(alloc, text, &Event::of_step(saga, step, begin_of(kind)))?;
     telling.make_room(&item)?;
-    match book.take_undo(saga, step) {
+    match take(book, saga, step, kind) {
         Ok(()) => {
             telling.add(&item, "");
-            Ok(true)
+            Ok(())
         }
-        Err(TakeRefusal::NotNow) => Ok(false),
         Err(TakeRefusal::OutOfMemory) => Err(AllocError),
         Err(_) => unreachable!(),
     }
@@ -95,7 +89,7 @@ fn begin_plan(book: &mut Book<'_>, saga: u32) -> Result<(), AllocError>
 
 /// A plan ends by an answer that is right for the present case.
 fn end_plan<'d>(book: &mut Book<'d>, saga: u32, verdict: Verdict<'d>)
-    requires planned { HoldsPlan book.old.shelf (past book.old.history) saga verdict.case }
+    requires planned { HoldsPlan book.old saga verdict.case }
     ensures allowed { Allows book.old
         (event.Adopt saga verdict.entry.answer) }
     ensures adopted { book.new ≡ with_event book.old (event.Adopt saga verdict.entry.answer) }
@@ -132,36 +126,6 @@ pub fn plan_case<'d>(
     Ok(())
 }
 
-/// The first task begins: the action or the compensation of a step.
-fn begin_first(
-    alloc: Global,
-    book: &mut Book<'_>,
-    saga: u32,
-    step: u16,
-    is_undo: bool,
-    telling: &mut Telling,
-) -> Result<(), AllocError>
-    requires run { is_undo ≡ false
-        → IsFirstTask book.old (task.Run saga step) }
-    requires undo { is_undo ≡ true
-        → IsFirstTask book.old (task.Undo saga step) }
-    ensures ok { OnOk result (NextIsBegun true book.old book.new telling.old telling.new) }
-    ensures err { OnErr result (IsUntouched book.old book.new telling.old telling.new) }
-{
-    let Some(definition) = book.definition(saga) else {
-        unreachable!()
-    };
-    let begun = if is_undo {
-        begin_undo(alloc, book, definition, saga, step, telling)?
-    } else {
-        begin_run(alloc, book, definition, saga, step, telling)?
-    };
-    if !begun {
-        unreachable!()
-    }
-    Ok(())
-}
-
 /// The first task is the plan of a saga.
 fn plan_first(
     alloc: Global,
@@ -192,8 +156,8 @@ pub fn begin_next(
 {
     match book.next() {
         None => return Ok(false),
-        Some(Task::Run(saga, step)) => begin_first(alloc, book, saga, step, false, telling)?,
-        Some(Task::Undo(saga, step)) => begin_first(alloc, book, saga, step, true, telling)?,
+        Some(Task::Run(saga, step)) => begin_step(alloc, book, saga, step, Kind::Run, telling)?,
+        Some(Task::Undo(saga, step)) => begin_step(alloc, book, saga, step, Kind::Undo, telling)?,
         Some(Task::Plan(saga)) => plan_first(alloc, book, saga, telling)?,
     }
     Ok(true)

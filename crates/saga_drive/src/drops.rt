@@ -1,6 +1,5 @@
 //! Plans that were begun and have not ended.
 ghost use Rattle.std.specs.Prelude.{◌≡◌, ◌≢◌, ◌++◌, [], ℕ, List, IfOk, OnOk, string_bytes};
-ghost use Rattle.saga_history.specs.Changes.{past};
 ghost use Rattle.saga_history.specs.declared.tasks.Phase.TheVariants as phase;
 ghost use Rattle.saga_core.specs.Book.{Book};
 ghost use Rattle.saga_core.specs.Tasks.{StandsAt};

@@ -54,7 +54,7 @@ pub fn wanted_of(alloc: Global, value: &Value) -> Result<Wanted, JsonFault>
     if has(value, "name") {
         return Err(JsonFault::UnknownKey);
     }
-    Ok(Wanted::Place(u32_at(value, "def")?))
+    Ok(Wanted::Index(u32_at(value, "def")?))
 }
 
 fn kind_named(word: &str) -> Result<Kind, JsonFault>

@@ -22,7 +22,6 @@ pub struct Happening {
 }
 
 impl Happening {
-    ghost use Rattle.saga_history.specs.Changes.{past};
     ghost use Rattle.saga_history.specs.declared.tasks.Phase.{Phase};
     ghost use Rattle.saga_core.specs.Refusals.{IsUnknown};
     ghost use Rattle.saga_core.specs.Tasks.{StandsAt};

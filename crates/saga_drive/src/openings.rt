@@ -9,8 +9,8 @@ use saga_def::{Definition, Text};
 /// The definition that a saga is to be opened with.
 #[derive(Debug, Drop)]
 pub enum Wanted {
-    /// The one at a place on the shelf.
-    Place(u32),
+    /// The one at an index of the shelf.
+    Index(u32),
     /// The first of a name.
     Name(Text),
 }
@@ -21,31 +21,31 @@ fn is_named(definition: &Definition, name: &str) -> bool
     definition.name() == name
 }
 
-/// The place of the first definition of a name.
-fn place_of_name(shelf: &[Definition], name: &str) -> Option<u32>
+/// The index of the first definition of a name.
+fn index_of_name(shelf: &[Definition], name: &str) -> Option<u32>
     ensures { MatchOption result (spec.NoneIsWanted shelf.now (wanted.Name name.now))
         (λ k. spec.IsWanted shelf.now (wanted.Name name.now) k) }
 {
-    for (place, definition) in shelf.iter().enumerate() {
-        if place > u32::MAX as usize {
+    for (index, definition) in shelf.iter().enumerate() {
+        if index > u32::MAX as usize {
             return None;
         }
         if is_named(definition, name) {
-            return Some(place as u32);
+            return Some(index as u32);
         }
     }
     None
 }
 
-/// The place of the definition that is wanted.
-pub fn place_of_wanted(shelf: &[Definition], wanted: &Wanted) -> Option<u32>
+/// The index on the shelf of the definition that is wanted.
+pub fn index_of_wanted(shelf: &[Definition], wanted: &Wanted) -> Option<u32>
     ensures { MatchOption result (spec.NoneIsWanted shelf.now wanted.now)
         (λ k. spec.IsWanted shelf.now wanted.now k) }
 {
     match wanted {
-        Wanted::Place(place) if (*place as usize) < shelf.len() => Some(*place),
-        Wanted::Place(_) => None,
-        Wanted::Name(name) => place_of_name(shelf, name.as_str()),
+        Wanted::Index(index) if (*index as usize) < shelf.len() => Some(*index),
+        Wanted::Index(_) => None,
+        Wanted::Name(name) => index_of_name(shelf, name.as_str()),
     }
 }
 

@@ -1,6 +1,5 @@
 //! Where a saga stands, in a word.
 ghost use Rattle.std.specs.Prelude.{◌≡◌, ◌≤◌, length};
-ghost use Rattle.saga_history.specs.Changes.{past};
 ghost use Rattle.saga_core.specs.Refusals.{IsUnknown};
 ghost use Rattle.saga_core.specs.Tasks.{StandsAt};
 ghost use Rattle.saga_history.specs.Tasks.{phase_word};

@@ -13,9 +13,9 @@ use std::alloc::{AllocError, Global};
 pub fn show(alloc: Global, book: &Book<'_>, saga: u32) -> Result<Reply, AllocError>
     ensures { IfOk result (IsMet book.now book.now (request.Show saga)) }
 {
-    match book.definition(saga) {
+    match show_text(alloc, book, saga)? {
         None => Ok(Reply::Refusal("{\"refused\":\"no-such-saga\"}\n")),
-        Some(definition) => Ok(told(alloc, show_text(alloc, book, definition, saga)?)),
+        Some(text) => Ok(told(alloc, text)),
     }
 }
 

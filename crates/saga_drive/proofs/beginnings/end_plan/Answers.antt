@@ -1,7 +1,6 @@
-use Rattle.saga_history.specs.Changes.{past}
 use Rattle.saga_drive.proofs.PlanLemmas.{not_refused}
 use Rattle.saga_drive.proofs.beginnings.end_plan.Goals as goal
 
 pub unreachable-requires : goal.unreachable-requires
 unreachable-requires c =
-    not_refused c.args.book.now.shelf (past c.args.book.now.history) c.args.saga c.args.verdict.case c.in-Err.field-0.why c.requires.planned c.in-Err.ensures.why
+    not_refused c.args.book.now c.args.saga c.args.verdict.case c.in-Err.field-0.why c.requires.planned c.in-Err.ensures.why

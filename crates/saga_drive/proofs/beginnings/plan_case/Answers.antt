@@ -1,6 +1,5 @@
 use Rattle.std.proofs.Common.{◌≡◌, ◌∙◌, ◌++◌, ◌∷◌, [], ap, refl, rules}
 use Rattle.saga_case.specs.declared.answers.Answer.{Answer}
-use Rattle.saga_history.specs.Changes.{past}
 use Rattle.saga_history.specs.declared.events.Event.TheVariants as event
 use Rattle.saga_drive.proofs.PairLemmas.{right_is_paired}
 use Rattle.saga_drive.proofs.KnownLemmas.{known}
@@ -16,12 +15,12 @@ pub end_plan-requires : goal.end_plan-requires
 end_plan-requires c =
     let begun : c.begin_plan.new.book ≡ record c.args.book.now { history = c.args.book.now.history ++ event.StartPlan c.args.saga ∷ [] } = search rules in
     let same : c.in-Ok.verdict.case ≡ c.args.case = search rules in
-    record { planned = rw (begun, same) (holds_plan c.args.book.now.shelf c.args.book.now.history c.args.saga c.args.case c.requires.case) }
+    record { planned = rw (begun, same) (holds_plan c.args.book.now c.args.saga c.args.case c.requires.case) }
 
 pub phase_in-requires : goal.phase_in-requires
 phase_in-requires c =
     let mid = c.begin_plan.new.book in
-    rw c.end_plan.ensures.adopted (known mid.shelf mid.history (event.Adopt c.args.saga c.in-Ok.verdict.answer) c.args.saga refl c.end_plan.ensures.allowed)
+    rw c.end_plan.ensures.adopted (known mid (event.Adopt c.args.saga c.in-Ok.verdict.answer) c.args.saga refl c.end_plan.ensures.allowed)
 
 pub returns-clause-ok : goal.returns-clause-ok
 returns-clause-ok c =
@@ -43,7 +42,7 @@ returns-clause-ok c =
       allowed = c.requires.allowed;
       begins = record {
         answer = answer;
-        right = right_now book.shelf (past book.history) c.args.saga c.args.case answer c.requires.case c.in_ok-answer.ensures.right;
+        right = right_now book c.args.saga c.args.case answer c.requires.case c.in_ok-answer.ensures.right;
         both = refl;
         phase = c.phase_in.result;
         stands = rw all at c.phase_in.ensures;

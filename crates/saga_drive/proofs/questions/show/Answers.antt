@@ -1,16 +1,19 @@
-use Rattle.std.proofs.Common.{[], inl, subst, sym}
-use Rattle.saga_history.specs.Changes.{changes, past}
+use Rattle.std.proofs.Common.{[], inl, inr, refl, subst, sym}
 use Rattle.saga_views.specs.Shown.{TellsSaga}
-use Rattle.saga_drive.proofs.BookLemmas.{gains_none, shown_by}
+use Rattle.saga_drive.specs.declared.requests.Request.TheVariants as request
+use Rattle.saga_drive.proofs.BookLemmas.{gains_none, refuse}
 use Rattle.saga_drive.proofs.questions.show.Goals as goal
 
-pub returns-in_ok-show_text-in-Some : goal.returns-in_ok-show_text-in-Some
-returns-in_ok-show_text-in-Some c =
-    let book = c.args.book.now in
-    let told = c.in_ok-show_text-in-Some.ensures in
+pub returns-in-None : goal.returns-in-None
+returns-in-None c =
+    let none = rw c.in-None.is at c.in_ok-show_text.ensures in
+    refuse c.args.book.now c.args.book.now (request.Show c.args.saga) _ refl refl (inr (none, record { none = refl; text_is = refl }))
+
+pub returns-in-Some : goal.returns-in-Some
+returns-in-Some c =
+    let shown = rw c.in-Some.is at c.in_ok-show_text.ensures in
     record {
       gained = [];
-      gains = gains_none book c.told.result c.told.ensures.lines;
-      meets = inl (shown_by book.shelf (past book.history) c.args.saga c.in-Some.definition.now _ c.in-Some.ensures
-          (subst (TellsSaga c.in-Some.definition.now (changes c.args.saga (past book.history)) c.args.saga) (sym c.told.ensures.text) told));
+      gains = gains_none c.args.book.now c.told.result c.told.ensures.lines;
+      meets = inl (record { none = refl; told = subst (TellsSaga c.args.book.now c.args.saga) (sym c.told.ensures.text) shown });
     }
