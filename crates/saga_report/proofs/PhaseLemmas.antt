@@ -57,6 +57,4 @@ phase_is d l = go (turn l) refl (are_done d (story_of l)) refl
       off = λ s lt out. leaves (goal l s) (state l s) (all_done d l all s lt) out;
     }
     go Going is false all = (is, λ ended. false≢true (sym all ∙ ended_done d l ended))
-    go Draining is b all = is
-    go Planning is b all = is
-    go Stuck is b all = is
+    go _ is b all = is
