@@ -26,7 +26,7 @@ use Rattle.saga_rows.proofs.FollowLemmas.{follows_move, may_from, may_into}
 use Rattle.saga_rows.proofs.FollowLemmas as follow
 use Rattle.saga_core.specs.Book.{IsBook, busy_in, number, plans_in, plans_in_turn}
 use Rattle.saga_core.specs.Journal.{Journal}
-use Rattle.saga_core.specs.Tasks.{begins}
+use Rattle.saga_core.specs.Tasks.{starts}
 
 -- ---- numbers of one stride
 
@@ -109,8 +109,8 @@ follow_push shelf number_of rows h e k row lt named apart follow now j below = e
       rw (changes_push_other (number_of j) h e away, get_or-set_other rows k j row no_row other) (follow j (omega (arith, length-set rows k row, below)))
 ]
 
--- a transition that begins something leads from a state in which nothing is owed to one in which an end is
-start_busy : (t : Transition) (row : Row) (s : ℕ) → begins t ≡ true → RowMay row s t → (one_if (is_busy (state_at row.states s)) ≡ 0) × (one_if (is_busy (state_after t)) ≡ 1)
+-- a transition that starts something leads from a state in which nothing is owed to one in which an end is
+start_busy : (t : Transition) (row : Row) (s : ℕ) → starts t ≡ true → RowMay row s t → (one_if (is_busy (state_at row.states s)) ≡ 0) × (one_if (is_busy (state_after t)) ≡ 1)
 start_busy transition.StartRun row s e may = (ap (λ x. one_if (is_busy x)) may.waiting, refl)
 start_busy transition.Commit row s e may = cc
 start_busy transition.Missed row s e may = cc
@@ -120,7 +120,7 @@ start_busy transition.Undone row s e may = cc
 start_busy transition.UndoMissed row s e may = cc
 start_busy transition.UndoFail row s e may = cc
 
-end_busy : (t : Transition) (row : Row) (s : ℕ) → begins t ≡ false → RowMay row s t → (one_if (is_busy (state_at row.states s)) ≡ 1) × (one_if (is_busy (state_after t)) ≡ 0)
+end_busy : (t : Transition) (row : Row) (s : ℕ) → starts t ≡ false → RowMay row s t → (one_if (is_busy (state_at row.states s)) ≡ 1) × (one_if (is_busy (state_after t)) ≡ 0)
 end_busy transition.StartRun row s e may = cc
 end_busy transition.Commit row s e may = (ap (λ x. one_if (is_busy x)) may.here, refl)
 end_busy transition.Missed row s e may = (ap (λ x. one_if (is_busy x)) may.0.here, refl)
@@ -190,20 +190,20 @@ module _ (shelf : List Contents) (first stride : ℕ) (rows : List Row) (j : Jou
     pub is_step : (s : ℕ) (t : Transition) → RowMay (row_at rows k) s t → s < length (row_at rows k).definition.steps
     is_step s t may = (may_into shelf (row_at rows k) _ (b.follow k lt) s t legal_row may).is_step
 
-    pub start_book : (i s : ℕ) (t : Transition) → i ≡ number first stride k → begins t ≡ true → RowMay (row_at rows k) s t → IsBook shelf first stride (set rows k (row_after (row_at rows k) s t)) (record { history = j.history ++ step_event i s t ∷ []; owed = j.owed + 1; plans = j.plans })
+    pub start_book : (i s : ℕ) (t : Transition) → i ≡ number first stride k → starts t ≡ true → RowMay (row_at rows k) s t → IsBook shelf first stride (set rows k (row_after (row_at rows k) s t)) (record { history = j.history ++ step_event i s t ∷ []; owed = j.owed + 1; plans = j.plans })
     start_book i s t is begin may =
         let below = is_step s t may in
         let two = start_busy t (row_at rows k) s begin may in
         keeps_book k (step_event i s t) (row_after (row_at rows k) s t) (j.owed + 1) j.plans lt (step_saga t i s ∙ is) (step_opens t i s) (move_allowed i s t is may) (follows_step i s t below)
         (omega (arith, busy_step s t below, two.0, two.1)) (omega (arith, less_plans t (row_at rows k).turn))
 
-    pub end_owed : (s : ℕ) (t : Transition) → begins t ≡ false → RowMay (row_at rows k) s t → 0 < j.owed
+    pub end_owed : (s : ℕ) (t : Transition) → starts t ≡ false → RowMay (row_at rows k) s t → 0 < j.owed
     end_owed s t end may =
         let below = is_step s t may in
         let two = end_busy t (row_at rows k) s end may in
         omega (arith, get_or-le-sum_by (λ (x : StepState). one_if (is_busy x)) (row_at rows k).states s Waiting (omega (arith, below, (b.follow k lt).sized.states)), two.0, get_or-le-sum_by busy_in rows k no_row lt, b.room)
 
-    pub end_book : (i s : ℕ) (t : Transition) → i ≡ number first stride k → begins t ≡ false → RowMay (row_at rows k) s t → IsBook shelf first stride (set rows k (row_after (row_at rows k) s t)) (record { history = j.history ++ step_event i s t ∷ []; owed = j.owed - 1; plans = j.plans })
+    pub end_book : (i s : ℕ) (t : Transition) → i ≡ number first stride k → starts t ≡ false → RowMay (row_at rows k) s t → IsBook shelf first stride (set rows k (row_after (row_at rows k) s t)) (record { history = j.history ++ step_event i s t ∷ []; owed = j.owed - 1; plans = j.plans })
     end_book i s t is end may =
         let below = is_step s t may in
         let two = end_busy t (row_at rows k) s end may in

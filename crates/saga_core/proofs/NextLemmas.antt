@@ -159,5 +159,5 @@ module _ (shelf : List Contents) (first stride : ℕ) (rows : List Row) (j : Jou
       let same : r.0 ≡ k = number_apart first stride r.0 k (omega (arith, b.begins)) (sym r.2 ∙ is) in
       subst (λ (v : ℕ). RowAllows (row_at rows v) (row_task u)) same r.3
 
-  pub begin_none : (u : Task) → ((k : ℕ) → k < length rows → saga_of_task u ≡ number first stride k → ⊥) → TaskIsAllowed shelf (past j.history) u → ⊥
-  begin_none u none may = let r = task_row u may in none r.0 r.1 r.2
+  pub start_none : (u : Task) → ((k : ℕ) → k < length rows → saga_of_task u ≡ number first stride k → ⊥) → TaskIsAllowed shelf (past j.history) u → ⊥
+  start_none u none may = let r = task_row u may in none r.0 r.1 r.2

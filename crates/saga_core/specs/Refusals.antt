@@ -42,7 +42,7 @@ OpenRefused b k opening.NoSuchDefinition = length b.shelf ≤ k
 OpenRefused b k opening.Full = (k < length b.shelf) × (sagas_in b.history ≡ max_rows)
 OpenRefused b k opening.OutOfMemory = (k < length b.shelf) × (sagas_in b.history < max_rows)
 
--- why a step does not make a transition that begins something
+-- why a step does not make a transition that starts something
 abbrev pub TakeRefused : Book → ℕ → ℕ → Transition → TakeRefusal → Type 0
 TakeRefused b i s t take.NoSuchSaga = IsUnknown b i
 TakeRefused b i s t take.NoSuchStep = OfSaga b i (λ d l. length d.steps ≤ s)

@@ -1,4 +1,4 @@
--- What may begin in a book, and how its sagas stand.
+-- What may start in a book, and how its sagas stand.
 use Rattle.std.specs.Prelude.{◌≡◌, ℕ, ◌<◌, ◌≤◌, ◌⊎◌, Bool, true, false, List, Some, length}
 use Rattle.saga_def.specs.Contents.{Contents}
 use Rattle.saga_case.specs.declared.states.StepState.{StepState}
@@ -35,26 +35,26 @@ step_of_task (Plan i) = 0
 abbrev pub IsNotAfter : Task → Task → Type 0
 IsNotAfter t u = (saga_of_task t < saga_of_task u) ⊎ ((saga_of_task t ≡ saga_of_task u) × (step_of_task t ≤ step_of_task u))
 
--- the task may begin
-abbrev pub MayBegin : Book → Task → Type 0
-MayBegin b t = TaskIsAllowed b.shelf (past b.history) t
+-- the task may start
+abbrev pub MayStart : Book → Task → Type 0
+MayStart b t = TaskIsAllowed b.shelf (past b.history) t
 
 -- allowed, and none that is allowed comes before it
 pub record IsFirstTask (b : Book) (t : Task) : Type 0 where
-  pub allowed : MayBegin b t
-  pub first : (u : Task) → MayBegin b u → IsNotAfter t u
+  pub allowed : MayStart b t
+  pub first : (u : Task) → MayStart b u → IsNotAfter t u
 
 abbrev pub NoTaskIsAllowed : Book → Type 0
-NoTaskIsAllowed b = (t : Task) → MayBegin b t → ⊥
+NoTaskIsAllowed b = (t : Task) → MayStart b t → ⊥
 
 -- the same of the sagas from a number on
 pub record IsFirstTaskFrom (b : Book) (from : ℕ) (t : Task) : Type 0 where
-  pub allowed : MayBegin b t
+  pub allowed : MayStart b t
   pub within : from ≤ saga_of_task t
-  pub first : (u : Task) → MayBegin b u → from ≤ saga_of_task u → IsNotAfter t u
+  pub first : (u : Task) → MayStart b u → from ≤ saga_of_task u → IsNotAfter t u
 
 abbrev pub NoTaskIsAllowedFrom : Book → ℕ → Type 0
-NoTaskIsAllowedFrom b from = (t : Task) → MayBegin b t → from ≤ saga_of_task t → ⊥
+NoTaskIsAllowedFrom b from = (t : Task) → MayStart b t → from ≤ saga_of_task t → ⊥
 
 -- the task of a row, as one of its saga
 abbrev pub task_of : ℕ → RowTask → Task
@@ -67,16 +67,16 @@ row_task (Run i s) = row.Run s
 row_task (Undo i s) = row.Undo s
 row_task (Plan i) = row.Plan
 
--- the transition begins an action or a compensation
-abbrev pub begins : Transition → Bool
-begins transition.StartRun = true
-begins transition.Commit = false
-begins transition.Missed = false
-begins transition.Fail = false
-begins transition.StartUndo = true
-begins transition.Undone = false
-begins transition.UndoMissed = false
-begins transition.UndoFail = false
+-- the transition starts an action or a compensation
+abbrev pub starts : Transition → Bool
+starts transition.StartRun = true
+starts transition.Commit = false
+starts transition.Missed = false
+starts transition.Fail = false
+starts transition.StartUndo = true
+starts transition.Undone = false
+starts transition.UndoMissed = false
+starts transition.UndoFail = false
 
 -- each saga is ended, stuck or being planned, or one of its steps is busy
 abbrev pub AllRest : Book → Type 0

@@ -53,28 +53,28 @@ rest_is hs cs i same =
 
 -- what the head of a numbered history is
 pub head_is : (i c : ℕ) (h : List Mark) (x : Receipt) (r : List Receipt) → numbered i c (drop c h) ≡ x ∷ r
-    → (x.shard ≡ i) × (x.number ≡ c) × (c < length h) × ((d : Mark) → get_or h c d ≡ x.mark)
+    → (x.shard ≡ i) × (x.place ≡ c) × (c < length h) × ((d : Mark) → get_or h c d ≡ x.mark)
 head_is i c h x r e =
     elim (cases_lt c (length h)) [
       | inl lt ↦
-          (shard_is lt, number_is lt, lt, λ d. mark_is lt d)
+          (shard_is lt, place_is lt, lt, λ d. mark_is lt d)
       | inr ge ↦
           let none : drop c h ≡ [] = drop_all c h ge in
           let e' : ◌≡◌ {A = List Receipt} [] (x ∷ r) = subst (λ z. numbered i c z ≡ x ∷ r) none e in
           absurd cc
     ]
   where
-    opened : c < length h → (d : Mark) → ◌≡◌ {A = List Receipt} (record { shard = i; number = c; mark = get_or h c d } ∷ numbered i (c + 1) (drop (c + 1) h)) (x ∷ r)
+    opened : c < length h → (d : Mark) → ◌≡◌ {A = List Receipt} (record { shard = i; place = c; mark = get_or h c d } ∷ numbered i (c + 1) (drop (c + 1) h)) (x ∷ r)
     opened lt d = subst (λ z. numbered i c z ≡ x ∷ r) (drop_more h c d lt) e
 
-    x_is : c < length h → (d : Mark) → x ≡ record { shard = i; number = c; mark = get_or h c d }
+    x_is : c < length h → (d : Mark) → x ≡ record { shard = i; place = c; mark = get_or h c d }
     x_is lt d = let o = opened lt d in cc
 
     shard_is : c < length h → x.shard ≡ i
     shard_is lt = ap (λ (y : Receipt). y.shard) (x_is lt x.mark)
 
-    number_is : c < length h → x.number ≡ c
-    number_is lt = ap (λ (y : Receipt). y.number) (x_is lt x.mark)
+    place_is : c < length h → x.place ≡ c
+    place_is lt = ap (λ (y : Receipt). y.place) (x_is lt x.mark)
 
     mark_is : c < length h → (d : Mark) → get_or h c d ≡ x.mark
     mark_is lt d = sym (ap (λ (y : Receipt). y.mark) (x_is lt d))
@@ -83,21 +83,21 @@ items_at : (hs : List Book) (i : ℕ) (v : Book) → i < length hs → v ≡ get
 items_at hs i v lt is = get_or-map (λ (b : Book). map mark_of b.history) hs i v [] lt ∙ ap (λ (b : Book). map mark_of b.history) (sym is)
 
 pub meets_from : (hs : List Book) (cs : List ℕ) (x : Receipt) (v : Book) → length cs ≡ length hs → x.shard < length hs → v ≡ get_or hs x.shard v
-    → x.number ≡ get_or cs x.shard 0 → x.number < length (map mark_of v.history) → x.mark ≡ get_or (map mark_of v.history) x.number x.mark
+    → x.place ≡ get_or cs x.shard 0 → x.place < length (map mark_of v.history) → x.mark ≡ get_or (map mark_of v.history) x.place x.mark
     → IsNextOf (histories_of hs) cs x.shard x
 meets_from hs cs x v same lt is at within mark =
     let ms : List (List Mark) = map (λ (b : Book). map mark_of b.history) hs in
     let there = rest_is ms cs x.shard (same ∙ sym (length-map hs (λ (b : Book). map mark_of b.history))) in
-    let there' : get_or (rests (histories_of hs) cs) x.shard [] ≡ numbered x.shard x.number (drop x.number (map mark_of v.history)) =
-    there ∙ ap (λ k. numbered x.shard k (drop k (get_or ms x.shard []))) (sym at) ∙ ap (λ z. numbered x.shard x.number (drop x.number z)) (items_at hs x.shard v lt is) in
-    let opened : numbered x.shard x.number (drop x.number (map mark_of v.history)) ≡ x ∷ numbered x.shard (x.number + 1) (drop (x.number + 1) (map mark_of v.history)) =
-    ap (numbered x.shard x.number) (drop_more (map mark_of v.history) x.number x.mark within)
-    ∙ ap (λ m. record { shard = x.shard; number = x.number; mark = m } ∷ numbered x.shard (x.number + 1) (drop (x.number + 1) (map mark_of v.history))) (sym mark) in
-    (numbered x.shard (x.number + 1) (drop (x.number + 1) (map mark_of v.history)), there' ∙ opened)
+    let there' : get_or (rests (histories_of hs) cs) x.shard [] ≡ numbered x.shard x.place (drop x.place (map mark_of v.history)) =
+    there ∙ ap (λ k. numbered x.shard k (drop k (get_or ms x.shard []))) (sym at) ∙ ap (λ z. numbered x.shard x.place (drop x.place z)) (items_at hs x.shard v lt is) in
+    let opened : numbered x.shard x.place (drop x.place (map mark_of v.history)) ≡ x ∷ numbered x.shard (x.place + 1) (drop (x.place + 1) (map mark_of v.history)) =
+    ap (numbered x.shard x.place) (drop_more (map mark_of v.history) x.place x.mark within)
+    ∙ ap (λ m. record { shard = x.shard; place = x.place; mark = m } ∷ numbered x.shard (x.place + 1) (drop (x.place + 1) (map mark_of v.history))) (sym mark) in
+    (numbered x.shard (x.place + 1) (drop (x.place + 1) (map mark_of v.history)), there' ∙ opened)
 
 pub meets_to : (hs : List Book) (cs : List ℕ) (i : ℕ) (x : Receipt) → length cs ≡ length hs → IsNextOf (histories_of hs) cs i x
-    → (i < length hs) × (x.shard ≡ i) × (x.number ≡ get_or cs i 0)
-    × ((v : Book) → v ≡ get_or hs i v → (x.number < length (map mark_of v.history)) × ((d : Mark) → get_or (map mark_of v.history) x.number d ≡ x.mark))
+    → (i < length hs) × (x.shard ≡ i) × (x.place ≡ get_or cs i 0)
+    × ((v : Book) → v ≡ get_or hs i v → (x.place < length (map mark_of v.history)) × ((d : Mark) → get_or (map mark_of v.history) x.place d ≡ x.mark))
 meets_to hs cs i x same (r, e) =
     let ms : List (List Mark) = map (λ (b : Book). map mark_of b.history) hs in
     let there = rest_is ms cs i (same ∙ sym (length-map hs (λ (b : Book). map mark_of b.history))) in
@@ -114,8 +114,8 @@ meets_to hs cs i x same (r, e) =
       head.1,
       λ v is.
           let items = items_at hs i v lt is in (
-            subst (λ z. x.number < length z) items (subst (λ k. k < length (get_or ms i [])) (sym head.1) head.2),
-            λ d. subst (λ z. get_or z x.number d ≡ x.mark) items (subst (λ k. get_or (get_or ms i []) k d ≡ x.mark) (sym head.1) (head.3 d)),
+            subst (λ z. x.place < length z) items (subst (λ k. k < length (get_or ms i [])) (sym head.1) head.2),
+            λ d. subst (λ z. get_or z x.place d ≡ x.mark) items (subst (λ k. get_or (get_or ms i []) k d ≡ x.mark) (sym head.1) (head.3 d)),
           ),
     )
 

@@ -52,11 +52,11 @@ rests_none (l ∷ ls) zero e = refl
 rests_none (l ∷ ls) (suc n) e = ap (λ z. l ∷ z) (rests_none ls n (omega arith))
 
 -- each event of a numbered history has its shard, and a number from n on
-pub numbered_all : (s n : ℕ) (h : List Mark) → All (λ (y : Receipt). (y.shard ≡ s) × (n ≤ y.number)) (numbered s n h)
-numbered_all s n [] = All-nil (λ (y : Receipt). (y.shard ≡ s) × (n ≤ y.number))
+pub numbered_all : (s n : ℕ) (h : List Mark) → All (λ (y : Receipt). (y.shard ≡ s) × (n ≤ y.place)) (numbered s n h)
+numbered_all s n [] = All-nil (λ (y : Receipt). (y.shard ≡ s) × (n ≤ y.place))
 numbered_all s n (m ∷ h) =
-    All-cons (λ (y : Receipt). (y.shard ≡ s) × (n ≤ y.number)) _ (numbered s (n + 1) h) (refl, omega arith)
-    (All-weaker (λ (y : Receipt). (y.shard ≡ s) × (n + 1 ≤ y.number)) (λ (y : Receipt). (y.shard ≡ s) × (n ≤ y.number)) (λ y h. (h.0, (let g = h.1 in omega arith))) (numbered s (n + 1) h) (numbered_all s (n + 1) h))
+    All-cons (λ (y : Receipt). (y.shard ≡ s) × (n ≤ y.place)) _ (numbered s (n + 1) h) (refl, omega arith)
+    (All-weaker (λ (y : Receipt). (y.shard ≡ s) × (n + 1 ≤ y.place)) (λ (y : Receipt). (y.shard ≡ s) × (n ≤ y.place)) (λ y h. (h.0, (let g = h.1 in omega arith))) (numbered s (n + 1) h) (numbered_all s (n + 1) h))
 
 -- an event that was taken stands in nothing that is left
 pub once : (hs : List (List Mark)) (cs : List ℕ) (i : ℕ) (x : Receipt) (r : List Receipt) → length cs ≡ length hs → get_or (rests (numbered_from 0 hs) cs) i [] ≡ x ∷ r
@@ -71,10 +71,10 @@ once hs cs i x r same e j =
       | inr past ↦ (let none : length (get_or hs i []) ≡ 0 = ap length (get_or_past hs i [] (omega arith)) in let some = head.2 in absurd (omega arith))
     ] in
     All-same (λ y. y ≢ x) _ _ left
-    (All-weaker (λ (y : Receipt). (y.shard ≡ j) × (get_or cs' j 0 ≤ y.number)) (λ y. y ≢ x)
+    (All-weaker (λ (y : Receipt). (y.shard ≡ j) × (get_or cs' j 0 ≤ y.place)) (λ y. y ≢ x)
     (λ y h is.
     let shard : y.shard ≡ i = ap (λ (z : Receipt). z.shard) is ∙ head.0 in
-    let number : y.number ≡ get_or cs i 0 = ap (λ (z : Receipt). z.number) is ∙ head.1 in
+    let place : y.place ≡ get_or cs i 0 = ap (λ (z : Receipt). z.place) is ∙ head.1 in
     let ji : j ≡ i = sym h.0 ∙ shard in
     let now : get_or cs' j 0 ≡ get_or cs i 0 + 1 = ap (λ k. get_or cs' k 0) ji ∙ get_or-set_same cs i (get_or cs i 0 + 1) 0 lt in
     let from = h.1 in

@@ -8,10 +8,10 @@ use Rattle.saga_desk.specs.Merges.{HaveCommonMerge}
 use Rattle.saga_desk.specs.Seat.{Seat}
 use Rattle.saga_desk.specs.declared.receipts.Receipt.{Receipt}
 
--- the receipts of events with these marks, from a number on
+-- the receipts of events with these marks, from a place on
 abbrev pub numbered : ℕ → ℕ → List Mark → List Receipt
 numbered shard n [] = []
-numbered shard n (m ∷ ms) = record { shard = shard; mark = m; number = n } ∷ numbered shard (n + 1) ms
+numbered shard n (m ∷ ms) = record { shard = shard; mark = m; place = n } ∷ numbered shard (n + 1) ms
 
 -- the receipts of each history, of shards from one on
 abbrev pub numbered_from : ℕ → List (List Mark) → List (List Receipt)

@@ -23,7 +23,7 @@ use Rattle.saga_desk.specs.declared.receipts.Receipt.{Receipt}
 
 -- the receipt of an event that is added to this book
 abbrev pub receipt_of : Book → Event → Receipt
-receipt_of book e = record { shard = book.first; mark = mark_of e; number = length book.history }
+receipt_of book e = record { shard = book.first; mark = mark_of e; place = length book.history }
 
 -- the book has this one event more, and the seat its receipt; the seat has then so many claims outstanding
 pub record Records (old new : Book) (before after : Seat) (e : Event) (claims : ℕ) : Type 0 where

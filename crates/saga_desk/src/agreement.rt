@@ -130,15 +130,15 @@ fn book_of(books: &[Book<'_>], taken: &[usize], receipt: Receipt) -> Option<usiz
     if shard >= books.len() {
         return None;
     }
-    let number = taken[shard];
-    if number != receipt.number {
+    let place = taken[shard];
+    if place != receipt.place {
         return None;
     }
     let history = books[shard].history();
-    if number >= history.len() {
+    if place >= history.len() {
         return None;
     }
-    if !is_same(&history[number].mark(), &receipt.mark) {
+    if !is_same(&history[place].mark(), &receipt.mark) {
         return None;
     }
     Some(shard)

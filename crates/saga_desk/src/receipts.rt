@@ -6,7 +6,7 @@ use saga_history::Mark;
 pub struct Receipt {
     pub shard: u32,
     pub mark: Mark,
-    pub number: usize,
+    pub place: usize,
 }
 
 const _: () = prove!(size_of::<Receipt>() <= 24);

@@ -19,13 +19,13 @@ use Rattle.saga_drive.specs.declared.requests.Request.{Request}
 use Rattle.saga_drive.specs.declared.requests.Request.TheVariants as request
 use Rattle.saga_drive.specs.declared.requests.RequestFault.{RequestFault}
 use Rattle.saga_drive.specs.Answers.{Gains, IsReplied, Meets, TellsEvent}
-use Rattle.saga_drive.specs.Begins.{Begins, after, task_of}
+use Rattle.saga_drive.specs.Starts.{Starts, after, task_of}
 use Rattle.saga_drive.specs.Laws.{KeepsLegal}
-use Rattle.saga_drive.specs.Many.{BeginInTurn}
+use Rattle.saga_drive.specs.Many.{StartInTurn}
 use Rattle.saga_drive.specs.Replies.{text_of}
 use Rattle.saga_drive.proofs.KnownLemmas.{weaker}
 use Rattle.saga_drive.proofs.PlanLemmas.{begun}
-use Rattle.saga_core.specs.Tasks.{MayBegin}
+use Rattle.saga_core.specs.Tasks.{MayStart}
 
 -- the history is legal with those events behind it
 abbrev StaysLegal : Book → List Event → Type 0
@@ -46,21 +46,21 @@ may_adopt : (b : Book) (i : ℕ) (a : Answer) → OfSaga b i (λ d l. IsRight (t
 may_adopt b i a right = rw (begun i b.history) (weaker b i (λ d l. IsRight (terms_of (present_case d l)) a)
     (λ d l. (turn (starts_plan ∷ l) ≡ Planning) × IsRight (terms_of (present_case d (starts_plan ∷ l))) a) (λ d l right. (refl, right)) right)
 
-begun_legal : (book : Book) (t : Task) (gained : List Event) (text : List ℕ) → IsLegalBook book → MayBegin book t → Begins book t gained text
+started_legal : (book : Book) (t : Task) (gained : List Event) (text : List ℕ) → IsLegalBook book → MayStart book t → Starts book t gained text
     → StaysLegal book gained
-begun_legal book (Run i s) gained text legal allowed takes = one_legal book (event.StartRun i s) gained legal allowed takes.only
-begun_legal book (Undo i s) gained text legal allowed takes = one_legal book (event.StartUndo i s) gained legal allowed takes.only
-begun_legal book (Plan i) gained text legal allowed plans =
+started_legal book (Run i s) gained text legal allowed takes = one_legal book (event.StartRun i s) gained legal allowed takes.only
+started_legal book (Undo i s) gained text legal allowed takes = one_legal book (event.StartUndo i s) gained legal allowed takes.only
+started_legal book (Plan i) gained text legal allowed plans =
     let first : StaysLegal book (event.StartPlan i ∷ []) = one_legal book (event.StartPlan i) (event.StartPlan i ∷ []) legal allowed refl in
     let both : StaysLegal (after book (event.StartPlan i ∷ [])) (event.Adopt i plans.answer ∷ []) =
     one_legal (after book (event.StartPlan i ∷ [])) (event.Adopt i plans.answer) _ first (may_adopt book i plans.answer plans.right) refl in
     subst (StaysLegal book) (sym plans.both)
     (subst (λ (h : List Event). IsLegal book.shelf (past h)) (append_assoc book.history (event.StartPlan i ∷ []) (event.Adopt i plans.answer ∷ [])) both)
 
-in_turn_legal : (tasks : List Task) (book : Book) (gained : List Event) (told : List (List ℕ)) → IsLegalBook book → BeginInTurn tasks book gained told → StaysLegal book gained
+in_turn_legal : (tasks : List Task) (book : Book) (gained : List Event) (told : List (List ℕ)) → IsLegalBook book → StartInTurn tasks book gained told → StaysLegal book gained
 in_turn_legal [] book gained told legal begun = none_legal book gained legal begun.0
 in_turn_legal (t ∷ tasks) book gained told legal (first, text, rest, texts, is_first, begins, more, all, all_told) =
-    let begun : StaysLegal book first = begun_legal book t first text legal is_first.allowed begins in
+    let begun : StaysLegal book first = started_legal book t first text legal is_first.allowed begins in
     subst (StaysLegal book) (sym all)
     (subst (λ (h : List Event). IsLegal book.shelf (past h)) (append_assoc book.history first rest) (in_turn_legal tasks (after book first) rest texts begun more))
 
@@ -69,14 +69,14 @@ meets_legal book (request.Open wanted saga) gained text legal (inl opens) = told
 meets_legal book (request.Open wanted saga) gained text legal (inr (inl refused)) = none_legal book gained legal refused.1.none
 meets_legal book (request.Open wanted saga) gained text legal (inr (inr (inl refused))) = none_legal book gained legal refused.2.none
 meets_legal book (request.Open wanted saga) gained text legal (inr (inr (inr refused))) = none_legal book gained legal refused.2.none
-meets_legal book request.Next gained text legal (inl first) = begun_legal book first.0 gained first.2.0 legal first.1.allowed first.2.1
+meets_legal book request.Next gained text legal (inl first) = started_legal book first.0 gained first.2.0 legal first.1.allowed first.2.1
 meets_legal book request.Next gained text legal (inr idle) = none_legal book gained legal idle.said.none
 meets_legal book (request.NextMany most) gained text legal takes = in_turn_legal takes.tasks book gained takes.told legal takes.begin
-meets_legal book (request.TakeStep i s) gained text legal (inl (kind, may, begins)) = begun_legal book (task_of kind i s) gained begins.0 legal may begins.1
+meets_legal book (request.TakeStep i s) gained text legal (inl (kind, may, begins)) = started_legal book (task_of kind i s) gained begins.0 legal may begins.1
 meets_legal book (request.TakeStep i s) gained text legal (inr (inl refused)) = none_legal book gained legal refused.1.none
 meets_legal book (request.TakeStep i s) gained text legal (inr (inr (inl refused))) = none_legal book gained legal refused.1.none
 meets_legal book (request.TakeStep i s) gained text legal (inr (inr (inr refused))) = none_legal book gained legal refused.1.none
-meets_legal book (request.TakePlan i) gained text legal (inl plans) = begun_legal book (Plan i) gained plans.1.0 legal plans.0 plans.1.1
+meets_legal book (request.TakePlan i) gained text legal (inl plans) = started_legal book (Plan i) gained plans.1.0 legal plans.0 plans.1.1
 meets_legal book (request.TakePlan i) gained text legal (inr (inl refused)) = none_legal book gained legal refused.1.none
 meets_legal book (request.TakePlan i) gained text legal (inr (inr refused)) = none_legal book gained legal refused.1.none
 meets_legal book (request.Report i s meant outcome) gained text legal (inl (t, tells, is)) = told_legal book (step_event i s t) gained text legal tells

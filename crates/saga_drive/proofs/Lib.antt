@@ -7,7 +7,7 @@ pub mod ManyLemmas
 pub mod ReportLemmas
 pub mod PairLemmas
 pub mod LogLemmas
-pub mod StartLemmas
+pub mod RestartLemmas
 pub mod DropLemmas
 pub mod RestartLawLemmas
 pub mod LegalLemmas

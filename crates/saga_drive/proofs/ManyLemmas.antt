@@ -10,8 +10,8 @@ use Rattle.saga_drive.specs.declared.replies.Reply.{Reply}
 use Rattle.saga_drive.specs.declared.requests.Request.TheVariants as request
 use Rattle.saga_drive.specs.declared.tellings.Telling.{Telling}
 use Rattle.saga_drive.specs.Answers.{IsMet}
-use Rattle.saga_drive.specs.Begins.{AreReadBack, Begins, NextIsBegun, after}
-use Rattle.saga_drive.specs.Many.{BeginInTurn}
+use Rattle.saga_drive.specs.Starts.{AreReadBack, Starts, NextIsStarted, after}
+use Rattle.saga_drive.specs.Many.{StartInTurn}
 use Rattle.saga_drive.specs.Replies.{last_tasks_front, lines_of, text_of}
 use Rattle.saga_views.specs.Words.{listed}
 use Rattle.saga_drive.specs.Tellings.{comma_if}
@@ -21,8 +21,8 @@ after_both : (book : Book) (first rest : List Event) → after (after book first
 after_both book first rest = ap (λ h. record book { history = h }) (append_assoc book.history first rest)
 
 in_turn_more : (tasks : List Task) (t : Task) (book : Book) (gained more : List Event) (told : List (List ℕ)) (text : List ℕ)
-    → BeginInTurn tasks book gained told → IsFirstTask (after book gained) t → Begins (after book gained) t more text
-    → BeginInTurn (tasks ++ t ∷ []) book (gained ++ more) (told ++ text ∷ [])
+    → StartInTurn tasks book gained told → IsFirstTask (after book gained) t → Starts (after book gained) t more text
+    → StartInTurn (tasks ++ t ∷ []) book (gained ++ more) (told ++ text ∷ [])
 in_turn_more [] t book gained more told text (none, untold) first begins =
     let here : after book gained ≡ book = rw none (ap (λ h. record book { history = h }) (append-nil book.history)) in (
       more,
@@ -30,7 +30,7 @@ in_turn_more [] t book gained more told text (none, untold) first begins =
       [],
       [],
       subst (λ (b : Book). IsFirstTask b t) here first,
-      subst (λ (b : Book). Begins b t more text) here begins,
+      subst (λ (b : Book). Starts b t more text) here begins,
       (refl, refl),
       ap (λ g. g ++ more) none ∙ sym (append-nil more),
       ap (λ l. l ++ text ∷ []) untold,
@@ -44,7 +44,7 @@ in_turn_more (u ∷ tasks) t book gained more told text (one, a, rest, texts, is
       is_first,
       begins_one,
       in_turn_more tasks t (after book one) rest more texts text others
-          (subst (λ (b : Book). IsFirstTask b t) there first) (subst (λ (b : Book). Begins b t more text) there begins),
+          (subst (λ (b : Book). IsFirstTask b t) there first) (subst (λ (b : Book). Starts b t more text) there begins),
       ap (λ g. g ++ more) all ∙ append_assoc one rest more,
       ap (λ l. l ++ text ∷ []) all_told,
     )
@@ -67,13 +67,13 @@ listed_more [] text = sym (append-nil text)
 listed_more (x ∷ told) text = flat_map_more (λ y. codes "," ++ y) x told text
 
 -- what has begun so far, and what is told of it
-pub record HasBegun (old now : Book) (telling : Telling) (count : ℕ) : Type 0 where
+pub record HasStarted (old now : Book) (telling : Telling) (count : ℕ) : Type 0 where
   pub tasks : List Task
   pub told : List (List ℕ)
   pub gained : List Event
   pub counted : length tasks ≡ count
   pub told_all : length told ≡ count
-  pub begin : BeginInTurn tasks old gained told
+  pub begin : StartInTurn tasks old gained told
   pub grows : now ≡ after old gained
   pub back : AreReadBack gained
   pub text : string_bytes telling.text ≡ listed (codes ",") told
@@ -84,8 +84,8 @@ flat_both : (first rest : List Event) → flat_map event_line first ++ flat_map 
 flat_both [] rest = refl
 flat_both (e ∷ first) rest = append_assoc (event_line e) (flat_map event_line first) (flat_map event_line rest) ∙ ap (λ l. event_line e ++ l) (flat_both first rest)
 
-pub has_begun_more : (old mid new : Book) (a b : Telling) (count : ℕ) → HasBegun old mid a count → NextIsBegun true mid new a b → HasBegun old new b (count + 1)
-has_begun_more old mid new a b count has (t, first, begun) = record {
+pub has_started_more : (old mid new : Book) (a b : Telling) (count : ℕ) → HasStarted old mid a count → NextIsStarted true mid new a b → HasStarted old new b (count + 1)
+has_started_more old mid new a b count has (t, first, begun) = record {
   tasks = has.tasks ++ t ∷ [];
   told = has.told ++ begun.told ∷ [];
   gained = has.gained ++ begun.gained;
@@ -93,7 +93,7 @@ has_begun_more old mid new a b count has (t, first, begun) = record {
   told_all = length-append has.told (begun.told ∷ []) ∙ ap (λ n. n + 1) has.told_all;
   begin = in_turn_more has.tasks t old has.gained begun.gained has.told begun.told has.begin
       (subst (λ (book : Book). IsFirstTask book t) has.grows first)
-      (subst (λ (book : Book). Begins book t begun.gained begun.told) has.grows begun.begins);
+      (subst (λ (book : Book). Starts book t begun.gained begun.told) has.grows begun.begins);
   grows = begun.grows ∙ (ap (λ book. after book begun.gained) has.grows ∙ after_both old has.gained begun.gained);
   back = back_both has.gained begun.gained has.back begun.back;
   text = begun.more.text ∙ (ap (λ l. l ++ (comma_if a.apart ++ begun.told)) has.text
@@ -103,8 +103,8 @@ has_begun_more old mid new a b count has (t, first, begun) = record {
 }
 
 -- where no task is left, they are the last
-pub are_the_last : (old mid new : Book) (a b : Telling) (count most : ℕ) (settled : Bool) (front : List ℕ) (reply : Reply) → HasBegun old mid a count → count ≤ most
-    → NextIsBegun false mid new a b → (IsTrue settled ↔ AllAreOver new) → front ≡ last_tasks_front settled
+pub are_the_last : (old mid new : Book) (a b : Telling) (count most : ℕ) (settled : Bool) (front : List ℕ) (reply : Reply) → HasStarted old mid a count → count ≤ most
+    → NextIsStarted false mid new a b → (IsTrue settled ↔ AllAreOver new) → front ≡ last_tasks_front settled
     → text_of reply ≡ front ++ string_bytes b.text ++ codes "]}\n" → lines_of reply ≡ string_bytes b.lines → IsMet old new (request.NextMany most) reply
 are_the_last old mid new a b count most settled front reply has le (none, same, untold) over is text lines =
     let grows : new ≡ after old has.gained = same ∙ has.grows in

@@ -18,7 +18,7 @@ use Rattle.saga_core.specs.declared.refusals.AdoptRefusal.{AdoptRefusal}
 use Rattle.saga_core.specs.declared.refusals.AdoptRefusal.TheVariants as adopt
 use Rattle.saga_log.specs.Logs.{event_line}
 use Rattle.saga_drive.specs.declared.tellings.Telling.{Telling}
-use Rattle.saga_drive.specs.Begins.{HoldsPlan}
+use Rattle.saga_drive.specs.Starts.{HoldsPlan}
 use Rattle.saga_drive.specs.Tellings.{TellsMore, TellsSame}
 use Rattle.saga_drive.proofs.KnownLemmas.{apart, unknown, weaker}
 

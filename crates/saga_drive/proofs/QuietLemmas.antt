@@ -49,10 +49,10 @@ use Rattle.saga_drive.specs.declared.verbs.Verb.{Verb}
 use Rattle.saga_drive.specs.declared.verbs.Verb.TheVariants as verb
 use Rattle.saga_drive.specs.Answers.{IsAnswer, IsIdle, IsMet, IsReplied, IsSaid, Meets, NeitherMay}
 use Rattle.saga_drive.specs.Attempts.{IsNotTaken, IsOtherAttempt}
-use Rattle.saga_drive.specs.Begins.{Begins, after, task_of}
+use Rattle.saga_drive.specs.Starts.{Starts, after, task_of}
 use Rattle.saga_drive.specs.Fields.{attempt_of, count_of, max_most, most_of, u32_if, wanted_of}
 use Rattle.saga_drive.specs.Laws.{HasOneText}
-use Rattle.saga_drive.specs.Many.{AreTheFirst, AreTheLast, BeginInTurn, TakesMany}
+use Rattle.saga_drive.specs.Many.{AreTheFirst, AreTheLast, StartInTurn, TakesMany}
 use Rattle.saga_drive.specs.Openings.{IsNext, IsNotNext, IsWanted, NoneIsWanted}
 use Rattle.saga_drive.specs.Replies.{fault_text, idle_text, last_tasks_text, memory_word, text_of, word_of_fault}
 use Rattle.saga_drive.specs.Verbs.{keys_of, optional_keys_of}
@@ -65,10 +65,10 @@ use Rattle.saga_drive.proofs.ReadyLawLemmas.{ready_one}
 never : {A : Type 0} (x : A) (xs : List A) → [] ≡ x ∷ xs → ⊥
 never x xs is = absurd (let no : 0 ≡ suc (length xs) = ap length is in omega (arith, no))
 
-begins_some : (book : Book) (t : Task) (text : List ℕ) → Begins book t [] text → ⊥
-begins_some book (Run i s) text takes = never (event.StartRun i s) [] takes.only
-begins_some book (Undo i s) text takes = never (event.StartUndo i s) [] takes.only
-begins_some book (Plan i) text plans = never (event.StartPlan i) (event.Adopt i plans.answer ∷ []) plans.both
+starts_some : (book : Book) (t : Task) (text : List ℕ) → Starts book t [] text → ⊥
+starts_some book (Run i s) text takes = never (event.StartRun i s) [] takes.only
+starts_some book (Undo i s) text takes = never (event.StartUndo i s) [] takes.only
+starts_some book (Plan i) text plans = never (event.StartPlan i) (event.Adopt i plans.answer ∷ []) plans.both
 
 gained_none : (book new : Book) (gained : List Event) → new ≡ after book gained → new.history ≡ book.history → gained ≡ []
 gained_none book new gained grows same =
@@ -123,8 +123,8 @@ module _ (book : Book) where
   opens_one wanted saga text other few (inr (inr (inr a))) (inr (inr (inr b))) = same_said _ text other a.2 b.2
 
   step_one : (i s : ℕ) (text other : List ℕ) → Meets book (request.TakeStep i s) [] text → Meets book (request.TakeStep i s) [] other → text ≡ other
-  step_one i s text other (inl a) b = absurd (begins_some book (task_of a.0 i s) a.2.0 a.2.1)
-  step_one i s text other a (inl b) = absurd (begins_some book (task_of b.0 i s) b.2.0 b.2.1)
+  step_one i s text other (inl a) b = absurd (starts_some book (task_of a.0 i s) a.2.0 a.2.1)
+  step_one i s text other a (inl b) = absurd (starts_some book (task_of b.0 i s) b.2.0 b.2.1)
   step_one i s text other (inr (inl a)) (inr (inl b)) = same_said _ text other a.1 b.1
   step_one i s text other (inr (inl a)) (inr (inr (inl b))) = absurd (unknown book i (λ d l. length d.steps ≤ s) a.0 b.0)
   step_one i s text other (inr (inl a)) (inr (inr (inr b))) = absurd (unknown book i (λ d l. NeitherMay d l s) a.0 b.0)
@@ -138,8 +138,8 @@ module _ (book : Book) where
   step_one i s text other (inr (inr (inr a))) (inr (inr (inr b))) = same_said _ text other a.1 b.1
 
   plan_one : (i : ℕ) (text other : List ℕ) → Meets book (request.TakePlan i) [] text → Meets book (request.TakePlan i) [] other → text ≡ other
-  plan_one i text other (inl a) b = absurd (begins_some book (Plan i) a.1.0 a.1.1)
-  plan_one i text other a (inl b) = absurd (begins_some book (Plan i) b.1.0 b.1.1)
+  plan_one i text other (inl a) b = absurd (starts_some book (Plan i) a.1.0 a.1.1)
+  plan_one i text other a (inl b) = absurd (starts_some book (Plan i) b.1.0 b.1.1)
   plan_one i text other (inr (inl a)) (inr (inl b)) = same_said _ text other a.1 b.1
   plan_one i text other (inr (inl a)) (inr (inr b)) = absurd (unknown book i (λ d l. SagaMay d l starts_plan → ⊥) a.0 b.0)
   plan_one i text other (inr (inr a)) (inr (inl b)) = absurd (unknown book i (λ d l. SagaMay d l starts_plan → ⊥) b.0 a.0)
@@ -150,8 +150,8 @@ module _ (book : Book) where
       a.said.text_is ∙ ap idle_text (same_bool (AllAreOver book) a.settled b.settled a.settled_is b.settled_is) ∙ sym b.said.text_is
 
   next_one : (text other : List ℕ) → Meets book request.Next [] text → Meets book request.Next [] other → text ≡ other
-  next_one text other (inl a) b = absurd (begins_some book a.0 a.2.0 a.2.1)
-  next_one text other a (inl b) = absurd (begins_some book b.0 b.2.0 b.2.1)
+  next_one text other (inl a) b = absurd (starts_some book a.0 a.2.0 a.2.1)
+  next_one text other a (inl b) = absurd (starts_some book b.0 b.2.0 b.2.1)
   next_one text other (inr a) (inr b) = idle_one text other a b
 
   report_one : (i s : ℕ) (meant : Option Attempt) (outcome : Outcome) (text other : List ℕ)
@@ -207,10 +207,10 @@ module _ (book : Book) where
 
   -- ---- many tasks
 
-  no_tasks : (tasks : List Task) (told : List (List ℕ)) → BeginInTurn tasks book [] told → told ≡ []
+  no_tasks : (tasks : List Task) (told : List (List ℕ)) → StartInTurn tasks book [] told → told ≡ []
   no_tasks [] told none = none.1
   no_tasks (t ∷ tasks) told (first, text, rest, texts, is_first, begins, more, all, all_told) =
-      absurd (begins_some book t text (subst (λ (g : List Event). Begins book t g text) (front_none first rest all) begins))
+      absurd (starts_some book t text (subst (λ (g : List Event). Starts book t g text) (front_none first rest all) begins))
     where
       front_none : (first rest : List Event) → [] ≡ first ++ rest → first ≡ []
       front_none [] rest is = refl

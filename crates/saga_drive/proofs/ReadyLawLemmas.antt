@@ -9,7 +9,7 @@ use Rattle.saga_history.specs.declared.transitions.Transition.TheVariants.{Start
 use Rattle.saga_history.specs.Changes.{moves, starts_plan}
 use Rattle.saga_history.specs.Rules.{SagaMay}
 use Rattle.saga_core.specs.Book.{Book}
-use Rattle.saga_core.specs.Tasks.{IsNotAfter, MayBegin, saga_of_task, step_of_task}
+use Rattle.saga_core.specs.Tasks.{IsNotAfter, MayStart, saga_of_task, step_of_task}
 use Rattle.saga_views.specs.Ready.{AreReady, IsBefore, IsReady, ListsAll, TellsReady, ready_text}
 use Rattle.saga_views.specs.Limits.{enough_tasks}
 use Rattle.saga_drive.proofs.KnownLemmas.{apart}
@@ -17,22 +17,22 @@ use Rattle.saga_drive.proofs.KnownLemmas.{apart}
 -- ---- two tasks that are allowed
 
 module _ (book : Book) where
-  run_or_undo : (i j s r : ℕ) → i ≡ j → s ≡ r → MayBegin book (Run i s) → MayBegin book (Undo j r) → ⊥
+  run_or_undo : (i j s r : ℕ) → i ≡ j → s ≡ r → MayStart book (Run i s) → MayStart book (Undo j r) → ⊥
   run_or_undo i j s r saga step run undo =
       apart book i (λ d l. SagaMay d l (moves s StartRun)) (λ d l. SagaMay d l (moves s StartUndo)) (λ d l a b. absurd (cc (a.begins, b.begins))) run
-      (subst (λ (k : ℕ). MayBegin book (Undo i k)) (sym step) (subst (λ (k : ℕ). MayBegin book (Undo k r)) (sym saga) undo))
+      (subst (λ (k : ℕ). MayStart book (Undo i k)) (sym step) (subst (λ (k : ℕ). MayStart book (Undo k r)) (sym saga) undo))
 
-  run_or_plan : (i j s : ℕ) → i ≡ j → MayBegin book (Run i s) → MayBegin book (Plan j) → ⊥
+  run_or_plan : (i j s : ℕ) → i ≡ j → MayStart book (Run i s) → MayStart book (Plan j) → ⊥
   run_or_plan i j s saga run plan =
       apart book i (λ d l. SagaMay d l (moves s StartRun)) (λ d l. SagaMay d l starts_plan) (λ d l a b. absurd (cc (a.condition.0, b.0))) run
-      (subst (λ (k : ℕ). MayBegin book (Plan k)) (sym saga) plan)
+      (subst (λ (k : ℕ). MayStart book (Plan k)) (sym saga) plan)
 
-  undo_or_plan : (i j s : ℕ) → i ≡ j → MayBegin book (Undo i s) → MayBegin book (Plan j) → ⊥
+  undo_or_plan : (i j s : ℕ) → i ≡ j → MayStart book (Undo i s) → MayStart book (Plan j) → ⊥
   undo_or_plan i j s saga undo plan =
       apart book i (λ d l. SagaMay d l (moves s StartUndo)) (λ d l. SagaMay d l starts_plan) (λ d l a b. absurd (cc (a.condition.0, b.0))) undo
-      (subst (λ (k : ℕ). MayBegin book (Plan k)) (sym saga) plan)
+      (subst (λ (k : ℕ). MayStart book (Plan k)) (sym saga) plan)
 
-  same_place : (t u : Task) → saga_of_task t ≡ saga_of_task u → step_of_task t ≡ step_of_task u → MayBegin book t → MayBegin book u → t ≡ u
+  same_place : (t u : Task) → saga_of_task t ≡ saga_of_task u → step_of_task t ≡ step_of_task u → MayStart book t → MayStart book u → t ≡ u
   same_place (Run i s) (Run j r) saga step a b = ap (λ (k : ℕ). Run k s) saga ∙ ap (Run j) step
   same_place (Run i s) (Undo j r) saga step a b = absurd (run_or_undo i j s r saga step a b)
   same_place (Run i s) (Plan j) saga step a b = absurd (run_or_plan i j s saga a b)
@@ -43,7 +43,7 @@ module _ (book : Book) where
   same_place (Plan i) (Undo j r) saga step a b = absurd (undo_or_plan j i r (sym saga) b a)
   same_place (Plan i) (Plan j) saga step a b = ap Plan saga
 
-  neither_after : (t u : Task) → MayBegin book t → MayBegin book u → IsNotAfter t u → IsNotAfter u t → t ≡ u
+  neither_after : (t u : Task) → MayStart book t → MayStart book u → IsNotAfter t u → IsNotAfter u t → t ≡ u
   neither_after t u a b (inl x) (inl y) = absurd (omega (arith, x, y))
   neither_after t u a b (inl x) (inr y) = absurd (omega (arith, x, y.0))
   neither_after t u a b (inr x) (inl y) = absurd (omega (arith, x.0, y))

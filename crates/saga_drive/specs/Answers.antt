@@ -15,7 +15,7 @@ use Rattle.saga_history.specs.Rules.{StepMay}
 use Rattle.saga_history.specs.Tasks.{IsEndOf}
 use Rattle.saga_core.specs.Book.{Book, Allows, with_event}
 use Rattle.saga_core.specs.Refusals.{IsUnknown, OfSaga, OpenRefused, SagaRefused}
-use Rattle.saga_core.specs.Tasks.{AllAreOver, IsFirstTask, MayBegin, NoTaskIsAllowed, StandsAt}
+use Rattle.saga_core.specs.Tasks.{AllAreOver, IsFirstTask, MayStart, NoTaskIsAllowed, StandsAt}
 use Rattle.saga_core.specs.declared.refusals.OpenRefusal.TheVariants as opening
 use Rattle.saga_core.specs.declared.refusals.SagaRefusal.TheVariants as saga
 use Rattle.saga_log.specs.Logs.{event_line}
@@ -31,7 +31,7 @@ use Rattle.saga_drive.specs.declared.requests.Request.{Request}
 use Rattle.saga_drive.specs.declared.requests.Request.TheVariants as request
 use Rattle.saga_drive.specs.declared.requests.RequestFault.{RequestFault}
 use Rattle.saga_drive.specs.Attempts.{IsMeant, IsNotTaken, IsOtherAttempt, number_of}
-use Rattle.saga_drive.specs.Begins.{AreReadBack, Begins, after, task_of}
+use Rattle.saga_drive.specs.Starts.{AreReadBack, Starts, after, task_of}
 use Rattle.saga_drive.specs.Many.{TakesMany}
 use Rattle.saga_drive.specs.Openings.{IsNext, IsNotNext, IsWanted, NoneIsWanted, next_number}
 use Rattle.saga_drive.specs.Replies.{text_of, lines_of, fault_text, refusal_text, memory_word, word_of_fault, event_text, idle_text}
@@ -70,8 +70,8 @@ Opens book wanted saga gained text =
     × IsRefusal (codes "full") gained text)
 
 -- a task begins, and the line tells it
-abbrev pub BeginsAlone : Book → Task → List Event → List ℕ → Type 0
-BeginsAlone book t gained text = (told : List ℕ) × Begins book t gained told × (text ≡ told ++ codes "\n")
+abbrev pub StartsAlone : Book → Task → List Event → List ℕ → Type 0
+StartsAlone book t gained text = (told : List ℕ) × Starts book t gained told × (text ≡ told ++ codes "\n")
 
 -- the task of a step, whichever of the two may begin; or why none
 abbrev pub NeitherMay : Contents → List Change → ℕ → Type 0
@@ -79,7 +79,7 @@ NeitherMay d l s = (s < length d.steps) × (StepMay d l s StartRun → ⊥) × (
 
 abbrev pub TakesStep : Book → ℕ → ℕ → List Event → List ℕ → Type 0
 TakesStep book i s gained text =
-    ((kind : Kind) × MayBegin book (task_of kind i s) × BeginsAlone book (task_of kind i s) gained text)
+    ((kind : Kind) × MayStart book (task_of kind i s) × StartsAlone book (task_of kind i s) gained text)
     ⊎ (IsUnknown book i × IsRefusal (codes "no-such-saga") gained text)
     ⊎ (OfSaga book i (λ d l. length d.steps ≤ s) × IsRefusal (codes "no-such-step") gained text)
     ⊎ (OfSaga book i (λ d l. NeitherMay d l s) × IsRefusal (codes "not-now") gained text)
@@ -87,7 +87,7 @@ TakesStep book i s gained text =
 -- the plan of a saga; or why none
 abbrev pub TakesPlan : Book → ℕ → List Event → List ℕ → Type 0
 TakesPlan book i gained text =
-    (Allows book (event.StartPlan i) × BeginsAlone book (Plan i) gained text)
+    (Allows book (event.StartPlan i) × StartsAlone book (Plan i) gained text)
     ⊎ (SagaRefused book i starts_plan saga.NoSuchSaga × IsRefusal (codes "no-such-saga") gained text)
     ⊎ (SagaRefused book i starts_plan saga.NotNow × IsRefusal (codes "not-now") gained text)
 
@@ -101,7 +101,7 @@ pub record IsIdle (book : Book) (gained : List Event) (text : List ℕ) : Type 0
 -- the first task, by saga and then by step
 abbrev pub TakesNext : Book → List Event → List ℕ → Type 0
 TakesNext book gained text =
-    ((t : Task) × IsFirstTask book t × BeginsAlone book t gained text) ⊎ IsIdle book gained text
+    ((t : Task) × IsFirstTask book t × StartsAlone book t gained text) ⊎ IsIdle book gained text
 
 -- the action or the compensation of the step ends by this transition, and it is the attempt that is meant
 abbrev pub IsEnd : Option Attempt → Outcome → ℕ → Transition → Contents → List Change → Type 0

@@ -7,7 +7,7 @@ pub mod Requests
 pub mod Replies
 pub mod Happenings
 pub mod Tellings
-pub mod Begins
+pub mod Starts
 pub mod Many
 pub mod Answers
 pub mod Restarts

@@ -4,16 +4,16 @@ use Rattle.saga_history.specs.declared.events.Event.{Event}
 use Rattle.saga_history.specs.declared.tasks.Task.{Task}
 use Rattle.saga_core.specs.Book.{Book}
 use Rattle.saga_core.specs.Tasks.{AllAreOver, IsFirstTask, NoTaskIsAllowed}
-use Rattle.saga_drive.specs.Begins.{Begins, after}
+use Rattle.saga_drive.specs.Starts.{Starts, after}
 use Rattle.saga_drive.specs.Replies.{last_tasks_text, tasks_text}
 
 -- tasks begin one after the other, each as the first that may, and each is told by a text
-abbrev pub BeginInTurn : List Task → Book → List Event → List (List ℕ) → Type 0
-BeginInTurn [] book gained told = (gained ≡ []) × (told ≡ [])
-BeginInTurn (t ∷ tasks) book gained told = (first : List Event) × (text : List ℕ) × (rest : List Event) × (texts : List (List ℕ))
+abbrev pub StartInTurn : List Task → Book → List Event → List (List ℕ) → Type 0
+StartInTurn [] book gained told = (gained ≡ []) × (told ≡ [])
+StartInTurn (t ∷ tasks) book gained told = (first : List Event) × (text : List ℕ) × (rest : List Event) × (texts : List (List ℕ))
     × IsFirstTask book t
-    × Begins book t first text
-    × BeginInTurn tasks (after book first) rest texts
+    × Starts book t first text
+    × StartInTurn tasks (after book first) rest texts
     × (gained ≡ first ++ rest)
     × (told ≡ text ∷ texts)
 
@@ -34,5 +34,5 @@ pub record TakesMany (book : Book) (most : ℕ) (gained : List Event) (text : Li
   pub tasks : List Task
   pub told : List (List ℕ)
   pub within : length tasks ≤ most
-  pub begin : BeginInTurn tasks book gained told
+  pub begin : StartInTurn tasks book gained told
   pub end : AreTheLast (after book gained) told text ⊎ AreTheFirst most told text

@@ -3,14 +3,14 @@
 //! What will be told is written before it happens, so where memory lacks, nothing has happened.
 ghost use Rattle.std.specs.Prelude.{◌≡◌, ◌++◌, ℕ, List, IfOk, MatchOption, OnErr};
 ghost use Rattle.saga_history.specs.declared.tasks.Task.TheVariants as task;
-ghost use Rattle.saga_core.specs.Tasks.{MayBegin, NoTaskIsAllowed};
+ghost use Rattle.saga_core.specs.Tasks.{MayStart, NoTaskIsAllowed};
 ghost use Rattle.saga_logged.specs.BookLog.{IsBookLog};
 ghost use Rattle.saga_drive.specs.Replies.{lines_of};
 ghost use Rattle.saga_drive.specs.Answers.{IsAnswer, IsMet};
-ghost use Rattle.saga_drive.specs.Begins.{task_of};
+ghost use Rattle.saga_drive.specs.Starts.{task_of};
 ghost use Rattle.saga_drive.specs.declared.requests.Request.TheVariants as request;
 
-use crate::beginnings::{begin_next, begin_step, plan_case};
+use crate::starts::{start_next, start_step, plan_case};
 use crate::happenings::Happening;
 use crate::many::next_many;
 use crate::openings::{Wanted, index_of_wanted, is_next};
@@ -62,7 +62,7 @@ fn next(alloc: Global, book: &mut Book<'_>) -> Result<Reply, AllocError>
     ensures err { OnErr result (book.new ≡ book.old) }
 {
     let mut telling = Telling::new(alloc)?;
-    if begin_next(alloc, book, &mut telling)? {
+    if start_next(alloc, book, &mut telling)? {
         Ok(telling.end("", "\n"))
     } else {
         idle(alloc, book)
@@ -72,14 +72,14 @@ fn next(alloc: Global, book: &mut Book<'_>) -> Result<Reply, AllocError>
 /// Which may begin at a step: its action or its compensation.
 fn kind_of_next(book: &Book<'_>, saga: u32, step: u16) -> Option<Kind>
     ensures { MatchOption result
-        ((MayBegin book.now (task.Run saga step) → ⊥)
-        × (MayBegin book.now (task.Undo saga step) → ⊥))
-        (λ kind. MayBegin book.now (task_of kind saga step)) }
+        ((MayStart book.now (task.Run saga step) → ⊥)
+        × (MayStart book.now (task.Undo saga step) → ⊥))
+        (λ kind. MayStart book.now (task_of kind saga step)) }
 {
-    if book.may_begin(Task::Run(saga, step)) {
+    if book.may_start(Task::Run(saga, step)) {
         return Some(Kind::Run);
     }
-    if book.may_begin(Task::Undo(saga, step)) {
+    if book.may_start(Task::Undo(saga, step)) {
         return Some(Kind::Undo);
     }
     None
@@ -100,7 +100,7 @@ fn take_step(alloc: Global, book: &mut Book<'_>, saga: u32, step: u16) -> Result
         return Ok(Reply::Refusal("{\"refused\":\"not-now\"}\n"));
     };
     let mut telling = Telling::new(alloc)?;
-    begin_step(alloc, book, saga, step, kind, &mut telling)?;
+    start_step(alloc, book, saga, step, kind, &mut telling)?;
     Ok(telling.end("", "\n"))
 }
 

@@ -20,7 +20,7 @@
 
 mod answers;
 mod attempts;
-mod beginnings;
+mod starts;
 mod drops;
 mod fields;
 mod happenings;

@@ -4,7 +4,7 @@ ghost use Rattle.saga_drive.specs.Answers.{IsMet};
 ghost use Rattle.saga_drive.specs.Replies.{last_tasks_front};
 ghost use Rattle.saga_drive.specs.declared.requests.Request.TheVariants as request;
 
-use crate::beginnings::begin_next;
+use crate::starts::start_next;
 use crate::replies::Reply;
 use crate::tellings::Telling;
 use saga_core::Book;
@@ -34,7 +34,7 @@ pub fn next_many(alloc: Global, book: &mut Book<'_>, most: u16) -> Result<Reply,
 {
     let mut telling = Telling::new(alloc)?;
     for count in 0..most {
-        match begin_next(alloc, book, &mut telling) {
+        match start_next(alloc, book, &mut telling) {
             Ok(true) => {}
             Ok(false) => {
                 let settled = book.settled();

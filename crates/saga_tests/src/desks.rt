@@ -439,7 +439,7 @@ fn speak<'d, R: process::Abort + Wait + Alloc<A = Global>>(
             .expect(rt, "a seat")
             .as_ref()
             .expect(rt, "a seat");
-        let receipts = seat.receipts().iter().map(|receipt| &receipt.number);
+        let receipts = seat.receipts().iter().map(|receipt| &receipt.place);
         assert!(rt;
             receipts.eq(numbers.iter()),
             "receipts of {who}: {}",

@@ -13,7 +13,7 @@ use Rattle.saga_history.specs.Turns.{opened_with}
 use Rattle.saga_history.proofs.SagaLemmas.{holds_at}
 use Rattle.saga_core.specs.Book.{Book, changes_in, definition_in}
 use Rattle.saga_core.specs.Refusals.{IsUnknown}
-use Rattle.saga_core.specs.Tasks.{IsFirstTaskFrom, IsNotAfter, MayBegin, NoTaskIsAllowedFrom, saga_of_task, step_of_task}
+use Rattle.saga_core.specs.Tasks.{IsFirstTaskFrom, IsNotAfter, MayStart, NoTaskIsAllowedFrom, saga_of_task, step_of_task}
 use Rattle.saga_views.specs.Ready.{AddsOf, IsAdded, IsNotCut, IsReady, IsReadyUpTo, IsUpTo, ListsAll, place_of}
 use Rattle.saga_views.specs.Limits.{enough_tasks}
 
@@ -88,7 +88,7 @@ module _ (book : Book) (from : ℕ) where
   passed i n t old new far own here (inr (not, is)) lists = subst (λ (ts : List Task). ListsAll (IsReadyUpTo book from i (n + 1)) ts) (sym is)
       (lists_same (IsReadyUpTo book from i n) (IsReadyUpTo book from i (n + 1)) old
       (λ u p. (p.0, p.1, up_to_wider u i n p.2))
-      (λ u q. elim (up_to_more u t i n own here q.2) [ inl below ↦ (q.0, q.1, below) | inr same ↦ absurd (not (subst (MayBegin book) same q.0)) ]) lists)
+      (λ u q. elim (up_to_more u t i n own here q.2) [ inl below ↦ (q.0, q.1, below) | inr same ↦ absurd (not (subst (MayStart book) same q.0)) ]) lists)
 
   -- a saga begins, and ends behind its last place
   pub begins_saga : (i : ℕ) (ts : List Task) → ListsAll (IsReady book from (Some i)) ts → ListsAll (IsReadyUpTo book from i 0) ts
@@ -96,7 +96,7 @@ module _ (book : Book) (from : ℕ) where
       (λ u p. (p.0, p.1, inl p.2))
       (λ u q. (q.0, q.1, elim q.2 [ inl less ↦ less | inr none ↦ absurd (omega (arith, none.1)) ])) lists
 
-  place_few : (u : Task) (d : Contents) → definition_in book (saga_of_task u) ≡ Some d → MayBegin book u → place_of u < 2 * length d.steps + 1
+  place_few : (u : Task) (d : Contents) → definition_in book (saga_of_task u) ≡ Some d → MayStart book u → place_of u < 2 * length d.steps + 1
   place_few (Run i s) d at may = let is = (holds_at (definition_in book i) d _ at may).is_step in omega (arith, is)
   place_few (Undo i s) d at may = let is = (holds_at (definition_in book i) d _ at may).is_step in omega (arith, is)
   place_few (Plan i) d at may = omega arith
@@ -131,7 +131,7 @@ module _ (book : Book) (from : ℕ) where
       none_at : (o : Option ℕ) (P : Contents → Type 0) → o ≡ None → IsSomeAnd (definition_at book.shelf o) P → ⊥
       none_at o P none holds = subst (λ (o : Option ℕ). IsSomeAnd (definition_at book.shelf o) P) none holds
 
-      none_of : (u : Task) → IsUnknown book (saga_of_task u) → MayBegin book u → ⊥
+      none_of : (u : Task) → IsUnknown book (saga_of_task u) → MayStart book u → ⊥
       none_of (Run i s) none may = none_at (opened_with (changes_in book i)) _ none may
       none_of (Undo i s) none may = none_at (opened_with (changes_in book i)) _ none may
       none_of (Plan i) none may = none_at (opened_with (changes_in book i)) _ none may

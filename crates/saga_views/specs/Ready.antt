@@ -7,7 +7,7 @@ use Rattle.saga_history.specs.declared.tasks.Kind.TheVariants as kind
 use Rattle.saga_history.specs.declared.tasks.Task.{Task}
 use Rattle.saga_history.specs.declared.tasks.Task.TheVariants.{Run, Undo, Plan}
 use Rattle.saga_core.specs.Book.{Book, changes_in, definition_in}
-use Rattle.saga_core.specs.Tasks.{IsNotAfter, MayBegin, saga_of_task}
+use Rattle.saga_core.specs.Tasks.{IsNotAfter, MayStart, saga_of_task}
 use Rattle.saga_views.specs.Tasks.{saga_of, taken_text}
 use Rattle.saga_views.specs.Words.{listed}
 use Rattle.saga_views.specs.Limits.{enough_tasks}
@@ -25,7 +25,7 @@ IsBefore (Some m) t = saga_of_task t < m
 
 -- the task may begin, and is of a saga from a number on, and before another one if that is named
 abbrev pub IsReady : Book → ℕ → Option ℕ → Task → Type 0
-IsReady book from end t = MayBegin book t × (from ≤ saga_of_task t) × IsBefore end t
+IsReady book from end t = MayStart book t × (from ≤ saga_of_task t) × IsBefore end t
 
 -- no saga is begun once there are enough: what comes behind them is of the saga of the last of them
 abbrev pub IsNotCut : List Task → Type 0
@@ -37,7 +37,7 @@ IsNotCut tasks =
 pub record GoesOnAt (book : Book) (tasks : List Task) (m : ℕ) : Type 0 where
   pub enough : enough_tasks ≤ length tasks
   pub task : Task
-  pub allowed : MayBegin book task
+  pub allowed : MayStart book task
   pub saga : saga_of_task task ≡ m
 
 -- the tasks that may begin, from a saga's number on, and where to go on, if there are more
@@ -94,11 +94,11 @@ IsUpTo i n t = (saga_of_task t < i) ⊎ ((saga_of_task t ≡ i) × (place_of t <
 
 -- the task may begin, and comes before that place
 abbrev pub IsReadyUpTo : Book → ℕ → ℕ → ℕ → Task → Type 0
-IsReadyUpTo book from i n t = MayBegin book t × (from ≤ saga_of_task t) × IsUpTo i n t
+IsReadyUpTo book from i n t = MayStart book t × (from ≤ saga_of_task t) × IsUpTo i n t
 
 -- a task was added, where it may begin
 abbrev pub IsAdded : Book → Task → List Task → List Task → Type 0
-IsAdded book t old new = (MayBegin book t × (new ≡ old ++ t ∷ [])) ⊎ ((MayBegin book t → ⊥) × (new ≡ old))
+IsAdded book t old new = (MayStart book t × (new ≡ old ++ t ∷ [])) ⊎ ((MayStart book t → ⊥) × (new ≡ old))
 
 -- what was added is of one saga
 abbrev pub AddsOf : ℕ → List Task → List Task → Type 0

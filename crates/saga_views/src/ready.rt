@@ -2,7 +2,7 @@
 ghost use Rattle.std.specs.Prelude.{ℕ, ◌≡◌, ◌<◌, ◌≤◌, ◌+◌, ◌*◌, ◌∷◌, [], All, IfOk, IfSome, IfNone, OnOk, Some, None, codes, length, map, option_map, string_bytes};
 ghost use Rattle.std.specs.List.{concat};
 ghost use Rattle.saga_core.specs.Refusals.{OfSaga};
-ghost use Rattle.saga_core.specs.Tasks.{saga_of_task, MayBegin};
+ghost use Rattle.saga_core.specs.Tasks.{saga_of_task, MayStart};
 ghost use Rattle.saga_views.specs.Ready as spec;
 ghost use Rattle.saga_views.specs.Ready.{AddsOf, AreReady, IsAdded, IsReady, ListsAll, TellsReady};
 
@@ -28,7 +28,7 @@ fn push_task(tasks: &mut Vec<Task>, book: &Book<'_>, task: Task) -> Result<(), A
     ensures { OnOk result
         (IsAdded book.now task tasks.old.items tasks.new.items) }
 {
-    if book.may_begin(task) {
+    if book.may_start(task) {
         tasks.push(task)?;
     }
     Ok(())
@@ -117,7 +117,7 @@ fn step_text(
 
 /// The text of a task that may begin.
 fn text_of(alloc: Global, book: &Book<'_>, task: Task) -> Result<String, AllocError>
-    requires { MayBegin book.now task }
+    requires { MayStart book.now task }
     ensures { IfOk result (λ text. string_bytes text ≡ spec.text_of book.now task) }
 {
     match task {
@@ -129,7 +129,7 @@ fn text_of(alloc: Global, book: &Book<'_>, task: Task) -> Result<String, AllocEr
 
 /// The texts of tasks that may begin.
 fn texts_of(alloc: Global, book: &Book<'_>, tasks: &[Task]) -> Result<Vec<String>, AllocError>
-    requires { All (λ t. MayBegin book.now t) tasks.now }
+    requires { All (λ t. MayStart book.now t) tasks.now }
     ensures { IfOk result (λ texts. map string_bytes texts.items
         ≡ map (spec.text_of book.now) tasks.now) }
 {

@@ -6,7 +6,7 @@ ghost use Rattle.saga_history.specs.Tasks.{TaskIsAllowed};
 ghost use Rattle.saga_core.specs.Book as book;
 ghost use Rattle.saga_core.specs.Refusals.{IsUnknown};
 ghost use Rattle.saga_core.specs.Saga.{HasSaga};
-ghost use Rattle.saga_core.specs.Tasks.{AllAreOver, HasGoal, HasMisses, HasNoStep, HasState, HasUndoMisses, IsDefinedBy, IsFirstTaskFrom, NoTaskIsAllowedFrom, StandsAt, WasAborted, saga_of_task, MayBegin};
+ghost use Rattle.saga_core.specs.Tasks.{AllAreOver, HasGoal, HasMisses, HasNoStep, HasState, HasUndoMisses, IsDefinedBy, IsFirstTaskFrom, NoTaskIsAllowedFrom, StandsAt, WasAborted, saga_of_task, MayStart};
 
 use crate::books::Book;
 use crate::numbers::{allows, index_of, number_of, saga_of, task_of};
@@ -145,9 +145,9 @@ impl<'d> Book<'d> {
         None
     }
 
-    /// Whether a task may begin. Looks at no other one.
-    pub fn may_begin(&self, task: Task) -> bool
-        ensures { IsTrue result ↔ MayBegin self.now task }
+    /// Whether a task may start. Looks at no other one.
+    pub fn may_start(&self, task: Task) -> bool
+        ensures { IsTrue result ↔ MayStart self.now task }
     {
         match index_of(&self.rows, self.first, self.stride, saga_of(task)) {
             None => false,

@@ -2,11 +2,11 @@ use Rattle.std.proofs.Common.{◌∙◌, ◌<◌, ◌∷◌, [], ap, append-nil,
 use Rattle.saga_history.specs.Changes.{step_event}
 use Rattle.saga_log.specs.Back.{IsReadBack}
 use Rattle.saga_log.specs.Logs.{event_line}
-use Rattle.saga_drive.proofs.BookLemmas.{begins_step, of_step}
+use Rattle.saga_drive.proofs.BookLemmas.{starts_step, of_step}
 use Rattle.saga_drive.proofs.KnownLemmas.{in_saga, unknown}
 use Rattle.saga_drive.proofs.PlanLemmas.{more_after}
-use Rattle.saga_drive.specs.Begins.{begin_of}
-use Rattle.saga_drive.proofs.beginnings.begin_step.Goals as goal
+use Rattle.saga_drive.specs.Starts.{start_of}
+use Rattle.saga_drive.proofs.starts.start_step.Goals as goal
 
 pub unreachable-requires : goal.unreachable-requires
 unreachable-requires c =
@@ -20,9 +20,9 @@ taken_text-requires c =
 
 pub returns-in-Ok-clause-ok : goal.returns-in-Ok-clause-ok
 returns-in-Ok-clause-ok c =
-    let e = step_event c.args.saga c.args.step (begin_of c.args.kind) in
+    let e = step_event c.args.saga c.args.step (start_of c.args.kind) in
     let item = c.in_ok-item.ensures in
-    let event = c.of_step.ensures.value ∙ ap (step_event c.args.saga c.args.step) c.begin_of.ensures in
+    let event = c.of_step.ensures.value ∙ ap (step_event c.args.saga c.args.step) c.start_of.ensures in
     record {
       gained = e ∷ [];
       told = _;
@@ -31,6 +31,6 @@ returns-in-Ok-clause-ok c =
       more = more_after c.args.telling.now c.make_room.new.self c.add.new.self _ _ _ _ c.make_room.ensures.same c.add.ensures
           item.told (item.lines ∙ ap event_line event ∙ sym (append-nil (event_line e)));
       allowed = c.requires;
-      begins = begins_step c.args.book.now c.args.kind c.args.saga c.args.step _ _
+      begins = starts_step c.args.book.now c.args.kind c.args.saga c.args.step _ _
           (record { only = refl; saga = c.in-Some.found; is = c.in-Some.ensures; told_is = c.in_ok-text.ensures });
     }

@@ -19,7 +19,7 @@ use Rattle.saga_history.specs.Turns.{present_case, turn}
 use Rattle.saga_core.specs.Book.{Book}
 use Rattle.saga_core.specs.Refusals.{OfSaga}
 use Rattle.saga_core.specs.Saga.{HasSaga, Saga}
-use Rattle.saga_core.specs.Tasks.{IsFirstTask, NoTaskIsAllowed, StandsAt, MayBegin}
+use Rattle.saga_core.specs.Tasks.{IsFirstTask, NoTaskIsAllowed, StandsAt, MayStart}
 use Rattle.saga_log.specs.Back.{IsReadBack}
 use Rattle.saga_log.specs.Logs.{event_line}
 use Rattle.saga_drive.specs.declared.tellings.Telling.{Telling}
@@ -36,13 +36,13 @@ abbrev pub task_of : Kind → ℕ → ℕ → Task
 task_of kind.Run i s = Run i s
 task_of kind.Undo i s = Undo i s
 
-abbrev pub begin_of : Kind → Transition
-begin_of kind.Run = transition.StartRun
-begin_of kind.Undo = transition.StartUndo
+abbrev pub start_of : Kind → Transition
+start_of kind.Run = transition.StartRun
+start_of kind.Undo = transition.StartUndo
 
 -- an action or a compensation begins, and it is told which
 pub record Takes (book : Book) (kind : Kind) (i s : ℕ) (gained : List Event) (told : List ℕ) : Type 0 where
-  pub only : gained ≡ step_event i s (begin_of kind) ∷ []
+  pub only : gained ≡ step_event i s (start_of kind) ∷ []
   pub saga : Saga
   pub is : HasSaga book i saga
   pub told_is : told ≡ taken_text kind saga s
@@ -60,10 +60,10 @@ pub record Plans (book : Book) (i : ℕ) (gained : List Event) (told : List ℕ)
 abbrev pub HoldsPlan : Book → ℕ → Situation → Type 0
 HoldsPlan book i case = OfSaga book i (λ d l. (turn l ≡ Planning) × (case ≡ present_case d l))
 
-abbrev pub Begins : Book → Task → List Event → List ℕ → Type 0
-Begins book (Run i s) gained told = Takes book kind.Run i s gained told
-Begins book (Undo i s) gained told = Takes book kind.Undo i s gained told
-Begins book (Plan i) gained told = Plans book i gained told
+abbrev pub Starts : Book → Task → List Event → List ℕ → Type 0
+Starts book (Run i s) gained told = Takes book kind.Run i s gained told
+Starts book (Undo i s) gained told = Takes book kind.Undo i s gained told
+Starts book (Plan i) gained told = Plans book i gained told
 
 -- each event is read back from its line
 abbrev pub AreReadBack : List Event → Type 0
@@ -71,19 +71,19 @@ AreReadBack [] = Unit {0}
 AreReadBack (e ∷ events) = IsReadBack e × AreReadBack events
 
 -- a task that was allowed begins, and it is told which, behind what was told before
-pub record Begun (old new : Book) (t : Task) (before behind : Telling) : Type 0 where
+pub record Started (old new : Book) (t : Task) (before behind : Telling) : Type 0 where
   pub gained : List Event
   pub told : List ℕ
   pub grows : new ≡ after old gained
   pub back : AreReadBack gained
   pub more : TellsMore before behind told (flat_map event_line gained)
-  pub allowed : MayBegin old t
-  pub begins : Begins old t gained told
+  pub allowed : MayStart old t
+  pub begins : Starts old t gained told
 
 -- the first task began, or there is none
-abbrev pub NextIsBegun : Bool → Book → Book → Telling → Telling → Type 0
-NextIsBegun true old new before behind = (t : Task) × IsFirstTask old t × Begun old new t before behind
-NextIsBegun false old new before behind = NoTaskIsAllowed old × (new ≡ old) × TellsSame before behind
+abbrev pub NextIsStarted : Bool → Book → Book → Telling → Telling → Type 0
+NextIsStarted true old new before behind = (t : Task) × IsFirstTask old t × Started old new t before behind
+NextIsStarted false old new before behind = NoTaskIsAllowed old × (new ≡ old) × TellsSame before behind
 
 -- nothing happened for want of memory
 abbrev pub IsUntouched : Book → Book → Telling → Telling → Type 0

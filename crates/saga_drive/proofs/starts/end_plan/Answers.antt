@@ -1,5 +1,5 @@
 use Rattle.saga_drive.proofs.PlanLemmas.{not_refused}
-use Rattle.saga_drive.proofs.beginnings.end_plan.Goals as goal
+use Rattle.saga_drive.proofs.starts.end_plan.Goals as goal
 
 pub unreachable-requires : goal.unreachable-requires
 unreachable-requires c =

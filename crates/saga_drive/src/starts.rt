@@ -5,9 +5,9 @@ ghost use Rattle.saga_history.specs.declared.events.Event.TheVariants as event;
 ghost use Rattle.saga_history.specs.declared.tasks.Task.TheVariants as task;
 ghost use Rattle.saga_core.specs.Book.{with_event, Allows};
 ghost use Rattle.saga_core.specs.Refusals.{IsPresentCase, TakeRefused};
-ghost use Rattle.saga_core.specs.Tasks.{IsFirstTask, MayBegin};
-ghost use Rattle.saga_drive.specs.Begins as spec;
-ghost use Rattle.saga_drive.specs.Begins.{Begun, HoldsPlan, IsUntouched, NextIsBegun, task_of};
+ghost use Rattle.saga_core.specs.Tasks.{IsFirstTask, MayStart};
+ghost use Rattle.saga_drive.specs.Starts as spec;
+ghost use Rattle.saga_drive.specs.Starts.{Started, HoldsPlan, IsUntouched, NextIsStarted, task_of};
 
 use crate::phases::{phase_in, word_of};
 use crate::replies::{item_of_plan, item_of_task};
@@ -21,8 +21,8 @@ use saga_views::taken_text;
 use std::alloc::{AllocError, Global};
 
 /// The transition with which an action or a compensation begins.
-fn begin_of(kind: Kind) -> Transition
-    ensures { result ≡ spec.begin_of kind }
+fn start_of(kind: Kind) -> Transition
+    ensures { result ≡ spec.start_of kind }
 {
     match kind {
         Kind::Run => Transition::StartRun,
@@ -33,10 +33,10 @@ fn begin_of(kind: Kind) -> Transition
 /// The action or the compensation of a step is taken.
 fn take(book: &mut Book<'_>, saga: u32, step: u16, kind: Kind) -> Result<(), TakeRefusal>
     ensures ok { OnOk result
-        (book.new ≡ with_event book.old (step_event saga step (spec.begin_of kind))) }
+        (book.new ≡ with_event book.old (step_event saga step (spec.start_of kind))) }
     ensures err { OnErr result (book.new ≡ book.old) }
     ensures why { IfErr result
-        (λ why. TakeRefused book.old saga step (spec.begin_of kind) why) }
+        (λ why. TakeRefused book.old saga step (spec.start_of kind) why) }
 {
     match kind {
         Kind::Run => book.take_run(saga, step),
@@ -45,7 +45,7 @@ fn take(book: &mut Book<'_>, saga: u32, step: u16, kind: Kind) -> Result<(), Tak
 }
 
 /// The action or the compensation of a step begins: one that may.
-pub fn begin_step(
+pub fn start_step(
     alloc: Global,
     book: &mut Book<'_>,
     saga: u32,
@@ -53,16 +53,16 @@ pub fn begin_step(
     kind: Kind,
     telling: &mut Telling,
 ) -> Result<(), AllocError>
-    requires { MayBegin book.old (task_of kind saga step) }
+    requires { MayStart book.old (task_of kind saga step) }
     ensures ok { OnOk result
-        (Begun book.old book.new (task_of kind saga step) telling.old telling.new) }
+        (Started book.old book.new (task_of kind saga step) telling.old telling.new) }
     ensures err { OnErr result (IsUntouched book.old book.new telling.old telling.new) }
 {
     let Some(found) = book.saga(saga) else {
         unreachable!()
     };
     let text = taken_text(alloc, &found, step, kind)?;
-    let item = item_of_task(alloc, text, &Event::of_step(saga, step, begin_of(kind)))?;
+    let item = item_of_task(alloc, text, &Event::of_step(saga, step, start_of(kind)))?;
     telling.make_room(&item)?;
     match take(book, saga, step, kind) {
         Ok(()) => {
@@ -75,7 +75,7 @@ pub fn begin_step(
 }
 
 /// A plan begins.
-fn begin_plan(book: &mut Book<'_>, saga: u32) -> Result<(), AllocError>
+fn start_plan(book: &mut Book<'_>, saga: u32) -> Result<(), AllocError>
     requires { Allows book.old (event.StartPlan saga) }
     ensures ok { OnOk result (book.new ≡ with_event book.old (event.StartPlan saga)) }
     ensures err { OnErr result (book.new ≡ book.old) }
@@ -111,7 +111,7 @@ pub fn plan_case<'d>(
     requires case { IsPresentCase book.old saga case }
     requires allowed { Allows book.old (event.StartPlan saga) }
     ensures ok { OnOk result
-        (Begun book.old book.new (task.Plan saga) telling.old telling.new) }
+        (Started book.old book.new (task.Plan saga) telling.old telling.new) }
     ensures err { OnErr result (IsUntouched book.old book.new telling.old telling.new) }
 {
     let answer = plan(alloc, &case)?;
@@ -120,7 +120,7 @@ pub fn plan_case<'d>(
     let Ok(verdict) = verify(case, answer) else {
         unreachable!()
     };
-    begin_plan(book, saga)?;
+    start_plan(book, saga)?;
     end_plan(book, saga, verdict);
     telling.add(&item, word_of(phase_in(book, saga)));
     Ok(())
@@ -134,7 +134,7 @@ fn plan_first(
     telling: &mut Telling,
 ) -> Result<(), AllocError>
     requires { IsFirstTask book.old (task.Plan saga) }
-    ensures ok { OnOk result (NextIsBegun true book.old book.new telling.old telling.new) }
+    ensures ok { OnOk result (NextIsStarted true book.old book.new telling.old telling.new) }
     ensures err { OnErr result (IsUntouched book.old book.new telling.old telling.new) }
 {
     match book.present_case(saga) {
@@ -145,19 +145,19 @@ fn plan_first(
 }
 
 /// The first task begins, if there is one.
-pub fn begin_next(
+pub fn start_next(
     alloc: Global,
     book: &mut Book<'_>,
     telling: &mut Telling,
 ) -> Result<bool, AllocError>
     ensures ok { IfOk result
-        (λ begun. NextIsBegun begun book.old book.new telling.old telling.new) }
+        (λ begun. NextIsStarted begun book.old book.new telling.old telling.new) }
     ensures err { OnErr result (IsUntouched book.old book.new telling.old telling.new) }
 {
     match book.next() {
         None => return Ok(false),
-        Some(Task::Run(saga, step)) => begin_step(alloc, book, saga, step, Kind::Run, telling)?,
-        Some(Task::Undo(saga, step)) => begin_step(alloc, book, saga, step, Kind::Undo, telling)?,
+        Some(Task::Run(saga, step)) => start_step(alloc, book, saga, step, Kind::Run, telling)?,
+        Some(Task::Undo(saga, step)) => start_step(alloc, book, saga, step, Kind::Undo, telling)?,
         Some(Task::Plan(saga)) => plan_first(alloc, book, saga, telling)?,
     }
     Ok(true)
