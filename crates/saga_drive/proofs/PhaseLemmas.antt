@@ -2,7 +2,7 @@
 use Rattle.std.proofs.Common.{◌≡◌, ◌≤◌, ℕ, List, arith, length, sym, subst}
 use Rattle.saga_history.specs.declared.tasks.Phase.{Phase}
 use Rattle.saga_history.specs.declared.tasks.Phase.TheVariants as phase
-use Rattle.saga_history.specs.Tasks.{phase_word}
+use Rattle.saga_views.specs.Words.{phase_word}
 
 short : (p : Phase) → length (phase_word p) ≤ 8
 short phase.Going = omega arith

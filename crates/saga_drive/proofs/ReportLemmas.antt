@@ -23,7 +23,7 @@ use Rattle.saga_drive.specs.Attempts.{IsMeant, number_of}
 use Rattle.saga_drive.specs.Happenings.{IsHeld}
 use Rattle.saga_drive.specs.Openings.{IsNext, IsNotNext, IsWanted, next_number}
 use Rattle.saga_drive.specs.Replies.{event_front, lines_of, text_of}
-use Rattle.saga_history.specs.Tasks.{phase_word}
+use Rattle.saga_views.specs.Words.{phase_word}
 use Rattle.saga_drive.proofs.KnownLemmas.{saga_of-step_event}
 
 -- the event is told, with where its saga stands then

@@ -5,7 +5,7 @@ use Rattle.saga_history.specs.Changes.{past}
 use Rattle.saga_core.specs.Book.{Book}
 use Rattle.saga_core.specs.Tasks.{StandsAt}
 use Rattle.saga_drive.specs.declared.replies.Reply.{Reply}
-use Rattle.saga_history.specs.Tasks.{phase_word}
+use Rattle.saga_views.specs.Words.{phase_word}
 use Rattle.saga_drive.specs.Replies.{text_of}
 
 -- the text ends in the word for where the saga stands

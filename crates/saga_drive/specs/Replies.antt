@@ -9,8 +9,7 @@ use Rattle.saga_json.specs.Faults.{word_of as word_of_form}
 use Rattle.saga_history.specs.declared.events.Event.{Event}
 use Rattle.saga_history.specs.declared.tasks.Phase.{Phase}
 use Rattle.saga_log.specs.Events.{event_form}
-use Rattle.saga_history.specs.Tasks.{phase_word}
-use Rattle.saga_views.specs.Words.{listed, truth_text}
+use Rattle.saga_views.specs.Words.{listed, phase_word, truth_text}
 use Rattle.saga_drive.specs.declared.replies.Reply.{Reply}
 use Rattle.saga_drive.specs.declared.replies.Reply.TheVariants.{Refusal, Told}
 use Rattle.saga_drive.specs.declared.requests.RequestFault.{RequestFault}

@@ -3,10 +3,11 @@ ghost use Rattle.std.specs.Prelude.{◌≡◌, ◌≤◌, length};
 ghost use Rattle.saga_history.specs.Changes.{past};
 ghost use Rattle.saga_core.specs.Refusals.{IsUnknown};
 ghost use Rattle.saga_core.specs.Tasks.{StandsAt};
-ghost use Rattle.saga_history.specs.Tasks.{phase_word};
+ghost use Rattle.saga_views.specs.Words.{phase_word};
 
 use saga_core::Book;
 use saga_history::Phase;
+use saga_views::phase_word;
 
 /// The word of a phase, which has at most 8 bytes.
 #[tactic(auto, using(crate::proofs::PhaseLemmas::short_word))]
@@ -14,7 +15,7 @@ pub fn word_of(phase: Phase) -> &'static str
     ensures word { result.now ≡ phase_word phase }
     ensures short { length result.now ≤ 8 }
 {
-    phase.word()
+    phase_word(phase)
 }
 
 /// Where a saga stands that was opened.

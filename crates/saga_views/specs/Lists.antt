@@ -10,8 +10,7 @@ use Rattle.saga_history.specs.Rules.{definition}
 use Rattle.saga_core.specs.Book.{Book, number, sagas_in}
 use Rattle.saga_views.specs.Phases.{ArePhases, same_phase}
 use Rattle.saga_views.specs.Ready.{more_text}
-use Rattle.saga_history.specs.Tasks.{phase_word}
-use Rattle.saga_views.specs.Words.{listed}
+use Rattle.saga_views.specs.Words.{listed, phase_word}
 use Rattle.saga_views.specs.Limits.{most_sagas}
 
 -- any phase is wanted, or that one alone

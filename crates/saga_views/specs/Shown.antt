@@ -11,8 +11,7 @@ use Rattle.saga_history.specs.Changes.{Change, opens, moves, starts_plan, drops_
 use Rattle.saga_history.specs.Rules.{HasPhase}
 use Rattle.saga_history.specs.States.{state}
 use Rattle.saga_history.specs.Turns.{aborted, in_goal}
-use Rattle.saga_history.specs.Tasks.{phase_word}
-use Rattle.saga_views.specs.Words.{listed, truth_text}
+use Rattle.saga_views.specs.Words.{listed, phase_word, truth_text}
 
 -- the answer that the saga adopted last, if it adopted one
 abbrev pub last_answer : List Change → Option Answer

@@ -21,4 +21,4 @@ pub use ready::ready_text;
 pub use shown::show_text;
 pub use status::status_text;
 pub use tasks::{missed, run_text, state_of, undo_text};
-pub use words::truth_text;
+pub use words::{phase_word, truth_text};

@@ -7,7 +7,7 @@ ghost use Rattle.saga_views.specs.Lists as spec;
 
 use crate::phases::{is_same, phases_of};
 use crate::ready::more_text;
-use crate::words::listed;
+use crate::words::{listed, phase_word};
 use itoa::Buffer;
 use saga_core::Book;
 use saga_history::Phase;
@@ -67,7 +67,7 @@ fn saga_text(alloc: Global, book: &Book<'_>, phase: Phase, saga: u32) -> Result<
     let Some(definition) = book.definition(saga) else {
         unreachable!()
     };
-    named_text(alloc, definition.name(), phase.word(), saga)
+    named_text(alloc, definition.name(), phase_word(phase), saga)
 }
 
 /// Adds the text of a saga, where it is told.

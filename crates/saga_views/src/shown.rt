@@ -7,7 +7,7 @@ ghost use Rattle.saga_core.specs.Tasks.{IsDefinedBy};
 ghost use Rattle.saga_views.specs.Shown as spec;
 
 use crate::tasks::state_of;
-use crate::words::{listed, listed_words, truth_text};
+use crate::words::{listed, listed_words, phase_word, truth_text};
 use itoa::Buffer;
 use saga_case::Answer;
 use saga_cert::write_answer;
@@ -197,7 +197,7 @@ pub fn show_text(
         (changes saga (past book.now.history)) saga (string_bytes text)) }
 {
     let aborted = truth_text(is_aborted(book, definition, saga));
-    let phase = phase_of(book, definition, saga).word();
+    let phase = phase_word(phase_of(book, definition, saga));
     let kept = listed(alloc, &kept_numbers(alloc, book, definition, saga)?)?;
     let states = listed_words(alloc, &state_words(alloc, book, definition, saga)?)?;
     let answer = answer_text(alloc, book, saga)?;

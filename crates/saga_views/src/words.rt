@@ -2,7 +2,21 @@
 ghost use Rattle.std.specs.Prelude.{◌≡◌, IfOk, codes, map, string_bytes};
 ghost use Rattle.saga_views.specs.Words as spec;
 
+use saga_history::Phase;
 use std::alloc::{AllocError, Global};
+
+/// The word of a phase.
+pub fn phase_word(phase: Phase) -> &'static str
+    ensures { result.now ≡ spec.phase_word phase }
+{
+    match phase {
+        Phase::Going => "going",
+        Phase::Draining => "draining",
+        Phase::Planning => "planning",
+        Phase::Ended => "ended",
+        Phase::Stuck => "stuck",
+    }
+}
 
 /// A truth value as JSON has it.
 pub fn truth_text(truth: bool) -> &'static str

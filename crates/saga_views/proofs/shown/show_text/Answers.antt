@@ -21,5 +21,5 @@ returns c =
     record {
       phase = c.phase_of.result;
       has = c.phase_of.ensures;
-      text_is = c.in_ok-text.ensures ∙ shown_same _ _ _ _ _ _ c.args.saga _ _ head c.name-name.ensures c.word-phase.ensures tail;
+      text_is = c.in_ok-text.ensures ∙ shown_same _ _ _ _ _ _ c.args.saga _ _ head c.name-name.ensures c.phase_word-phase.ensures tail;
     }
