@@ -42,19 +42,14 @@ end_told may told weaker shelf h i s t m = record {
 mark_told : (may told : Job → Outcome → Type 0) (may_abort told_abort : ℕ → Type 0) → ((job : Job) (o : Outcome) → may job o → told job o)
     → ((i : ℕ) → may_abort i → told_abort i) → (shelf : List Contents) (h : List Event) (m : Mark)
     → Told.IsTold may may_abort shelf h m → Told.IsTold told told_abort shelf h m
-mark_told may told may_abort told_abort w v shelf h (mark.Open i k) is = tt
-mark_told may told may_abort told_abort w v shelf h (mark.StartRun i s) is = tt
 mark_told may told may_abort told_abort w v shelf h (mark.Commit i s) is = end_told may told w shelf h i s _ is
 mark_told may told may_abort told_abort w v shelf h (mark.Fail i s) is = end_told may told w shelf h i s _ is
-mark_told may told may_abort told_abort w v shelf h (mark.StartUndo i s) is = tt
 mark_told may told may_abort told_abort w v shelf h (mark.Undone i s) is = end_told may told w shelf h i s _ is
 mark_told may told may_abort told_abort w v shelf h (mark.UndoFail i s) is = end_told may told w shelf h i s _ is
-mark_told may told may_abort told_abort w v shelf h (mark.StartPlan i) is = tt
-mark_told may told may_abort told_abort w v shelf h (mark.DropPlan i) is = tt
-mark_told may told may_abort told_abort w v shelf h (mark.Adopt i) is = tt
 mark_told may told may_abort told_abort w v shelf h (mark.Missed i s) is = end_told may told w shelf h i s _ is
 mark_told may told may_abort told_abort w v shelf h (mark.UndoMissed i s) is = end_told may told w shelf h i s _ is
 mark_told may told may_abort told_abort w v shelf h (mark.Abort i) is = v i is
+mark_told may told may_abort told_abort w v shelf h _ is = tt
 
 past_told : (may told : Job → Outcome → Type 0) (may_abort told_abort : ℕ → Type 0) → ((job : Job) (o : Outcome) → may job o → told job o)
     → ((i : ℕ) → may_abort i → told_abort i) → (shelf : List Contents) (h : List Event)

@@ -28,11 +28,5 @@ first texts i d why shelf lt before fault real = record {
 -- the fault of the first text that holds no definition
 pub first_faulty : (texts : List (Bor (List ℕ))) (i : ℕ) (d : Bor (List ℕ)) (why : TextFault) (shelf : List Contents) → i < length texts
     → AreDefinitions (take i (now_of texts)) shelf → Reads (get_or texts i d).now (Err why) → IsShelfFault (now_of texts) (at_place i why)
-first_faulty texts i d TooLong shelf lt before fault = first texts i d TooLong shelf lt before fault (λ e. cc)
-first_faulty texts i d NotToml shelf lt before fault = first texts i d NotToml shelf lt before fault (λ e. cc)
-first_faulty texts i d BadFormat shelf lt before fault = first texts i d BadFormat shelf lt before fault (λ e. cc)
-first_faulty texts i d UnknownKey shelf lt before fault = first texts i d UnknownKey shelf lt before fault (λ e. cc)
-first_faulty texts i d MissingKey shelf lt before fault = first texts i d MissingKey shelf lt before fault (λ e. cc)
-first_faulty texts i d BadType shelf lt before fault = first texts i d BadType shelf lt before fault (λ e. cc)
-first_faulty texts i d (Def own) shelf lt before fault = first texts i d (Def own) shelf lt before fault (λ e. cc)
 first_faulty texts i d OutOfMemory shelf lt before fault = tt
+first_faulty texts i d why shelf lt before fault = first texts i d why shelf lt before fault (λ e. cc)

@@ -12,9 +12,9 @@ use Rattle.saga_audit.specs.declared.answers.AuditAnswer.{AuditAnswer}
 use Rattle.saga_audit.specs.declared.answers.AuditAnswer.TheVariants.{Yes, No}
 use Rattle.saga_audit.specs.Groups.{Audits, is_yes}
 use Rattle.saga_audit.specs.Words.{word_of as reason_word_of}
-use Rattle.saga_texts.specs.declared.audits.AuditOutcome.{AuditOutcome}
+use Rattle.saga_texts.specs.declared.audits.AuditConclusion.{AuditConclusion}
 use Rattle.saga_texts.specs.declared.audits.AuditTexts.{AuditTexts}
-use Rattle.saga_texts.specs.declared.audits.AuditOutcome.TheVariants.{TooManyDefinitions, LogTooLong, Log, Definition, Answered}
+use Rattle.saga_texts.specs.declared.audits.AuditConclusion.TheVariants.{TooManyDefinitions, LogTooLong, Log, Definition, Answered}
 use Rattle.saga_texts.specs.declared.outputs.Output.{Output}
 use Rattle.saga_texts.specs.Limits.{max_log, max_shelf}
 use Rattle.saga_texts.specs.Lines.{line_feed}
@@ -37,7 +37,7 @@ pub record IsAudited (log : List ℕ) (definitions : List (List ℕ)) (answer : 
   pub exact : IsTrue (is_yes answer) ↔ IsLegal shelf (past events)
 
 -- the first fault in the order number of definitions, log, definitions; or the auditor's answer
-abbrev pub AuditsTo : List ℕ → List (List ℕ) → AuditOutcome → Type 0
+abbrev pub AuditsTo : List ℕ → List (List ℕ) → AuditConclusion → Type 0
 AuditsTo log definitions TooManyDefinitions = max_shelf < length definitions
 AuditsTo log definitions LogTooLong = (length definitions ≤ max_shelf) × (max_log < length log)
 AuditsTo log definitions (Log line why) = AreWithin log definitions × (log_of log ≡ Err (BadLine line why))
@@ -52,9 +52,9 @@ pub record HoldAudit (log : List ℕ) (definitions : List (List ℕ)) (texts : A
   pub shelf_is : AreDefinitions definitions texts.shelf.items
 
 -- the first fault of texts that hold none
-abbrev pub LackAudit : List ℕ → List (List ℕ) → AuditOutcome → Type 0
+abbrev pub LackAudit : List ℕ → List (List ℕ) → AuditConclusion → Type 0
 LackAudit log definitions (Answered answer) = ⊥
-LackAudit log definitions outcome = AuditsTo log definitions outcome
+LackAudit log definitions conclusion = AuditsTo log definitions conclusion
 
 abbrev pub answer_line : AuditAnswer → List ℕ
 answer_line (Yes sagas ended stuck events) =
@@ -62,11 +62,11 @@ answer_line (Yes sagas ended stuck events) =
     ++ codes " events " ++ decimal events ++ line_feed
 answer_line (No place why) = codes "no " ++ decimal place ++ codes " " ++ reason_word_of why ++ line_feed
 
-abbrev pub out_of : AuditOutcome → List ℕ
+abbrev pub out_of : AuditConclusion → List ℕ
 out_of (Answered answer) = answer_line answer
-out_of outcome = []
+out_of conclusion = []
 
-abbrev pub err_of : AuditOutcome → List ℕ
+abbrev pub err_of : AuditConclusion → List ℕ
 err_of TooManyDefinitions = codes "sagas: too many definitions" ++ line_feed
 err_of LogTooLong = codes "sagas: log: too-long" ++ line_feed
 err_of (Log line why) = codes "sagas: log: line " ++ decimal line ++ codes ": " ++ cert_word_of why ++ line_feed
@@ -78,12 +78,12 @@ status_of_answer (Yes sagas ended stuck events) = 0
 status_of_answer (No place why) = 1
 
 -- 0 for yes, 1 for no, 3 for bad input
-abbrev pub status_of : AuditOutcome → ℕ
+abbrev pub status_of : AuditConclusion → ℕ
 status_of (Answered answer) = status_of_answer answer
-status_of outcome = 3
+status_of conclusion = 3
 
 -- the output shows what an audit of the texts comes to
 pub record IsAuditOutput (log : List ℕ) (definitions : List (List ℕ)) (output : Output) : Type 0 where
-  pub outcome : AuditOutcome
-  pub comes : AuditsTo log definitions outcome
-  pub shows : IsOutputWith (out_of outcome) (err_of outcome) (status_of outcome) output
+  pub conclusion : AuditConclusion
+  pub comes : AuditsTo log definitions conclusion
+  pub shows : IsOutputWith (out_of conclusion) (err_of conclusion) (status_of conclusion) output

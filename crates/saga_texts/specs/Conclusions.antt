@@ -18,10 +18,10 @@ use Rattle.saga_check.specs.Faults.{IsFirstFault}
 use Rattle.saga_draw.specs.Drawings.{IsDrawing}
 use Rattle.saga_plan.specs.Planned.{IsSmallest}
 use Rattle.saga_texts.specs.Limits.{max_certificate}
-use Rattle.saga_texts.specs.declared.outcomes.Outcome.{Outcome}
-use Rattle.saga_texts.specs.declared.outcomes.Outcome.TheVariants.{Definition, CaseTooLong, Case, AnswerTooLong, Answer as AnswerFault, Refused, Least, Blocked, Planned, Drawn}
-use Rattle.saga_texts.specs.declared.outcomes.Question.{Question}
-use Rattle.saga_texts.specs.declared.outcomes.Question.TheVariants.{Check, Plan as APlan, Draw}
+use Rattle.saga_texts.specs.declared.conclusions.Conclusion.{Conclusion}
+use Rattle.saga_texts.specs.declared.conclusions.Conclusion.TheVariants.{Definition, CaseTooLong, Case, AnswerTooLong, Answer as AnswerFault, Refused, Least, Blocked, Planned, Drawn}
+use Rattle.saga_texts.specs.declared.conclusions.Question.{Question}
+use Rattle.saga_texts.specs.declared.conclusions.Question.TheVariants.{Check, Plan as APlan, Draw}
 use Rattle.saga_texts.specs.declared.drawings.Scene.{Scene}
 use Rattle.saga_texts.specs.declared.drawings.Scene.TheVariants as scene
 
@@ -37,11 +37,11 @@ pub record IsBlocked (c : Situation) (chain : List ℕ) : Type 0 where
   pub none : NoneIsAllowed (terms_of c)
 
 -- what the judge says
-abbrev pub JudgesTo : Situation → Answer → Outcome → Type 0
+abbrev pub JudgesTo : Situation → Answer → Conclusion → Type 0
 JudgesTo c a (Refused fault) = IsFirstFault (terms_of c) a fault
 JudgesTo c (answer.Plan plan) (Least cost) = IsLeastPlan c cost plan
 JudgesTo c (answer.Blocked chain) Blocked = IsBlocked c chain
-JudgesTo c a outcome = ⊥
+JudgesTo c a conclusion = ⊥
 
 -- the texts of a definition and of a case of it
 pub record AreRead (definition case : List ℕ) (d : Contents) (c : Situation) : Type 0 where
@@ -55,17 +55,17 @@ pub record HoldsAnswer (text : List ℕ) (a : Answer) : Type 0 where
   pub answer_is : ReadsAnswer text (Ok a)
 
 -- the first fault of a text that holds none
-abbrev pub LacksAnswer : List ℕ → Outcome → Type 0
+abbrev pub LacksAnswer : List ℕ → Conclusion → Type 0
 LacksAnswer text AnswerTooLong = max_certificate < length text
 LacksAnswer text (AnswerFault fault) =
     (length text ≤ max_certificate) × ReadsAnswer text (Err fault) × (fault ≢ cert.OutOfMemory)
-LacksAnswer text outcome = ⊥
+LacksAnswer text conclusion = ⊥
 
 -- what a check of an answer's text comes to: its first fault, or what the judge says of what it holds
-abbrev pub ChecksTo : List ℕ → Situation → Outcome → Type 0
+abbrev pub ChecksTo : List ℕ → Situation → Conclusion → Type 0
 ChecksTo text c AnswerTooLong = LacksAnswer text AnswerTooLong
 ChecksTo text c (AnswerFault fault) = LacksAnswer text (AnswerFault fault)
-ChecksTo text c outcome = (a : Answer) × HoldsAnswer text a × JudgesTo c a outcome
+ChecksTo text c conclusion = (a : Answer) × HoldsAnswer text a × JudgesTo c a conclusion
 
 -- an answer of the planner: right, its plan least and contained in every least set, its chain where no set is allowed
 pub record IsPlanned (c : Situation) (a : Answer) : Type 0 where
@@ -73,59 +73,59 @@ pub record IsPlanned (c : Situation) (a : Answer) : Type 0 where
   pub settles : Settles (terms_of c) a
   pub smallest : IsSmallest (terms_of c) a
 
-abbrev pub PlansTo : Situation → Outcome → Type 0
+abbrev pub PlansTo : Situation → Conclusion → Type 0
 PlansTo c (Planned a) = IsPlanned c a
-PlansTo c outcome = ⊥
+PlansTo c conclusion = ⊥
 
 -- a drawing of the case, with what the answer marks, if one is given
-abbrev pub ShowsCase : Situation → Option Answer → Outcome → Type 0
+abbrev pub ShowsCase : Situation → Option Answer → Conclusion → Type 0
 ShowsCase c a (Drawn text) = IsDrawing c.definition (Some c.states) a (string_bytes text)
-ShowsCase c a outcome = ⊥
+ShowsCase c a conclusion = ⊥
 
 -- the answer is right, so its plan is least, or no set is allowed, and it is drawn
-pub record ShowsRight (c : Situation) (a : Answer) (outcome : Outcome) : Type 0 where
+pub record ShowsRight (c : Situation) (a : Answer) (conclusion : Conclusion) : Type 0 where
   pub right : IsRight (terms_of c) a
   pub settles : Settles (terms_of c) a
-  pub shows : ShowsCase c (Some a) outcome
+  pub shows : ShowsCase c (Some a) conclusion
 
 -- what a drawing of an answer comes to: the judge's first fault, or the drawing of a right one
-abbrev pub DrawsRight : Situation → Answer → Outcome → Type 0
+abbrev pub DrawsRight : Situation → Answer → Conclusion → Type 0
 DrawsRight c a (Refused fault) = IsFirstFault (terms_of c) a fault
-DrawsRight c a outcome = ShowsRight c a outcome
+DrawsRight c a conclusion = ShowsRight c a conclusion
 
 -- what a drawing of a case comes to: the first fault of the answer's text, where one is given, or what follows from what it holds
-abbrev pub DrawsTo : Option (List ℕ) → Situation → Outcome → Type 0
-DrawsTo None c outcome = ShowsCase c None outcome
+abbrev pub DrawsTo : Option (List ℕ) → Situation → Conclusion → Type 0
+DrawsTo None c conclusion = ShowsCase c None conclusion
 DrawsTo (Some text) c AnswerTooLong = LacksAnswer text AnswerTooLong
 DrawsTo (Some text) c (AnswerFault fault) = LacksAnswer text (AnswerFault fault)
-DrawsTo (Some text) c outcome = (a : Answer) × HoldsAnswer text a × DrawsRight c a outcome
+DrawsTo (Some text) c conclusion = (a : Answer) × HoldsAnswer text a × DrawsRight c a conclusion
 
-abbrev pub AnswersTo : Question → Situation → Outcome → Type 0
-AnswersTo (Check text) c outcome = ChecksTo text.now c outcome
-AnswersTo APlan c outcome = PlansTo c outcome
-AnswersTo (Draw answer) c outcome = DrawsTo (option_map (λ t. t.now) answer) c outcome
+abbrev pub AnswersTo : Question → Situation → Conclusion → Type 0
+AnswersTo (Check text) c conclusion = ChecksTo text.now c conclusion
+AnswersTo APlan c conclusion = PlansTo c conclusion
+AnswersTo (Draw answer) c conclusion = DrawsTo (option_map (λ t. t.now) answer) c conclusion
 
 -- the question is answered about the case that the texts hold
-pub record IsAnswered (answers : Situation → Outcome → Type 0) (definition case : List ℕ) (outcome : Outcome) : Type 0 where
+pub record IsAnswered (answers : Situation → Conclusion → Type 0) (definition case : List ℕ) (conclusion : Conclusion) : Type 0 where
   pub contents : Contents
   pub situation : Situation
   pub read : AreRead definition case contents situation
-  pub answered : answers situation outcome
+  pub answered : answers situation conclusion
 
 -- the first fault in the order definition, case, answer; or what answers the question
-abbrev pub ComesTo : (Situation → Outcome → Type 0) → List ℕ → List ℕ → Outcome → Type 0
+abbrev pub ComesTo : (Situation → Conclusion → Type 0) → List ℕ → List ℕ → Conclusion → Type 0
 ComesTo answers definition case (Definition fault) = Reads definition (Err fault) × (fault ≢ text.OutOfMemory)
 ComesTo answers definition case CaseTooLong = (d : Contents) × Reads definition (Ok d) × (max_certificate < length case)
 ComesTo answers definition case (Case fault) =
     (d : Contents) × Reads definition (Ok d) × (length case ≤ max_certificate) × ReadsCase d case (Err fault)
     × (fault ≢ cert.OutOfMemory)
-ComesTo answers definition case outcome = IsAnswered answers definition case outcome
+ComesTo answers definition case conclusion = IsAnswered answers definition case conclusion
 
 -- a drawing of the definition of a text: its first fault, or the drawing without states and answer
-abbrev pub DrawsAlone : List ℕ → Outcome → Type 0
+abbrev pub DrawsAlone : List ℕ → Conclusion → Type 0
 DrawsAlone definition (Definition fault) = Reads definition (Err fault) × (fault ≢ text.OutOfMemory)
 DrawsAlone definition (Drawn picture) = (d : Contents) × Reads definition (Ok d) × IsDrawing d None None (string_bytes picture)
-DrawsAlone definition outcome = ⊥
+DrawsAlone definition conclusion = ⊥
 
 -- the texts beside the definition
 abbrev pub beside : Scene → List (List ℕ)
@@ -134,7 +134,7 @@ beside (scene.Case case) = case.now ∷ []
 beside (scene.Answer case answer) = case.now ∷ answer.now ∷ []
 
 -- a drawing of a definition with such texts beside it: the first fault in the order definition, case, answer; or the drawing
-abbrev pub DrawsWith : List (List ℕ) → List ℕ → Outcome → Type 0
+abbrev pub DrawsWith : List (List ℕ) → List ℕ → Conclusion → Type 0
 DrawsWith [] definition = DrawsAlone definition
 DrawsWith (case ∷ []) definition = ComesTo (DrawsTo None) definition case
 DrawsWith (case ∷ answer ∷ more) definition = ComesTo (DrawsTo (Some answer)) definition case

@@ -2,9 +2,9 @@
 pub mod Texts
 pub mod Audits
 pub mod Beside
+pub mod Conclusions
 pub mod Limits
 pub mod Lines
-pub mod Outcomes
 pub mod Outputs
 pub mod Runs
 pub mod Shelves

@@ -24,8 +24,8 @@ use Rattle.saga_work.specs.Asked.{AreAnswered, AreOpenedAsAsked, IsOver}
 use Rattle.saga_work.specs.Faults.{IsRunFault}
 use Rattle.saga_work.specs.Words.{word_of_run, word_of_stop}
 use Rattle.saga_texts.specs.declared.runs.Account.{Account}
-use Rattle.saga_texts.specs.declared.runs.RunOutcome.{RunOutcome}
-use Rattle.saga_texts.specs.declared.runs.RunOutcome.TheVariants.{TooManyDefinitions, Script, Definition, Fault, Told}
+use Rattle.saga_texts.specs.declared.runs.RunConclusion.{RunConclusion}
+use Rattle.saga_texts.specs.declared.runs.RunConclusion.TheVariants.{TooManyDefinitions, Script, Definition, Fault, Told}
 use Rattle.saga_texts.specs.declared.runs.RunOutput.{RunOutput}
 use Rattle.saga_texts.specs.Limits.{max_shelf}
 use Rattle.saga_texts.specs.Lines.{line_feed}
@@ -81,7 +81,7 @@ pub record MayEndIn (definitions : List (List ℕ)) (why : RunFault) : Type 0 wh
   pub fault : IsRunFault shelf (range_with_len 0 (length shelf)) why
 
 -- the first fault in the order number of definitions, script, definitions; or a run
-abbrev pub RunsTo : List (List ℕ) → List ℕ → ℕ → RunOutcome → Type 0
+abbrev pub RunsTo : List (List ℕ) → List ℕ → ℕ → RunConclusion → Type 0
 RunsTo definitions script shards TooManyDefinitions = max_shelf < length definitions
 RunsTo definitions script shards (Script why) =
     (length definitions ≤ max_shelf) × (statements_of script ≡ Err why) × (why ≢ bad.OutOfMemory)
@@ -90,9 +90,9 @@ RunsTo definitions script shards (Fault why) =
     AreReady definitions script × MayEndIn definitions why × (why ≢ fault.OutOfMemory)
 RunsTo definitions script shards (Told account) = IsRan definitions script shards account
 
-abbrev pub out_of : RunOutcome → List ℕ
+abbrev pub out_of : RunConclusion → List ℕ
 out_of (Told account) = string_bytes account.report
-out_of outcome = []
+out_of conclusion = []
 
 abbrev pub script_line : ScriptFault → List ℕ
 script_line bad.TooLong = codes "sagas: script: too-long" ++ line_feed
@@ -103,7 +103,7 @@ abbrev pub stop_line : Option Stop → List ℕ
 stop_line None = []
 stop_line (Some why) = codes "sagas: stopped: " ++ word_of_stop why ++ line_feed
 
-abbrev pub err_of : RunOutcome → List ℕ
+abbrev pub err_of : RunConclusion → List ℕ
 err_of TooManyDefinitions = codes "sagas: too many definitions" ++ line_feed
 err_of (Script why) = script_line why
 err_of (Definition place why) = codes "sagas: definition " ++ decimal place ++ codes ": " ++ text_word_of why ++ line_feed
@@ -115,24 +115,22 @@ abbrev pub status_told : Option Stop → ℕ → ℕ
 status_told None stuck = if nat_lt 0 stuck then 1 else 0
 status_told (Some why) stuck = 4
 
-abbrev pub status_of : RunOutcome → ℕ
-status_of TooManyDefinitions = 3
-status_of (Script why) = 3
-status_of (Definition place why) = 3
+abbrev pub status_of : RunConclusion → ℕ
 status_of (Fault why) = 4
 status_of (Told account) = status_told account.stopped account.stuck
+status_of conclusion = 3
 
-abbrev pub log_of : RunOutcome → Option (List ℕ)
+abbrev pub log_of : RunConclusion → Option (List ℕ)
 log_of (Told account) = Some (string_bytes account.log)
-log_of outcome = None
+log_of conclusion = None
 
--- the output shows the outcome, and the log is that of the books
-pub record ShowsRun (outcome : RunOutcome) (shown : RunOutput) : Type 0 where
-  pub output : IsOutputWith (out_of outcome) (err_of outcome) (status_of outcome) shown.output
-  pub log : option_map string_bytes shown.log ≡ log_of outcome
+-- the output shows the conclusion, and the log is that of the books
+pub record ShowsRun (conclusion : RunConclusion) (shown : RunOutput) : Type 0 where
+  pub output : IsOutputWith (out_of conclusion) (err_of conclusion) (status_of conclusion) shown.output
+  pub log : option_map string_bytes shown.log ≡ log_of conclusion
 
 -- the output and the log show what a run of the texts comes to
 pub record IsRunOutput (definitions : List (List ℕ)) (script : List ℕ) (shards : ℕ) (shown : RunOutput) : Type 0 where
-  pub outcome : RunOutcome
-  pub comes : RunsTo definitions script shards outcome
-  pub shows : ShowsRun outcome shown
+  pub conclusion : RunConclusion
+  pub comes : RunsTo definitions script shards conclusion
+  pub shows : ShowsRun conclusion shown

@@ -1,34 +1,34 @@
 -- What the program answers to texts.
 use Rattle.std.specs.Prelude.{ℕ, List, Ok}
-use Rattle.saga_texts.specs.declared.outcomes.Outcome.{Outcome}
+use Rattle.saga_texts.specs.declared.conclusions.Conclusion.{Conclusion}
 use Rattle.saga_texts.specs.declared.outputs.Output.{Output}
-use Rattle.saga_texts.specs.declared.outcomes.Outcome.TheVariants.{Planned}
+use Rattle.saga_texts.specs.declared.conclusions.Conclusion.TheVariants.{Planned}
 use Rattle.serde_json.specs.Written.{compact_text}
 use Rattle.saga_cert.specs.Answers.{answer_form}
 use Rattle.saga_cert.specs.Reads.{ReadsAnswer}
-use Rattle.saga_texts.specs.Outcomes.{ComesTo, ChecksTo, PlansTo, DrawsWith}
+use Rattle.saga_texts.specs.Conclusions.{ComesTo, ChecksTo, PlansTo, DrawsWith}
 use Rattle.saga_texts.specs.Outputs.{Shows}
 
 -- the output shows what a check of the three texts comes to
 pub record IsCheckOutput (definition case answer : List ℕ) (output : Output) : Type 0 where
-  pub outcome : Outcome
-  pub comes : ComesTo (ChecksTo answer) definition case outcome
-  pub shows : Shows outcome output
+  pub conclusion : Conclusion
+  pub comes : ComesTo (ChecksTo answer) definition case conclusion
+  pub shows : Shows conclusion output
 
 -- the text of an answer that is printed is read as that answer
-abbrev pub IsReadBack : Outcome → Type 0
+abbrev pub IsReadBack : Conclusion → Type 0
 IsReadBack (Planned a) = ReadsAnswer (compact_text (answer_form a)) (Ok a)
-IsReadBack outcome = Unit {0}
+IsReadBack conclusion = Unit {0}
 
 -- the output shows what planning for the case of two texts comes to
 pub record IsPlanOutput (definition case : List ℕ) (output : Output) : Type 0 where
-  pub outcome : Outcome
-  pub comes : ComesTo PlansTo definition case outcome
-  pub shows : Shows outcome output
-  pub read_back : IsReadBack outcome
+  pub conclusion : Conclusion
+  pub comes : ComesTo PlansTo definition case conclusion
+  pub shows : Shows conclusion output
+  pub read_back : IsReadBack conclusion
 
 -- the output shows what a drawing of a definition with these texts beside it comes to
 pub record IsDrawOutput (beside : List (List ℕ)) (definition : List ℕ) (output : Output) : Type 0 where
-  pub outcome : Outcome
-  pub comes : DrawsWith beside definition outcome
-  pub shows : Shows outcome output
+  pub conclusion : Conclusion
+  pub comes : DrawsWith beside definition conclusion
+  pub shows : Shows conclusion output

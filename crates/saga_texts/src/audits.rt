@@ -19,7 +19,7 @@ use std::thread::Threads;
 
 /// What an audit comes to: a fault of a text, or the auditor's answer.
 #[derive(Debug, Drop)]
-pub enum AuditOutcome {
+pub enum AuditConclusion {
     TooManyDefinitions,
     LogTooLong,
     /// The first faulty line of the log, from 1.
@@ -42,27 +42,27 @@ fn texts_of(
     alloc: Global,
     log: &[u8],
     definitions: &[&[u8]],
-) -> Result<Result<AuditTexts, AuditOutcome>, AllocError>
+) -> Result<Result<AuditTexts, AuditConclusion>, AllocError>
     ensures { IfOk result
         (λ given. MatchResult given (HoldAudit log.now (map (λ t. t.now) definitions.now))
         (LackAudit log.now (map (λ t. t.now) definitions.now))) }
 {
     if definitions.len() > MAX_SHELF {
-        return Ok(Err(AuditOutcome::TooManyDefinitions));
+        return Ok(Err(AuditConclusion::TooManyDefinitions));
     }
     if log.len() > MAX_LOG {
-        return Ok(Err(AuditOutcome::LogTooLong));
+        return Ok(Err(AuditConclusion::LogTooLong));
     }
     let events = match read_log(alloc, log) {
         Ok(events) => events,
         Err(LogFault::OutOfMemory) => return Err(AllocError),
-        Err(LogFault::BadLine { line, why }) => return Ok(Err(AuditOutcome::Log { line, why })),
+        Err(LogFault::BadLine { line, why }) => return Ok(Err(AuditConclusion::Log { line, why })),
     };
     let shelf = match read_shelf(alloc, definitions) {
         Ok(shelf) => shelf,
         Err(ShelfFault::OutOfMemory) => return Err(AllocError),
         Err(ShelfFault::Definition { place, why }) => {
-            return Ok(Err(AuditOutcome::Definition { place, why }));
+            return Ok(Err(AuditConclusion::Definition { place, why }));
         }
     };
     Ok(Ok(AuditTexts { events, shelf }))
@@ -70,38 +70,38 @@ fn texts_of(
 
 /// What an audit of a log over the definitions of texts comes to.
 #[tactic(auto, using(crate::proofs::AuditLemmas::lacking, crate::proofs::AuditLemmas::answered))]
-pub fn audit_outcome<R: Threads + Sync>(
+pub fn audit_conclusion<R: Threads + Sync>(
     rt: &R,
     alloc: Global,
     log: &[u8],
     definitions: &[&[u8]],
-) -> Result<AuditOutcome, AllocError>
+) -> Result<AuditConclusion, AllocError>
     ensures { IfOk result (AuditsTo log.now (map (λ t. t.now) definitions.now)) }
 {
     match texts_of(alloc, log, definitions)? {
-        Ok(texts) => Ok(AuditOutcome::Answered(audit_with(
+        Ok(texts) => Ok(AuditConclusion::Answered(audit_with(
             rt,
             alloc,
             AUDITORS,
             &texts.shelf,
             &texts.events,
         )?)),
-        Err(outcome) => Ok(outcome),
+        Err(conclusion) => Ok(conclusion),
     }
 }
 
-/// As [`audit_outcome`], on the thread that calls.
+/// As [`audit_conclusion`], on the thread that calls.
 #[tactic(auto, using(crate::proofs::AuditLemmas::lacking, crate::proofs::AuditLemmas::answered))]
-pub fn audit_outcome_alone(
+pub fn audit_conclusion_alone(
     alloc: Global,
     log: &[u8],
     definitions: &[&[u8]],
-) -> Result<AuditOutcome, AllocError>
+) -> Result<AuditConclusion, AllocError>
     ensures { IfOk result (AuditsTo log.now (map (λ t. t.now) definitions.now)) }
 {
     match texts_of(alloc, log, definitions)? {
-        Ok(texts) => Ok(AuditOutcome::Answered(audit(alloc, &texts.shelf, &texts.events)?)),
-        Err(outcome) => Ok(outcome),
+        Ok(texts) => Ok(AuditConclusion::Answered(audit(alloc, &texts.shelf, &texts.events)?)),
+        Err(conclusion) => Ok(conclusion),
     }
 }
 
@@ -158,51 +158,51 @@ fn answer_line(alloc: Global, answer: AuditAnswer) -> Result<String, AllocError>
     }
 }
 
-fn out(alloc: Global, outcome: &AuditOutcome) -> Result<String, AllocError>
-    ensures { IfOk result (λ text. string_bytes text ≡ out_of outcome.now) }
+fn out(alloc: Global, conclusion: &AuditConclusion) -> Result<String, AllocError>
+    ensures { IfOk result (λ text. string_bytes text ≡ out_of conclusion.now) }
 {
-    match outcome {
-        AuditOutcome::Answered(answer) => answer_line(alloc, *answer),
+    match conclusion {
+        AuditConclusion::Answered(answer) => answer_line(alloc, *answer),
         _ => Ok(String::new(alloc)),
     }
 }
 
-fn err(alloc: Global, outcome: &AuditOutcome) -> Result<String, AllocError>
-    ensures { IfOk result (λ text. string_bytes text ≡ err_of outcome.now) }
+fn err(alloc: Global, conclusion: &AuditConclusion) -> Result<String, AllocError>
+    ensures { IfOk result (λ text. string_bytes text ≡ err_of conclusion.now) }
 {
-    match outcome {
-        AuditOutcome::TooManyDefinitions => {
+    match conclusion {
+        AuditConclusion::TooManyDefinitions => {
             String::from_str(alloc, "sagas: too many definitions\n")
         }
-        AuditOutcome::LogTooLong => String::from_str(alloc, "sagas: log: too-long\n"),
-        AuditOutcome::Log { line, why } => {
+        AuditConclusion::LogTooLong => String::from_str(alloc, "sagas: log: too-long\n"),
+        AuditConclusion::Log { line, why } => {
             numbered_line(alloc, "sagas: log: line ", *line, ": ", why.word())
         }
-        AuditOutcome::Definition { place, why } => {
+        AuditConclusion::Definition { place, why } => {
             numbered_line(alloc, "sagas: definition ", *place, ": ", why.word())
         }
-        AuditOutcome::Answered(_) => Ok(String::new(alloc)),
+        AuditConclusion::Answered(_) => Ok(String::new(alloc)),
     }
 }
 
-fn status(outcome: &AuditOutcome) -> u8
-    ensures { result ≡ status_of outcome.now }
+fn status(conclusion: &AuditConclusion) -> u8
+    ensures { result ≡ status_of conclusion.now }
 {
-    match outcome {
-        AuditOutcome::Answered(AuditAnswer::Yes { .. }) => 0,
-        AuditOutcome::Answered(AuditAnswer::No { .. }) => 1,
+    match conclusion {
+        AuditConclusion::Answered(AuditAnswer::Yes { .. }) => 0,
+        AuditConclusion::Answered(AuditAnswer::No { .. }) => 1,
         _ => 3,
     }
 }
 
 /// The output that shows what an audit comes to.
-pub fn output_of_audit(alloc: Global, outcome: &AuditOutcome) -> Result<Output, AllocError>
+pub fn output_of_audit(alloc: Global, conclusion: &AuditConclusion) -> Result<Output, AllocError>
     ensures { IfOk result
-        (IsOutputWith (out_of outcome.now) (err_of outcome.now) (status_of outcome.now)) }
+        (IsOutputWith (out_of conclusion.now) (err_of conclusion.now) (status_of conclusion.now)) }
 {
     Ok(Output {
-        out: out(alloc, outcome)?,
-        err: err(alloc, outcome)?,
-        status: status(outcome),
+        out: out(alloc, conclusion)?,
+        err: err(alloc, conclusion)?,
+        status: status(conclusion),
     })
 }

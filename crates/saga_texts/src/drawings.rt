@@ -1,8 +1,8 @@
 //! What a drawing of texts comes to.
 ghost use Rattle.std.specs.Prelude.{IfOk};
-ghost use Rattle.saga_texts.specs.Outcomes.{DrawsAlone, DrawsWith, beside};
+ghost use Rattle.saga_texts.specs.Conclusions.{DrawsAlone, DrawsWith, beside};
 
-use crate::outcomes::{Outcome, Question, outcome_of};
+use crate::conclusions::{Conclusion, Question, conclusion_of};
 use saga_draw::draw;
 use saga_text::{TextFault, read_definition};
 use std::alloc::{AllocError, Global};
@@ -19,26 +19,30 @@ pub enum Scene<'a> {
 }
 
 /// What a drawing of the definition of a text comes to.
-fn drawn_alone(alloc: Global, definition: &[u8]) -> Result<Outcome, AllocError>
+fn drawn_alone(alloc: Global, definition: &[u8]) -> Result<Conclusion, AllocError>
     ensures { IfOk result (DrawsAlone definition.now) }
 {
     match read_definition(alloc, definition) {
-        Ok(definition) => Ok(Outcome::Drawn(draw(alloc, &definition, None, None)?)),
+        Ok(definition) => Ok(Conclusion::Drawn(draw(alloc, &definition, None, None)?)),
         Err(TextFault::OutOfMemory) => Err(AllocError),
-        Err(fault) => Ok(Outcome::Definition(fault)),
+        Err(fault) => Ok(Conclusion::Definition(fault)),
     }
 }
 
 /// What a drawing of texts comes to: the first fault in the order definition, case, answer, each length judged with its own
 /// text.
-pub fn drawing_of(alloc: Global, definition: &[u8], scene: Scene<'_>) -> Result<Outcome, AllocError>
+pub fn drawing_of(
+    alloc: Global,
+    definition: &[u8],
+    scene: Scene<'_>,
+) -> Result<Conclusion, AllocError>
     ensures { IfOk result (DrawsWith (beside scene.entry) definition.now) }
 {
     match scene {
         Scene::Definition => drawn_alone(alloc, definition),
-        Scene::Case(case) => outcome_of(alloc, definition, case, Question::Draw(None)),
+        Scene::Case(case) => conclusion_of(alloc, definition, case, Question::Draw(None)),
         Scene::Answer(case, answer) => {
-            outcome_of(alloc, definition, case, Question::Draw(Some(answer)))
+            conclusion_of(alloc, definition, case, Question::Draw(Some(answer)))
         }
     }
 }

@@ -6,9 +6,9 @@
 
 mod audits;
 mod beside;
+mod conclusions;
 mod drawings;
 mod limits;
-mod outcomes;
 mod outputs;
 mod runs;
 mod shelves;

@@ -7,7 +7,7 @@ ghost use Rattle.saga_cert.specs.Reads.{ReadsAnswer};
 ghost use Rattle.saga_texts.specs.Lines.{out_of, err_of, status_of, cert_line, step_text, line_feed};
 ghost use Rattle.saga_texts.specs.Outputs.{Shows, ReadsBack};
 
-use crate::outcomes::Outcome;
+use crate::conclusions::Conclusion;
 use saga_case::Answer;
 use saga_cert::write_answer;
 use saga_json::JsonFault;
@@ -34,16 +34,16 @@ fn answer_line(alloc: Global, answer: &Answer) -> Result<String, AllocError>
     Ok(line)
 }
 
-fn out(alloc: Global, outcome: &Outcome) -> Result<String, AllocError>
-    ensures line { IfOk result (λ text. string_bytes text ≡ out_of outcome.now) }
-    ensures read_back { IfOk result (λ text. ReadsBack outcome.now) }
+fn out(alloc: Global, conclusion: &Conclusion) -> Result<String, AllocError>
+    ensures line { IfOk result (λ text. string_bytes text ≡ out_of conclusion.now) }
+    ensures read_back { IfOk result (λ text. ReadsBack conclusion.now) }
 {
-    match outcome {
-        Outcome::Least(cost) => format!(in alloc; "least {cost}\n"),
-        Outcome::Blocked => String::from_str(alloc, "blocked\n"),
-        Outcome::Planned(answer) => answer_line(alloc, answer),
-        Outcome::Drawn(text) => String::from_str(alloc, text.as_str()),
-        Outcome::Refused(fault) => {
+    match conclusion {
+        Conclusion::Least(cost) => format!(in alloc; "least {cost}\n"),
+        Conclusion::Blocked => String::from_str(alloc, "blocked\n"),
+        Conclusion::Planned(answer) => answer_line(alloc, answer),
+        Conclusion::Drawn(text) => String::from_str(alloc, text.as_str()),
+        Conclusion::Refused(fault) => {
             let word = fault.word();
             format!(in alloc; "no {word}\n")
         }
@@ -73,43 +73,43 @@ fn cert_err(alloc: Global, part: &str, fault: &JsonFault) -> Result<String, Allo
     Ok(line)
 }
 
-fn err(alloc: Global, outcome: &Outcome) -> Result<String, AllocError>
-    ensures { IfOk result (λ text. string_bytes text ≡ err_of outcome.now) }
+fn err(alloc: Global, conclusion: &Conclusion) -> Result<String, AllocError>
+    ensures { IfOk result (λ text. string_bytes text ≡ err_of conclusion.now) }
 {
-    match outcome {
-        Outcome::Definition(fault) => {
+    match conclusion {
+        Conclusion::Definition(fault) => {
             let word = fault.word();
             format!(in alloc; "sagas: definition: {word}\n")
         }
-        Outcome::CaseTooLong => String::from_str(alloc, "sagas: case: too-long\n"),
-        Outcome::Case(fault) => cert_err(alloc, "case", fault),
-        Outcome::AnswerTooLong => String::from_str(alloc, "sagas: answer: too-long\n"),
-        Outcome::Answer(fault) => cert_err(alloc, "answer", fault),
+        Conclusion::CaseTooLong => String::from_str(alloc, "sagas: case: too-long\n"),
+        Conclusion::Case(fault) => cert_err(alloc, "case", fault),
+        Conclusion::AnswerTooLong => String::from_str(alloc, "sagas: answer: too-long\n"),
+        Conclusion::Answer(fault) => cert_err(alloc, "answer", fault),
         _ => Ok(String::new(alloc)),
     }
 }
 
-fn status(outcome: &Outcome) -> u8
-    ensures { result ≡ status_of outcome.now }
+fn status(conclusion: &Conclusion) -> u8
+    ensures { result ≡ status_of conclusion.now }
 {
-    match outcome {
-        Outcome::Least(_)
-        | Outcome::Blocked
-        | Outcome::Drawn(_)
-        | Outcome::Planned(Answer::Plan(_)) => 0,
-        Outcome::Refused(_) | Outcome::Planned(Answer::Blocked(_)) => 1,
+    match conclusion {
+        Conclusion::Least(_)
+        | Conclusion::Blocked
+        | Conclusion::Drawn(_)
+        | Conclusion::Planned(Answer::Plan(_)) => 0,
+        Conclusion::Refused(_) | Conclusion::Planned(Answer::Blocked(_)) => 1,
         _ => 3,
     }
 }
 
-/// The output that shows an outcome.
-pub fn output_of(alloc: Global, outcome: &Outcome) -> Result<Output, AllocError>
-    ensures shows { IfOk result (Shows outcome.now) }
-    ensures read_back { IfOk result (λ output. ReadsBack outcome.now) }
+/// The output that shows a conclusion.
+pub fn output_of(alloc: Global, conclusion: &Conclusion) -> Result<Output, AllocError>
+    ensures shows { IfOk result (Shows conclusion.now) }
+    ensures read_back { IfOk result (λ output. ReadsBack conclusion.now) }
 {
     Ok(Output {
-        out: out(alloc, outcome)?,
-        err: err(alloc, outcome)?,
-        status: status(outcome),
+        out: out(alloc, conclusion)?,
+        err: err(alloc, conclusion)?,
+        status: status(conclusion),
     })
 }

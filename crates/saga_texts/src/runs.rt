@@ -7,6 +7,7 @@ ghost use Rattle.saga_history.specs.Changes.{past};
 ghost use Rattle.saga_history.specs.Rules.{IsLegal};
 ghost use Rattle.saga_log.specs.Logs.{log_of as history_of};
 ghost use Rattle.saga_report.specs.Reports.{IsCountedReport};
+ghost use Rattle.saga_texts.specs.Limits.{max_shelf};
 ghost use Rattle.saga_texts.specs.Lines.{line_feed};
 ghost use Rattle.saga_texts.specs.Runs.{RunsTo, TellsOf, ShowsRun, err_of, log_of, out_of, script_line, status_of, status_told, stop_line};
 
@@ -40,7 +41,7 @@ pub struct Account {
 
 /// What a run comes to: a fault of a text, why there are no books, or what the books tell.
 #[derive(Drop)]
-pub enum RunOutcome {
+pub enum RunConclusion {
     TooManyDefinitions,
     Script(ScriptFault),
     /// The first definition with a fault, from 0.
@@ -52,7 +53,7 @@ pub enum RunOutcome {
 
 /// The places of a shelf, each once.
 fn places_of(alloc: Global, shelf: &[Definition]) -> Result<Vec<u32>, AllocError>
-    requires { length shelf.now ≤ 64 }
+    requires { length shelf.now ≤ max_shelf }
     ensures { IfOk result (λ places. places.items ≡ range_with_len 0 (length shelf.now)) }
 {
     let mut places = Vec::new(alloc);
@@ -121,38 +122,38 @@ fn account_of(alloc: Global, shelf: &[Definition], run: Run<'_>) -> Result<Accou
 
 /// What a run by a script of the definitions of texts comes to: the first fault in the order number of definitions, script,
 /// definitions.
-pub fn run_outcome<R: Threads + Wait + Sync>(
+pub fn run_conclusion<R: Threads + Wait + Sync>(
     rt: &R,
     alloc: Global,
     definitions: &[&[u8]],
     script: &[u8],
     workers: u32,
     shards: u32,
-) -> Result<RunOutcome, AllocError>
+) -> Result<RunConclusion, AllocError>
     requires workers { (0 < workers) × (workers ≤ 16) }
     requires shards { (0 < shards) × (shards ≤ 16) }
     ensures { IfOk result (RunsTo (map (λ t. t.now) definitions.now) script.now shards) }
 {
     if definitions.len() > MAX_SHELF {
-        return Ok(RunOutcome::TooManyDefinitions);
+        return Ok(RunConclusion::TooManyDefinitions);
     }
     let script = match Script::read(alloc, script) {
         Ok(script) => script,
         Err(ScriptFault::OutOfMemory) => return Err(AllocError),
-        Err(fault) => return Ok(RunOutcome::Script(fault)),
+        Err(fault) => return Ok(RunConclusion::Script(fault)),
     };
     let shelf = match read_shelf(alloc, definitions) {
         Ok(shelf) => shelf,
         Err(ShelfFault::OutOfMemory) => return Err(AllocError),
         Err(ShelfFault::Definition { place, why }) => {
-            return Ok(RunOutcome::Definition { place, why });
+            return Ok(RunConclusion::Definition { place, why });
         }
     };
     let asks = places_of(alloc, &shelf)?;
     match run_all(rt, alloc, &shelf, &asks, workers, shards, &script) {
-        Ok(run) => Ok(RunOutcome::Told(account_of(alloc, &shelf, run)?)),
+        Ok(run) => Ok(RunConclusion::Told(account_of(alloc, &shelf, run)?)),
         Err(RunFault::OutOfMemory | RunFault::Open(_, OpenRefusal::OutOfMemory)) => Err(AllocError),
-        Err(fault) => Ok(RunOutcome::Fault(fault)),
+        Err(fault) => Ok(RunConclusion::Fault(fault)),
     }
 }
 
@@ -190,17 +191,20 @@ fn stop_line(alloc: Global, stopped: Option<Stop>) -> Result<String, AllocError>
     }
 }
 
-fn err(alloc: Global, outcome: &RunOutcome) -> Result<String, AllocError>
-    ensures { IfOk result (λ text. string_bytes text ≡ err_of outcome.now) }
+fn err(alloc: Global, conclusion: &RunConclusion) -> Result<String, AllocError>
+    ensures { IfOk result (λ text. string_bytes text ≡ err_of conclusion.now) }
 {
-    match outcome {
-        RunOutcome::TooManyDefinitions => String::from_str(alloc, "sagas: too many definitions\n"),
-        RunOutcome::Script(fault) => script_line(alloc, *fault),
-        RunOutcome::Definition { place, why } => {
+    match conclusion {
+        RunConclusion::TooManyDefinitions => String::from_str(
+            alloc,
+            "sagas: too many definitions\n",
+        ),
+        RunConclusion::Script(fault) => script_line(alloc, *fault),
+        RunConclusion::Definition { place, why } => {
             numbered_line(alloc, "sagas: definition ", *place, ": ", why.word())
         }
-        RunOutcome::Fault(fault) => word_line(alloc, "sagas: run: ", fault.word()),
-        RunOutcome::Told(account) => stop_line(alloc, account.stopped),
+        RunConclusion::Fault(fault) => word_line(alloc, "sagas: run: ", fault.word()),
+        RunConclusion::Told(account) => stop_line(alloc, account.stopped),
     }
 }
 
@@ -213,12 +217,12 @@ fn status_told(stopped: Option<Stop>, stuck: usize) -> u8
     }
 }
 
-fn status(outcome: &RunOutcome) -> u8
-    ensures { result ≡ status_of outcome.now }
+fn status(conclusion: &RunConclusion) -> u8
+    ensures { result ≡ status_of conclusion.now }
 {
-    match outcome {
-        RunOutcome::Told(account) => status_told(account.stopped, account.stuck),
-        RunOutcome::Fault(_) => 4,
+    match conclusion {
+        RunConclusion::Told(account) => status_told(account.stopped, account.stuck),
+        RunConclusion::Fault(_) => 4,
         _ => 3,
     }
 }
@@ -231,29 +235,29 @@ pub struct RunOutput {
 }
 
 /// The report and the log of the books, where there are any.
-fn told(alloc: Global, outcome: RunOutcome) -> (String, Option<String>)
-    ensures report { string_bytes result.0 ≡ out_of outcome }
-    ensures log { option_map string_bytes result.1 ≡ log_of outcome }
+fn told(alloc: Global, conclusion: RunConclusion) -> (String, Option<String>)
+    ensures report { string_bytes result.0 ≡ out_of conclusion }
+    ensures log { option_map string_bytes result.1 ≡ log_of conclusion }
 {
-    match outcome {
-        RunOutcome::Told(account) => {
+    match conclusion {
+        RunConclusion::Told(account) => {
             let Account { report, log, .. } = account;
             (report, Some(log))
         }
-        RunOutcome::Definition { why: _why, .. } => (String::new(alloc), None),
-        RunOutcome::TooManyDefinitions | RunOutcome::Script(_) | RunOutcome::Fault(_) => {
+        RunConclusion::Definition { why: _why, .. } => (String::new(alloc), None),
+        RunConclusion::TooManyDefinitions | RunConclusion::Script(_) | RunConclusion::Fault(_) => {
             (String::new(alloc), None)
         }
     }
 }
 
 /// The output that shows what a run comes to, and the log.
-pub fn output_of_run(alloc: Global, outcome: RunOutcome) -> Result<RunOutput, AllocError>
-    ensures { IfOk result (ShowsRun outcome) }
+pub fn output_of_run(alloc: Global, conclusion: RunConclusion) -> Result<RunOutput, AllocError>
+    ensures { IfOk result (ShowsRun conclusion) }
 {
-    let err = err(alloc, &outcome)?;
-    let status = status(&outcome);
-    let (out, log) = told(alloc, outcome);
+    let err = err(alloc, &conclusion)?;
+    let status = status(&conclusion);
+    let (out, log) = told(alloc, conclusion);
     Ok(RunOutput {
         output: Output { out, err, status },
         log,

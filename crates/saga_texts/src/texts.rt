@@ -2,14 +2,14 @@
 ghost use Rattle.std.specs.Prelude.{◌<◌, ◌≤◌, IfOk, map};
 ghost use Rattle.saga_texts.specs.Texts.{IsCheckOutput, IsDrawOutput, IsPlanOutput};
 ghost use Rattle.saga_texts.specs.Audits.{IsAuditOutput};
-ghost use Rattle.saga_texts.specs.Outcomes.{beside};
+ghost use Rattle.saga_texts.specs.Conclusions.{beside};
 ghost use Rattle.saga_texts.specs.Runs.{IsRunOutput};
 
-use crate::audits::{audit_outcome, audit_outcome_alone, output_of_audit};
+use crate::audits::{audit_conclusion, audit_conclusion_alone, output_of_audit};
+use crate::conclusions::{Question, conclusion_of};
 use crate::drawings::{Scene, drawing_of};
-use crate::outcomes::{Question, outcome_of};
 use crate::outputs::{Output, output_of};
-use crate::runs::{RunOutput, output_of_run, run_outcome};
+use crate::runs::{RunOutput, output_of_run, run_conclusion};
 use std::alloc::{AllocError, Global};
 use std::sync::Wait;
 use std::thread::Threads;
@@ -24,8 +24,8 @@ pub fn check_text(
 ) -> Result<Output, AllocError>
     ensures { IfOk result (IsCheckOutput definition.now case.now answer.now) }
 {
-    let outcome = outcome_of(alloc, definition, case, Question::Check(answer))?;
-    output_of(alloc, &outcome)
+    let conclusion = conclusion_of(alloc, definition, case, Question::Check(answer))?;
+    output_of(alloc, &conclusion)
 }
 
 /// Plans how a case of a definition shall end: the text of a right answer, with status 0 for a plan and 1 for a chain; a
@@ -33,8 +33,8 @@ pub fn check_text(
 pub fn plan_text(alloc: Global, definition: &[u8], case: &[u8]) -> Result<Output, AllocError>
     ensures { IfOk result (IsPlanOutput definition.now case.now) }
 {
-    let outcome = outcome_of(alloc, definition, case, Question::Plan)?;
-    output_of(alloc, &outcome)
+    let conclusion = conclusion_of(alloc, definition, case, Question::Plan)?;
+    output_of(alloc, &conclusion)
 }
 
 /// Draws a saga: the text of its picture in Graphviz's language, with its states and what an answer marks where they are
@@ -43,8 +43,8 @@ pub fn plan_text(alloc: Global, definition: &[u8], case: &[u8]) -> Result<Output
 pub fn draw_text(alloc: Global, definition: &[u8], scene: Scene<'_>) -> Result<Output, AllocError>
     ensures { IfOk result (IsDrawOutput (beside scene.entry) definition.now) }
 {
-    let outcome = drawing_of(alloc, definition, scene)?;
-    output_of(alloc, &outcome)
+    let conclusion = drawing_of(alloc, definition, scene)?;
+    output_of(alloc, &conclusion)
 }
 
 /// Audits a log over a shelf of definitions: `yes` with numbers where its history is legal, else `no` with the place, from
@@ -57,8 +57,8 @@ pub fn audit_text<R: Threads + Sync>(
 ) -> Result<Output, AllocError>
     ensures { IfOk result (IsAuditOutput log.now (map (λ t. t.now) definitions.now)) }
 {
-    let outcome = audit_outcome(rt, alloc, log, definitions)?;
-    output_of_audit(alloc, &outcome)
+    let conclusion = audit_conclusion(rt, alloc, log, definitions)?;
+    output_of_audit(alloc, &conclusion)
 }
 
 /// Runs each definition once, in order, as sagas 0, 1 and so on, by a script that tells how actions and compensations end:
@@ -76,8 +76,8 @@ pub fn run_text<R: Threads + Wait + Sync>(
     requires shards { (0 < shards) × (shards ≤ 16) }
     ensures { IfOk result (IsRunOutput (map (λ t. t.now) definitions.now) script.now shards) }
 {
-    let outcome = run_outcome(rt, alloc, definitions, script, workers, shards)?;
-    output_of_run(alloc, outcome)
+    let conclusion = run_conclusion(rt, alloc, definitions, script, workers, shards)?;
+    output_of_run(alloc, conclusion)
 }
 
 /// As [`audit_text`], on the thread that calls.
@@ -88,6 +88,6 @@ pub fn audit_text_alone(
 ) -> Result<Output, AllocError>
     ensures { IfOk result (IsAuditOutput log.now (map (λ t. t.now) definitions.now)) }
 {
-    let outcome = audit_outcome_alone(alloc, log, definitions)?;
-    output_of_audit(alloc, &outcome)
+    let conclusion = audit_conclusion_alone(alloc, log, definitions)?;
+    output_of_audit(alloc, &conclusion)
 }

@@ -9,7 +9,7 @@ use Rattle.saga_work.specs.Asked.{AreOpenedAsAsked}
 use Rattle.saga_report.specs.Reports.{IsCountedReport}
 use Rattle.saga_texts.proofs.ListLemmas.{zip_length}
 use Rattle.saga_texts.proofs.RunLemmas.{answered_told, headline_log}
-use Rattle.saga_texts.proofs.runs.run_outcome.Goals as goal
+use Rattle.saga_texts.proofs.runs.run_conclusion.Goals as goal
 
 pub places_of-requires : goal.places_of-requires
 places_of-requires g c =
