@@ -10,7 +10,6 @@ use Rattle.std.proofs.lemmas.Bool.{cases_eq, cases_order, eq-eqb, ne_eqb}
 use Rattle.saga_history.specs.declared.events.Event.{Event}
 use Rattle.saga_history.specs.declared.events.Event.TheVariants as event
 use Rattle.saga_history.specs.declared.events.Mark.{Mark}
-use Rattle.saga_history.specs.declared.events.Mark.TheVariants as mark
 use Rattle.saga_history.specs.Changes.{mark_of}
 use Rattle.saga_history.specs.Merges.{IsNumbered, opened_sagas}
 use Rattle.saga_core.specs.Book.{Book}
