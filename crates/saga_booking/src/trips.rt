@@ -1,13 +1,10 @@
 //! Trips that are driven to their ends, by one thread and by four workers.
 ghost use Rattle.std.specs.Prelude.{◌≡◌, ◌∷◌, [], All, IfOk, OnOk};
+ghost use Rattle.saga_core.specs.Book.{HeadlineOf};
 ghost use Rattle.saga_core.specs.Tasks.{AllAreOver};
 ghost use Rattle.saga_desk.specs.Finish.{HeadlineHolds};
-ghost use Rattle.saga_history.specs.Changes.{past};
-ghost use Rattle.saga_history.specs.Headline.{Headline};
-ghost use Rattle.saga_work.specs.Asked.{IsOver};
 ghost use Rattle.saga_booking.specs.Entries.{AreNoted};
 ghost use Rattle.saga_booking.specs.Seats.{BookHasSeats, EntryHasSeat};
-ghost use Rattle.saga_core.specs.Book.{HeadlineOf};
 
 use crate::agency::Agency;
 use anyhow::{Context, Error, Result, anyhow, ensure};
@@ -104,7 +101,7 @@ pub fn drive_by_workers<'d, R: Threads + Wait + Sync>(
     asks: &[u32],
 ) -> Result<Vec<Book<'d>>>
     ensures seats { IfOk result (λ books. All (BookHasSeats agency.now) books.items) }
-    ensures over { IfOk result (λ books. All IsOver books.items) }
+    ensures over { IfOk result (λ books. All AllAreOver books.items) }
     ensures headline { IfOk result (λ books. HeadlineHolds shelf.entry.now books.items) }
 {
     let run = run_all(rt, alloc, shelf, asks, 4, 4, agency).map_err(refused)?;

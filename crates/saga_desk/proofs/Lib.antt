@@ -5,4 +5,3 @@ pub mod BridgeLemmas
 mod StepLemmas
 mod FinishLemmas
 mod ServeLemmas
-mod ToldLemmas

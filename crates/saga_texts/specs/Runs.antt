@@ -5,6 +5,7 @@ use Rattle.std.specs.String.{string_bytes}
 use Rattle.saga_def.specs.Contents.{Contents}
 use Rattle.saga_text.specs.Faults.{word_of as text_word_of}
 use Rattle.saga_core.specs.Book.{Book}
+use Rattle.saga_core.specs.Tasks.{AllAreOver}
 use Rattle.saga_desk.specs.Finish.{AreOfShards, HeadlineHolds, MergesAreLegal, events_of}
 use Rattle.saga_history.specs.declared.events.Event.{Event}
 use Rattle.saga_history.specs.Changes.{past}
@@ -20,7 +21,7 @@ use Rattle.saga_script.specs.Statements.{Statement}
 use Rattle.saga_work.specs.declared.faults.RunFault.{RunFault}
 use Rattle.saga_work.specs.declared.faults.RunFault.TheVariants as fault
 use Rattle.saga_work.specs.declared.faults.Stop.{Stop}
-use Rattle.saga_work.specs.Asked.{AreAnswered, AreOpenedAsAsked, IsOver}
+use Rattle.saga_work.specs.Asked.{AreAnswered, AreOpenedAsAsked}
 use Rattle.saga_work.specs.Faults.{IsRunFault}
 use Rattle.saga_work.specs.Words.{word_of_run, word_of_stop}
 use Rattle.saga_texts.specs.declared.runs.Account.{Account}
@@ -45,7 +46,7 @@ pub record IsRunOf (shelf : List Contents) (statements : List Statement) (shards
   pub shards_are : AreOfShards shelf shards books
   pub opened : AreOpenedAsAsked shards (range_with_len 0 (length shelf)) books
   pub answered : AreAnswered (IsTold statements) (IsAbortTold statements) books
-  pub over : stopped ≡ None → All IsOver books
+  pub over : stopped ≡ None → All AllAreOver books
   pub legal : MergesAreLegal shelf books
   pub headline : HeadlineHolds shelf books
 

@@ -1,18 +1,15 @@
 -- What was asked for, and what the books hold of it.
-use Rattle.std.proofs.Common.{◌≡◌, ◌≢◌, ℕ, zero, suc, ◌<◌, ◌≤◌, ◌+◌, ◌*◌, ◌%◌, ◌/◌, ◌==◌, Bool, true, false, cond, List, [], ◌∷◌, ◌++◌, length, get_or, drop, map, refl, sym, ap, ◌∙◌, subst, arith, inl, inr, Some}
+use Rattle.std.proofs.Common.{◌≡◌, ◌≢◌, ℕ, zero, suc, ◌<◌, ◌≤◌, ◌+◌, ◌*◌, ◌%◌, ◌/◌, ◌==◌, Bool, true, false, cond, List, [], ◌∷◌, ◌++◌, length, get_or, map, refl, sym, ap, ◌∙◌, subst, arith, inl, inr, Some}
 use Rattle.std.specs.Prelude.{slice_get}
 use Rattle.saga_def.specs.Contents.{Contents}
 use Rattle.std.specs.List.{flat_map, All}
 use Rattle.std.proofs.Math.Nat.{mod-add-div, mul-le-mul_right}
 use Rattle.std.proofs.lemmas.Nat.{mod-mul-add}
-use Rattle.std.proofs.lemmas.List.{drop_more, append-nil, map-append, append_assoc}
-use Rattle.std.proofs.lemmas.Grind.{flat_map-append}
 use Rattle.std.proofs.lemmas.List.Elements.{All-head, All-tail}
 use Rattle.std.proofs.lemmas.Bool.{cases_eq, cases_order, eq-eqb, ne_eqb}
 use Rattle.saga_history.specs.declared.events.Event.{Event}
 use Rattle.saga_history.specs.declared.events.Event.TheVariants as event
 use Rattle.saga_history.specs.declared.events.Mark.{Mark}
-use Rattle.saga_history.specs.declared.events.Mark.TheVariants as mark
 use Rattle.saga_history.specs.Changes.{mark_of}
 use Rattle.saga_history.specs.Merges.{IsNumbered, opened_sagas}
 use Rattle.saga_core.specs.Book.{Book}
@@ -192,28 +189,3 @@ opened_as_asked S asks shelf books seats rs pos shards numbers (m, mh, ms) all f
       ∙ sym (asked_in_step S s 0 0 asks lt (omega arith) (omega arith)) in
       events_in_step S s shelf books lt shards numbers ∙ (ap (in_step s S) same ∙ turn);
 }
-
--- one opening more
-pub opens_one : (S : ℕ) (asks : List ℕ) (j d : ℕ) (r : Receipt) (rs : List Receipt) → j < length asks → d ≡ get_or asks j d
-    → r.shard ≡ j % S → ((saga : ℕ) × (r.mark ≡ mark.Open saga d))
-    → ((s : ℕ) → s < S → definitions_in (flat_map (opening_on s) rs) ++ definitions_in (asked S s j (drop j asks)) ≡ definitions_in (asked S s 0 asks))
-    → (s : ℕ) → s < S
-    → definitions_in (flat_map (opening_on s) (rs ++ r ∷ [])) ++ definitions_in (asked S s (j + 1) (drop (j + 1) asks)) ≡ definitions_in (asked S s 0 asks)
-opens_one S asks j d r rs lt is shard_is (saga, mark_is) before s in' =
-    let rest = asked S s (j + 1) (drop (j + 1) asks) in
-    let cut : drop j asks ≡ d ∷ drop (j + 1) asks = drop_more asks j d lt ∙ ap (λ z. z ∷ drop (j + 1) asks) (sym is) in
-    let more : definitions_in (flat_map (opening_on s) (rs ++ r ∷ [])) ≡ definitions_in (flat_map (opening_on s) rs) ++ definitions_in (opening_on s r) =
-    ap definitions_in (flat_map-append (opening_on s) rs (r ∷ []) ∙ ap (λ z. flat_map (opening_on s) rs ++ z) (append-nil (opening_on s r)))
-    ∙ map-append (λ (p : ℕ × ℕ). p.1) (flat_map (opening_on s) rs) (opening_on s r) in
-    let here : opening_on s r ≡ cond (j % S == s) ((saga, d) ∷ []) [] =
-    ap (λ k. cond (k == s) (opening r.mark) []) shard_is ∙ ap (λ k. cond (j % S == s) (opening k) []) mark_is in
-    let step : definitions_in (opening_on s r) ++ definitions_in rest ≡ definitions_in (asked S s j (d ∷ drop (j + 1) asks)) =
-    ap (λ z. definitions_in z ++ definitions_in rest) here ∙ by_turn saga (j % S == s) rest in
-    ap (λ z. z ++ definitions_in rest) more
-    ∙ (append_assoc (definitions_in (flat_map (opening_on s) rs)) (definitions_in (opening_on s r)) (definitions_in rest)
-    ∙ (ap (λ z. definitions_in (flat_map (opening_on s) rs) ++ z) (step ∙ ap (λ z. definitions_in (asked S s j z)) (sym cut)) ∙ before s in'))
-  where
-    by_turn : (saga : ℕ) (b : Bool) (rest : List (ℕ × ℕ))
-        → definitions_in (cond b ((saga, d) ∷ []) []) ++ definitions_in rest ≡ definitions_in (cond b ((j, d) ∷ rest) rest)
-    by_turn saga true rest = refl
-    by_turn saga false rest = refl

@@ -1,5 +1,5 @@
 -- Which fault a run ends in, and which stop it tells.
-use Rattle.std.proofs.Common.{◌≡◌, ℕ, ◌<◌, List, length, get_or, map, sym, ap, ◌∙◌, arith, Some}
+use Rattle.std.proofs.Common.{◌≡◌, ℕ, ◌<◌, List, length, get_or, map, sym, ap, ◌∙◌, arith}
 use Rattle.std.proofs.lemmas.Option.{get_or_from_slice_get, slice_get-get_or, slice_get_within}
 use Rattle.std.proofs.lemmas.List.{get_or-map, length-map}
 use Rattle.saga_def.specs.Contents.{Contents}
@@ -30,9 +30,6 @@ finishing_fault {P} shelf asks desk count seats (finish.Stranger d ss) same seat
 finishing_fault {P} shelf asks desk count seats (finish.Missing d ss) same seated known is = absurd (is.3 (seated_all desk count seats same seated).all)
 finishing_fault {P} shelf asks desk count seats (finish.OutOfMemory d ss) same seated known is = tt
 finishing_fault {P} shelf asks desk count seats (finish.Torn books ss) same seated known is = known
-
-some_same : {X : Type 0} (x y : X) → Some x ≡ Some y → x ≡ y
-some_same x y e = cc
 
 -- the seats that come back have the numbers of those that were worked
 pub seated_back : {S : Type 0} (P : Mark → Type 0) (x : S) (count : ℕ) (seats : List Seat) (done : List (Seat × S)) (back : List Seat)

@@ -2,10 +2,9 @@
 use Rattle.std.specs.Prelude.{◌≡◌, ◌≢◌, ℕ, ◌<◌, ◌+◌, ◌%◌, ◌==◌, cond, List, [], ◌∷◌, ◌++◌, All, Some, flat_map, length, map, slice_get, slice_index_or}
 use Rattle.saga_history.specs.declared.events.Mark.{Mark}
 use Rattle.saga_history.specs.declared.tasks.Outcome.{Outcome}
-use Rattle.saga_history.specs.Changes.{mark_of, past}
+use Rattle.saga_history.specs.Changes.{mark_of}
 use Rattle.saga_history.specs.Merges.{IsNumbered}
 use Rattle.saga_core.specs.Book.{Book}
-use Rattle.saga_core.specs.Tasks.{AllAreOver}
 use Rattle.saga_desk.specs.Agreement.{receipts_of}
 use Rattle.saga_desk.specs.Finish.{events_of}
 use Rattle.saga_desk.specs.Job.{Job}
@@ -29,10 +28,6 @@ opened_in h = flat_map (λ e. opening (mark_of e)) h
 pub record AreOpenedAsAsked (shards : ℕ) (asks : List ℕ) (books : List Book) : Type 0 where
   pub all : length books ≡ shards
   pub each : (s : ℕ) → s < shards → opened_in (slice_index_or (events_of books) s []) ≡ asked shards s 0 asks
-
--- each saga of the book is ended or stuck
-abbrev pub IsOver : Book → Type 0
-IsOver b = AllAreOver b
 
 -- each end of an action or a compensation in the books is what may be answered to the job of that attempt at that step, under the
 -- step's name, and each abort may be asked for

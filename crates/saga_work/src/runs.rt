@@ -1,9 +1,10 @@
 //! Whole runs.
 ghost use Rattle.std.specs.Prelude.{◌≡◌, ◌<◌, ◌≤◌, ◌↔◌, ◌∷◌, [], All, IfErr, IfOk, IsTrue, None, ℕ, map};
+ghost use Rattle.saga_core.specs.Tasks.{AllAreOver};
 ghost use Rattle.saga_desk.specs.Finish.{AreOfShards, HeadlineHolds, MergesAreLegal};
 ghost use Rattle.saga_desk.specs.Told.{HoldsTold};
 ghost use Rattle.saga_work.specs.Answered.{IsWork, MayBeTold};
-ghost use Rattle.saga_work.specs.Asked.{AreAnswered, AreNumbered, AreOpenedAsAsked, AreSeated, EachGained, IsOver};
+ghost use Rattle.saga_work.specs.Asked.{AreAnswered, AreNumbered, AreOpenedAsAsked, AreSeated, EachGained};
 ghost use Rattle.saga_work.specs.Faults.{IsRunFault, fault_of_finish, first_stop, stop_told};
 
 use crate::actors::Actor;
@@ -40,7 +41,7 @@ fn finish_fault<P: Policy>(refused: FinishRefused<'_, P>) -> RunFault
 
 /// Whether each saga of the books is ended or stuck.
 fn are_over(books: &[Book<'_>]) -> bool
-    ensures { IsTrue result ↔ All IsOver books.now }
+    ensures { IsTrue result ↔ All AllAreOver books.now }
 {
     for i in 0..books.len() {
         if !books[i].settled() {
@@ -131,7 +132,7 @@ fn run_with_policy<'d, P: Policy + Send + Sync, R: Threads + Wait + Sync, A: Act
     requires shards { (0 < shards) × (shards ≤ 16) }
     ensures shards { IfOk result (λ run. AreOfShards shelf.entry.now shards run.books.items) }
     ensures opened { IfOk result (λ run. AreOpenedAsAsked shards asks.now run.books.items) }
-    ensures ended { IfOk result (λ run. run.stopped ≡ None → All IsOver run.books.items) }
+    ensures ended { IfOk result (λ run. run.stopped ≡ None → All AllAreOver run.books.items) }
     ensures told { IfOk result (λ run. All (HoldsTold P.may P.may_abort) run.books.items) }
     ensures legal { IfOk result (λ run. MergesAreLegal shelf.entry.now run.books.items) }
     ensures headline { IfOk result (λ run. HeadlineHolds shelf.entry.now run.books.items) }
@@ -170,7 +171,7 @@ pub fn run_all<'d, R: Threads + Wait + Sync, A: Actor + Sync>(
     requires shards { (0 < shards) × (shards ≤ 16) }
     ensures shards { IfOk result (λ run. AreOfShards shelf.entry.now shards run.books.items) }
     ensures opened { IfOk result (λ run. AreOpenedAsAsked shards asks.now run.books.items) }
-    ensures ended { IfOk result (λ run. run.stopped ≡ None → All IsOver run.books.items) }
+    ensures ended { IfOk result (λ run. run.stopped ≡ None → All AllAreOver run.books.items) }
     ensures answered { IfOk result
         (λ run. AreAnswered (A.may actor.now) (A.may_abort actor.now) run.books.items) }
     ensures legal { IfOk result (λ run. MergesAreLegal shelf.entry.now run.books.items) }
