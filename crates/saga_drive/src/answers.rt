@@ -10,7 +10,6 @@ ghost use Rattle.saga_drive.specs.Answers.{IsAnswer, IsMet};
 ghost use Rattle.saga_drive.specs.Starts.{task_of};
 ghost use Rattle.saga_drive.specs.declared.requests.Request.TheVariants as request;
 
-use crate::starts::{start_next, start_step, plan_case};
 use crate::happenings::Happening;
 use crate::many::next_many;
 use crate::openings::{Wanted, index_of_wanted, is_next};
@@ -18,6 +17,7 @@ use crate::questions::{busy, ready, sagas, show, status};
 use crate::replies::{Reply, out_of_memory, reply_of_idle, reply_to_fault};
 use crate::reports::report;
 use crate::requests::{Request, read_request};
+use crate::starts::{plan_case, start_next, start_step};
 use crate::tellings::Telling;
 use saga_core::{Book, OpenRefusal, SagaRefusal};
 use saga_history::{Event, Kind, Task};

@@ -20,7 +20,6 @@
 
 mod answers;
 mod attempts;
-mod starts;
 mod drops;
 mod fields;
 mod happenings;
@@ -33,6 +32,7 @@ mod replies;
 mod reports;
 mod requests;
 mod restarts;
+mod starts;
 mod tellings;
 mod trails;
 mod verbs;

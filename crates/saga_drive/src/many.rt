@@ -4,8 +4,8 @@ ghost use Rattle.saga_drive.specs.Answers.{IsMet};
 ghost use Rattle.saga_drive.specs.Replies.{last_tasks_front};
 ghost use Rattle.saga_drive.specs.declared.requests.Request.TheVariants as request;
 
-use crate::starts::start_next;
 use crate::replies::Reply;
+use crate::starts::start_next;
 use crate::tellings::Telling;
 use saga_core::Book;
 use std::alloc::{AllocError, Global};
