@@ -12,18 +12,7 @@ use itoa::Buffer;
 use saga_case::StepState;
 use saga_def::Definition;
 use saga_history::{Phase, Turn, is_off, is_standing};
-use std::alloc::AllocError;
-
-/// Adds pieces of text, one after another.
-fn push_all(text: &mut String, pieces: &[&str]) -> Result<(), AllocError>
-    ensures { OnOk result (string_bytes text.new ≡ string_bytes text.old
-        ++ flat_map (λ piece. piece.now) pieces.now) }
-{
-    for piece in pieces {
-        text.push_str(piece)?;
-    }
-    Ok(())
-}
+use std::alloc::{AllocError, Global};
 
 /// The state's word, filled up to 9 places.
 fn padded_word(state: StepState) -> &'static str
@@ -62,6 +51,7 @@ fn aborted_word(aborted: bool) -> &'static str
 }
 
 fn push_head(
+    alloc: Global,
     text: &mut String,
     number: u32,
     name: &str,
@@ -73,24 +63,33 @@ fn push_head(
 {
     let mut buffer = Buffer::new();
     let number = buffer.format(number as u64);
-    push_all(text, &["saga ", number, " "])?;
+    let front = ["saga ", number, " "].concat(alloc)?;
+    let back = [" ", phase.word(), aborted_word(aborted), "\n"].concat(alloc)?;
+    text.push_str(front.as_str())?;
     text.push_str(name)?;
-    push_all(text, &[" ", phase.word(), aborted_word(aborted), "\n"])
+    text.push_str(back.as_str())
 }
 
-fn push_step(text: &mut String, step: u16, state: StepState, name: &str) -> Result<(), AllocError>
+fn push_step(
+    alloc: Global,
+    text: &mut String,
+    step: u16,
+    state: StepState,
+    name: &str,
+) -> Result<(), AllocError>
     ensures { OnOk result (string_bytes text.new ≡ string_bytes text.old
         ++ spec.step_line step state name.now) }
 {
     let mut buffer = Buffer::new();
     let number = buffer.format(step as u64);
     let pad = pad_of(step as u64);
-    push_all(text, &[pad, number, " ", padded_word(state), " "])?;
+    let front = [pad, number, " ", padded_word(state), " "].concat(alloc)?;
+    text.push_str(front.as_str())?;
     text.push_str(name)?;
     text.push_str("\n")
 }
 
-fn push_plans(text: &mut String, plans: usize, cost: Cost) -> Result<(), AllocError>
+fn push_plans(alloc: Global, text: &mut String, plans: usize, cost: Cost) -> Result<(), AllocError>
     ensures { OnOk result
         (string_bytes text.new ≡ string_bytes text.old ++ spec.plans_line plans cost) }
 {
@@ -102,7 +101,8 @@ fn push_plans(text: &mut String, plans: usize, cost: Cost) -> Result<(), AllocEr
         Cost::Of(cost) => amount.format(cost),
         Cost::Blocked => "blocked",
     };
-    push_all(text, &["plans ", plans, " cost ", cost, "\n"])
+    let line = ["plans ", plans, " cost ", cost, "\n"].concat(alloc)?;
+    text.push_str(line.as_str())
 }
 
 fn state_of(saga: &Saga, step: u16) -> StepState
@@ -162,20 +162,26 @@ fn phase_by(turn: Turn, done: bool) -> Phase
     }
 }
 
-fn push_steps(text: &mut String, definition: &Definition, saga: &Saga) -> Result<(), AllocError>
+fn push_steps(
+    alloc: Global,
+    text: &mut String,
+    definition: &Definition,
+    saga: &Saga,
+) -> Result<(), AllocError>
     ensures { OnOk result (string_bytes text.new ≡ string_bytes text.old
         ++ spec.step_lines definition.now (story_in saga.now)) }
 {
     let count = definition.steps() as u16;
     for step in 0..count {
         let name = definition.step(step).name.as_str();
-        push_step(text, step, state_of(saga, step), name)?;
+        push_step(alloc, text, step, state_of(saga, step), name)?;
     }
     Ok(())
 }
 
 /// Adds the lines of a saga of that definition.
 fn push_known(
+    alloc: Global,
     text: &mut String,
     definition: &Definition,
     number: u32,
@@ -188,22 +194,27 @@ fn push_known(
 {
     let done = are_done(saga, definition.steps() as u16);
     let phase = phase_by(saga.turn, done);
-    push_head(text, number, definition.name(), phase, saga.aborted)?;
-    push_steps(text, definition, saga)?;
-    push_plans(text, saga.plans, saga.cost)?;
+    push_head(alloc, text, number, definition.name(), phase, saga.aborted)?;
+    push_steps(alloc, text, definition, saga)?;
+    push_plans(alloc, text, saga.plans, saga.cost)?;
     Ok(phase)
 }
 
 /// Adds the lines of a saga that was opened with no definition of the shelf.
-fn push_unknown(text: &mut String, number: u32, saga: &Saga) -> Result<Phase, AllocError>
+fn push_unknown(
+    alloc: Global,
+    text: &mut String,
+    number: u32,
+    saga: &Saga,
+) -> Result<Phase, AllocError>
     ensures text { IfOk result (λ _. string_bytes text.new ≡ string_bytes text.old
         ++ spec.saga_text spec.no_contents number (story_in saga.now)) }
     ensures phase { IfOk result
         (λ phase. phase ≡ spec.phase_of spec.no_contents (story_in saga.now)) }
 {
     let phase = phase_by(saga.turn, true);
-    push_head(text, number, "", phase, saga.aborted)?;
-    push_plans(text, saga.plans, saga.cost)?;
+    push_head(alloc, text, number, "", phase, saga.aborted)?;
+    push_plans(alloc, text, saga.plans, saga.cost)?;
     Ok(phase)
 }
 
@@ -218,6 +229,7 @@ fn definition_of<'d>(shelf: &'d [Definition], saga: &Saga) -> Option<&'d Definit
 
 /// Adds the lines of a saga, and tells its phase.
 pub fn push_saga(
+    alloc: Global,
     text: &mut String,
     shelf: &[Definition],
     number: u32,
@@ -232,13 +244,14 @@ pub fn push_saga(
         ≡ spec.phase_of (spec.contents_of shelf.now (story_in saga.now)) (story_in saga.now)) }
 {
     match definition_of(shelf, saga) {
-        Some(definition) => push_known(text, definition, number, saga),
-        None => push_unknown(text, number, saga),
+        Some(definition) => push_known(alloc, text, definition, number, saga),
+        None => push_unknown(alloc, text, number, saga),
     }
 }
 
 /// Adds the last line.
 pub fn push_total(
+    alloc: Global,
     text: &mut String,
     sagas: usize,
     ended: usize,
@@ -256,10 +269,9 @@ pub fn push_total(
     let ended = second.format(ended as u64);
     let stuck = third.format(stuck as u64);
     let events = fourth.format(events);
-    push_all(
-        text,
-        &[
-            "sagas ", sagas, " ended ", ended, " stuck ", stuck, " events ", events, "\n",
-        ],
-    )
+    let line = [
+        "sagas ", sagas, " ended ", ended, " stuck ", stuck, " events ", events, "\n",
+    ]
+    .concat(alloc)?;
+    text.push_str(line.as_str())
 }

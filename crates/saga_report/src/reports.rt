@@ -55,8 +55,8 @@ fn push_entry(
         → phase ≡ phase_at shelf.now histories entry) }
 {
     match find(books, entry) {
-        Some(saga) => push_saga(text, shelf, entry.number, saga),
-        None => push_saga(text, shelf, entry.number, &Saga::new(alloc)),
+        Some(saga) => push_saga(alloc, text, shelf, entry.number, saga),
+        None => push_saga(alloc, text, shelf, entry.number, &Saga::new(alloc)),
     }
 }
 
@@ -114,7 +114,14 @@ pub fn report_counted(
         ended += is_ended(phase) as usize;
         stuck += is_stuck(phase) as usize;
     }
-    push_total(&mut text, entries.len(), ended, stuck, events_of(histories))?;
+    push_total(
+        alloc,
+        &mut text,
+        entries.len(),
+        ended,
+        stuck,
+        events_of(histories),
+    )?;
     Ok(CountedReport { text, stuck })
 }
 
