@@ -59,7 +59,7 @@ def reopen(copy: Copy) -> None:
 
 
 def change_an_end(copy: Copy) -> None:
-    copy.write("UPDATE sagas SET end = json_set(end, '$.states[0]', 'undone') WHERE key = 'k4'")
+    copy.write("UPDATE sagas SET end = json_set(end, '$.states[0]', 'another') WHERE key = 'k4'")
 
 
 def lose_a_result(copy: Copy) -> None:
@@ -72,7 +72,7 @@ def tell_too_early(copy: Copy) -> None:
 
 def tell_another_end(copy: Copy) -> None:
     note = copy.first(what="over")
-    note["states"] = {step: "waiting" for step in note["states"]}
+    note["states"] = {step: "another" for step in note["states"]}
 
 
 def begin_too_early(copy: Copy) -> None:
