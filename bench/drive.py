@@ -8,7 +8,7 @@ transaction beside requests one at a time, and 64 a transaction beside 64 togeth
 one run on one file system. Prints events a second, in the middle of all turns, and ratios of times to those of SQLite's WAL; then the
 seconds of a start on a log of 1,001,000 events, of 1,000 sagas of 500 steps, beside an audit of that log and SQLite reading as many
 rows, and the greatest memory of the start. Last the milliseconds of `ready`, `list` and `status` over 1,000 sagas: of the README's trip, and of
-chains of 1,024 steps of which half are done; and the seconds of a processor that 10,000 tasks take, one and 64 by a request. Ends with
+chains of 16 steps of which half are done, the longest of which a log takes so many at once; and the seconds of a processor that 10,000 tasks take, one and 64 by a request. Ends with
 status 1 where requests with a log take longer than SQLite's WAL, one at a time or together, a start takes more than 10 s, a `ready` over
 1,000 trips takes more than 1 ms, or tasks by 64 take more than a third.
 """
@@ -27,6 +27,7 @@ import runs
 
 TOGETHER = 64
 STEPS = 512
+MOST_EVENTS = 4 * 2 * STEPS  # a log has room for the ends of four sagas of so many steps, and refuses a fifth
 LONG_STEPS = 500
 ROOT = runs.HERE.parent
 NEXT = b'{"do":"next"}\n'
@@ -36,11 +37,14 @@ def options():
     """The words of this script."""
     parser = argparse.ArgumentParser(description=__doc__.strip().splitlines()[0])
     parser.add_argument("--turns", type=int, default=5, help="how often the parts take turns")
-    parser.add_argument("--events", type=int, default=1024, help="how many events a part has")
+    parser.add_argument("--events", type=int, default=1024, help="how many events a part has, at most 4,096")
     parser.add_argument("--sagas", type=int, default=1000, help="how many sagas the long log has")
     parser.add_argument("--folder", help="where the files are put, in place of the system's folder for such")
     parser.add_argument("--program", type=pathlib.Path, help="a program, in place of the one that ./sagas starts")
-    return parser.parse_args()
+    words = parser.parse_args()
+    if words.events > MOST_EVENTS:
+        parser.error(f"--events: at most {MOST_EVENTS:,}")
+    return words
 
 
 def built(words):
@@ -249,7 +253,7 @@ def asked(program, file, log, question):
 def questions(program, folder):
     """Times the questions over 1,000 sagas; gives the milliseconds of `ready` over trips."""
     ready = {}
-    for name, text, steps in [("trip", (ROOT / "examples" / "trip.toml").read_text(encoding="utf-8"), 0), ("chain", chain(1024), 1024)]:
+    for name, text, steps in [("trip", (ROOT / "examples" / "trip.toml").read_text(encoding="utf-8"), 0), ("chain", chain(16), 16)]:
         file, log = runs.put(folder, f"{name}.toml", text), runs.put(folder, f"{name}.log", halfway(1000, steps))
         took = {word: asked(program, file, log, b'{"do":"%s"}\n' % word.encode()) for word in ["ready", "list", "status"]}
         ready[name] = took["ready"]

@@ -1,9 +1,9 @@
-"""Drives `sagas drive`: conversations, random ones, lines on standard output, kills, power cuts, cut and changed logs, refused writes and
+"""Drives `sagas drive`: conversations, random ones, lines on standard output, full logs, kills, power cuts, cut and changed logs, refused writes and
 memory, the lock, the examples.
 
     tests/drive.py [--program P] [--libraries FOLDER] [--only SECTION] [--kills N] [--seed S]
 
-SECTION is `said`, `starts`, `random`, `lines`, `kills`, `power`, `cuts`, `writes`, `memory`, `lock` or `service`. FOLDER has the
+SECTION is `said`, `starts`, `random`, `lines`, `room`, `kills`, `power`, `cuts`, `writes`, `memory`, `lock` or `service`. FOLDER has the
 libraries of tests/unwritten.c, tests/power.c and tests/refusing.c, as tests/drive.sh builds them.
 """
 import argparse
@@ -693,7 +693,7 @@ def random_conversation(state, seed):
     definitions = [random_definition(draw, folder / "drawn.toml"), *state.defined(*draw.sample(["trip", "order", "server", "licence", "pair"], 2))]
     log = folder / "log"
     driven = Driven(state, definitions, log)
-    pairs, book = [], follower.Book(definitions)
+    pairs, book = [], follower.Book(definitions, logged=True)
     for _ in range(150):
         request = random_request(draw, book)
         reply = driven.ask(request)
@@ -782,6 +782,126 @@ def lines(state):
     """What is shown of a log, and a log that is only read, which comes by a pipe."""
     with concurrent.futures.ThreadPoolExecutor(PROCESSORS) as pool:
         return sum(pool.map(lambda seed: lines_of_a_conversation(state, seed), range(state.seed, state.seed + 12))), "requests with lines"
+
+
+# ---- the room of a log
+
+LOG_FULL = {"refused": "log-full"}
+
+# Two definitions, by their steps and needs: a saga of each has room in one log to the byte; or there is a byte too little, and the second is refused.
+EDGES = [((651, 666), (692, 745), True), ((661, 687), (689, 688), False)]
+
+
+def large(state, name, steps, needs, first=""):
+    """A definition of that size: each step needs some of those right before it."""
+    lines = [f'format = 1\nname = "{name}"\n[[step]]\nname = "s0"\n{first}']
+    for step in range(1, steps):
+        count = min(step, -(-needs // (steps - step)))
+        needs -= count
+        lines.append(f'[[step]]\nname = "s{step}"\nneeds = [' + ", ".join(f'"s{need}"' for need in range(step - count, step)) + "]\n")
+    path = state.folder / f"{name}.toml"
+    path.write_text("".join(lines), encoding="utf-8")
+    return path
+
+
+class Followed:
+    """A conversation with a log, each reply of which the rules say."""
+
+    def __init__(self, state, name, definitions):
+        self.state, self.name, self.definitions = state, name, definitions
+        self.log, self.book, self.pairs = state.folder / f"{name}.log", follower.Book(definitions, logged=True), []
+        self.start()
+
+    def start(self):
+        """Starts the program on the log."""
+        self.driven = Driven(self.state, self.definitions, self.log)
+
+    def ask(self, *requests):
+        """Sends requests together; gives the last reply."""
+        self.driven.send(*requests)
+        for request in requests:
+            reply = self.driven.reply() or {}
+            self.pairs.append((request, reply))
+            self.state.expect(f"{self.name}: {request}", reply, self.book.replied(request, reply))
+        return self.pairs[-1][1]
+
+    def fill(self, definition):
+        """Opens sagas until one is refused; gives how many there were. What is refused changes nothing."""
+        before = len(self.book.sagas)
+        while not self.state.wrong and self.ask(opening(definition)) != LOG_FULL:
+            pass
+        status, log = self.driven.ask({"do": "status"}), self.log.read_bytes()
+        self.ask(opening(definition))
+        self.state.expect(f"{self.name}: after a refusal", (self.driven.ask({"do": "status"}), self.log.read_bytes()), (status, log))
+        return len(self.book.sagas) - before
+
+    def abort(self, saga):
+        """Aborts a saga that has not begun, and plans it: it is ended, or stuck."""
+        self.ask(aborting(saga), opening(0))  # until it is planned it may write
+        return self.ask({"do": "take", "saga": saga}).get("phase")
+
+    def end(self):
+        """Ends the program; the log is what was told, and legal."""
+        self.state.expect(f"{self.name}: the end", self.driven.end(), (0, ""))
+        self.state.expect(f"{self.name}: the log", self.log.read_bytes(), HEADER + b"".join(told(reply for _, reply in self.pairs)))
+        self.state.audited(self.log, self.definitions)
+
+
+def room(state):
+    """Sagas are opened as long as the log has room for their ends: until it has none, and again once one is ended, also after a kill and another
+    start; lines that are shown are counted as those of a file, and without a log there is no such limit."""
+    definitions = [large(state, "long", 256, 255), large(state, "must", 256, 255, 'skip = "never"\n'), *state.defined("pair")]
+    one = Followed(state, "room", definitions)
+    state.expect("room: how many are opened", one.fill(0), follower.ROOM // one.book.mosts[0])
+    one.ask(opening(9), named("none", 0), opening(0) | {"saga": 0}, opening(2), opening(1), named("long", len(one.book.sagas) + 1))
+    state.expect("room: one that is aborted", (one.abort(0), one.fill(0)), ("ended", 1))
+    for first in range(0, 256, 64):
+        steps = range(first, first + 64)
+        one.ask(*(request for step in steps for request in ({"do": "take", "saga": 1, "step": step}, report(1, step, "ok"))))
+    state.expect("room: one that is run", one.fill(0), 1)
+    stuck = len(one.book.sagas)
+    state.expect("room: one that is stuck has not ended", (one.abort(2), one.fill(1), one.abort(stuck), one.fill(0)), ("ended", 1, "stuck", 0))
+    one.driven.kill()
+    begun, before = one.log.read_bytes(), len(one.pairs)
+    one.start()
+    state.expect("room: after a kill", (one.fill(0), one.abort(3), one.fill(0)), (0, "ended", 1))
+    one.end()
+    shown_from(state, one, begun, before)
+    return len(one.pairs) + edges(state) + unlimited(state, definitions), "requests of full logs"
+
+
+def shown_from(state, one, begun, before):
+    """The same requests with lines that are shown, from nothing and from the log of a kill: the same replies, and the same log."""
+    for known, first in [(None, 0), (begun, before)]:
+        asked, replies = (b"".join(line_of(pair[place]) for pair in one.pairs[first:]) for place in (0, 1))
+        wanted = one.log.read_bytes().removeprefix(known or b"")
+        state.expect(f"room: lines behind {first} requests", ran_with_lines(state, one.definitions, asked, known), (0, wanted, replies, b""))
+
+
+def edges(state):
+    """The last byte of the room is used, and no more; what fits into no log is refused by each."""
+    for number, (first, second, fits) in enumerate(EDGES):
+        one = Followed(state, f"edge{number}", [large(state, f"first{number}", *first), large(state, f"second{number}", *second)])
+        one.ask(opening(0))
+        state.expect(f"room: the edge {number}", one.ask(opening(1)) != LOG_FULL, fits)
+        one.end()
+    alone = Followed(state, "alone", [large(state, "greatest", 965, 964), large(state, "greater", 966, 965)])
+    state.expect("room: one that fits into no log", (one_more(alone, 1), one_more(alone, 0)), (False, True))
+    alone.end()
+    return 2 * len(EDGES) + 2
+
+
+def one_more(one, definition):
+    """Whether a saga is opened."""
+    return one.ask(opening(definition)) != LOG_FULL
+
+
+def unlimited(state, definitions):
+    """Without a log sagas of any size are opened, a thousand of them."""
+    asked = line_of(opening(0)) * 1001
+    wanted = b"".join(line_of(opened(saga)) for saga in range(1000)) + line_of({"refused": "full"})
+    state.expect("room: without a log", state.ran([large(state, "whole", 1024, 8192), *definitions], None, asked), (0, wanted, b""))
+    return 1001
 
 
 # ---- what of a log is on the disk
@@ -1562,6 +1682,7 @@ SECTIONS = {
     "starts": starts,
     "random": random_ones,
     "lines": lines,
+    "room": room,
     "kills": kills,
     "power": power,
     "cuts": cuts,

@@ -1,5 +1,5 @@
 #!/usr/bin/env bash
-# Drives `sagas drive` (tests/drive.py): conversations, logs at the start, random requests, kills, power cuts, logs cut and changed at each byte,
+# Drives `sagas drive` (tests/drive.py): conversations, logs at the start, random requests, full logs, kills, power cuts, logs cut and changed at each byte,
 # writes and growths of memory refused in turn, the lock, and the booking services of examples/.
 #
 # SAGAS names another program; further words go to tests/drive.py.

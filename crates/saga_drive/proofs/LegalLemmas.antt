@@ -1,5 +1,5 @@
 -- An answer keeps a legal history legal.
-use Rattle.std.proofs.Common.{◌≡◌, inl, inr, ℕ, List, [], ◌∷◌, ◌++◌, Result, Ok, Err, sym, subst, refl, append-nil, append_assoc}
+use Rattle.std.proofs.Common.{◌≡◌, inl, inr, ℕ, List, [], ◌∷◌, Result, Ok, Err, sym, subst, refl, append-nil, append_assoc}
 use Rattle.saga_case.specs.Right.{IsRight}
 use Rattle.saga_case.specs.Terms.{terms_of}
 use Rattle.saga_case.specs.declared.answers.Answer.{Answer}
@@ -18,7 +18,7 @@ use Rattle.saga_drive.specs.declared.replies.Reply.{Reply}
 use Rattle.saga_drive.specs.declared.requests.Request.{Request}
 use Rattle.saga_drive.specs.declared.requests.Request.TheVariants as request
 use Rattle.saga_drive.specs.declared.requests.RequestFault.{RequestFault}
-use Rattle.saga_drive.specs.Answers.{Gains, IsReplied, Meets, TellsEvent}
+use Rattle.saga_drive.specs.Answers.{Gains, IsDone, IsMet, IsReplied, Meets, TellsEvent}
 use Rattle.saga_drive.specs.Starts.{Starts, after, task_of}
 use Rattle.saga_drive.specs.Laws.{KeepsLegal}
 use Rattle.saga_drive.specs.Many.{StartInTurn}
@@ -41,7 +41,7 @@ told_legal : (book : Book) (e : Event) (gained : List Event) (text : List ℕ) �
 told_legal book e gained text legal tells = one_legal book e gained legal tells.allowed tells.only
 
 -- a plan that begins may end by an answer that is right for the present case
-may_adopt : (b : Book) (i : ℕ) (a : Answer) → OfSaga b i (λ d l. IsRight (terms_of (present_case d l)) a)
+pub may_adopt : (b : Book) (i : ℕ) (a : Answer) → OfSaga b i (λ d l. IsRight (terms_of (present_case d l)) a)
     → Allows (with_event b (event.StartPlan i)) (event.Adopt i a)
 may_adopt b i a right = rw (begun i b.history) (weaker b i (λ d l. IsRight (terms_of (present_case d l)) a)
     (λ d l. (turn (starts_plan ∷ l) ≡ Planning) × IsRight (terms_of (present_case d (starts_plan ∷ l))) a) (λ d l right. (refl, right)) right)
@@ -97,10 +97,18 @@ meets_legal book request.Status gained text legal tells = none_legal book gained
 gains_legal : (old new : Book) (reply : Reply) (gained : List Event) → Gains old new reply gained → StaysLegal old gained → IsLegalBook new
 gains_legal old new reply gained gains legal = subst IsLegalBook (sym gains.grows) legal
 
-replied_legal : (old new : Book) (read : Result Request RequestFault) (reply : Reply) → IsLegalBook old → IsReplied old new read reply → IsLegalBook new
-replied_legal old new (Ok r) reply legal met = gains_legal old new reply met.gained met.gains (meets_legal old r met.gained (text_of reply) legal met.meets)
-replied_legal old new (Err fault) reply legal told = gains_legal old new reply [] told.0 (none_legal old [] legal refl)
+met_legal : (old new : Book) (r : Request) (reply : Reply) → IsLegalBook old → IsMet old new r reply → IsLegalBook new
+met_legal old new r reply legal met = gains_legal old new reply met.gained met.gains (meets_legal old r met.gained (text_of reply) legal met.meets)
 
-pub keeps_legal : (old new : Book) (line : List ℕ) (reply : Reply) → KeepsLegal old new line reply
-keeps_legal old new line reply (inl (read, reads, replied)) legal = replied_legal old new read reply legal replied
-keeps_legal old new line reply (inr lacks) legal = gains_legal old new reply [] lacks.gains (none_legal old [] legal refl)
+done_legal : (old new : Book) (room : ℕ) (r : Request) (reply : Reply) → IsLegalBook old → IsDone old new room r reply → IsLegalBook new
+done_legal old new room (request.Open wanted saga) reply legal (inl met) = met_legal old new (request.Open wanted saga) reply legal met.0
+done_legal old new room (request.Open wanted saga) reply legal (inr lacks) = gains_legal old new reply [] lacks.1 (none_legal old [] legal refl)
+done_legal old new room r reply legal met = met_legal old new r reply legal met
+
+replied_legal : (old new : Book) (room : ℕ) (read : Result Request RequestFault) (reply : Reply) → IsLegalBook old → IsReplied old new room read reply → IsLegalBook new
+replied_legal old new room (Ok r) reply legal done = done_legal old new room r reply legal done
+replied_legal old new room (Err fault) reply legal told = gains_legal old new reply [] told.0 (none_legal old [] legal refl)
+
+pub keeps_legal : (old new : Book) (room : ℕ) (line : List ℕ) (reply : Reply) → KeepsLegal old new room line reply
+keeps_legal old new room line reply (inl (read, reads, replied)) legal = replied_legal old new room read reply legal replied
+keeps_legal old new room line reply (inr lacks) legal = gains_legal old new reply [] lacks.gains (none_legal old [] legal refl)

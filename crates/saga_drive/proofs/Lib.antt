@@ -11,5 +11,7 @@ pub mod RestartLemmas
 pub mod DropLemmas
 pub mod RestartLawLemmas
 pub mod LegalLemmas
+pub mod RoomLemmas
+pub mod RoomLawLemmas
 pub mod ReadyLawLemmas
 pub mod QuietLemmas

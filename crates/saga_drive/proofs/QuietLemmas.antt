@@ -47,7 +47,7 @@ use Rattle.saga_drive.specs.declared.requests.RequestFault.{RequestFault}
 use Rattle.saga_drive.specs.declared.requests.RequestFault.TheVariants.{TooLong, Form}
 use Rattle.saga_drive.specs.declared.verbs.Verb.{Verb}
 use Rattle.saga_drive.specs.declared.verbs.Verb.TheVariants as verb
-use Rattle.saga_drive.specs.Answers.{IsAnswer, IsIdle, IsMet, IsReplied, IsSaid, Meets, NeitherMay}
+use Rattle.saga_drive.specs.Answers.{IsAnswer, IsDone, IsIdle, IsMet, IsReplied, IsSaid, LacksRoom, Meets, NeitherMay}
 use Rattle.saga_drive.specs.Attempts.{IsNotTaken, IsOtherAttempt}
 use Rattle.saga_drive.specs.Starts.{Starts, after, task_of}
 use Rattle.saga_drive.specs.Fields.{attempt_of, count_of, max_most, most_of, u32_if, wanted_of}
@@ -336,6 +336,13 @@ module _ (book : Book) where
   IsAsked (request.NextMany most) = 0 < most
   IsAsked other = Unit {0}
 
+  lacks_not : (wanted : Wanted) (saga : Option ℕ) (room : ℕ) (text : List ℕ) → length book.shelf ≤ 2 ^ 32
+      → LacksRoom book room wanted saga → Meets book (request.Open wanted saga) [] text → ⊥
+  lacks_not wanted saga room text few lacks (inl a) = never _ [] a.3.only
+  lacks_not wanted saga room text few lacks (inr (inl a)) = wanted_or_none wanted lacks.index few a.0 lacks.is
+  lacks_not wanted saga room text few lacks (inr (inr (inl a))) = next_or_not saga lacks.next a.1
+  lacks_not wanted saga room text few lacks (inr (inr (inr a))) = absurd (omega (arith, lacks.few, a.0.2.1))
+
   meets_one : (r : Request) (text other : List ℕ) → IsAsked r → length book.shelf ≤ 2 ^ 32 → Meets book r [] text → Meets book r [] other → text ≡ other
   meets_one (request.Open wanted saga) text other asked few a b = opens_one wanted saga text other few a b
   meets_one request.Next text other asked few a b = next_one text other a b
@@ -474,30 +481,42 @@ real_fault : (fault : JsonFault) (reply : Reply) → text_of reply ≡ fault_tex
     → fault_text (word_of_fault (Form fault)) ≢ fault_text memory_word
 real_fault fault reply is real same = real (is ∙ same)
 
-replied_one : (old new other : Book) (line : List ℕ) (a b : Reply) → length old.shelf ≤ 2 ^ 32 → new.history ≡ old.history → other.history ≡ old.history
+done_one : (old new other : Book) (room : ℕ) (r : Request) (a b : Reply) → IsAsked old r → length old.shelf ≤ 2 ^ 32 → new.history ≡ old.history → other.history ≡ old.history
+    → IsDone old new room r a → IsDone old other room r b → text_of a ≡ text_of b
+done_one old new other room (request.Open wanted saga) a b asked few same also (inl met) (inl again) =
+    let r = request.Open wanted saga in
+    meets_one old r (text_of a) (text_of b) asked few (met_quietly old new r a met.0 same) (met_quietly old other r b again.0 also)
+done_one old new other room (request.Open wanted saga) a b asked few same also (inl met) (inr lacks) =
+    absurd (lacks_not old wanted saga room (text_of a) few lacks.0 (met_quietly old new (request.Open wanted saga) a met.0 same))
+done_one old new other room (request.Open wanted saga) a b asked few same also (inr lacks) (inl again) =
+    absurd (lacks_not old wanted saga room (text_of b) few lacks.0 (met_quietly old other (request.Open wanted saga) b again.0 also))
+done_one old new other room (request.Open wanted saga) a b asked few same also (inr lacks) (inr again) = lacks.2 ∙ sym again.2
+done_one old new other room r a b asked few same also met again =
+    meets_one old r (text_of a) (text_of b) asked few (met_quietly old new r a met same) (met_quietly old other r b again also)
+
+replied_one : (old new other : Book) (room : ℕ) (line : List ℕ) (a b : Reply) → length old.shelf ≤ 2 ^ 32 → new.history ≡ old.history → other.history ≡ old.history
     → text_of a ≢ fault_text memory_word → text_of b ≢ fault_text memory_word → (r q : Result Request RequestFault) → ReadsRequest line r → ReadsRequest line q
-    → IsReplied old new r a → IsReplied old other q b → text_of a ≡ text_of b
-replied_one old new other line a b few same also real too (Ok r) (Ok q) x y met again =
+    → IsReplied old new room r a → IsReplied old other room q b → text_of a ≡ text_of b
+replied_one old new other room line a b few same also real too (Ok r) (Ok q) x y met again =
     let one : q ≡ r = same_request q r (request_of_text line) y.1 x.1 in
-    meets_one old r (text_of a) (text_of b) (read_asked old line r x.1) few (met_quietly old new r a met same)
-    (subst (λ (q : Request). Meets old q [] (text_of b)) one (met_quietly old other q b again also))
-replied_one old new other line a b few same also real too (Ok r) (Err TooLong) x y met told = absurd (omega (arith, x.0, y))
-replied_one old new other line a b few same also real too (Ok r) (Err (Form fault)) x y met told =
+    done_one old new other room r a b (read_asked old line r x.1) few same also met (subst (λ (q : Request). IsDone old other room q b) one again)
+replied_one old new other room line a b few same also real too (Ok r) (Err TooLong) x y met told = absurd (omega (arith, x.0, y))
+replied_one old new other room line a b few same also real too (Ok r) (Err (Form fault)) x y met told =
     absurd (ok_or_err r fault (request_of_text line) x.1 (fault_is fault (request_of_text line) (real_fault fault b told.1 too) y.1))
-replied_one old new other line a b few same also real too (Err TooLong) (Ok q) x y told met = absurd (omega (arith, y.0, x))
-replied_one old new other line a b few same also real too (Err TooLong) (Err TooLong) x y told again = told.1 ∙ sym again.1
-replied_one old new other line a b few same also real too (Err TooLong) (Err (Form fault)) x y told again = absurd (omega (arith, y.0, x))
-replied_one old new other line a b few same also real too (Err (Form fault)) (Ok q) x y told met =
+replied_one old new other room line a b few same also real too (Err TooLong) (Ok q) x y told met = absurd (omega (arith, y.0, x))
+replied_one old new other room line a b few same also real too (Err TooLong) (Err TooLong) x y told again = told.1 ∙ sym again.1
+replied_one old new other room line a b few same also real too (Err TooLong) (Err (Form fault)) x y told again = absurd (omega (arith, y.0, x))
+replied_one old new other room line a b few same also real too (Err (Form fault)) (Ok q) x y told met =
     absurd (ok_or_err q fault (request_of_text line) y.1 (fault_is fault (request_of_text line) (real_fault fault a told.1 real) x.1))
-replied_one old new other line a b few same also real too (Err (Form fault)) (Err TooLong) x y told again = absurd (omega (arith, x.0, y))
-replied_one old new other line a b few same also real too (Err (Form f)) (Err (Form g)) x y told again =
+replied_one old new other room line a b few same also real too (Err (Form fault)) (Err TooLong) x y told again = absurd (omega (arith, x.0, y))
+replied_one old new other room line a b few same also real too (Err (Form f)) (Err (Form g)) x y told again =
     let one : f ≡ g = same_fault f g (request_of_text line) (fault_is f (request_of_text line) (real_fault f a told.1 real) x.1) (fault_is g (request_of_text line) (real_fault g b again.1 too) y.1) in
     told.1 ∙ ap (λ (fault : JsonFault). fault_text (word_of_fault (Form fault))) one ∙ sym again.1
 
-pub one_text : (book : Book) (line : List ℕ) → HasOneText book line
-one_text book line few new other a b one also = by one.answer also.answer
+pub one_text : (book : Book) (room : ℕ) (line : List ℕ) → HasOneText book room line
+one_text book room line few new other a b one also = by one.answer also.answer
   where
-    by : IsAnswer book new line a → IsAnswer book other line b → text_of a ≡ text_of b
+    by : IsAnswer book new room line a → IsAnswer book other room line b → text_of a ≡ text_of b
     by (inr lacks) y = absurd (one.real lacks.text_is)
     by x (inr lacks) = absurd (also.real lacks.text_is)
-    by (inl (r, x, met)) (inl (q, y, again)) = replied_one book new other line a b few one.same also.same one.real also.real r q x y met again
+    by (inl (r, x, met)) (inl (q, y, again)) = replied_one book new other room line a b few one.same also.same one.real also.real r q x y met again

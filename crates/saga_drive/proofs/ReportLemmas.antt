@@ -1,5 +1,6 @@
 -- Reports and openings that are met.
 use Rattle.std.proofs.Common.{codes, ◌≡◌, ◌≢◌, ◌∙◌, ◌<◌, ◌≤◌, ℕ, List, [], ◌∷◌, ◌++◌, Option, None, Some, append-nil, ap, arith, inl, length, refl, subst, sym}
+use Rattle.saga_def.specs.Contents.{Contents}
 use Rattle.saga_history.specs.declared.events.Event.{Event}
 use Rattle.saga_history.specs.declared.tasks.Kind.{Kind}
 use Rattle.saga_history.specs.declared.tasks.Outcome.{Outcome}
@@ -17,6 +18,7 @@ use Rattle.saga_log.specs.Back.{IsReadBack}
 use Rattle.saga_log.specs.Logs.{event_line}
 use Rattle.saga_drive.specs.declared.attempts.Attempt.{Attempt}
 use Rattle.saga_drive.specs.declared.openings.Wanted.{Wanted}
+use Rattle.saga_drive.specs.declared.openings.Wanted.TheVariants.{Index, Name}
 use Rattle.saga_drive.specs.declared.replies.Reply.{Reply}
 use Rattle.saga_drive.specs.declared.requests.Request.TheVariants as request
 use Rattle.saga_drive.specs.Answers.{IsEnd, IsMet, TellsEvent}
@@ -75,6 +77,11 @@ reported old new i s kind meant outcome t front reply ends only (u, ends_too, ga
 pub not_next : (saga : Option ℕ) (book : Book) → (IsNext saga book → ⊥) → IsNotNext saga book
 not_next None book other = other tt
 not_next (Some i) book other = other
+
+-- what is wanted is on the shelf
+pub wanted_within : (shelf : List Contents) (wanted : Wanted) (k : ℕ) → IsWanted shelf wanted k → k < length shelf
+wanted_within shelf (Index j) k is = omega (arith, is.0, is.1)
+wanted_within shelf (Name name) k is = is.0
 
 pub opened_by : (old new : Book) (wanted : Wanted) (saga : Option ℕ) (k n m : ℕ) (front : List ℕ) (reply : Reply) → IsWanted old.shelf wanted k → IsNext saga old
     → n ≡ next_number old → m ≡ next_number old → Allows old (event.Open m k) → new ≡ with_event old (event.Open m k)

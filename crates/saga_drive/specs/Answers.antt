@@ -13,7 +13,8 @@ use Rattle.saga_history.specs.declared.transitions.Transition.TheVariants.{Start
 use Rattle.saga_history.specs.Changes.{Change, aborts, saga_of, starts_plan, step_event}
 use Rattle.saga_history.specs.Rules.{StepMay}
 use Rattle.saga_history.specs.Tasks.{IsEndOf}
-use Rattle.saga_core.specs.Book.{Book, Allows, with_event}
+use Rattle.saga_rows.specs.Limits.{max_rows}
+use Rattle.saga_core.specs.Book.{Book, Allows, sagas_in, with_event}
 use Rattle.saga_core.specs.Refusals.{IsUnknown, OfSaga, OpenRefused, SagaRefused}
 use Rattle.saga_core.specs.Tasks.{AllAreOver, IsFirstTask, MayStart, NoTaskIsAllowed, StandsAt}
 use Rattle.saga_core.specs.declared.refusals.OpenRefusal.TheVariants as opening
@@ -36,6 +37,7 @@ use Rattle.saga_drive.specs.Many.{TakesMany}
 use Rattle.saga_drive.specs.Openings.{IsNext, IsNotNext, IsWanted, NoneIsWanted, next_number}
 use Rattle.saga_drive.specs.Replies.{text_of, lines_of, fault_text, refusal_text, memory_word, word_of_fault, event_text, idle_text}
 use Rattle.saga_drive.specs.Requests.{ReadsRequest}
+use Rattle.saga_drive.specs.Room.{Fits, IsTooMuch}
 
 -- nothing happened, and this is said
 pub record IsSaid (said : List ℕ) (gained : List Event) (text : List ℕ) : Type 0 where
@@ -142,6 +144,20 @@ Meets book (request.Ready from) = Tells (TellsReady book from)
 Meets book (request.Sagas from phase) = Tells (TellsList book from phase)
 Meets book request.Status = Tells (TellsStatus book)
 
+-- ---- the room of the log
+
+-- what is opened has it
+abbrev pub OpensWithin : Book → Book → ℕ → Type 0
+OpensWithin old new room = (new ≡ old) ⊎ ((k : ℕ) × (new ≡ with_event old (event.Open (next_number old) k)) × Fits old k room)
+
+-- a saga of that definition might be opened, but the log has no room for it
+pub record LacksRoom (book : Book) (room : ℕ) (wanted : Wanted) (saga : Option ℕ) : Type 0 where
+  pub index : ℕ
+  pub is : IsWanted book.shelf wanted index
+  pub next : IsNext saga book
+  pub few : sagas_in book.history < max_rows
+  pub past : IsTooMuch book index room
+
 -- ---- any line
 
 -- the book's history gained just these events, the log's lines are theirs, and they are read back from them
@@ -156,17 +172,27 @@ pub record IsMet (old new : Book) (request : Request) (reply : Reply) : Type 0 w
   pub gains : Gains old new reply gained
   pub meets : Meets old request gained (text_of reply)
 
--- what is read of the line is met, or its fault is told
-abbrev pub IsReplied : Book → Book → Result Request RequestFault → Reply → Type 0
-IsReplied old new (Ok request) reply = IsMet old new request reply
-IsReplied old new (Err fault) reply = Gains old new reply [] × (text_of reply ≡ fault_text (word_of_fault fault))
+-- it is met, or nothing is opened for want of room in the log
+abbrev pub IsOpened : Book → Book → ℕ → Wanted → Option ℕ → Reply → Type 0
+IsOpened old new room wanted saga reply =
+    (IsMet old new (request.Open wanted saga) reply × OpensWithin old new room)
+    ⊎ (LacksRoom old room wanted saga × Gains old new reply [] × (text_of reply ≡ refusal_text (codes "log-full")))
+
+abbrev pub IsDone : Book → Book → ℕ → Request → Reply → Type 0
+IsDone old new room (request.Open wanted saga) reply = IsOpened old new room wanted saga reply
+IsDone old new room r reply = IsMet old new r reply
+
+-- what is read of the line is done, or its fault is told
+abbrev pub IsReplied : Book → Book → ℕ → Result Request RequestFault → Reply → Type 0
+IsReplied old new room (Ok request) reply = IsDone old new room request reply
+IsReplied old new room (Err fault) reply = Gains old new reply [] × (text_of reply ≡ fault_text (word_of_fault fault))
 
 -- nothing happened for want of memory
 pub record LacksMemory (old new : Book) (reply : Reply) : Type 0 where
   pub gains : Gains old new reply []
   pub text_is : text_of reply ≡ fault_text memory_word
 
--- the answer to a line
-abbrev pub IsAnswer : Book → Book → List ℕ → Reply → Type 0
-IsAnswer old new line reply =
-    ((read : Result Request RequestFault) × ReadsRequest line read × IsReplied old new read reply) ⊎ LacksMemory old new reply
+-- the answer to a line, where the log has so many bytes of room
+abbrev pub IsAnswer : Book → Book → ℕ → List ℕ → Reply → Type 0
+IsAnswer old new room line reply =
+    ((read : Result Request RequestFault) × ReadsRequest line read × IsReplied old new room read reply) ⊎ LacksMemory old new reply

@@ -7,6 +7,7 @@ pub mod Requests
 pub mod Replies
 pub mod Happenings
 pub mod Tellings
+pub mod Room
 pub mod Starts
 pub mod Many
 pub mod Answers

@@ -1,12 +1,13 @@
 //! Answers: a request is met, and the reply tells what happened.
 //!
 //! What will be told is written before it happens, so where memory lacks, nothing has happened.
-ghost use Rattle.std.specs.Prelude.{◌≡◌, ◌++◌, ℕ, List, IfOk, MatchOption, OnErr};
+ghost use Rattle.std.specs.Prelude.{◌≡◌, ◌≤◌, ◌-◌, ◌++◌, ℕ, List, IfOk, MatchOption, OnErr, length};
 ghost use Rattle.saga_history.specs.declared.tasks.Task.TheVariants as task;
 ghost use Rattle.saga_core.specs.Tasks.{MayStart, NoTaskIsAllowed};
 ghost use Rattle.saga_logged.specs.BookLog.{IsBookLog};
 ghost use Rattle.saga_drive.specs.Replies.{lines_of};
-ghost use Rattle.saga_drive.specs.Answers.{IsAnswer, IsMet};
+ghost use Rattle.saga_drive.specs.Answers.{IsAnswer, IsDone, IsMet, IsOpened};
+ghost use Rattle.saga_drive.specs.Room.{IsEnough};
 ghost use Rattle.saga_drive.specs.Starts.{task_of};
 ghost use Rattle.saga_drive.specs.declared.requests.Request.TheVariants as request;
 
@@ -17,19 +18,22 @@ use crate::questions::{busy, ready, sagas, show, status};
 use crate::replies::{Reply, out_of_memory, reply_of_idle, reply_to_fault};
 use crate::reports::report;
 use crate::requests::{Request, read_request};
+use crate::room::has_room;
 use crate::starts::{plan_case, start_next, start_step};
 use crate::tellings::Telling;
-use saga_core::{Book, OpenRefusal, SagaRefusal};
-use saga_history::{Event, Kind, Task};
+use saga_core::{Book, MAX_SAGAS, OpenRefusal, SagaRefusal};
+use saga_history::{Event, Kind, Task, are_sound};
 use std::alloc::{AllocError, Global};
 
+/// A saga is opened, where it may be and the log has so many bytes of room.
 fn open(
     alloc: Global,
     book: &mut Book<'_>,
+    room: u64,
     wanted: Wanted,
     saga: Option<u32>,
 ) -> Result<Reply, AllocError>
-    ensures ok { IfOk result (IsMet book.old book.new (request.Open wanted saga)) }
+    ensures ok { IfOk result (IsOpened book.old book.new room wanted saga) }
     ensures err { OnErr result (book.new ≡ book.old) }
 {
     let Some(definition) = index_of_wanted(book.shelf(), &wanted) else {
@@ -38,12 +42,17 @@ fn open(
     if !is_next(book, saga) {
         return Ok(Reply::Refusal("{\"refused\":\"not-next\"}\n"));
     }
+    if book.sagas() >= MAX_SAGAS {
+        return Ok(Reply::Refusal("{\"refused\":\"full\"}\n"));
+    }
+    if !has_room(book, definition, room) {
+        return Ok(Reply::Refusal("{\"refused\":\"log-full\"}\n"));
+    }
     let happening = Happening::new(alloc, &Event::Open(book.next_number(), definition))?;
     match book.open(definition) {
         Ok(opened) => Ok(happening.told(book, opened)),
-        Err(OpenRefusal::NoSuchDefinition) => unreachable!(),
-        Err(OpenRefusal::Full) => Ok(Reply::Refusal("{\"refused\":\"full\"}\n")),
         Err(OpenRefusal::OutOfMemory) => Err(AllocError),
+        Err(_) => unreachable!(),
     }
 }
 
@@ -134,12 +143,17 @@ fn abort(alloc: Global, book: &mut Book<'_>, saga: u32) -> Result<Reply, AllocEr
     }
 }
 
-fn meet(alloc: Global, book: &mut Book<'_>, request: Request) -> Result<Reply, AllocError>
-    ensures ok { IfOk result (IsMet book.old book.new request) }
+fn meet(
+    alloc: Global,
+    book: &mut Book<'_>,
+    room: u64,
+    request: Request,
+) -> Result<Reply, AllocError>
+    ensures ok { IfOk result (IsDone book.old book.new room request) }
     ensures err { OnErr result (book.new ≡ book.old) }
 {
     match request {
-        Request::Open { wanted, saga } => open(alloc, book, wanted, saga),
+        Request::Open { wanted, saga } => open(alloc, book, room, wanted, saga),
         Request::Next => next(alloc, book),
         Request::NextMany(most) => next_many(alloc, book, most),
         Request::TakeStep { saga, step } => take_step(alloc, book, saga, step),
@@ -160,30 +174,38 @@ fn meet(alloc: Global, book: &mut Book<'_>, request: Request) -> Result<Reply, A
 }
 
 /// What a line of input asks is done, or the reply says why not.
-fn answer_to(alloc: Global, book: &mut Book<'_>, line: &[u8]) -> Reply
-    ensures { IsAnswer book.old book.new line.now result }
+fn answer_to(alloc: Global, book: &mut Book<'_>, room: u64, line: &[u8]) -> Reply
+    ensures { IsAnswer book.old book.new room line.now result }
 {
     let request = match read_request(alloc, line) {
         Ok(request) => request,
         Err(fault) => return reply_to_fault(fault),
     };
-    match meet(alloc, book, request) {
+    match meet(alloc, book, room, request) {
         Ok(reply) => reply,
         Err(AllocError) => out_of_memory(),
     }
 }
 
-/// The answer to a line of input, which is given without its line feed: what it asks is done, or the reply says why not.
+/// The answer to a line of input, which is given without its line feed: what it asks is done, or the reply says why not. The log has
+/// so many bytes of room.
 ///
 /// Each event that the book's history gains has a line in the reply, in order, and nothing else has: with these lines the log of
 /// the book is the log of what it is then. A refusal, a fault of the line and want of memory leave the book as it is. A plan is
-/// made, judged and adopted at once. Takes time linear in the line and in the steps of one saga, but for a plan, for what goes over
+/// made, judged and adopted at once.
+///
+/// A saga that was opened can always end in its log: none is opened where the log has no room for the most that it and all sagas which
+/// are not ended may write (`log-full`). So where there is room for what all may still write, as at first, the log takes the lines of
+/// the reply and has room for the rest. Takes time linear in the line and in the steps of one saga, but for a plan, for what goes over
 /// the sagas (`busy`, `ready`, `list`, `status`), and for `show`, which goes back over the events to the saga's last answer.
-pub fn answer(alloc: Global, book: &mut Book<'_>, line: &[u8]) -> Reply
-    ensures answer { IsAnswer book.old book.new line.now result }
+pub fn answer(alloc: Global, book: &mut Book<'_>, room: u64, line: &[u8]) -> Reply
+    ensures answer { IsAnswer book.old book.new room line.now result }
     ensures log { (l : List ℕ) → IsBookLog book.old l → IsBookLog book.new (l ++ lines_of result) }
+    ensures keeps { IsEnough book.old room → (length (lines_of result) ≤ room) × IsEnough book.new (room - length (lines_of result)) }
 {
-    let reply = answer_to(alloc, book, line);
+    are_sound(book.shelf());
+    let _before = book.history();
+    let reply = answer_to(alloc, book, room, line);
     // it is legal
     let _history = book.history();
     reply

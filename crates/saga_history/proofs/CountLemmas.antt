@@ -255,6 +255,8 @@ is_short d l sound legal =
     let aborts_few = once_at_most (aborted l) in
     record {
       adoptions = omega (arith, k);
+      plans = omega (arith, k, failed, all_failed, few, aborts_few);
+      drops = omega (arith, k);
       each_step = step_short d l sound legal;
       in_all = omega (arith, k, moved, all_moved, lengths, bound, failed, all_failed, few, aborts_few, plan_debt (turn l));
     }

@@ -30,10 +30,13 @@ is_adoption _ = false
 abbrev pub most_events : Contents → ℕ → ℕ
 most_events d s = 2 * (tries d s + undo_tries d s)
 
--- no more adoptions than failures and aborts; of each step no more events than that; and of the saga no more than
--- 4 + 2n and those of the n steps, dropped plans and their starts not counted
+-- no more adoptions than failures and aborts, and than one for each of the n steps and one more; each dropped plan was
+-- begun; of each step no more events than that; and of the saga no more than 4 + 2n and those of the n steps, dropped plans
+-- and their starts not counted
 pub record HasFewEvents (d : Contents) (l : List Change) : Type 0 where
   pub adoptions : count_by is_adoption l ≤ count_by is_failure l + count_by is_abort l
+  pub plans : count_by is_adoption l ≤ length d.steps + 1
+  pub drops : 2 * count_by is_drop l ≤ length l
   pub each_step : (s : ℕ) → s < length d.steps → length (transitions l s) ≤ most_events d s
   pub in_all : length l ≤ 4 + 2 * length d.steps + 2 * count_by is_drop l + sum_below (length d.steps) (most_events d)
 

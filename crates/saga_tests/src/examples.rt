@@ -172,11 +172,13 @@ fn of_saga_audit(
 
 fn of_saga_drive(alloc: Global, shelf: &[Definition]) -> (usize, usize) {
     let mut book = Book::new(alloc, shelf, 0, 1);
-    let opened = answer(alloc, &mut book, br#"{"def":0,"do":"open"}"#);
+    let room: u64 = 1_000_000;
+    let opened = answer(alloc, &mut book, room, br#"{"def":0,"do":"open"}"#);
     // First the lines go to the log, and are synced; then the text is told.
     let _lines = opened.lines();
     let _text = opened.text();
-    let task = answer(alloc, &mut book, br#"{"do":"next"}"#);
+    let room = room.saturating_sub(opened.lines().len() as u64);
+    let task = answer(alloc, &mut book, room, br#"{"do":"next"}"#);
     (opened.lines().len(), task.lines().len())
 }
 

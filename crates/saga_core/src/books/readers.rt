@@ -25,6 +25,15 @@ impl<'d> Book<'d> {
         Some(Saga::new(number, self, self.rows.row(index)))
     }
 
+    /// The saga that was opened after so many others.
+    pub fn nth(&self, index: usize) -> Saga<'_, 'd>
+        requires { index < book.sagas_in self.now.history }
+        ensures { HasSaga self.now (book.number self.now.first self.now.stride index) result }
+    {
+        let number = number_of(self.first, self.stride, index);
+        Saga::new(number, self, self.rows.row(index))
+    }
+
     /// The saga of a number, if it has such a step.
     fn saga_at(&self, number: u32, step: u16) -> Option<Saga<'_, 'd>>
         ensures { MatchOption result (HasNoStep self.now number step)
