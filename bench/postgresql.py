@@ -61,6 +61,20 @@ def trip(inside: bool = False, gate: asyncio.Event | None = None, called: list[f
     return saga
 
 
+def booking() -> sagas.Saga:
+    """Three steps in a row, each of which writes a row in its own transaction."""
+    saga = sagas.Saga("booking")
+
+    async def book(task: sagas.Task[object]) -> int:
+        await task.connection.execute("INSERT INTO book VALUES(%s, %s)", (task.key, task.step))
+        return 1
+
+    one = saga.step(name="one", transaction=True)(book)
+    two = saga.step(name="two", transaction=True, needs=[one])(book)
+    saga.step(name="three", transaction=True, needs=[two])(book)
+    return saga
+
+
 async def rate(go: Callable[[int], Awaitable[object]], count: int, together: int) -> float:
     """Calls a second, so many at once."""
     numbers = iter(range(count))
@@ -74,9 +88,12 @@ async def rate(go: Callable[[int], Awaitable[object]], count: int, together: int
     return count / (time.perf_counter() - began)
 
 
-async def ours(url: str, count: int, together: int, inside: bool = False) -> float:
+async def ours(url: str, count: int, together: int, inside: bool = False, rows: bool = False) -> float:
     """By the package."""
-    saga = trip(inside)
+    saga = booking() if rows else trip(inside)
+    if rows:
+        with psycopg.connect(url) as link:
+            link.execute("CREATE TABLE book(key text, step text)")
     async with sagas.open(url, [saga], concurrency=max(16, min(together, 16 if inside else together))) as store:
 
         async def go(number: int) -> None:
@@ -109,7 +126,8 @@ def speed(server: Server, words: argparse.Namespace) -> None:
     """Sagas a second, at four concurrencies."""
     ways: dict[str, Callable[[str, int, int], Awaitable[float]]] = {
         "sagas": ours,
-        "sagas, steps inside": lambda url, count, together: ours(url, count, together, True),
+        "sagas, steps inside that do nothing there": lambda url, count, together: ours(url, count, together, True),
+        "sagas, steps inside, a row each": lambda url, count, together: ours(url, count, together, True, True),
         "by hand, a commit a change": lambda url, count, together: hand(by_hand.Each(url), count, together),
         "by hand, commits shared": lambda url, count, together: hand(by_hand.Shared(url), count, together),
     }

@@ -265,7 +265,7 @@ def memory(pid):
     return next(int(line.split()[1]) for line in text.splitlines() if line.startswith("Pss:"))
 
 async def main():
-    sagas.kinds.MOST_LOG = each * sagas.kinds.most_bytes(saga.toml())
+    sagas.kinds.ROOM = each
     async with sagas.open(path, [saga]) as store:
         if not again:
             for place in range(0, count, 500):

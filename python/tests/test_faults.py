@@ -605,7 +605,7 @@ def test_closing(place: str) -> None:
 
 def test_closing_while_starts_wait(place: str, monkeypatch: pytest.MonkeyPatch) -> None:
     """Sagas that wait for a log, and logs that wait for a child, keep nobody: who was not told of a start gets Closed."""
-    monkeypatch.setattr("sagas.kinds.MOST_LOG", 6_000)
+    monkeypatch.setattr("sagas.kinds.ROOM", 4)
     saga = sagas.Saga("pair")
     begun, gate = asyncio.Event(), asyncio.Event()
 

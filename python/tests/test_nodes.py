@@ -22,7 +22,7 @@ import records
 import sagas
 from cases import QUICK, Task, ended, run, simple, until
 from driving import program
-from sagas import leases, news
+from sagas import leases, news, postgresql_commit
 from server import Server
 
 HERE = pathlib.Path(__file__).resolve().parent
@@ -337,6 +337,19 @@ def test_a_rolling_deploy_of_a_changed_definition(url: str) -> None:
 
     run(main())
     assert len(records.read(url).logs) == 2
+
+
+def test_a_large_commit_is_taken_apart_piece_by_piece(url: str, monkeypatch: pytest.MonkeyPatch) -> None:
+    """What is more than PostgreSQL takes apart at once goes by the other form of the statement, and is the same."""
+    monkeypatch.setattr(postgresql_commit, "MOST", 0)
+    kind = simple(lambda task: 1)
+
+    async def main() -> None:
+        async with sagas.open(url, [kind]) as store:
+            assert (await ended(store, kind, "k")).ok
+            assert all(said.startswith("yes") for said in (await store.audit()).values())
+
+    run(main())
 
 
 def test_a_lease_is_over_before_its_end() -> None:

@@ -3,6 +3,7 @@
 from __future__ import annotations
 
 import asyncio
+import contextvars
 import contextlib
 import datetime
 import logging
@@ -69,6 +70,9 @@ def test_start_with_a_key_that_is_there(place: str) -> None:
             for saga, given in ((kinds[0], {"a": 2}), (kinds[1], {"a": 1, "b": [2]})):
                 with pytest.raises(sagas.KeyConflict):
                     await store.start(saga, key="k", input=given)
+            asked = [store.start(kinds[0], key="k", input=given) for given in ({"a": 2}, {"a": 1, "b": [2]})]
+            told = await asyncio.gather(*asked, store.wait("k"), store.abort("k"), return_exceptions=True)
+            assert isinstance(told[0], sagas.KeyConflict) and not told[1].new and told[2:] == [first, False]
             same = await asyncio.gather(*(ended(store, kinds[0], "many") for _ in range(20)))
             assert len({end.key for end in same}) == 1
         async with sagas.open(place, kinds) as store:
@@ -139,6 +143,39 @@ def test_a_held_step_takes_no_slot_and_keeps_nothing_from_draining(place: str) -
             assert await slow.abort()
             end = await slow.wait()
             assert end.aborted and end.phase == "ended"
+
+    run(main())
+
+
+def test_functions_know_nothing_of_each_other(place: str) -> None:
+    """Whether they wait or not: each has the context in which the store was opened, and a task, which it may even cancel at its end."""
+    var = contextvars.ContextVar("var", default="opened")
+    saga = sagas.Saga("row")
+
+    @saga.step
+    async def a(task: Task) -> str:
+        was, number = var.get(), int(task.key)
+        var.set(task.key)
+        async with asyncio.timeout(60):
+            if number % 3 == 0:
+                await asyncio.sleep(0.001)
+        current = asyncio.current_task()
+        assert current and var.get() == task.key
+        if number % 5 == 0:
+            current.cancel()
+        return was
+
+    @saga.step(needs=[a])
+    async def b(task: Task) -> None:
+        with pytest.raises(TimeoutError):
+            async with asyncio.timeout(0.001):
+                await asyncio.sleep(60)
+
+    async def main() -> None:
+        async with sagas.open(place, [saga]) as store:
+            var.set("started")
+            ends = await asyncio.gather(*(ended(store, saga, str(number)) for number in range(30)))
+            assert all(end.ok and end.results["a"] == "opened" for end in ends)
 
     run(main())
 
@@ -319,7 +356,7 @@ def test_a_step_that_is_done_elsewhere(place: str) -> None:
 
 def test_full_logs_are_audited_and_closed(place: str, monkeypatch: pytest.MonkeyPatch) -> None:
     """New sagas go to the newest log until it is full; a settled one is audited once and marked closed, and then never again."""
-    monkeypatch.setattr("sagas.kinds.MOST_LOG", 30_000)
+    monkeypatch.setattr("sagas.kinds.ROOM", 15)
     saga, right, audits = row(), program.run, Counter[str]()
 
     def counting(command: str, texts: Sequence[str], where: str | None = None) -> subprocess.CompletedProcess[str]:
@@ -535,7 +572,7 @@ def lives(pid: int) -> bool:
 
 def test_few_children_for_many_logs(place: str, monkeypatch: pytest.MonkeyPatch) -> None:
     """Sagas in many logs share two children, also when the store is opened again."""
-    monkeypatch.setattr("sagas.kinds.MOST_LOG", 15_000)
+    monkeypatch.setattr("sagas.kinds.ROOM", 7)
     gate, most = asyncio.Event(), 0
     saga = row(gate)
     others = set(children(os.getpid()))  # servers that other tests use
@@ -569,7 +606,7 @@ def test_few_children_for_many_logs(place: str, monkeypatch: pytest.MonkeyPatch)
 
 def test_one_slot_for_many_logs(place: str, monkeypatch: pytest.MonkeyPatch) -> None:
     """Logs that find no slot are fed when one is given back unused, too: nothing hangs."""
-    monkeypatch.setattr("sagas.kinds.MOST_LOG", 6_000)
+    monkeypatch.setattr("sagas.kinds.ROOM", 4)
     saga = sagas.Saga("pair")
 
     @saga.step

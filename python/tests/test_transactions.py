@@ -260,3 +260,59 @@ def test_what_the_server_refuses_is_a_miss(url: str, in_thread: bool) -> None:
     run(main())
     with psycopg.connect(url) as link:
         assert link.execute("TABLE items").fetchall() == [("k",)]
+
+
+@pytest.mark.parametrize("in_thread", [False, True])
+def test_the_function_cannot_end_its_transaction(url: str, in_thread: bool) -> None:
+    """A block of its own within it, as the first thing that it does, is no commit; nor is what psycopg calls one."""
+    prepare(url)
+    kind = sagas.Saga("one")
+    text = "INSERT INTO book(key, step, token) VALUES(%s, 'book', '')"
+
+    if in_thread:
+
+        @kind.step(transaction=True, tries=3, backoff=QUICK)
+        def book(task: Task) -> None:
+            if task.attempt == 2:
+                task.connection.autocommit = True
+            with task.connection.transaction():
+                task.connection.execute(text, (task.key,))
+            if task.attempt == 1:
+                raise ValueError("behind its block")
+    else:
+
+        @kind.step(name="book", transaction=True, tries=3, backoff=QUICK)
+        async def book_in_loop(task: Task) -> None:
+            if task.attempt == 2:
+                await task.connection.set_autocommit(True)
+            async with task.connection.transaction():
+                await task.connection.execute(text, (task.key,))
+            if task.attempt == 1:
+                raise ValueError("behind its block")
+
+    async def main() -> None:
+        async with sagas.open(url, [kind]) as store:
+            assert (await ended(store, kind, "k")).ok
+
+    run(main())
+    assert booked(url) == {("k", "book"): 1}
+    assert Counter(result.outcome for result in records.read(url).results.values()) == {"missed": 2, "commit": 1}
+
+
+def test_what_does_nothing_over_its_connection_is_as_another_step(url: str) -> None:
+    """It has no transaction, and waits for no other: neither in the loop nor in a thread."""
+    kind = sagas.Saga("one")
+
+    @kind.step(transaction=True)
+    async def in_loop(task: Task) -> str:
+        return str(task.connection.info.transaction_status.name)
+
+    @kind.step(transaction=True, needs=[in_loop])
+    def in_thread(task: Task) -> str:
+        return str(task.connection.info.transaction_status.name)
+
+    async def main() -> None:
+        async with sagas.open(url, [kind]) as store:
+            assert (await ended(store, kind, "k")).results == {"in_loop": "IDLE", "in_thread": "IDLE"}
+
+    run(main())

@@ -278,7 +278,7 @@ async def main(words: argparse.Namespace) -> None:
         package = "wrong_stores" if words.node else "wrong"
         importlib.import_module(f"{package}.{words.wrong}").apply()
     if words.small:
-        setattr(sagas.kinds, "MOST_LOG", 40_000)
+        setattr(sagas.kinds, "ROOM", 10)
     children = 2 if words.small else 16
     async with contextlib.AsyncExitStack() as stack:
         store = await opened(stack, lambda: sagas.open(

@@ -50,6 +50,7 @@ from .errors import (
     StoreLocked,
     StoreNewer,
     StoreUnwritable,
+    TooLarge,
     Unknown,
     WrongStore,
 )
@@ -131,6 +132,7 @@ __all__ = [
     "SyncRun",
     "SyncStore",
     "Task",
+    "TooLarge",
     "Unknown",
     "Verdict",
     "Worker",

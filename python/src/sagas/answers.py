@@ -4,10 +4,12 @@ from __future__ import annotations
 
 import asyncio
 import json
-from collections.abc import Callable
+from collections import deque
+from collections.abc import Callable, Sequence
 from typing import TYPE_CHECKING, Any
 
 from . import lines, values
+from .calling import Outcome
 from .live import Attempt, Live
 from .records import Batch, Wanted
 from .schema import ROOM
@@ -18,6 +20,7 @@ if TYPE_CHECKING:
 Abort = tuple[Live, "asyncio.Future[bool] | None", Wanted]
 Act = tuple[Callable[[Any], object], Any]
 FULL = '{"refused":"full"}'
+LOG_FULL = '{"refused":"log-full"}'
 OVER = ("ended", "stuck")
 
 
@@ -30,38 +33,45 @@ class Disagrees(Exception):
 
 
 class Answers:
-    """The half of a pump that reads: a method for each request."""
+    """The half of a pump that reads: a method for the replies to each kind of request."""
 
     owner: Coordinator
     log: int
     live: dict[int, Live]
     sent: dict[Live, None]
+    reporting: dict[Attempt, None]
     aborting: list[Abort]
     opened: int
     reserved: int
+    full: bool
     hungry: bool
-    _took: int
     _text: str
-    _reported: list[tuple[Attempt, str]]
+    _begun: list[Attempt]
+    _ended: list[Live]
     _over_odd: dict[int, None]
+    _passed: bool
+    opens: deque[Live]
 
-    def _told_next(self, batch: Batch, acts: list[Act], about: None, reply: str) -> None:
-        told = values.read(reply)
-        self.hungry = "settled" not in told
-        begun: list[Attempt] = []
-        for task in told["tasks"]:
-            live, word = self.live[task["saga"]], task["task"]
-            if word == "plan":
-                live.odd, live.draining, live.answer = True, False, task["answer"]
-                acts.append((self.owner.doing.planned, live))
-                if task["phase"] in OVER:
-                    self._is_over(batch, acts, live)
-                continue
-            attempt = Attempt(live, task["step"], word, task["attempt"], fresh=True)
-            live.busy[attempt.word] = attempt
-            begun.append(attempt)
-        self._took = len(begun)
-        acts.append((self._begin, begun))
+    def _told_next(self, batch: Batch, acts: list[Act], abouts: Sequence[None], replies: Sequence[str]) -> None:
+        """What begins now, of the reply to `next` where it was asked."""
+        begun = self._begun
+        for reply in replies:
+            told = values.read(reply)
+            self.hungry = "settled" not in told
+            for task in told["tasks"]:
+                live, word = self.live[task["saga"]], task["task"]
+                if word == "plan":
+                    self._told_plan(batch, acts, live, task)
+                    continue
+                attempt = Attempt(live, task["step"], word, task["attempt"], fresh=True)
+                live.busy[attempt.word] = attempt
+                begun.append(attempt)
+
+    def _told_plan(self, batch: Batch, acts: list[Act], live: Live, task: dict[str, Any]) -> None:
+        live.odd, live.draining, live.answer = True, False, task["answer"]
+        acts.append((self.owner.doing.planned, live))
+        if task["phase"] in OVER:
+            self._is_over(batch, live)
 
     def _begin(self, attempts: list[Attempt]) -> None:
         self.owner.slots.release(len(attempts))
@@ -69,71 +79,110 @@ class Answers:
         for attempt in attempts:
             begin(attempt)
 
-    def _told_report(self, batch: Batch, acts: list[Act], attempt: Attempt, reply: str) -> None:
-        if not reply.startswith(lines.EVENT):  # it is not what is on its way: it is over, or was another's
-            raise Disagrees(f"saga {attempt.live.number}, step {attempt.step}, attempt {attempt.attempt}: {reply}")
-        event, phase = lines.event_and_phase(reply)
-        live, outcome = attempt.live, attempt.outcome
-        assert outcome
-        batch.results.append((self.log * ROOM + live.number, attempt.step, attempt.kind, attempt.attempt, event, outcome.value, attempt.at))
-        if attempt.has_row and not (attempt.why == "wait" and event == "missed"):
+    def _told_reports(self, batch: Batch, acts: list[Act], attempts: Sequence[Attempt], replies: Sequence[str]) -> None:
+        first, rows = self.log * ROOM, batch.results
+        for attempt, reply in zip(attempts, replies):
+            if not reply.startswith(lines.EVENT):  # it is not what is on its way: it is over, or was another's
+                raise Disagrees(f"saga {attempt.live.number}, step {attempt.step}, attempt {attempt.attempt}: {reply}")
+            event, phase = lines.event_and_phase(reply)
+            live, outcome = attempt.live, attempt.outcome
+            assert outcome
+            attempt.event = event
+            rows.append((first + live.number, attempt.step, attempt.kind, attempt.attempt, event, outcome.value, attempt.at))
+            if attempt.has_row or attempt.request is not None or live.kind.has_remote:
+                self._settle_rows(batch, attempt)
+            if event == "commit":
+                live.results[attempt.step] = outcome.value
+            else:
+                self._told_otherwise(attempt, outcome, event)
+            if phase in OVER:
+                self._is_over(batch, live)
+        acts.append((self._reported, attempts))
+
+    def _settle_rows(self, batch: Batch, attempt: Attempt) -> None:
+        """What else the store has of an attempt that was reported."""
+        if attempt.has_row and not (attempt.why == "wait" and attempt.event == "missed"):
             batch.freed.append(attempt.row)
         if attempt.request is not None:
             batch.answer(attempt.request, "true")
-        if live.kind.has_remote and attempt.is_remote:
+        if attempt.is_remote:
             batch.settled.append((attempt.token(), self.log))
-        if event == "commit":
-            live.results[attempt.step] = outcome.value
-        elif event == "undone":
-            live.results.pop(attempt.step, None)
-        else:
-            live.raised(attempt.step, outcome.value, outcome.called)
-            if event in ("fail", "undo_fail"):  # the saga drains
-                self.owner.doing.drain(live)
-            elif outcome.called:
-                live.rare.missed_at[attempt.word] = attempt.at
-        self._reported.append((attempt, event))
-        if phase in OVER:
-            self._is_over(batch, acts, live)
 
-    def _is_over(self, batch: Batch, acts: list[Act], live: Live) -> None:
+    def _told_otherwise(self, attempt: Attempt, outcome: Outcome, event: str) -> None:
+        """It is undone, or has failed or was missed."""
+        live = attempt.live
+        if event == "undone":
+            live.results.pop(attempt.step, None)
+            return
+        live.raised(attempt.step, outcome.value, outcome.called)
+        if event in ("fail", "undo_fail"):  # the saga drains
+            self.owner.doing.drain(live)
+        elif outcome.called:
+            live.rare.missed_at[attempt.word] = attempt.at
+
+    def _reported(self, attempts: Sequence[Attempt]) -> None:
+        for attempt in attempts:
+            self.reporting.pop(attempt, None)
+        self.owner.doing.reported(attempts)
+
+    def _is_over(self, batch: Batch, live: Live) -> None:
         """That the saga is over is in the batch too: all went well, or the child is asked how it ended."""
         if live.odd:
             self._over_odd[live.number] = None
         else:
-            self._over(batch, acts, live, "ended", live.kind.all_done)
+            self._over(batch, live, "ended", live.kind.all_done)
 
-    def _told_open(self, batch: Batch, acts: list[Act], live: Live, reply: str) -> None:
-        if not reply.startswith(lines.EVENT):
-            if reply != FULL and self.opened < self.owner.shelf.room:
-                raise Disagrees(f"saga {self.opened} was to be opened: {reply}")
-            self.reserved -= 1  # the log is full: another takes it
-            del self.sent[live]
-            self.opened = max(self.opened, self.owner.shelf.room)
+    def _told_opens(self, batch: Batch, acts: list[Act], lives: Sequence[Live], replies: Sequence[str]) -> None:
+        there: list[Live] = []
+        for live, reply in zip(lives, replies):
+            if not reply.startswith(lines.EVENT):
+                self._not_opened(live, reply)
+                continue
+            number = live.number = lines.number_in(reply)
+            self.live[number] = live
+            self.opened += 1
+            if live.start is not None:
+                batch.begun.append(live.start)
+            batch.opened.append((self.log * ROOM + number, live.key, live.kind.name, live.place, live.text, batch.at))
+            there.append(live)
+        acts.append((self._opened, there))
+
+    def _not_opened(self, live: Live, reply: str) -> None:
+        """The log is full, and another takes it; or it fits into none. Those behind it were asked for with numbers that are not the next ones."""
+        if reply in (FULL, LOG_FULL):
+            self._passed = True
+        elif not self._passed:
+            raise Disagrees(f"saga {self.opened} was to be opened: {reply}")
+        del self.sent[live]
+        if reply == LOG_FULL and not self.opened:  # no log has more room than this one
+            live.kind.fits = False
+        if not live.kind.fits:
+            self.reserved -= 1
+            self.owner.refuse(live, live.kind.too_large())
+        elif reply in (FULL, LOG_FULL) or self.full:
+            self.full = True
+            self.reserved -= 1
             self.owner.place(live)
-            return
-        number = lines.number_in(reply)
-        live.number, self.live[number] = number, live
-        self.opened += 1
-        if live.start is not None:
-            batch.begun.append(live.start)
-        batch.opened.append((self.log * ROOM + number, live.key, live.kind.name, live.place, live.text, batch.at))
-        acts.append((self._opened, live))
+        else:
+            self.opens.append(live)
 
-    def _opened(self, live: Live) -> None:
-        self.sent.pop(live, None)
-        live.committed = True
-        live.tell(live.starting)
-        if self.owner.teller.wants("saga_started"):
-            self.owner.teller.tell("saga_started", key=live.key, saga=live.kind.name)
+    def _opened(self, lives: list[Live]) -> None:
+        tells = self.owner.teller.wants("saga_started")
+        for live in lives:
+            self.sent.pop(live, None)
+            live.committed = True
+            live.tell(live.starting)
+            if tells:
+                self.owner.teller.tell("saga_started", key=live.key, saga=live.kind.name)
 
-    def _told_abort(self, batch: Batch, acts: list[Act], abort: Abort, reply: str) -> None:
-        live, _, request = abort
-        done = reply.startswith(lines.EVENT)
-        if done:
-            live.odd = live.aborted = True
-        batch.answer(request, dumps(done))
-        acts.append((self._aborted, (abort, done)))
+    def _told_aborts(self, batch: Batch, acts: list[Act], aborts: Sequence[Abort], replies: Sequence[str]) -> None:
+        for abort, reply in zip(aborts, replies):
+            live, _, request = abort
+            done = reply.startswith(lines.EVENT)
+            if done:
+                live.odd = live.aborted = True
+            batch.answer(request, dumps(done))
+            acts.append((self._aborted, (abort, done)))
 
     def _aborted(self, about: tuple[Abort, bool]) -> None:
         abort, done = about
@@ -146,14 +195,14 @@ class Answers:
         if future and not future.done():
             future.set_result(done)
 
-    def _told_show(self, batch: Batch, acts: list[Act], number: int, told: dict[str, Any]) -> None:
+    def _told_show(self, batch: Batch, number: int, told: dict[str, Any]) -> None:
         live = self.live.get(number)
         if live and not live.over and told["phase"] in ("ended", "stuck"):
             end = {"aborted": told["aborted"], "answer": told.get("answer"), "kept": told["kept"], "states": told["states"]}
-            self._over(batch, acts, live, told["phase"], dumps(end))
+            self._over(batch, live, told["phase"], dumps(end))
 
-    def _over(self, batch: Batch, acts: list[Act], live: Live, phase: str, end: str) -> None:
+    def _over(self, batch: Batch, live: Live, phase: str, end: str) -> None:
         live.over = True
         live.phase, live.end = phase, end
         batch.ended.append((phase, end, batch.at, live.id))
-        acts.append((self.owner.ended, live))
+        self._ended.append(live)

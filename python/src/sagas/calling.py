@@ -66,11 +66,13 @@ def raised(error: BaseException, manner: Manner) -> Outcome:
 is_async = functools.lru_cache(maxsize=4096)(inspect.iscoroutinefunction)
 
 
-async def call(manner: Manner, task: Task[Any], executor: Executor | None, late: Callable[[], object] | None = None) -> Outcome | None:
+async def call(
+    manner: Manner, task: Task[Any], executor: Executor | None, late: Callable[[], object] | None = None, function: Callable[[Task[Any]], Any] | None = None
+) -> Outcome | None:
     """Calls the function, async ones here, plain ones in the executor. None: it was cancelled from outside, and nobody knows what it did.
 
-    `late` is called where a thread takes longer than its time: it is waited for, since it cannot be stopped."""
-    function = manner.function
+    `late` is called where a thread takes longer than its time: it is waited for, since it cannot be stopped. `function`: one in place of the manner's."""
+    function = function or manner.function
     assert function
     try:
         if not is_async(function):

@@ -29,7 +29,8 @@ class Child:
         self._loop = asyncio.get_running_loop()
         self._on_died = on_died
         self._answered: Answered | None = None
-        self._expected = 0
+        self.asked = 0
+        """How many replies are to come: while there are any, nothing else is asked."""
         self._came: list[bytes] = []
         self._last = b"\n"  # the last byte that came
         self._replies = 0  # that came
@@ -65,15 +66,10 @@ class Child:
                 fcntl.fcntl(fd, fcntl.F_SETPIPE_SZ, PIPE)
         self._loop.add_reader(self._back, self._readable)
 
-    @property
-    def asked(self) -> bool:
-        """Whether a batch is on its way."""
-        return self._expected > 0
-
     def ask(self, requests: Sequence[str], answered: Answered) -> None:
         """Sends a batch; `answered` is called with a reply for each request, in order, and the lines of the log."""
-        assert not self._expected
-        self._expected, self._answered = len(requests), answered
+        assert not self.asked
+        self.asked, self._answered = len(requests), answered
         self._out += ("\n".join(requests) + "\n").encode()
         self._write()
 
@@ -106,8 +102,8 @@ class Child:
         self._came.append(data)
         self._replies += data.count(b"\n") - (self._last + data).count(b"\n+")  # a line of the log stands behind a plus
         self._last = data[-1:]
-        if self._expected and self._replies >= self._expected:
-            told, self._came, self._replies, self._expected = b"".join(self._came), [], 0, 0
+        if self.asked and self._replies >= self.asked:
+            told, self._came, self._replies, self.asked = b"".join(self._came), [], 0, 0
             answered, self._answered = self._answered, None
             assert answered
             answered(*parted(told.decode()))
@@ -155,11 +151,13 @@ class Child:
 
 
 def parted(told: str) -> tuple[list[Reply], str]:
-    """The replies, and the lines of the log that stand before them, without the header."""
-    replies, text = [], []
-    for line in told.split("\n")[:-1]:
-        if line.startswith("+"):
-            text.append(f"{line[1:]}\n")
-        else:
-            replies.append(line)
-    return replies, "".join(text).removeprefix(lines.HEADER)
+    """The replies, and the lines of the log that stand before them, without the header. A reply begins with a brace, a line of the log with a plus."""
+    first, *parts = f"\n{told}".split("\n{")
+    replies, texts = [], [first]
+    for part in parts:
+        reply, _, more = part.partition("\n")
+        replies.append(f"{{{reply}")
+        if more:
+            texts.append(more)
+    text = "\n".join(texts).replace("\n+", "\n")
+    return replies, f"{text[1:]}\n".removeprefix(lines.HEADER) if len(text) > 1 else ""

@@ -9,10 +9,10 @@ from typing import TYPE_CHECKING, Any
 
 import psycopg
 
-from . import histories, links, moving, news, postgresql, postgresql_schema, requests, values
+from . import histories, links, moving, news, postgresql, postgresql_schema, requests, room, values
 from .calling import Outcome, failure
 from .definition import Saga, Step
-from .errors import Closed, NoSuchSaga, NotJson, NotWaiting, StoreFault
+from .errors import Closed, NoSuchSaga, NotJson, NotWaiting, StoreFault, TooLarge
 from .kinds import Kind, version_of
 from .records import SagaRow
 from .runs import End, Summary
@@ -55,6 +55,13 @@ def check_same(words: dict[str, Any], rows: builtins.list[Row]) -> None:
         error = moving.conflict(words["key"], words["saga"], words["input"], saga, text)
         if error:
             raise error
+
+
+def check_start(words: dict[str, Any], rows: builtins.list[Row], unfit: TooLarge | None) -> None:
+    """As `check_same`; raises `TooLarge` where nothing has the key yet, and the saga fits into no log."""
+    if unfit and not rows:
+        raise unfit
+    check_same(words, rows)
 
 
 class ClientRun:
@@ -128,16 +135,17 @@ class Client:
         """Starts a saga, or gives the one that this key has. When it returns, some node goes on with it, whatever becomes of this program.
 
         With `connection`, a psycopg connection to the same database, it is written in the transaction that is open there: the saga is there
-        exactly if that commits. A second start of the key waits until it has. Raises `KeyConflict`, `NotJson`, `StoreUnwritable`, `Closed`."""
+        exactly if that commits. A second start of the key waits until it has. Raises `KeyConflict`, `TooLarge`, `NotJson`, `StoreUnwritable`,
+        `Closed`."""
         self._heard
-        words = start_words(saga, key, input)
+        words, unfit = start_words(saga, key, input), room.unfit(saga)
         self._sagas[saga.name, saga.version] = saga
         with links.faults(self.path):
             if connection is not None:
-                await _start(connection, words)
+                await _start(connection, words, unfit)
             else:
                 async with self._asker.pool.connection() as link, link.transaction():
-                    await _start(link, words)
+                    await _start(link, words, unfit)
         return ClientRun(self, key, words)
 
     async def wait(self, key: str) -> End:
@@ -207,20 +215,20 @@ class Client:
         return histories.end_of(kind, row, results)
 
 
-async def _start(link: Connection, words: dict[str, Any]) -> None:
-    """A row, and then a look whether another has the key: in this order, so that no start of the same key can pass unseen."""
-    own = await (await link.execute(START, words)).fetchall()
+async def _start(link: Connection, words: dict[str, Any], unfit: TooLarge | None) -> None:
+    """A row, and then a look whether another has the key: in this order, so that no start of the same key can pass unseen. What fits into no log gets none."""
+    own = [] if unfit else await (await link.execute(START, words)).fetchall()
     rows = await (await link.execute(THERE, {"key": words["key"], "own": [id for (id,) in own]})).fetchall()
     if rows and own:
         await link.execute(BACK, {"own": [id for (id,) in own]})
-    check_same(words, rows)
+    check_start(words, rows, unfit)
 
 
-def start_now(link: psycopg.Connection[Any], words: dict[str, Any]) -> None:
+def start_now(link: psycopg.Connection[Any], words: dict[str, Any], unfit: TooLarge | None) -> None:
     """As `_start`, where it stands."""
-    own = link.execute(START, words).fetchall()
+    own = [] if unfit else link.execute(START, words).fetchall()
     rows = link.execute(THERE, {"key": words["key"], "own": [id for (id,) in own]}).fetchall()
     if rows and own:
         link.execute(BACK, {"own": [id for (id,) in own]})
-    check_same(words, rows)
+    check_start(words, rows, unfit)
 

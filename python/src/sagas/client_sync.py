@@ -8,7 +8,7 @@ from typing import Any
 
 import psycopg
 
-from . import client, links
+from . import client, links, room
 from .definition import Saga, Step
 from .runs import End, Summary
 from .threads import Loop
@@ -69,7 +69,7 @@ class SyncClient:
             return SyncClientRun(self, self._loop.do(self._client.start(saga, key, input)))
         words = client.start_words(saga, key, input)
         with links.faults(self._client.path):
-            client.start_now(connection, words)
+            client.start_now(connection, words, room.unfit(saga))
         return SyncClientRun(self, client.ClientRun(self._client, key, words))
 
     def wait(self, key: str, timeout: float | None = None) -> End:

@@ -5,7 +5,6 @@ from __future__ import annotations
 import asyncio
 import json
 import logging
-import os
 import secrets
 from collections.abc import Callable, Coroutine, Sequence
 from concurrent.futures import ThreadPoolExecutor
@@ -18,6 +17,7 @@ from .database import Database
 from .elsewhere import Elsewhere
 from .errors import ChildError, Closed, Lost, SagasError
 from .events import Teller
+from .forks import private
 from .kinds import Kind, Shelf
 from .live import Live
 from .pump import Pump
@@ -37,7 +37,7 @@ class Coordinator:
     def __init__(self, store: Database, shelf: Shelf, *, program: str, concurrency: int, threads: int, children: int, idle: float, teller: Teller, clock: Callable[[], float]) -> None:
         self.store, self.shelf, self.program, self.idle, self.teller, self.clock = store, shelf, program, idle, teller, clock
         self.loop = asyncio.get_running_loop()
-        self.pid = os.getpid()
+        self.forks = private.forks
         self.threads = ThreadPoolExecutor(threads, "sagas-step")
         self.doing = Doing(self, concurrency, self.threads)
         self.slots = self.doing.slots
@@ -51,6 +51,7 @@ class Coordinator:
         self.current: Pump | None = None
         self.closed: SagasError | None = None
         self.jobs: set[asyncio.Task[None]] = set()
+        self._placing: list[Live] = []
         self._queue: list[Batch] = []
         self._writing = self._feeding = False
         self._opening: asyncio.Future[None] | None = None
@@ -189,20 +190,45 @@ class Coordinator:
         return live
 
     def place(self, live: Live) -> None:
-        """Into the newest log of the present definitions, or a new one. Where there is none its callers, who may wait in a moment, hear why."""
-        if self.closed:
-            self.loop.call_soon(self.refuse, live, self.closed)
+        """Into a log, with what else is placed in this turn of the loop, unless its key is there. Its callers, who may wait in a moment, hear why it is not."""
+        self._placing.append(live)
+        if len(self.lives) == 1:
+            self.place_now()
+        elif len(self._placing) == 1:
+            self.loop.call_soon(self.place_now)
+
+    def place_now(self, asker: Pump | None = None) -> None:
+        """Those that are to be placed, before a child is asked. `asker` is about to ask its own."""
+        if not self._placing:
             return
+        placing, self._placing = self._placing, []
+        try:
+            self._raise_if_closed()
+            there = {} if self.store.shared else self.store.find_many([live.key for live in placing])
+        except SagasError as error:
+            for live in placing:
+                self.loop.call_soon(self.refuse, live, error)
+            return
+        for live in placing:
+            if live.key in there:
+                self.loop.call_soon(moving.found, self, live, there[live.key])
+        pumps = dict.fromkeys(self._put(live) for live in placing if live.key not in there)
+        for pump in pumps:
+            if pump and pump is not asker:
+                pump.poke(now=True)
+
+    def _put(self, live: Live) -> Pump | None:
+        """Into the newest log of the present definitions, or a new one, if that can be."""
         pump = self.current
-        if pump is None or pump.reserved >= self.shelf.room or pump.opened >= self.shelf.room or pump.state == "closed":
+        if pump is None or pump.full or pump.reserved >= self.shelf.room or pump.opened >= self.shelf.room or pump.state == "closed":
             try:
                 pump = self._new_pump()
             except SagasError as error:
                 self.loop.call_soon(self.refuse, live, error)
-                return
+                return None
         pump.reserved += 1
         pump.opens.append(live)
-        pump.poke(now=len(self.lives) == 1)
+        return pump
 
     def _new_pump(self) -> Pump:
         before = self.current
@@ -220,7 +246,7 @@ class Coordinator:
             del self.lives[live.key]
         live.tell(live.starting, error)
         live.tell(live.ending, error)
-        if live.start is not None:
+        if live.start is not None and live.kind.fits:
             self.doubt()
 
     def doubt(self) -> None:
@@ -229,17 +255,18 @@ class Coordinator:
         if not self.closed:
             self.loop.call_later(AGAIN, self.look)
 
-    def ended(self, live: Live) -> None:
-        """Its end is in the store."""
-        assert live.pump
-        live.pump.live.pop(live.number, None)
-        if self.lives.get(live.key) is live:
-            del self.lives[live.key]
-        live.tell(live.ending)
-        name = "saga_ended" if live.phase == "ended" else "saga_stuck"
-        if self.teller.wants(name):
-            chain = [live.kind.names[step] for step in (live.answer or {}).get("chain", ())] if name == "saga_stuck" else []
-            self.teller.tell(name, key=live.key, saga=live.kind.name, detail=f"because of {' and '.join(chain)}" if chain else None)
+    def ended(self, lives: list[Live]) -> None:
+        """Their ends are in the store."""
+        for live in lives:
+            assert live.pump
+            live.pump.live.pop(live.number, None)
+            if self.lives.get(live.key) is live:
+                del self.lives[live.key]
+            live.tell(live.ending)
+            name = "saga_ended" if live.phase == "ended" else "saga_stuck"
+            if self.teller.wants(name):
+                chain = [live.kind.names[step] for step in (live.answer or {}).get("chain", ())] if name == "saga_stuck" else []
+                self.teller.tell(name, key=live.key, saga=live.kind.name, detail=f"because of {' and '.join(chain)}" if chain else None)
         self.rest()
 
     def rest(self) -> None:
@@ -292,7 +319,7 @@ class Coordinator:
 
     def close_if_over(self, pump: Pump) -> None:
         """A settled log that takes no more sagas is audited once, and closed."""
-        full = pump.opened >= self.shelf.room
+        full = pump.full or pump.opened >= self.shelf.room
         if pump.state not in ("up", "asleep") or pump.unwritten or pump.live or pump.opens or pump.sent or pump.reserved != pump.opened:
             return
         if self.closed or pump.born or (pump is self.current and not full):
@@ -330,6 +357,7 @@ class Coordinator:
             for live in pump.opens:
                 self.refuse(live, self.closed)
             pump.opens.clear()
+        await self.doing.callers.settled()
         running = {attempt.job for attempt in self.doing.running if attempt.job}
         late: set[asyncio.Task[None]] = set()
         if running:

@@ -151,3 +151,6 @@ class Database(Protocol):
 
     def find_now(self, key: str) -> SagaRow | None:
         """As `find`."""
+
+    def find_many(self, keys: Sequence[str]) -> dict[str, SagaRow]:
+        """The sagas with these keys, by key, as far as they are there."""

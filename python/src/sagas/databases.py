@@ -51,5 +51,5 @@ def make(name: str, shelf: Shelf, node: str | None, lease: float, most: int) -> 
         from .postgresql import PostgreSQL
     except ImportError as error:
         raise missing(error) from error
-    kinds = [f"{kind.name}/{kind.version}" for kind in shelf.kinds]
+    kinds = [f"{kind.name}/{kind.version}" for kind in shelf.kinds if kind.fits]
     return PostgreSQL(name, node=node, lease=lease, sagas=kinds, version=shelf.shelf, most=most)

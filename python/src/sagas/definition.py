@@ -333,7 +333,8 @@ class Saga:
         faults.check_saga(self)
 
     def warnings(self) -> list[str]:
-        """What is sound and probably not meant: compensations that can never be called, type hints that cannot be read. `open` logs them."""
+        """What is sound and probably not meant: compensations that can never be called, type hints that cannot be read, more steps and needs
+        than a log has room for. `open` logs them."""
         return faults.warnings(self)
 
     def toml(self) -> str:

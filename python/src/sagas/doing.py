@@ -9,15 +9,18 @@ import inspect
 import json
 import logging
 import os
-from collections.abc import Callable
+import time
+from collections.abc import Callable, Sequence
 from concurrent.futures import Executor
 from typing import TYPE_CHECKING, Any
 
 from . import calling, remote
+from .callers import Callers
 from .calling import Outcome
 from .definition import Manner, Step
 from .errors import Lost
 from .fleet import Fleet, Gate
+from .forks import private
 from .live import Attempt, Live
 from .slots import Slots
 
@@ -53,6 +56,7 @@ class Doing:
         self.owner, self.executor = owner, executor
         self.slots = Slots(concurrency, self._run, owner.feed)
         self.fleet = Fleet(owner, self.slots.enter)
+        self.callers = Callers(self._begins, self._called)
         self.running: set[Attempt] = set()
         self.closing = False
 
@@ -62,7 +66,8 @@ class Doing:
         """It is in the store as begun."""
         live = attempt.live
         if attempt.attempt == 1 and not live.draining and live.kind.simple[attempt.kind][attempt.step]:
-            self._enter(attempt)
+            if not self.closing:
+                self.slots.come(attempt)
         elif attempt.word in live.rare.final:
             self._give_up(attempt, "not called: the step failed for good", final=True)
         elif live.draining and self._may_leave(attempt):
@@ -82,7 +87,7 @@ class Doing:
             if why == "unknown":
                 attempt.drop_timer()
                 self._hold(attempt, why, until)
-        elif attempt.why == "elsewhere" and self._manner(attempt).elsewhere:
+        elif attempt.why == "elsewhere" and attempt.manner.elsewhere:
             attempt.state = "held"
             self.owner.elsewhere.restored(attempt)
         elif attempt.state != "taken":
@@ -115,14 +120,11 @@ class Doing:
         assert step is not None  # open refused a store that needs it
         return step
 
-    def _manner(self, attempt: Attempt) -> Manner:
-        return self._step(attempt).manner(attempt.kind)
-
     def _pause(self, attempt: Attempt) -> float:
         missed = attempt.live.rare.missed_at.get(attempt.word)
         if missed is None:
             return 0.0
-        pause = self._manner(attempt).backoff.after(attempt.attempt - 1)
+        pause = attempt.manner.backoff.after(attempt.attempt - 1)
         return min(pause, missed + pause - self.owner.clock())  # where the clock jumped back, no longer than the pause
 
     # -- hold
@@ -136,7 +138,7 @@ class Doing:
 
     def _set_timer(self, attempt: Attempt) -> None:
         assert attempt.until is not None
-        most = max(LEAST_PAUSE, self._manner(attempt).backoff.most) if attempt.why in COUNTED else LOOK
+        most = max(LEAST_PAUSE, attempt.manner.backoff.most) if attempt.why in COUNTED else LOOK
         attempt.timer = self.owner.loop.call_later(max(0.0, min(most, attempt.until - self.owner.clock())), self._look, attempt)
 
     def _look(self, attempt: Attempt) -> None:
@@ -191,7 +193,7 @@ class Doing:
 
     def _go(self, attempt: Attempt) -> None:
         """It is called here, or done elsewhere."""
-        if self._manner(attempt).elsewhere:
+        if attempt.manner.elsewhere:
             attempt.fresh = attempt.fresh and self.owner.elsewhere.leased  # else whoever does it may have begun
             self._hold(attempt, "elsewhere", None)
             self.owner.elsewhere.offered(attempt)
@@ -201,18 +203,25 @@ class Doing:
     def _enter(self, attempt: Attempt) -> None:
         if not self.closing:
             attempt.state = "ready"
-            gate = self.fleet.gate(attempt)
+            gate = self.fleet.gate(attempt) if attempt.live.kind.has_bounds else None
             if gate and gate.is_waited_for():
                 gate.hold(attempt)
             else:
                 self.slots.enter(attempt)
 
     def _run(self, attempt: Attempt) -> None:
-        gate = self.fleet.gate(attempt)
-        if gate is None:
-            attempt.state, attempt.fresh = "running", False
-        attempt.job = self.owner.loop.create_task(self._pass(attempt, gate) if gate else self._call(attempt))
         self.running.add(attempt)
+        kind = attempt.live.kind
+        gate = self.fleet.gate(attempt) if kind.has_bounds else None
+        if gate:
+            attempt.job = self.callers.start(self._pass(attempt, gate))
+            return
+        attempt.state, attempt.fresh = "running", False
+        function = kind.simple[attempt.kind][attempt.step]
+        if function:
+            self.callers.call(attempt, function)
+        else:
+            attempt.job = self.callers.start(self._call(attempt))
 
     async def _pass(self, attempt: Attempt, gate: Gate) -> None:
         """It has a slot, and is called if it gets a place of its step; else it waits without either."""
@@ -229,47 +238,58 @@ class Doing:
     def _leave(self, attempt: Attempt) -> None:
         """Slot and place are for the next."""
         self.slots.leave(attempt)
-        gate = self.fleet.gate(attempt)
+        gate = self.fleet.gate(attempt) if attempt.live.kind.has_bounds else None
         if gate:
             gate.leave(attempt)
 
-    async def _call(self, attempt: Attempt) -> None:
+    def _begins(self, attempt: Attempt) -> bool:
+        """Whether it is called now: it was not forgotten meanwhile, and its log is this program's."""
         live, teller = attempt.live, self.owner.teller
-        if not self.owner.store.holds():  # its log may be another's: it is looked at, and then this begins again
+        if attempt.state == "running" and self.owner.store.holds():
+            if teller.listens:
+                teller.tell("step_begun", key=live.key, saga=live.kind.name, step=attempt.name, undo=attempt.kind == "undo", attempt=attempt.attempt)
+            return True
+        if attempt.state == "running":  # its log may be another's: it is looked at, and then this begins again
             attempt.state, attempt.job = "taken", None
-            self.running.discard(attempt)
-            self._leave(attempt)
-            return
-        if teller.listens:
-            teller.tell("step_begun", key=live.key, saga=live.kind.name, step=attempt.name, undo=attempt.kind == "undo", attempt=attempt.attempt)
-        function, fault, began = live.kind.simple[attempt.kind][attempt.step], None, self.owner.loop.time()
-        try:
-            if function:
-                try:
-                    task = attempt.task()
-                    outcome: Outcome | None = calling.done(await function(task), task)
-                except BaseException as error:
-                    outcome = calling.interrupted(error, self._manner(attempt))
-            else:
-                outcome = await self._elsewise(attempt, self._manner(attempt))
-        except Lost as error:
-            outcome, fault = None, error
-        if os.getpid() != self.owner.pid:  # a function forked, and its child came back here
-            os._exit(70)
-        attempt.took = self.owner.loop.time() - began
         self.running.discard(attempt)
         self._leave(attempt)
-        if attempt.job is None or attempt.state != "running":
+        return False
+
+    async def _call(self, attempt: Attempt) -> None:
+        if not self._begins(attempt):
             return
-        if fault is not None:
-            attempt.state, attempt.job = "taken", None
-            assert live.pump
-            live.pump.fail(fault)
-        elif outcome is not None:
-            if function and outcome.kind == "done":
+        fault, began = None, time.monotonic()
+        try:
+            outcome = await self._elsewise(attempt, attempt.manner)
+        except Lost as error:
+            outcome, fault = None, error
+        if self._over(attempt, began):
+            if fault is not None:
+                attempt.state = "taken"
+                assert attempt.live.pump
+                attempt.live.pump.fail(fault)
+            elif outcome is not None:
+                self._sort(attempt, outcome)
+
+    def _called(self, attempt: Attempt, began: float, outcome: Outcome | None) -> None:
+        """A simple one was called."""
+        if self._over(attempt, began) and outcome is not None:
+            if outcome.kind == "done":
                 self.outcome(attempt, outcome, now=True)
             else:
                 self._sort(attempt, outcome)
+
+    def _over(self, attempt: Attempt, began: float) -> bool:
+        """Its function is over; whether anything comes of that, since it was not forgotten meanwhile."""
+        if private.forks != self.owner.forks:  # a function forked, and its child came back here
+            os._exit(70)
+        attempt.took, attempt.job = time.monotonic() - began, None
+        self.running.discard(attempt)
+        if attempt.live.kind.has_bounds:
+            self._leave(attempt)
+        else:
+            self.slots.leave(attempt)
+        return attempt.state == "running"
 
     async def _elsewise(self, attempt: Attempt, manner: Manner) -> Outcome | None:
         """Calls what is not simple: in a thread, in its time, in a transaction, or elsewhere."""
@@ -300,7 +320,7 @@ class Doing:
 
     def unknown(self, attempt: Attempt, outcome: Outcome) -> None:
         """Nobody knows: the same attempt again, after the back-off; or a person has to say."""
-        manner, now = self._manner(attempt), self.owner.clock()
+        manner, now = attempt.manner, self.owner.clock()
         attempt.count += 1
         attempt.since = attempt.since or now
         attempt.outcome = outcome
@@ -357,12 +377,11 @@ class Doing:
         pump.reports[attempt] = None
         pump.poke(now)
 
-    def reported(self, reports: list[tuple[Attempt, str]]) -> None:
-        """The reports are in the store, with these events."""
+    def reported(self, attempts: Sequence[Attempt]) -> None:
+        """Their reports are in the store, each with its event."""
         tells = self.owner.teller.wants("step_done")
-        for attempt, event in reports:
-            assert attempt.live.pump
-            attempt.live.pump.reporting.pop(attempt, None)
+        for attempt in attempts:
+            event = attempt.event
             if attempt.told and not attempt.told.done():
                 attempt.told.set_result(True)
             if tells or event not in DONE:

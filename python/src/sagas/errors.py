@@ -73,6 +73,12 @@ class ReportedOtherwise(SagasError):
     """The task was reported with another outcome, and the first one counts. Where your action had an effect, look at the saga."""
 
 
+class TooLarge(SagasError):
+    """A saga that fits into no log: with so many steps and needs it might not come to its end there. Nothing was begun.
+
+    The text says how much is too much. Give it fewer steps or needs, or make several sagas of it."""
+
+
 class NotJson(SagasError, TypeError):
     """A key, an input or a result that cannot be written as JSON. Use dicts, lists, texts, numbers, dataclasses or pydantic models."""
 

@@ -10,7 +10,7 @@ import sys
 from collections.abc import Iterable
 from typing import TYPE_CHECKING, Any
 
-from . import values
+from . import room, values
 from .errors import DefinitionError
 
 if TYPE_CHECKING:
@@ -178,7 +178,8 @@ def _check_cycles(saga: Saga) -> None:
             cycle = _cycle(still)
             told = " needs ".join(step.name for step in cycle[:MOST_TOLD])
             raise of_step(cycle[0], f"is in a cycle of needs: {told}{' ..' if cycle[MOST_TOLD:] else ''}")
-        done.update(step.name for step in left if step not in still)
+        waiting = {step.name for step in still}
+        done.update(step.name for step in left if step.name not in waiting)
         left = still
 
 
@@ -208,10 +209,13 @@ def check_within(step: Step[Any], within: object) -> None:
 def warnings(saga: Saga) -> list[str]:
     """Steps that are never undone, though they have a compensation: to keep them is always allowed, and always cheaper.
 
-    And type hints that cannot be read, of names that are there for the checker alone."""
+    And type hints that cannot be read, of names that are there for the checker alone; and that it is too large for a log."""
     check_saga(saga)
     stays: dict[str, bool] = {}
     found = []
+    unfit = room.unfit(saga)
+    if unfit:
+        found.append(f"{saga.where}: {unfit}")
     for step in saga.steps:
         for function in (step.run.function, step.undo.function):
             unread = values.unread(function) if function else None

@@ -9,12 +9,13 @@ import tomllib
 from collections.abc import Iterable
 from typing import Any
 
-from . import values
+from . import room, values
 from .definition import Function, Saga, Step
-from .errors import DefinitionError
+from .errors import DefinitionError, TooLarge
 from .schema import ROOM
 
-MOST_LOG = 48 << 20  # bytes: an audit reads 64 MiB
+Word = tuple[int, str]
+"""A step's number, and `run` or `undo`."""
 VERSION = re.compile(r"# version (\d+)\n")
 
 
@@ -29,17 +30,9 @@ def version_of(text: str) -> int:
     return int(found[1]) if found else 1
 
 
-def most_bytes(text: str) -> int:
-    """What one saga of this definition may come to in a log, in bytes, but for sagas that plan more than eight times."""
-    told = tomllib.loads(text)["step"]
-    events: int = sum(2 * step.get("tries", 1) + 2 * step.get("undo_tries", 1) for step in told)
-    needs: int = sum(len(step.get("needs", ())) for step in told)
-    return 60 * events + min(len(told) + 2, 8) * (120 + 12 * (3 * len(told) + needs))
-
-
 def _simple(step: Step[Any] | None, word: str) -> Function | None:
-    """The function of a step that begins at once and is awaited here; of others None."""
-    if step is None or (word == "run" and (step.kind != "step" or step.limit is not None)):
+    """The function of a step that begins at once and is awaited here, and has no limit; of others None."""
+    if step is None or (word == "run" and (step.kind != "step" or step.limit is not None or step.bounds)):
         return None
     return step.manner(word).function if step.manner(word).is_simple else None
 
@@ -53,6 +46,7 @@ class Kind:
         self.text, self.name, self.version = text, str(told["name"]), version_of(text)
         today = {step.name: step for step in saga.steps} if saga else {}
         self.names: list[str] = [step["name"] for step in listed]
+        self.words: dict[str, list[Word]] = {kind: [(step, kind) for step in range(len(listed))] for kind in ("run", "undo")}
         self.heads = [f'"{name}":' for name in self.names]
         self.steps: list[Step[Any] | None] = [today.get(name) for name in self.names]
         self.is_given = saga is not None
@@ -61,7 +55,8 @@ class Kind:
         self.count = len(listed)
         place = {name: number for number, name in enumerate(self.names)}
         self.below = self._below([[place[need] for need in step.get("needs", ())] for step in listed])
-        self.room = max(1, min(ROOM, MOST_LOG // most_bytes(text)))
+        self.needs = sum(len(step.get("needs", ())) for step in listed)
+        self.fits = room.fits(self.count, self.needs)
         told_hints = [values.hints(step.run.function) if step and step.run.function else (None, None) for step in self.steps]
         self.inputs = [hint for hint, _ in told_hints]
         self.undo_inputs = [values.hints(step.undo.function)[0] if step and step.undo.function else None for step in self.steps]
@@ -80,6 +75,10 @@ class Kind:
                 left.remove(step)
                 found[step] = set(needs[step]).union(*(found[need] for need in needs[step]))
         return [sorted(found[step]) for step in range(len(needs))]
+
+    def too_large(self) -> TooLarge:
+        """Why none can be started, where it does not fit into a log."""
+        return room.too_large(self.name, self.count, self.needs)
 
     def lacks(self) -> str | None:
         """The first step without a function, or the first compensation that may be called and has none."""
@@ -112,7 +111,7 @@ class Shelf:
         self.shelf, self.texts = shelf_of(self.sagas.values())
         self._kinds: dict[str, Kind] = {}
         self.kinds = [self.kind(text) for text in self.texts]
-        self.room = min(kind.room for kind in self.kinds)
+        self.room = ROOM  # how many sagas a log takes, where they are small
         self.places = {(kind.name, kind.version): place for place, kind in enumerate(self.kinds)}
 
     def kind(self, text: str) -> Kind:

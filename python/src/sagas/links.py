@@ -4,8 +4,8 @@ from __future__ import annotations
 
 import asyncio
 import contextlib
-from collections.abc import Iterator
-from typing import Any
+from collections.abc import Awaitable, Callable, Iterator
+from typing import Any, TypeVar
 
 import psycopg
 from psycopg import conninfo, errors
@@ -23,15 +23,23 @@ DEFAULTS: dict[str, Any] = {
 }  # fmt: skip
 DURABLE = "SELECT set_config('synchronous_commit', 'on', false) WHERE current_setting('synchronous_commit') IN ('off', 'local')"
 """What is committed is on the disk, and on a synchronous standby where there is one, whatever the database's own setting says."""
-SETTINGS = f"SET search_path = sagas; SET jit = off; SET enable_seqscan = off; SET enable_hashjoin = off; SET enable_mergejoin = off; {DURABLE}"
+SETTINGS = f"SET client_encoding = 'UTF8'; SET search_path = sagas; SET jit = off; SET enable_seqscan = off; SET enable_hashjoin = off; SET enable_mergejoin = off; {DURABLE}"
 """Plans are made once, for tables that were empty then and are full later: let them be by indexes."""
+
+LIMITED = f"SET statement_timeout = '{int(PATIENCE)}s'"
+REPEATED = f"SET plan_cache_mode = force_generic_plan; {SETTINGS}"
+"""For statements whose plan has nothing to do with their words: else some are planned anew each time."""
 
 RIGHTS = "have the owner of the database run `sagas store URL init --role {role}`"
 """What helps a role that may not."""
 
+FAULTS = (psycopg.Error, PoolTimeout, OSError, TimeoutError)
+"""What is raised where the server does not answer as it should."""
+
 LINE = "left(pg_walfile_name(pg_current_wal_lsn()), 8)"
 """The server's timeline: another one once a standby has taken over, which may lack what was committed last."""
 
+T = TypeVar("T")
 Row = tuple[Any, ...]
 Link = psycopg.AsyncConnection[Row]
 
@@ -68,17 +76,35 @@ def faults(where: str) -> Iterator[None]:
     """What PostgreSQL and its connections raise, as `StoreUnwritable`."""
     try:
         yield
-    except (psycopg.Error, PoolTimeout, OSError, TimeoutError) as error:
-        told = str(error).strip().splitlines()[0] if str(error).strip() else type(error).__name__
-        if isinstance(error, errors.InsufficientPrivilege):
-            told += f": {RIGHTS.format(role='NAME')}"
-        raise StoreUnwritable(f"{where}: {told}") from error
+    except FAULTS as error:
+        raise unwritable(where, error) from error
 
 
-async def connect(url: str) -> Link:
+def unwritable(where: str, error: Exception) -> StoreUnwritable:
+    """What was raised, as `StoreUnwritable`, which has it for its cause."""
+    told = str(error).strip().splitlines()[0] if str(error).strip() else type(error).__name__
+    if isinstance(error, errors.InsufficientPrivilege):
+        told += f": {RIGHTS.format(role='NAME')}"
+    fault = StoreUnwritable(f"{where}: {told}")
+    fault.__cause__ = error
+    return fault
+
+
+async def tried(ask: Callable[[], Awaitable[T]]) -> T:
+    """What may be asked twice: connections that broke unnoticed are tried past."""
+    for turn in range(5):
+        try:
+            return await ask()
+        except StoreUnwritable as error:
+            if turn == 4 or not isinstance(error.__cause__, psycopg.OperationalError):
+                raise
+    raise AssertionError
+
+
+async def connect(url: str, settings: str = SETTINGS) -> Link:
     """A connection of the store's own, that commits each statement."""
     link: Link = await psycopg.AsyncConnection.connect(address(url), autocommit=True, prepare_threshold=1)
-    await link.execute(SETTINGS, prepare=False)
+    await link.execute(settings, prepare=False)
     return link
 
 
@@ -91,12 +117,12 @@ async def line_of(link: Link) -> str:
 def connect_now(url: str) -> psycopg.Connection[Row]:
     """As `connect`, for who waits where he stands."""
     link: psycopg.Connection[Row] = psycopg.Connection.connect(address(url), autocommit=True)
-    link.execute(f"{SETTINGS}; SET statement_timeout = '{int(PATIENCE)}s'", prepare=False)
+    link.execute(f"{SETTINGS}; {LIMITED}", prepare=False)
     return link
 
 
 async def _configure(link: Link) -> None:
-    await link.execute(f"{SETTINGS}; SET statement_timeout = '{int(PATIENCE)}s'", prepare=False)
+    await link.execute(f"{SETTINGS}; {LIMITED}", prepare=False)
 
 
 def pool(url: str, most: int) -> AsyncConnectionPool:
@@ -154,10 +180,4 @@ class Asker:
 
     async def read(self, text: str, **words: Any) -> list[Row]:
         """As `ask`, for what may be asked twice: connections that broke unnoticed are tried past."""
-        for turn in range(5):
-            try:
-                return await self.ask(text, **words)
-            except StoreUnwritable as error:
-                if turn == 4 or not isinstance(error.__cause__, psycopg.OperationalError):
-                    raise
-        raise AssertionError
+        return await tried(lambda: self.ask(text, **words))

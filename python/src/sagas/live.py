@@ -8,16 +8,14 @@ from collections.abc import Callable
 from typing import TYPE_CHECKING, Any
 
 from .calling import Outcome
-from .kinds import Kind
+from .kinds import Kind, Word
 from .schema import ROOM
 from .task import Task
 
 if TYPE_CHECKING:
+    from .definition import Manner
     from .pump import Pump
     from .records import Wanted
-
-Word = tuple[int, str]
-"""A step's number, and `run` or `undo`."""
 
 
 class Rare:
@@ -77,18 +75,20 @@ class Live:
         if called or step not in errors:
             errors[step] = value
 
-    async def started(self) -> None:
-        """Waits until it is in the store."""
-        if not self.committed:
-            future = asyncio.get_running_loop().create_future()
+    def started(self, loop: asyncio.AbstractEventLoop) -> asyncio.Future[None]:
+        """Done once it is in the store."""
+        future = loop.create_future()
+        if self.committed:
+            future.set_result(None)
+        else:
             self.starting.append(future)
-            await future
+        return future
 
-    async def ended(self) -> None:
-        """Waits until its end is in the store."""
-        future = asyncio.get_running_loop().create_future()
+    def ended(self, loop: asyncio.AbstractEventLoop) -> asyncio.Future[None]:
+        """Done once its end is in the store."""
+        future = loop.create_future()
         self.ending.append(future)
-        await future
+        return future
 
     def tell(self, waiting: list[asyncio.Future[None]], error: Exception | None = None) -> None:
         """Tells those who wait that it is so, or why it is not."""
@@ -117,11 +117,12 @@ class Attempt:
 
     `why` it is held: backoff, unknown, wait, approval, elsewhere, limit. `fresh`: it cannot have been called, by this program or an earlier one."""
 
-    __slots__ = ("live", "step", "kind", "attempt", "word", "state", "why", "fresh", "outcome", "at", "timer", "job", "since", "count", "has_row", "request", "told", "until", "pending", "awaited", "lease", "took")
+    __slots__ = ("live", "step", "kind", "attempt", "word", "state", "why", "fresh", "outcome", "at", "timer", "job", "since", "count", "has_row", "request", "told", "until", "pending", "awaited", "lease", "took", "event")
 
     def __init__(self, live: Live, step: int, kind: str, attempt: int, fresh: bool) -> None:
-        self.live, self.step, self.kind, self.attempt, self.fresh = live, step, kind, attempt, fresh
-        self.word: Word = step, kind
+        self.live, self.step, self.attempt, self.fresh = live, step, attempt, fresh
+        self.word = live.kind.words[kind][step]
+        self.kind = self.word[1]
         self.state, self.why = "taken", ""
         self.outcome: Outcome | None = None
         self.at = self.since = 0.0
@@ -136,6 +137,7 @@ class Attempt:
         self.told: asyncio.Future[bool] | None = None
         self.lease: Lease | None = None  # of a worker elsewhere: the newest
         self.took: float | None = None  # seconds, of its last call
+        self.event = ""  # that its report came to
 
     @property
     def name(self) -> str:
@@ -170,6 +172,13 @@ class Attempt:
     def token(self) -> str:
         """Of its effect and the attempt, as the task's."""
         return f"{self.effect_token()}-{self.attempt}"
+
+    @property
+    def manner(self) -> Manner:
+        """How its function is called."""
+        step = self.live.kind.steps[self.step]
+        assert step is not None  # open refused a store that needs it
+        return step.manner(self.kind)
 
     @property
     def is_remote(self) -> bool:

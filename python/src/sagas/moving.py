@@ -81,11 +81,11 @@ def fail(future: asyncio.Future[bool] | None, error: Exception) -> None:
 
 
 def leave(owner: Coordinator, live: Live, error: Exception | None) -> None:
-    """It is not driven here: who waits looks into the store, or hears why it is not that saga."""
+    """It is not driven here: who waits looks into the store; who started it hears why it is not that saga."""
     if owner.lives.get(live.key) is live:
         del owner.lives[live.key]
     live.tell(live.starting, error)
-    live.tell(live.ending, error or Moved("the saga is another node's now"))
+    live.tell(live.ending, Moved("the saga is not driven here"))
     for attempt in live.busy.values():
         attempt.changed()
     owner.rest()

@@ -9,10 +9,13 @@ from collections.abc import Callable, Iterable
 import psycopg
 
 from . import links
+from .wire import Wire
 
 CHANNEL = "sagas"
 SAY = f"SELECT set_config('synchronous_commit', 'off', true), pg_notify('{CHANNEL}', v) FROM unnest(%(words)s::text[]) AS v"
 """It waits for no disk: a crash forgets who listened, and commits behind it need not wait for it either."""
+SAY_WIRED = SAY.replace("%(words)s", "$1")
+"""The same over a wire, to which `wired` gives the words."""
 MOST = 400  # ids a word: PostgreSQL takes 8,000 bytes
 FIRST_LOOK, MOST_LOOK = 0.5, 30.0  # seconds
 RECENT = 10_000
@@ -24,6 +27,11 @@ def payloads(what: str, ids: Iterable[int]) -> list[str]:
     return [f"{what} {' '.join(told[first : first + MOST])}" for first in range(0, len(told), MOST)]
 
 
+def wired(words: Iterable[str]) -> bytes:
+    """Words as an array of PostgreSQL's: there are letters, digits and blanks in them."""
+    return ('{"' + '","'.join(words) + '"}').encode()
+
+
 class News:
     """Listens on a connection of its own. `look` is called for each word that is of no id, and whenever words may have been missed."""
 
@@ -31,7 +39,6 @@ class News:
         self._url, self._look = url, look
         self._waiting: dict[tuple[str, int], list[asyncio.Future[None]]] = {}
         self._recent: OrderedDict[tuple[str, int], None] = OrderedDict()
-        self._link: links.Link | None = None
         self._job = asyncio.get_running_loop().create_task(self._listen())
 
     async def close(self) -> None:
@@ -44,18 +51,18 @@ class News:
         pause = 0.1
         while True:
             try:
-                link = self._link = await links.connect(self._url)
+                wire = Wire(await links.connect(self._url), self._heard)
                 try:
-                    await link.execute(f"LISTEN {CHANNEL}")
+                    await wire.rows(f"LISTEN {CHANNEL}")
                     pause = 0.1
                     self._missed()
-                    async for word in link.notifies():
-                        self._heard(word.payload)
+                    await wire.gone.wait()
                 finally:
-                    await link.close()
-            except (psycopg.Error, OSError):
-                await asyncio.sleep(pause)
-                pause = min(2.0, 2 * pause)
+                    wire.close()
+            except (psycopg.Error, OSError, TimeoutError):
+                pass
+            await asyncio.sleep(pause)
+            pause = min(2.0, 2 * pause)
 
     def _missed(self) -> None:
         for futures in self._waiting.values():

@@ -11,21 +11,20 @@ from collections.abc import Sequence
 from typing import Any
 
 import psycopg
-from psycopg import errors
 
-from . import links, news, postgresql_schema, questions
+from . import links, news, postgresql_schema, questions, wire
 from .database import Drives, Then, Watcher
 from .definition import Bounds
 from .errors import NoSuchSaga, StoreUnwritable
 from .leases import UNTAKEN, Lease
 from .places_postgresql import Places
 from .postgresql_commit import Commit
+from .postgresql_writer import Writer
 from .records import Batch, Grant, Loaded, LogRow, Request, SagaRow, Start
 from .transactions import Transactions
 from .values import clean, cleaned
 
 logger = logging.getLogger("sagas")
-NONE: frozenset[int] = frozenset()
 NUMBERS = 64  # of logs to be born, that are kept at hand
 MANY = 64  # starts of clients that are taken at once
 
@@ -34,6 +33,7 @@ FIND = f"""
 SELECT {questions.SAGA} FROM sagas WHERE {KEYS}
 UNION ALL SELECT -id, key, saga, -1, input, at, NULL, NULL, NULL, NULL FROM inbox WHERE {KEYS}
 """
+FIND_WIRED = FIND.replace("%(keys)s", "$1")
 WAKE = """
 SELECT NOT EXISTS (SELECT 1 FROM logs WHERE log = %(log)s AND (owner IS DISTINCT FROM %(node)s OR epoch <> %(epoch)s OR closed <> 0)), l.first, l.text
 FROM (SELECT) one LEFT JOIN lines l ON l.log = %(log)s ORDER BY l.first
@@ -61,17 +61,17 @@ class PostgreSQL(questions.Questions):
     shared = True
 
     def __init__(self, url: str, *, node: str | None = None, lease: float = 10.0, sagas: Sequence[str] = (), version: str = "", most: int = 16) -> None:
-        self.url, self.path, self.commits = url, links.named(url), 0
-        self.asker = links.Asker(url, self.path, 4)
+        self.url, self.path = url, links.named(url)
+        self.asker = links.Asker(url, self.path, 3)
         self.lease = Lease(self.asker, node, lease, version)
         self._sagas = list(sagas)
         self._transactions = Transactions(url, self.path, self.lease.node, lambda: self._line, most)
         self.call = self._transactions.call
         self._places = Places(self.asker, self.lease.node)
         self._line = ""
-        self._events: dict[int, int] = {}  # of each log, by what the server said
         self._numbers: deque[int] = deque()
-        self._writer: links.Link | None = None
+        self._writer = Writer(url, self.path, self.lease.node, self._check_server, self._kept)
+        self._finder = wire.Kept(url, self.path)
         self._reader = self.reader()
         self._wanted: dict[str, list[asyncio.Future[SagaRow | None]]] = {}
         self._said: list[str] = []
@@ -117,6 +117,7 @@ class PostgreSQL(questions.Questions):
                 job.cancel()
             if late:
                 await asyncio.wait(late)
+        await self._writer.close()
         if self._news:
             await self._news.close()
         if self.lease.holds():
@@ -124,7 +125,7 @@ class PostgreSQL(questions.Questions):
                 await self.lease.end()
         await self._transactions.close()
         await self.asker.close()
-        await self._cut()
+        self._finder.close()
         self._reader.close()
 
     def _heard(self, what: str) -> None:
@@ -158,7 +159,7 @@ class PostgreSQL(questions.Questions):
         assert self._watcher
         lapsed, orphans, asks, line = await self.lease.beat(self._watcher.logs())
         if not self._is_known(line):
-            await self._cut()
+            self._writer.cut()
         elif lapsed:
             self._watcher.lapsed()
         while orphans and not self._closing and (rows := await self.lease.take(self._drives, self._watcher.logs())):
@@ -174,7 +175,7 @@ class PostgreSQL(questions.Questions):
             return True
         logger.warning("%s: another server has taken over: its logs are taken up again", self.path)
         self._line = line
-        self._events.clear()  # so that what was decided before is not written
+        self._writer.events.clear()  # so that what was decided before is not written
         if self._watcher:
             self._watcher.lapsed()
         return False
@@ -205,69 +206,26 @@ class PostgreSQL(questions.Questions):
         """Places of a step, over all nodes."""
         return await self._places.take(name, bounds, want, have, self.lease.pause)
 
+    @property
+    def commits(self) -> int:
+        """How many transactions were written."""
+        return self._writer.commits
+
     def commit(self, batches: Sequence[Batch], then: Then) -> None:
         """One statement for all; `then` is called in the loop."""
-        job = asyncio.get_running_loop().create_task(self._commit(batches, then))
-        self._jobs.add(job)
-        job.add_done_callback(self._jobs.discard)
+        self._writer.commit(batches, then)
 
     def settle(self) -> None:
-        """Nothing: a commit's task calls its `then`."""
+        """Nothing: `then` is called as soon as the server's answer is there."""
 
-    async def _commit(self, batches: Sequence[Batch], then: Then) -> None:
-        fault: BaseException | None = None
-        lost = NONE
-        try:
-            try:
-                lost = await self._write(batches)
-            except errors.UniqueViolation:
-                lost = await self._one_by_one(batches)
-        except Exception as error:  # told to the coordinator, which begins again from the database
-            fault = error
-        except asyncio.CancelledError:
-            fault = StoreUnwritable(f"{self.path}: closed")
-        then(batches, fault, lost)
+    async def _check_server(self, link: links.Link) -> None:
+        if not self._is_known(await links.line_of(link)):
+            raise StoreUnwritable(f"{self.path}: another server has taken over: what it has is looked at first")
 
-    async def _one_by_one(self, batches: Sequence[Batch]) -> frozenset[int]:
-        """Another node has a key of one of them, or wrote a log before: the others are written. Gives those that were not."""
-        lost: set[int] = set()
-        for log in dict.fromkeys(batch.log for batch in batches):
-            try:
-                lost |= await self._write([batch for batch in batches if batch.log == log])
-            except errors.UniqueViolation:
-                lost.add(log)
-        return frozenset(lost)
-
-    async def _write(self, batches: Sequence[Batch]) -> frozenset[int]:
-        commit = Commit(batches, lambda log: self._events.get(log, 0))
-        text, words = commit.words(self.lease.node)
-        try:
-            with links.faults(self.path):
-                async with asyncio.timeout(links.PATIENCE):
-                    if self._writer is None or self._writer.closed:
-                        self._writer = await links.connect(self.url)
-                        if not self._is_known(await links.line_of(self._writer)):
-                            raise StoreUnwritable(f"{self.path}: another server has taken over: what it has is looked at first")
-                    rows = await (await self._writer.execute(text, words)).fetchall()
-        except BaseException as error:
-            cause = error.__cause__
-            if isinstance(cause, errors.UniqueViolation):
-                raise cause
-            await self._cut()
-            raise
-        mine = {log for (log,) in rows}
-        self.commits += 1
-        self._events.update((log, events) for log, events in commit.events.items() if log in mine)
-        begun, answered = (id for batch in batches for id in batch.begun), (id for batch in batches for _, id in batch.answers)
+    def _kept(self, commit: Commit) -> None:
+        """A commit is in the store: the others hear of it."""
+        begun, answered = (id for batch in commit.batches for id in batch.begun), (id for batch in commit.batches for _, id in batch.answers)
         self._say(news.payloads("ended", commit.ended) + news.payloads("begun", begun) + news.payloads("answered", answered))
-        return frozenset(commit.epochs.keys() - mine)
-
-    async def _cut(self) -> None:
-        """What the connection was doing is over, or is fenced by the epoch that follows."""
-        writer, self._writer = self._writer, None
-        if writer:
-            with contextlib.suppress(psycopg.Error, OSError):
-                await writer.close()
 
     def _say(self, words: list[str]) -> None:
         """Tells the other nodes and the clients, behind the commit: a commit that tells takes a lock over the whole server."""
@@ -280,7 +238,7 @@ class PostgreSQL(questions.Questions):
         try:
             while self._said:
                 words, self._said = self._said, []
-                await self.asker.ask(news.SAY, words=words)
+                await self._finder.ask(news.SAY_WIRED, news.wired(words))
         except StoreUnwritable:
             pass  # whoever waits also looks by himself
         finally:
@@ -304,7 +262,7 @@ class PostgreSQL(questions.Questions):
             fault: StoreUnwritable | None = None
             found: dict[str, SagaRow] = {}
             try:
-                for row in map(SagaRow._make, await self.asker.read(FIND, keys=json.dumps([clean(key) for key in wanted]))):
+                for row in map(saga_row, await self._finder.read(FIND_WIRED, json.dumps([clean(key) for key in wanted]).encode())):
                     if row.key not in found or row.id >= 0:
                         found[row.key] = row
             except StoreUnwritable as error:
@@ -334,7 +292,7 @@ class PostgreSQL(questions.Questions):
                 ((opened,),) = await rows(questions.COUNT)
                 open, results, held = [await rows(query) for query in (questions.OPEN_SAGAS, questions.OPEN_RESULTS, questions.OPEN_HELD)]
                 self._check_line(line)  # else nothing was taken up
-        self._events[log] = events
+        self._writer.events[log] = events
         return questions.loaded(text, events, opened, open, results, held, taken[0][0] if taken else epoch)
 
     async def take_up(self, log: int, epoch: int) -> tuple[str, int] | None:
@@ -344,8 +302,8 @@ class PostgreSQL(questions.Questions):
         if not rows[0][0]:
             return None
         self._check_line(line)
-        text, self._events[log] = questions.joined([(first, text) for _, first, text in rows if first is not None])
-        return text, self._events[log]
+        text, self._writer.events[log] = questions.joined([(first, text) for _, first, text in rows if first is not None])
+        return text, self._writer.events[log]
 
     async def requests(self) -> list[Request]:
         """What was asked of the sagas of this node's logs."""
@@ -401,6 +359,13 @@ class Reader:
     def close(self) -> None:
         if self._link:
             self._link.close()
+
+
+def saga_row(values: wire.Values) -> SagaRow:
+    """A row of `FIND_WIRED`."""
+    id, key, saga, place, input, at, phase, end, ended, note = (None if value is None else value.decode() for value in values)
+    assert id and key and saga and place and input is not None and at
+    return SagaRow(int(id), key, saga, int(place), input, float(at), phase, end, None if ended is None else float(ended), note)
 
 
 def _named(query: str) -> str:

@@ -1,6 +1,6 @@
 """What a commit writes to PostgreSQL: one statement, whose parts join the logs that are still this node's.
 
-Each part's rows go as one JSON text; parts without rows are left out, and each form of the statement is prepared once."""
+All rows go as one JSON text, each as a list; parts without rows are left out, and each form of the statement is prepared once."""
 
 from __future__ import annotations
 
@@ -34,6 +34,7 @@ ROWS = {
     "closed": "log bigint, closed smallint, audit text",
 }
 """The columns of the rows of each part."""
+COLUMNS = {part: [(name, kind) for name, _, kind in (column.partition(" ") for column in columns.split(", "))] for part, columns in ROWS.items()}
 
 OF_LOG = f"JOIN mine ON mine.log = v.id / {ROOM}"
 PARTS = {
@@ -57,24 +58,25 @@ PARTS = {
 }
 """What becomes of them."""
 
-KEPT = (
-    "SELECT l.log FROM logs l JOIN json_to_recordset(%(logs)s::json) AS v(log bigint, epoch bigint) ON l.log = v.log AND l.epoch = v.epoch "
-    "WHERE l.owner = %(node)s FOR SHARE OF l"
-)
-BORN = "INSERT INTO logs(log, name, shelf, owner, epoch) SELECT v.log, v.name, v.shelf, %(node)s, 1 FROM {rows} ON CONFLICT DO NOTHING RETURNING log"
+KEPT = "SELECT log FROM logs WHERE log = ANY($3::bigint[]) AND owner = $2 AND epoch = ($4::bigint[])[array_position($3, log)] FOR SHARE"
+BORN = "INSERT INTO logs(log, name, shelf, owner, epoch) SELECT v.log, v.name, v.shelf, $2, 1 FROM {rows} ON CONFLICT DO NOTHING RETURNING log"
+MOST = 100 << 20
+"""Bytes of rows that PostgreSQL takes apart at once: more than some 200 MiB it does only piece by piece, which takes longer."""
+dumps = json.JSONEncoder(separators=(",", ":"), check_circular=False).encode
 
 
 @functools.lru_cache(maxsize=None)
-def statement(parts: tuple[str, ...]) -> str:
-    """The statement with these parts."""
+def statement(parts: tuple[str, ...], form: str = "jsonb") -> str:
+    """The statement with these parts. $1: the rows of each, by its name; $2: the node; $3 and $4: its logs and their epochs."""
 
     def rows(part: str) -> str:
-        return f"json_to_recordset(%({part})s::json) AS v({ROWS[part]})"
+        cells = (f"(e ->> {place}){'' if kind == 'text' else f'::{kind}'} AS {name}" for place, (name, kind) in enumerate(COLUMNS[part]))
+        return f"(SELECT {', '.join(cells)} FROM {form}_array_elements($1::{form} -> '{part}') e) v"
 
-    texts = [f"kept AS MATERIALIZED ({KEPT})"]
+    texts = [f"mine AS MATERIALIZED ({KEPT})"]
     if "born" in parts:
-        texts.append(f"born AS ({BORN.format(rows=rows('born'))})")
-    texts.append(f"mine AS MATERIALIZED (SELECT log FROM kept{' UNION ALL SELECT log FROM born' if 'born' in parts else ''})")
+        texts = [f"kept AS MATERIALIZED ({KEPT})", f"born AS ({BORN.format(rows=rows('born'))})"]
+        texts.append("mine AS MATERIALIZED (SELECT log FROM kept UNION ALL SELECT log FROM born)")
     texts += [f"{part}_ AS ({PARTS[part].format(rows=rows(part))})" for part in parts if part != "born"]
     return f"WITH {', '.join(texts)} SELECT log FROM mine"
 
@@ -145,13 +147,8 @@ class Commit:
         yield "notes", ([(clean(note), id) for note, id in batch.notes] for batch in self.batches)
         yield "closed", ([(batch.log, *batch.closed)] for batch in self.batches if batch.closed)
 
-    def words(self, node: str) -> tuple[str, dict[str, Any]]:
+    def words(self, node: str) -> tuple[str, list[bytes | None]]:
         """The statement and its words."""
-        words: dict[str, Any] = {"node": node, "logs": json.dumps([{"log": log, "epoch": epoch} for log, epoch in self.epochs.items()])}
-        for part, rows in self._rows.items():
-            names = NAMES[part]
-            words[part] = json.dumps([dict(zip(names, row)) for row in rows])
-        return statement(tuple(sorted(self._rows))), words
-
-
-NAMES = {part: [column.split()[0].strip('"') for column in columns.split(", ")] for part, columns in ROWS.items()}
+        rows, logs, epochs = dumps(self._rows).encode(), ",".join(map(str, self.epochs)), ",".join(map(str, self.epochs.values()))
+        text = statement(tuple(sorted(self._rows)), "jsonb" if len(rows) < MOST else "json")
+        return text, [rows, node.encode(), f"{{{logs}}}".encode(), f"{{{epochs}}}".encode()]

@@ -24,8 +24,8 @@ logger = logging.getLogger("sagas")
 MOST_NEXT = 1000
 LOT = 256
 """Reports and opens that go to the child at once: while it decides on one lot, functions of another run."""
-Asked = tuple[Callable[..., None], Sequence[Any]]
-"""What reads a reply, and what each of some replies is about."""
+Asked = tuple[Callable[[Batch, list[Act], Sequence[Any], Sequence[Reply]], None], Sequence[Any]]
+"""What reads some replies, and what each of them is about."""
 TURN = 0.1  # seconds that a log keeps its child while others wait for one
 
 
@@ -48,12 +48,15 @@ class Pump(Answers):
         self.events: int = 0  # how many stand in the store or on their way to it
         self.opened: int = 0
         self.reserved: int = 0  # those, and those that are to be opened here
+        self.full: bool = False  # it had no room for a saga, and takes no more
         self.unwritten: int = 0  # batches on their way to the store
         self.more: int = 1
-        self.outstanding = self._took = 0  # tasks that were asked for, and that the last batch took
+        self.outstanding = 0  # tasks that were asked for
         self._text = ""  # of the log, by the answer that is read
-        self._reported: list[tuple[Attempt, str]] = []  # with their events
+        self._begun: list[Attempt] = []  # that this answer begins
+        self._ended: list[Live] = []  # sagas that it ends
         self._over_odd: dict[int, None] = {}  # sagas that this answer ends otherwise than all well
+        self._passed = False  # this answer passed a saga over that was to be opened
         self.hungry: bool = False  # there may be tasks
         self._scheduled = False
         self.used: float = 0.0
@@ -68,9 +71,11 @@ class Pump(Answers):
         """Something is to be sent, with what else comes meanwhile. `now`: where no function runs that might bring more, or there is a lot, at once."""
         if self.state == "up":
             assert self.child
+            if self.child.asked:  # when it has answered, it is asked what is due
+                return
             if now and (not self.owner.slots.running or len(self.reports) >= LOT):
                 self._send()
-            elif not self._scheduled and not self.child.asked:
+            elif not self._scheduled:
                 self._scheduled = True
                 self.owner.loop.call_soon(self._send)
         elif self.state == "asleep":
@@ -139,12 +144,15 @@ class Pump(Answers):
             self.owner.loop.call_soon(self.owner.yield_child, self)
             if not self.unwritten:
                 return
+        self.owner.place_now(self)
         requests: list[str] = []
-        asked: list[Asked] = [(self._told_report, self._ask_reports(requests)), (self._told_abort, self.aborts)]
-        requests += [lines.abort_line(live.number) for live, _, _ in self.aborts]
-        self.aborting += self.aborts
-        self.aborts = []
-        asked.append((self._told_open, self._ask_opens(requests)))
+        asked: list[Asked] = []
+        if self.reports:
+            asked.append((self._told_reports, self._ask_reports(requests)))
+        if self.aborts:
+            asked.append((self._told_aborts, self._ask_aborts(requests)))
+        if self.opens:
+            asked.append((self._told_opens, self._ask_opens(requests)))
         if requests:
             self.hungry = True
         if self._ask_next(requests):
@@ -168,6 +176,12 @@ class Pump(Answers):
             self.reporting[attempt] = None
             if not ok or attempt.kind == "undo":
                 live.odd = True
+        return lot
+
+    def _ask_aborts(self, requests: list[str]) -> list[Abort]:
+        lot, self.aborts = self.aborts, []
+        requests += [lines.abort_line(live.number) for live, _, _ in lot]
+        self.aborting += lot
         return lot
 
     def _ask_opens(self, requests: list[str]) -> list[Live]:
@@ -201,13 +215,14 @@ class Pump(Answers):
     def _answered(self, asked: list[Asked], replies: list[Reply], text: str) -> None:
         batch = self.batch()
         acts: list[Act] = []
-        self._text, self._reported, self._took, self._over_odd = text, [], 0, {}
-        acts.append((self.owner.doing.reported, self._reported))
+        self._text, self._begun, self._ended, self._over_odd, self._passed = text, [], [], {}, False
+        place = 0
         try:
-            told = iter(replies)
             for then, abouts in asked:
-                for about, reply in zip(abouts, told):
-                    then(batch, acts, about, reply)
+                then(batch, acts, abouts, replies[place : place + len(abouts)])
+                place += len(abouts)
+            if place != len(replies):
+                raise Disagrees(f"{len(replies)} replies to {place} requests")
         except Exception as error:
             self._misunderstood(error)
             return
@@ -221,7 +236,7 @@ class Pump(Answers):
     def _shown(self, batch: Batch, acts: list[Act], numbers: list[int], replies: list[Reply]) -> None:
         try:
             for number, reply in zip(numbers, replies):
-                self._told_show(batch, acts, number, json.loads(reply))
+                self._told_show(batch, number, json.loads(reply))
         except Exception as error:
             self._misunderstood(error)
             return
@@ -238,9 +253,13 @@ class Pump(Answers):
 
     def _read(self, batch: Batch, acts: list[Act]) -> None:
         """What was answered is committed, and what is to be asked is asked."""
-        unused, self.outstanding = self.outstanding - self._took, 0
+        if self._ended:
+            acts.append((self.owner.ended, self._ended))
+        if self._begun:
+            acts.append((self._begin, self._begun))
+        took, unused, self.outstanding = len(self._begun), self.outstanding - len(self._begun), 0
         self.owner.slots.release(unused)
-        self.more = min(MOST_NEXT, 2 * self._took) if self.hungry else 1
+        self.more = min(MOST_NEXT, 2 * took) if self.hungry else 1
         batch.text = self._text
         self.events += batch.text.count("\n")
         self.commit(batch, acts)

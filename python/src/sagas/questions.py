@@ -3,6 +3,7 @@
 from __future__ import annotations
 
 import json
+from collections.abc import Sequence
 from typing import Any
 
 from .errors import NoSuchSaga
@@ -23,6 +24,8 @@ OPEN_HELD = f"SELECT {HELD} FROM sagas s JOIN held h USING (id) WHERE {OPEN}"
 PLACES = f"SELECT DISTINCT def FROM sagas s WHERE {OPEN}"
 COUNT = "SELECT count(*) FROM sagas s WHERE s.id >= ? AND s.id < ?"
 FIND = f"SELECT {SAGA} FROM sagas WHERE key = ?"
+FIND_MANY = {count: f"SELECT {SAGA} FROM sagas WHERE key IN ({', '.join('?' * count)})" for count in (1, 2, 4, 8, 16, 32, 64, 128, 256)}
+"""By how many keys: few numbers, so that their statements are kept."""
 PHASES = {
     "open": "phase IS NULL", "ended": "phase = 'ended'", "planned": PLANNED,
     "stuck": "phase = 'stuck' AND note IS NULL", "resolved": "phase = 'stuck' AND note IS NOT NULL",
@@ -72,6 +75,16 @@ class Questions:
         """The saga with this key."""
         found = self.rows(FIND, key)
         return SagaRow(*found[0]) if found else None
+
+    def find_many(self, keys: Sequence[str]) -> dict[str, SagaRow]:
+        """The sagas with these keys, by key, as far as they are there."""
+        found, most = {}, max(FIND_MANY)
+        for place in range(0, len(keys), most):
+            lot = keys[place : place + most]
+            count = next(count for count in FIND_MANY if count >= len(lot))
+            for row in self.rows(FIND_MANY[count], *lot, *[lot[0]] * (count - len(lot))):
+                found[row[1]] = SagaRow(*row)
+        return found
 
     def definition(self, id: int) -> str:
         """The text of a saga's definition. Raises `NoSuchSaga` where it was let go."""

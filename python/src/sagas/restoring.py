@@ -118,18 +118,18 @@ def _restore(pump: Pump, loaded: Loaded, shown: list[int], replies: list[Reply])
     pump.hungry, pump.more = True, 1
     pump.state, pump.used = "up", pump.owner.loop.time()
     pump.woke = pump.used
-    batch, acts = pump.batch(), []  # type: ignore[var-annotated]
+    batch, pump._ended = pump.batch(), []
     for number, told in zip(shown, map(json.loads, replies[1:])):
         live = pump.live[number]
         live.odd, live.aborted, live.answer = True, told["aborted"], told.get("answer")
         live.draining = told["phase"] in ("draining", "planning")
-        pump._told_show(batch, acts, number, told)
+        pump._told_show(batch, number, told)
     busy = _busy(pump, loaded, old, json.loads(replies[0])["busy"])
     pump.fault = None
     pump.reserved = pump.opened + len(pump.opens)
     for live, future, request in aborts:
         _abort_again(pump, live, future, request)
-    pump.commit(batch, acts)
+    pump.commit(batch, [(pump.owner.ended, pump._ended)])
     for attempt in busy:
         pump.owner.doing.begin_again(attempt)
     for live in list(pump.live.values()):

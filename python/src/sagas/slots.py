@@ -41,9 +41,10 @@ class Slots:
                 queue.append(attempt)
                 return
             inside.add(attempt)
-        self._come(attempt)
+        self.come(attempt)
 
-    def _come(self, attempt: Attempt) -> None:
+    def come(self, attempt: Attempt) -> None:
+        """As `enter`, of a step without a limit."""
         if self.running >= self.most:
             attempt.state = "ready"
             self._ready[attempt] = None
@@ -75,7 +76,7 @@ class Slots:
             following = queue.popleft()
             if following.state == "held" and following.why == "limit":
                 inside.add(following)
-                self._come(following)
+                self.come(following)
                 return
 
     def clear(self) -> None:

@@ -29,7 +29,7 @@ MOST_LOOK = 30.0
 
 def connect(path: str, synchronous: str = "FULL") -> sqlite3.Connection:
     """A connection that commits where it is told to."""
-    db = sqlite3.connect(path, isolation_level=None, check_same_thread=False, cached_statements=128, timeout=BUSY / 1000)
+    db = sqlite3.connect(path, isolation_level=None, check_same_thread=False, cached_statements=256, timeout=BUSY / 1000)
     db.execute(f"PRAGMA synchronous={synchronous}")
     return db
 

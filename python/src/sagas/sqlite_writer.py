@@ -12,17 +12,17 @@ import sqlite3
 import threading
 import time
 from collections.abc import Iterable, Sequence
-from typing import Any
+from typing import Any, TypeVar
 
 from .database import Then
-from .records import Batch
+from .records import Batch, Ended
 from .values import clean, cleaned
 
 BUSY = 5000  # ms: an operator's command may be writing
 CHECKPOINT = 1000
 """Pages: a WAL of so many is moved into the file, which takes longer than a commit, and happens in the thread."""
-ROWS = (1, 2, 3, 4, 6, 8, 12, 16, 24, 32, 48, 64, 96, 128, 192, 256, 384, 512)
-"""Of a statement: few numbers, so that their statements are kept, and close, since those that are too many are written as nothing."""
+ROWS = (*range(1, 17), 20, 24, 28, 32, 40, 48, 56, 64, 80, 96, 112, 128, 160, 192, 224, 256, 320, 384, 448, 512)
+"""Of a statement: few numbers, so that their statements are kept, and close, so that few statements make any number."""
 FEW_ROWS = 1000
 """So many results and sagas are written in the loop, if the disk is fast: a thread gets the interpreter's lock when the loop has nothing to do, and that
 is later than the commit takes."""
@@ -32,10 +32,14 @@ it also waits for the interpreter's lock: so after some of them the loop tries a
 FORGET = 0.97  # of what the disk took, a commit
 NONE: frozenset[int] = frozenset()
 
-OPENED = "INSERT INTO sagas(id, key, saga, def, input, at) SELECT * FROM (VALUES {}) WHERE column1 IS NOT NULL"
-RESULTS = "INSERT INTO results SELECT * FROM (VALUES {}) WHERE column1 IS NOT NULL"
-ENDED = "UPDATE sagas SET phase = v.column1, end = v.column2, ended = v.column3 FROM (VALUES {}) v WHERE id = v.column4"
+LINES = "INSERT INTO lines VALUES(?, ?, ?, ?)"
+OPENED = "INSERT INTO sagas(id, key, saga, def, input, at) VALUES {}"
+RESULTS = "INSERT INTO results VALUES {}"
+ENDED = "UPDATE sagas SET phase = ?, end = ?, ended = ? WHERE id IN ({})"
 SETTLED = "INSERT INTO reports(token, log, outcome) VALUES(?, ?, 'taken') ON CONFLICT(token) DO UPDATE SET outcome = 'taken', value = NULL"
+
+
+Row = TypeVar("Row")
 
 
 class Gap(Exception):
@@ -49,7 +53,8 @@ class Writer:
         self._db = db
         self.commits = 0
         self.events: dict[int, int] = {}
-        self._jobs: queue.SimpleQueue[tuple[Sequence[Batch], Then, asyncio.AbstractEventLoop] | None] = queue.SimpleQueue()
+        self._loop = asyncio.get_running_loop()
+        self._jobs: queue.SimpleQueue[tuple[Sequence[Batch], Then] | None] = queue.SimpleQueue()
         self._took = AT_ONCE  # seconds, by the slowest of the last commits
         self._patient: bool | None = None
         self._pages = 0  # that the loop wrote into the WAL, about
@@ -64,15 +69,14 @@ class Writer:
 
     def commit(self, batches: Sequence[Batch], then: Then) -> None:
         """As `Database.commit`."""
-        loop = asyncio.get_running_loop()
         rows = sum(len(batch.results) + len(batch.opened) for batch in batches)
         if self._took < AT_ONCE and self._pages < CHECKPOINT and rows <= FEW_ROWS:
             self._pages += 6 + rows // 8
-            loop.call_soon(self.settle)
+            self._loop.call_soon(self.settle)
             if self._here(batches, then):
                 return
         self._pages = 0
-        self._jobs.put((batches, then, loop))
+        self._jobs.put((batches, then))
 
     def _here(self, batches: Sequence[Batch], then: Then) -> bool:
         """Commits them here, unless somebody else writes just now."""
@@ -94,11 +98,11 @@ class Writer:
 
     def _work(self) -> None:
         while (job := self._jobs.get()) is not None:
-            batches, then, loop = job
+            batches, then = job
             fault = self._try(batches, patient=True)
             self._took *= FORGET
             with contextlib.suppress(RuntimeError):  # the loop is closed
-                loop.call_soon_threadsafe(then, batches, fault, NONE)
+                self._loop.call_soon_threadsafe(then, batches, fault, NONE)
 
     def _try(self, batches: Sequence[Batch], patient: bool) -> Exception | None:
         """One transaction, or what kept it from being: that is told to the coordinator, which begins again from the database."""
@@ -152,12 +156,21 @@ class Writer:
                 events[batch.log] = had + batch.text.count("\n")
                 chunks.setdefault(batch.log, (had, []))[1].append(batch.text)
         at = max(batch.at for batch in batches)
-        self._many("INSERT INTO lines VALUES(?, ?, ?, ?)", ([(log, first, at, "".join(texts))] for log, (first, texts) in chunks.items()))
-        self._lots(OPENED, 6, (b.opened for b in batches))
-        self._lots(RESULTS, 7, (b.results for b in batches))
-        self._lots(ENDED, 4, (b.ended for b in batches))
+        for log, (first, lines) in chunks.items():
+            self._db.execute(LINES, (log, first, at, "".join(lines)))
+        self._lots(OPENED, 6, _joined([batch.opened for batch in batches]))
+        self._lots(RESULTS, 7, _joined([batch.results for batch in batches]))
+        self._put_ended(_joined([batch.ended for batch in batches]))
         self._put_rare([batch for batch in batches if batch.is_rare])
         return events
+
+    def _put_ended(self, rows: Sequence[Ended]) -> None:
+        """Most of them ended in the same way, and at the same time."""
+        ways: dict[tuple[str, str, float], list[tuple[int]]] = {}
+        for phase, end, at, id in rows:
+            ways.setdefault((phase, end, at), []).append((id,))
+        for way, ids in ways.items():
+            self._lots(ENDED, 1, ids, way)
 
     def _put_rare(self, batches: Sequence[Batch]) -> None:
         if not batches:
@@ -176,17 +189,21 @@ class Writer:
         if rows:
             self._db.executemany(statement, rows)
 
-    def _lots(self, statement: str, width: int, lists: Iterable[Sequence[Sequence[Any]]]) -> None:
-        """As `_many`, by a statement for many rows: one for each row takes longer, and gives up the interpreter's lock each time."""
-        rows = [row for rows in lists for row in rows]
-        for place in range(0, len(rows), ROWS[-1]):
-            lot = rows[place : place + ROWS[-1]]
-            count = ROWS[bisect.bisect_left(ROWS, len(lot))]
-            nothing = itertools.repeat(None, width * (count - len(lot)))
-            self._db.execute(_statement(statement, width, count), [*itertools.chain.from_iterable(lot), *nothing])
+    def _lots(self, statement: str, width: int, rows: Sequence[Sequence[Any]], words: Sequence[Any] = ()) -> None:
+        """As `_many`, by a statement for many rows: one for each row takes longer, and gives up the interpreter's lock each time. `words` stand before them."""
+        place = 0
+        while place < len(rows):
+            count = ROWS[bisect.bisect_right(ROWS, len(rows) - place) - 1]
+            self._db.execute(_statement(statement, width, count), [*words, *itertools.chain.from_iterable(rows[place : place + count])])
+            place += count
 
 
-@functools.lru_cache(maxsize=64)
+def _joined(lists: Sequence[Sequence[Row]]) -> Sequence[Row]:
+    return lists[0] if len(lists) == 1 else [*itertools.chain.from_iterable(lists)]
+
+
+@functools.lru_cache(maxsize=256)
 def _statement(statement: str, width: int, count: int) -> str:
     """The statement with marks for so many rows."""
-    return statement.format(", ".join([f"({', '.join('?' * width)})"] * count))
+    row = "?" if width == 1 else f"({', '.join('?' * width)})"
+    return statement.format(", ".join([row] * count))

@@ -74,6 +74,9 @@ class Starts:
             owner.enqueue(batch)
             return
         place = owner.shelf.places[saga, version]
-        live = owner.new_live(key, text, owner.shelf.kinds[place], place)
+        kind = owner.shelf.kinds[place]
+        if not kind.fits:  # it waits, as one of a saga that no node has
+            return
+        live = owner.new_live(key, text, kind, place)
         live.start = id
         owner.place(live)

@@ -22,7 +22,7 @@ from .coordinator import Coordinator
 from .database import Reader
 from .definition import Saga, Step
 from .elsewhere import Leased, Queue, Word
-from .errors import Closed, Moved, NoSuchSaga, NotJson, NotWaiting
+from .errors import Closed, KeyConflict, Moved, NoSuchSaga, NotJson, NotWaiting
 from .events import Hook, Teller, logger
 from .kinds import Shelf
 from .live import Attempt, Live
@@ -123,26 +123,35 @@ class Store:
     async def start(self, saga: Saga, key: str, input: Any = None) -> Run:
         """Starts a saga, or gives the one that this key has, whatever became of it. When it returns, the saga goes on whatever becomes of the program.
 
-        Raises `KeyConflict` where the key has another saga or another input, `StoreUnwritable` where nothing could be begun, `NotJson`, `Closed`."""
+        Raises `KeyConflict` where the key has another saga or another input, `StoreUnwritable` where nothing could be begun, `TooLarge` where it fits
+        into no log, `NotJson`, `Closed`."""
         inside = self._here()
         if not isinstance(key, str) or not 0 < len(key) <= MOST_KEY or not key.isprintable():
             raise NotJson(f"key={key!r}: a key is a text of 1 to {MOST_KEY} printable characters")
         place, text = self._shelf.place(saga), values.write(input)
-        row = None if key in inside.lives else await self._find(key) if inside.store.shared else inside.store.find_now(key)
+        kind = self._shelf.kinds[place]
+        looks = inside.store.shared or not self.new or not kind.fits  # else it is looked for with others, where it is placed
+        row = await self._find(key) if looks and key not in inside.lives else None
         live = inside.lives.get(key)  # another start of it may have come meanwhile
         there = (live.kind.name, live.text) if live else (row.saga, row.input) if row else None
         if there:
             error = moving.conflict(key, saga.name, text, *there)
+            if error and live and not live.committed and not inside.store.shared:  # that start may have no right to the key either
+                row = inside.store.find_now(key)
+                if row:
+                    error, live = moving.conflict(key, saga.name, text, row.saga, row.input), None
             if error:
                 raise error
         elif not self.new:
             raise Closed(f"{self.path}: it was opened with new=False, and takes no new sagas")
+        elif not kind.fits:
+            raise kind.too_large()
         else:
-            live = inside.new_live(key, text, self._shelf.kinds[place], place)
+            live = inside.new_live(key, text, kind, place)
             inside.place(live)
-        if live:
-            await live.started()
-        return Run(self, key, new=there is None and live is not None and live.committed)  # else another node was first
+        if live and not live.committed:
+            await live.started(inside.loop)
+        return Run(self, key, new=there is None and live is not None and live.committed)  # else it was there, or another node was first
 
     async def _find(self, key: str) -> SagaRow | None:
         """Looks whether a key that is to be started is there, where that takes a while."""
@@ -177,7 +186,7 @@ class Store:
                     turn += 1
             else:
                 try:
-                    await live.ended()
+                    await live.ended(inside.loop)
                     return live
                 except Moved:
                     pass
@@ -210,7 +219,10 @@ class Store:
                 if key in inside.lives:
                     continue
                 return bool(await self._elsewhere(key, "abort", None, request))
-            await live.started()
+            try:
+                await live.started(inside.loop)
+            except KeyConflict:  # it was to be started otherwise than it was
+                continue
             if live.over or live.pump is None:
                 if live.over or inside.lives.get(key) is live:
                     return False

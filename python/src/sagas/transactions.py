@@ -18,6 +18,7 @@ from . import calling, links
 from .calling import Outcome
 from .definition import Manner
 from .errors import Lost, Unknown
+from .step_links import AsyncStepLink, StepLink
 from .task import Task
 
 if TYPE_CHECKING:
@@ -26,9 +27,10 @@ if TYPE_CHECKING:
     from .live import Attempt
 
 RECORD = f"""
-INSERT INTO sagas.results SELECT %(id)s, %(step)s, %(kind)s, %(attempt)s, 'ok', %(value)s, extract(epoch FROM clock_timestamp())
-FROM sagas.logs WHERE log = %(log)s AND owner = %(node)s AND epoch = %(epoch)s AND {links.LINE} = %(line)s FOR SHARE RETURNING id
+INSERT INTO sagas.results VALUES (%(id)s, %(step)s, '%(kind)s', %(attempt)s, (SELECT 'ok' FROM sagas.logs
+  WHERE log = %(log)s AND owner = {{}} AND epoch = %(epoch)s AND {links.LINE} = '%(line)s' FOR SHARE), {{}}, extract(epoch FROM clock_timestamp()))
 """
+"""Its outcome would be null where the log is not this node's any more: that is refused, and nothing is committed. In braces: the node, the value."""
 ROLLED_BACK = ("23", "25P02", "40001", "40P01", "P0")
 """A constraint, also one that is looked at in the commit; a statement that failed before, unnoticed; others in the way; a trigger's own word."""
 
@@ -41,12 +43,12 @@ class Record:
     node: str
     line: str
     begun: bool = False
-    written: bool = False
     done: bool = False
 
     def refused(self, error: psycopg.Error) -> None:
-        """The server's own answer may say that all is rolled back: then the function had no effect. A double of the record is another run's."""
-        if (error.sqlstate or "").startswith(ROLLED_BACK) and (self.written or not isinstance(error, psycopg.errors.UniqueViolation)):
+        """The server's own answer may say that all is rolled back: then the function had no effect. What it says of the record means that the log,
+        or the attempt, is another run's."""
+        if (error.sqlstate or "").startswith(ROLLED_BACK) and (error.diag.schema_name, error.diag.table_name) != ("sagas", "results"):
             self.begun = False
 
     @contextlib.contextmanager
@@ -60,14 +62,14 @@ class Record:
                 raise Unknown(str(error)) from error
             raise
 
-    def words(self, value: Any) -> dict[str, Any]:
-        """What is written of a result."""
+    def words(self, value: Any) -> tuple[str, str, str]:
+        """What is written of a result, from here on: the statement, the node and the value."""
         self.begun = True
         pump = self.attempt.live.pump
         assert pump
         id, step, kind, attempt = self.attempt.row
-        text = calling.done(value).value
-        return {"id": id, "step": step, "kind": kind, "attempt": attempt, "value": text, "log": pump.log, "node": self.node, "line": self.line, "epoch": pump.epoch}
+        words = {"id": id, "step": step, "kind": kind, "attempt": attempt, "log": pump.log, "line": self.line, "epoch": pump.epoch}
+        return RECORD % words, self.node, calling.done(value).value
 
 
 class Transactions:
@@ -76,8 +78,8 @@ class Transactions:
     def __init__(self, url: str, where: str, node: str, line: Callable[[], str], most: int) -> None:
         self._where, self._node, self._line = where, node, line
         words: dict[str, Any] = {"min_size": 0, "max_size": most, "open": False, "timeout": links.PATIENCE}
-        self._pool = AsyncConnectionPool(links.address(url), **words)
-        self._threads = ConnectionPool(links.address(url), **words)
+        self._pool = AsyncConnectionPool(links.address(url), connection_class=AsyncStepLink, **words)
+        self._threads = ConnectionPool(links.address(url), connection_class=StepLink, **words)
         self._lock = threading.Lock()
         self._open = self._open_threads = False
 
@@ -89,7 +91,9 @@ class Transactions:
             self._threads.close(timeout=links.CONNECT)
 
     async def call(self, attempt: Attempt, manner: Manner, task: Task[Any], executor: Executor | None, late: Callable[[], object] | None) -> Outcome | None:
-        """As `calling.call`. Raises `Lost` where nobody knows whether it was committed, or where the log is another node's: then it is looked up."""
+        """As `calling.call`; where the function did nothing over its connection, there is nothing to commit, and no record.
+
+        Raises `Lost` where nobody knows whether it was committed, or where the log is another node's: then it is looked up."""
         record = Record(attempt, self._node, self._line())
         function = manner.function
         assert function
@@ -100,7 +104,7 @@ class Transactions:
             within: Callable[[Task[Any]], Any] = self._in_loop(function, record)
         else:
             within = self._in_thread(function, record)
-        outcome = await calling.call(dataclasses.replace(manner, function=within), task, executor, late)
+        outcome = await calling.call(manner, task, executor, late, within)
         if record.begun and not record.done:
             raise Lost(f"{self._where}: nobody knows whether {task.token} was committed")
         return outcome
@@ -108,14 +112,20 @@ class Transactions:
     def _in_loop(self, function: Callable[[Task[Any]], Any], record: Record) -> Callable[[Task[Any]], Any]:
         async def within(task: Task[Any]) -> Any:
             with record.judged():
-                async with self._pool.connection() as link, link.transaction():  # so that the function cannot commit it
-                    task.enter(link)
+                link = await self._pool.getconn()
+                assert isinstance(link, AsyncStepLink)
+                task.enter(link)
+                link.begun = False
+                try:
                     value = await function(task)
-                    rows = await (await link.execute(RECORD, record.words(value))).fetchall()
-                    if not rows:
-                        raise Lost(self._where)
-                    record.written = True
-                record.done = True
+                    if link.begun:
+                        await link.end(*record.words(value))
+                        record.done = True
+                finally:
+                    try:
+                        await link.leave()
+                    finally:
+                        await self._pool.putconn(link)
             return value
 
         return within
@@ -127,13 +137,20 @@ class Transactions:
                     self._threads.open()
                     self._open_threads = True
             with record.judged():
-                with self._threads.connection() as link, link.transaction():
-                    task.enter(link)
+                link = self._threads.getconn()
+                assert isinstance(link, StepLink)
+                task.enter(link)
+                link.begun = False
+                try:
                     value = function(task)
-                    if not link.execute(RECORD, record.words(value)).fetchall():
-                        raise Lost(self._where)
-                    record.written = True
-                record.done = True
+                    if link.begun:
+                        link.end(*record.words(value))
+                        record.done = True
+                finally:
+                    try:
+                        link.leave()
+                    finally:
+                        self._threads.putconn(link)
             return value
 
         return within

@@ -45,16 +45,15 @@ _decoder = json.JSONDecoder()
 _scan: Callable[[str, int], tuple[Any, int]] = getattr(_decoder, "scan_once")
 
 
-def _encode() -> Callable[[Any], str]:
+def _chunked() -> Callable[[Any, int], Iterable[str]]:
     """What the encoder does, with the part in C made once and not for each value."""
-    make = getattr(json.encoder, "c_make_encoder", None)
+    make: Callable[..., Callable[[Any, int], Iterable[str]]] | None = getattr(json.encoder, "c_make_encoder", None)
     if make is None:
-        return _encoder.encode
-    fast = make(None, _default, json.encoder.encode_basestring_ascii, None, ":", ",", True, False, False)  # type: ignore[attr-defined]
-    return lambda value: "".join(fast(value, 0))
+        return lambda value, level: _encoder.iterencode(value)
+    return make(None, _default, getattr(json.encoder, "encode_basestring_ascii"), None, ":", ",", True, False, False)
 
 
-_canonical = _encode()
+_chunks = _chunked()
 _BY_TEXT: dict[type, Decoder] = {
     datetime.datetime: datetime.datetime.fromisoformat,
     datetime.date: datetime.date.fromisoformat,
@@ -90,7 +89,7 @@ def write(value: Any) -> str:
     if value is None:
         return "null"
     try:
-        return _canonical(value)
+        return "".join(_chunks(value, 0))
     except (TypeError, ValueError, RecursionError) as error:
         text = str(error)
         raise NotJson("the keys of a dict have to be texts, all of them" if text.startswith("'<' not supported") else text) from error

@@ -2,8 +2,6 @@
 
 from __future__ import annotations
 
-from typing import Any
-
 from sagas.live import Live
 from sagas.pump import Pump
 from sagas.records import Batch
@@ -16,8 +14,8 @@ def apply() -> None:
     """Tells of an end as soon as the child has answered."""
     right = Pump._over
 
-    def over(self: Pump, batch: Batch, acts: list[Any], live: Live, phase: str, end: str) -> None:
-        right(self, batch, acts, live, phase, end)
-        self.owner.ended(acts.pop()[1])
+    def over(self: Pump, batch: Batch, live: Live, phase: str, end: str) -> None:
+        right(self, batch, live, phase, end)
+        self.owner.ended([self._ended.pop()])
 
     setattr(Pump, "_over", over)

@@ -12,12 +12,12 @@ STRIKES = "child"
 
 def apply() -> None:
     """Reports them as done."""
-    right = Doing._enter
+    right = Doing.begin
 
-    def enter(self: Doing, attempt: Attempt) -> None:
+    def begin(self: Doing, attempt: Attempt) -> None:
         if attempt.kind == "undo":
             self.outcome(attempt, calling.done(None))
         else:
             right(self, attempt)
 
-    setattr(Doing, "_enter", enter)
+    setattr(Doing, "begin", begin)

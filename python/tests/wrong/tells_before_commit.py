@@ -2,6 +2,7 @@
 
 from __future__ import annotations
 
+from collections.abc import Sequence
 from typing import Any
 
 from sagas.live import Live
@@ -14,10 +15,11 @@ STRIKES = "program"
 
 def apply() -> None:
     """Tells of an opening as soon as the child has answered."""
-    right = Pump._told_open
+    right = Pump._told_opens
 
-    def told_open(self: Pump, batch: Batch, acts: list[Any], live: Live, told: dict[str, Any]) -> None:
-        right(self, batch, acts, live, told)
-        live.tell(live.starting)
+    def told_opens(self: Pump, batch: Batch, acts: list[Any], lives: Sequence[Live], replies: Sequence[str]) -> None:
+        right(self, batch, acts, lives, replies)
+        for live in lives:
+            live.tell(live.starting)
 
-    setattr(Pump, "_told_open", told_open)
+    setattr(Pump, "_told_opens", told_opens)

@@ -11,6 +11,5 @@ MOMENT = "another_node_has_the_log"
 
 def apply() -> None:
     """Takes each log for this node's, and what is there for what it meant."""
-    kept = "SELECT l.log FROM logs l JOIN json_to_recordset(%(logs)s::json) AS v(log bigint, epoch bigint) ON l.log = v.log"
-    setattr(postgresql_commit, "KEPT", kept)
+    setattr(postgresql_commit, "KEPT", "SELECT log FROM logs WHERE log = ANY($3::bigint[]) AND $2::text IS NOT NULL AND $4::bigint[] IS NOT NULL")
     postgresql_commit.PARTS["lines"] += " ON CONFLICT DO NOTHING"

@@ -4,7 +4,9 @@ from __future__ import annotations
 
 from collections.abc import Sequence
 
+from sagas.database import Then
 from sagas.postgresql import PostgreSQL
+from sagas.postgresql_writer import NONE
 from sagas.records import Batch
 
 FINDS = {"told-early", "begun-early", "lost", "told-otherwise", "wrong-attempt", "effect-lost"}
@@ -14,10 +16,9 @@ MOMENT = "another_node_has_the_log"
 
 def apply() -> None:
     """Says of each log that it was written."""
-    right = PostgreSQL._write
+    right = PostgreSQL.commit
 
-    async def write(self: PostgreSQL, batches: Sequence[Batch]) -> frozenset[int]:
-        await right(self, batches)
-        return frozenset()
+    def commit(self: PostgreSQL, batches: Sequence[Batch], then: Then) -> None:
+        right(self, batches, lambda batches, fault, lost: then(batches, fault, NONE))
 
-    setattr(PostgreSQL, "_write", write)
+    setattr(PostgreSQL, "commit", commit)

@@ -2,8 +2,10 @@
 
 from __future__ import annotations
 
+import asyncio
 from collections.abc import Sequence
 
+from sagas.database import Then
 from sagas.errors import StoreUnwritable
 from sagas.postgresql import PostgreSQL
 from sagas.records import Batch
@@ -15,18 +17,26 @@ MOMENT = "the_answer_to_a_commit_is_lost"
 
 def apply() -> None:
     """Puts the same lines behind what is there."""
-    right = PostgreSQL._write
+    right, jobs = PostgreSQL.commit, set[asyncio.Task[None]]()
 
-    async def write(self: PostgreSQL, batches: Sequence[Batch]) -> frozenset[int]:
-        try:
-            return await right(self, batches)
-        except StoreUnwritable:
+    def commit(self: PostgreSQL, batches: Sequence[Batch], then: Then) -> None:
+        async def again() -> None:
             for log in {batch.log for batch in batches if batch.text}:
                 mine = [batch for batch in batches if batch.log == log and batch.text]
                 taken = await self.take_up(log, mine[0].epoch)
                 at = taken[1] if taken else mine[0].first
                 for batch in mine:
                     batch.first, at = at, at + batch.text.count("\n")
-            return await right(self, batches)
+            right(self, batches, then)
 
-    setattr(PostgreSQL, "_write", write)
+        def told(batches: Sequence[Batch], fault: BaseException | None, lost: frozenset[int]) -> None:
+            if isinstance(fault, StoreUnwritable):
+                job = asyncio.get_running_loop().create_task(again())
+                jobs.add(job)
+                job.add_done_callback(jobs.discard)
+            else:
+                then(batches, fault, lost)
+
+        right(self, batches, told)
+
+    setattr(PostgreSQL, "commit", commit)

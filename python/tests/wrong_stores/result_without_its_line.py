@@ -3,7 +3,6 @@
 from __future__ import annotations
 
 import itertools
-from typing import Any
 
 from sagas.postgresql_commit import Commit
 
@@ -16,7 +15,7 @@ def apply() -> None:
     """Leaves lines out."""
     right, turns = Commit.words, itertools.count(1)
 
-    def words(self: Commit, node: str) -> tuple[str, dict[str, Any]]:
+    def words(self: Commit, node: str) -> tuple[str, list[bytes | None]]:
         if "results" in self._rows and next(turns) % 5 == 0:
             self._rows.pop("lines", None)
         return right(self, node)

@@ -5,7 +5,8 @@ from __future__ import annotations
 from collections.abc import Sequence
 
 from sagas.database import Then
-from sagas.postgresql import NONE, PostgreSQL
+from sagas.postgresql import PostgreSQL
+from sagas.postgresql_writer import NONE
 from sagas.records import Batch
 
 FINDS = {"told-early", "begun-early", "lost"}

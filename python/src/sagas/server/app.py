@@ -25,6 +25,7 @@ STATUSES: list[tuple[type[errors.SagasError], int]] = [
     (errors.LeaseLost, 409),
     (errors.ReportedOtherwise, 409),
     (errors.NotJson, 422),
+    (errors.TooLarge, 422),
     (errors.NotHere, 503),
     (errors.StoreUnwritable, 503),
     (errors.Closed, 503),

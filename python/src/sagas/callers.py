@@ -1,0 +1,138 @@
+"""Async functions are called here. Those that end without waiting are called in a row by one task; one that waits has its task for itself."""
+
+from __future__ import annotations
+
+import asyncio
+import contextvars
+import time
+import types
+from collections import deque
+from collections.abc import Awaitable, Callable, Coroutine, Generator
+from typing import Any
+
+from . import calling
+from .calling import Outcome
+from .definition import Function
+from .live import Attempt
+from .task import Task
+
+AGAIN = 100
+"""Calls of a function that waited, after which it is looked at whether it still does."""
+Begins = Callable[[Attempt], bool]
+Ended = Callable[[Attempt, float, "Outcome | None"], None]
+
+
+class Callers:
+    """Tasks that call the functions of attempts, in the order in which they come. What a function sets of its context no other one sees.
+
+    `begins` is asked before each call, and `ended` is told when it began, by the monotonic clock, and what came of it."""
+
+    def __init__(self, begins: Begins, ended: Ended) -> None:
+        self._loop = asyncio.get_running_loop()
+        self._context = contextvars.copy_context()
+        self._begins, self._ended = begins, ended
+        self._ready: deque[tuple[Attempt, Function]] = deque()
+        self._next: asyncio.Task[None] | None = None  # the task that is about to call those
+        self._waiters: dict[Function, int] = {}  # functions that waited the last time, and how many calls have their own task at once
+
+    def call(self, attempt: Attempt, function: Function) -> None:
+        """Calls its function soon."""
+        if self._waiters and self._waits(attempt, function):
+            return
+        self._ready.append((attempt, function))
+        if self._next is None or self._next.done():  # somebody may have cancelled it
+            self._next = self.start(self._work())
+
+    def _waits(self, attempt: Attempt, function: Function) -> bool:
+        """Calls it by a task of its own, where it will wait as far as is known."""
+        left = self._waiters.get(function, 0)
+        if left:
+            self._waiters[function] = left - 1
+            attempt.job = self.start(self._alone(attempt, function))
+        return left > 0
+
+    def start(self, work: Coroutine[Any, Any, None]) -> asyncio.Task[None]:
+        """A task for one that is called by other means, in a context of its own."""
+        return self._loop.create_task(work, context=self._context.copy())
+
+    async def settled(self) -> None:
+        """Waits until all are called that are to be."""
+        while self._ready and self._next and not self._next.done():
+            await asyncio.sleep(0)
+
+    async def _work(self) -> None:
+        job, self._next = asyncio.current_task(), None
+        assert job
+        ready = self._ready
+        while ready and not job.cancelling():  # a function may have cancelled the task that it was in
+            attempt, function = ready.popleft()
+            if ready and self._next is None:  # who goes on with the others, should this one wait
+                self._next = self.start(self._work())
+            if self._waiters and self._waits(attempt, function):
+                continue
+            if self._begins(attempt):
+                attempt.job = job
+                rest = self._call(attempt, function)
+                if rest is not None:
+                    self._waiters[function] = AGAIN
+                    await rest
+                    return
+
+    async def _alone(self, attempt: Attempt, function: Function) -> None:
+        if not self._begins(attempt):
+            return
+        began = time.monotonic()
+        try:
+            task = attempt.task()
+            outcome: Outcome | None = calling.done(await function(task), task)
+        except BaseException as error:
+            outcome = calling.interrupted(error, attempt.manner)
+        self._ended(attempt, began, outcome)
+
+    def _call(self, attempt: Attempt, function: Function) -> Coroutine[Any, Any, None] | None:
+        """Its function up to where it waits: then what is left."""
+        began, context = time.monotonic(), self._context.copy()
+        try:
+            task = attempt.task()
+            work = function(task)
+            if not isinstance(work, types.CoroutineType):  # it only says that it is async
+                work = _awaited(work)
+            waits_for = context.run(work.send, None)
+        except StopIteration as end:
+            outcome: Outcome | None = calling.done(end.value, task)
+        except BaseException as error:
+            outcome = calling.interrupted(error, attempt.manner)
+        else:
+            return self._wait(attempt, began, task, _Rest(work, waits_for, context))
+        self._ended(attempt, began, outcome)
+        return None
+
+    async def _wait(self, attempt: Attempt, began: float, task: Task[Any], rest: _Rest) -> None:
+        try:
+            outcome: Outcome | None = calling.done(await rest, task)
+        except BaseException as error:
+            outcome = calling.interrupted(error, attempt.manner)
+        self._ended(attempt, began, outcome)
+
+
+async def _awaited(work: Awaitable[Any]) -> Any:
+    return await work
+
+
+class _Rest:
+    """What is left of a function that waits for something, each part of it in its context; gives what it returns."""
+
+    def __init__(self, work: Coroutine[Any, Any, Any], waits_for: Any, context: contextvars.Context) -> None:
+        self._work, self._waits_for, self._context = work, waits_for, context
+
+    def __await__(self) -> Generator[Any, Any, Any]:
+        waits_for = self._waits_for
+        while True:
+            try:
+                go_on, told = self._work.send, (yield waits_for)
+            except BaseException as error:
+                go_on, told = self._work.throw, error
+            try:
+                waits_for = self._context.run(go_on, told)
+            except StopIteration as end:
+                return end.value
