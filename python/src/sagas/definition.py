@@ -242,9 +242,10 @@ class Saga:
         - `limit`: how many of this step may run at once in this program, over all sagas. `fleet_limit`: over all nodes of the store.
         - `rate=(100, 60)`: in any 60 seconds 100 calls of it at most begin, tries too, over all nodes. Who is over a limit or a rate waits, and holds
           back no other step; a compensation has neither.
-        - `transaction=True`, over PostgreSQL: `task.connection` is a psycopg connection to the store's database with a transaction open. What the
-          function writes there and its result are committed together, so that it happens exactly once; raising rolls it back. A plain function
-          gets a plain connection, an async one an async connection. Its compensation is called so too, unless it says otherwise.
+        - `transaction=True`, over PostgreSQL: `task.connection` is a psycopg connection to the store's database, in a transaction that begins with
+          its first statement. What the function writes there and its result are committed together, so that it happens exactly once; raising
+          rolls it back. One that does nothing there is called as any other step. A plain function gets a plain connection, an async one an async
+          connection. Its compensation is called so too, unless it says otherwise.
         - `handler=None`: it has no function here; a worker elsewhere reports by `Store.finish`. Gives the step, not a decorator.
         - `run_on`: where it is called, if not in this program: `sagas.celery.Queue(..)`; its compensation too, unless that says otherwise."""
 
