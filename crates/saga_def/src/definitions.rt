@@ -1,5 +1,8 @@
 //! Definitions, which are always sound.
-ghost use Rattle.std.specs.Prelude.{◌≡◌, ◌<◌, ◌↔◌, IsTrue, IfOk, IfErr, length, slice_get, Some};
+ghost use Rattle.std.specs.Prelude.{◌≡◌, ◌<◌, ◌↔◌, IsTrue, IfOk, IfErr, OnOk, length, slice_get, Some};
+ghost use Rattle.saga_def.specs.Contents.{contents};
+ghost use Rattle.saga_def.specs.Faults.{IsFirstFault};
+ghost use Rattle.saga_def.specs.Sound.{KeepsRules};
 
 use crate::adjacency::{Adjacency, adjacency_of, entries_at};
 use crate::cycles::find_cycle;
@@ -35,10 +38,43 @@ impl Model for Definition {
         (contents d.name d.steps.items d.needs.items) d.adjacency };
 }
 
+/// Whether parts keep the rules before that against cycles, or the first rule that they break.
+fn keep_rules(alloc: Global, name: &str, steps: &[Step], needs: &[Need]) -> Result<(), DefFault>
+    ensures kept { OnOk result (KeepsRules (contents name.now steps.now needs.now)) }
+    ensures fault { IfErr result (IsFirstFault (contents name.now steps.now needs.now)) }
+{
+    if steps.is_empty() {
+        return Err(DefFault::Empty);
+    }
+    if steps.len() > MAX_STEPS {
+        return Err(DefFault::TooManySteps);
+    }
+    if needs.len() > MAX_NEEDS {
+        return Err(DefFault::TooManyNeeds);
+    }
+    if !is_name(name) || !names_are_good(steps) {
+        return Err(DefFault::BadName);
+    }
+    if !names_are_distinct(alloc, steps)? {
+        return Err(DefFault::DoubleName);
+    }
+    if !needs_are_known(needs, steps.len()) {
+        return Err(DefFault::UnknownStep);
+    }
+    if !needs_are_single(alloc, needs)? {
+        return Err(DefFault::DoubleNeed);
+    }
+    if !prices_are_small(steps) {
+        return Err(DefFault::PriceTooLarge);
+    }
+    if !tries_are_in_range(steps) {
+        return Err(DefFault::TriesOutOfRange);
+    }
+    Ok(())
+}
+
 impl Definition {
-    ghost use Rattle.saga_def.specs.Contents.{contents};
     ghost use Rattle.saga_def.specs.Sound.{IsSound};
-    ghost use Rattle.saga_def.specs.Faults.{IsFirstFault};
     ghost use Rattle.saga_def.specs.Same.{same_contents};
     ghost use Rattle.saga_def.specs.Neighbours.{needs_of, needed_by, places_of, places_on, AreNeedsOf, AreNeededBy, ArePlacesOf, ArePlacesOn};
 
@@ -57,33 +93,7 @@ impl Definition {
         ensures accepts { IsSound (contents name steps.items needs.items)
             → IfErr result (λ fault. fault ≡ DefFault.OutOfMemory) }
     {
-        if steps.is_empty() {
-            return Err(DefFault::Empty);
-        }
-        if steps.len() > MAX_STEPS {
-            return Err(DefFault::TooManySteps);
-        }
-        if needs.len() > MAX_NEEDS {
-            return Err(DefFault::TooManyNeeds);
-        }
-        if !is_name(name.as_str()) || !names_are_good(&steps) {
-            return Err(DefFault::BadName);
-        }
-        if !names_are_distinct(alloc, &steps)? {
-            return Err(DefFault::DoubleName);
-        }
-        if !needs_are_known(&needs, steps.len()) {
-            return Err(DefFault::UnknownStep);
-        }
-        if !needs_are_single(alloc, &needs)? {
-            return Err(DefFault::DoubleNeed);
-        }
-        if !prices_are_small(&steps) {
-            return Err(DefFault::PriceTooLarge);
-        }
-        if !tries_are_in_range(&steps) {
-            return Err(DefFault::TriesOutOfRange);
-        }
+        keep_rules(alloc, name.as_str(), &steps, &needs)?;
         let adjacency = adjacency_of(alloc, &needs, steps.len())?;
         if let Some(cycle) = find_cycle(alloc, &needs, &adjacency.dependants, steps.len())? {
             return Err(DefFault::Cycle(cycle));
