@@ -10,7 +10,7 @@
 //! as `book`, and prints how many events were made into a book again; `desk`
 //! takes a case and how many sagas are driven by 16 seats on 16 shards, and prints how many receipts their end compares;
 //! `run` takes a case, how many sagas of its definition are run, by how many workers, on how many shards, and the word `log`
-//! where their log is written and audited, and prints how many events that made;
+//! where their log is written and audited, or how many microseconds each step takes, and prints how many events that made;
 //! `log` takes a log and prints how many events it has. The second word, if
 //! any, is the file. On standard error stand the seconds that each of many runs took, a line a run; of a log, those of
 //! reading, of writing, and of reading the lines to JSON values alone, a line each; of an audit, those of the book's calls,
@@ -220,11 +220,18 @@ fn crew_of(words: &mut Words) -> Result<Crew> {
     let sagas = next_number(words)?;
     let workers = next_number(words)?;
     let shards = next_number(words)?;
+    let last = words.next();
+    let logs = last.as_deref() == Some("log");
+    let micros = match last {
+        Some(word) if !logs => number(Some(word.as_str()))?,
+        _ => 0,
+    };
     Ok(Crew {
         sagas,
         workers,
         shards,
-        logs: words.next().as_deref() == Some("log"),
+        micros,
+        logs,
     })
 }
 

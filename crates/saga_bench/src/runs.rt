@@ -13,25 +13,49 @@ use saga_history::{Event, Outcome};
 use saga_log::write_log;
 use saga_work::{Actor, run_all};
 use std::alloc::{Alloc, AllocError, Global};
+use std::hint::spin_loop;
+use std::io;
 use std::rt::Clock;
 use std::sync::Wait;
 use std::thread::Threads;
-use std::time::Instant;
+use std::time::{Duration, Instant};
 
-/// What is run: so many sagas of one definition, by so many workers on so many shards, and whether their log is written and
-/// audited.
+/// What is run: so many sagas of one definition, by so many workers on so many shards, how many microseconds each step keeps its
+/// worker busy, and whether their log is written and audited.
 #[derive(Clone, Copy)]
 pub struct Crew {
     pub sagas: u32,
     pub workers: u32,
     pub shards: u32,
+    pub micros: u32,
     pub logs: bool,
 }
 
-/// Has each step done at once.
-struct Ready;
+/// Has each step done after so long, or at once.
+#[derive(Drop)]
+struct Ready<'r, R: Clock> {
+    rt: &'r R,
+    takes: Duration,
+}
 
-impl Actor for Ready {
+impl<R: Clock> Ready<'_, R> {
+    /// Keeps the processor busy.
+    fn work(&self) -> io::Result<()> {
+        if self.takes.is_zero() {
+            return Ok(());
+        }
+        let start = Instant::now(self.rt)?;
+        for _ in 0..u32::MAX {
+            if start.elapsed(self.rt)? >= self.takes {
+                break;
+            }
+            spin_loop();
+        }
+        Ok(())
+    }
+}
+
+impl<R: Clock> Actor for Ready<'_, R> {
     ghost use Rattle.saga_history.specs.declared.tasks.Outcome.{Outcome};
 
     ghost may = { λ ready job outcome. outcome ≡ Outcome.Done };
@@ -42,6 +66,7 @@ impl Actor for Ready {
 
     fn run(&self, job: &Job<'_>) -> Outcome {
         let _ = job;
+        let _ = self.work();
         Outcome::Done
     }
 
@@ -66,7 +91,7 @@ fn asks_of(alloc: Global, sagas: u32) -> Result<Vec<u32>, AllocError> {
 }
 
 /// The books of a run in which each saga is ended.
-fn books_of<'d, R: Threads + Wait + Sync>(
+fn books_of<'d, R: Threads + Wait + Sync + Clock>(
     rt: &R,
     alloc: Global,
     shelf: &'d [Definition],
@@ -76,11 +101,16 @@ fn books_of<'d, R: Threads + Wait + Sync>(
     let Crew {
         workers,
         shards,
+        micros,
         ..
     } = crew;
     ensure!(0 < workers && workers <= 16, "1 to 16 workers");
     ensure!(0 < shards && shards <= 16, "1 to 16 shards");
-    match run_all(rt, alloc, shelf, asks, workers, shards, &Ready) {
+    let ready = Ready {
+        rt,
+        takes: Duration::from_micros(u64::from(micros)),
+    };
+    match run_all(rt, alloc, shelf, asks, workers, shards, &ready) {
         Ok(run) => {
             ensure!(run.stopped.is_none(), "stopped");
             Ok(run.books)

@@ -1,5 +1,5 @@
 //! The desk: shards under locks of their own, which seats share.
-ghost use Rattle.std.specs.Prelude.{◌≡◌, ◌<◌, ◌≤◌, ◌-◌, ◌%◌, [], IfOk, IfErr, OnOk, OnErr, length};
+ghost use Rattle.std.specs.Prelude.{◌≡◌, ◌<◌, ◌≤◌, ◌-◌, ◌%◌, [], IfOk, IfErr, IfSome, IfNone, OnOk, OnErr, length};
 ghost use Rattle.saga_history.specs.declared.events.Event.TheVariants as event;
 ghost use Rattle.saga_history.specs.declared.events.Mark.TheVariants as mark;
 ghost use Rattle.saga_core.specs.Refusals.{OpenRefused};
@@ -20,9 +20,32 @@ use saga_core::{Book, OpenRefusal, SagaRefusal};
 use saga_def::Definition;
 use saga_history::Outcome;
 use std::alloc::{AllocError, Global};
+use std::hint::spin_loop;
 use std::marker::{Brand, Model, PhantomData};
-use std::sync::atomic::{AtomicBool, Ordering};
-use std::sync::{Mutex, Wait};
+use std::sync::atomic::{AtomicBool, AtomicU64, Ordering};
+use std::sync::{Mutex, MutexGuard, Wait};
+use std::thread::yield_now;
+
+/// For how many turns a claim looks whether another seat claims at a shard: some microseconds at most.
+const MOMENT: u32 = 64;
+
+/// How often a lock is tried before a thread sleeps until it is free, and the turns from one try to the next.
+const TRIES: u32 = 64;
+
+const SHORT: u32 = 4;
+
+/// How often a claim looks for a shard at which no other seat is, before it waits for a lock: about a millisecond.
+const LOOKS: u32 = 16;
+
+/// The number of looks after which it lets other threads run, and waits no longer from one to the next.
+const SHORT_LOOKS: u32 = 4;
+
+/// Lets so many turns pass.
+fn pause(turns: u32) {
+    for _ in 0..turns {
+        spin_loop();
+    }
+}
 
 /// A shard that holds nothing but what may be told.
 ///
@@ -135,6 +158,14 @@ impl<'d, P: Policy> Ruled<'d, P> {
         self.shard.abort(seat, saga)
     }
 
+    fn has_task(&self) -> bool {
+        self.shard.has_task()
+    }
+
+    fn is_settled(&self) -> bool {
+        self.shard.is_settled()
+    }
+
     fn first(&self) -> u32
         ensures { result ≡ self.now.first }
     {
@@ -157,13 +188,21 @@ impl<'d, P: Policy> Ruled<'d, P> {
     }
 }
 
-/// A shard under its lock, with its number, and a flag that a claim may look at without the lock. The flag is written under
-/// the lock alone: it is set only where each saga of the shard is ended or stuck, and cleared where one is opened.
+/// A shard under its lock, with its number, and what a claim may look at without the lock.
+///
+/// `may_serve` is cleared only where the shard has no task, and set where an event made that it has one. `settled` is set only
+/// where each saga of the shard is ended or stuck, and cleared where one is opened. `claims` counts the claims. All three are
+/// written under the lock alone. They lie apart from the lock and from the next slot, in cache lines of their own, so that those who
+/// look do not slow down those who write.
 #[derive(Drop)]
 struct Slot<'d, P: Policy> {
     number: u32,
-    shard: Mutex<Ruled<'d, P>>,
+    may_serve: AtomicBool,
     settled: AtomicBool,
+    claims: AtomicU64,
+    before: [u64; 8],
+    shard: Mutex<Ruled<'d, P>>,
+    behind: [u64; 8],
 }
 
 impl<'d, P: Policy> Slot<'d, P> {
@@ -172,8 +211,12 @@ impl<'d, P: Policy> Slot<'d, P> {
     {
         Slot {
             number: ruled.first(),
-            shard: Mutex::new(ruled),
+            may_serve: AtomicBool::new(false),
             settled: AtomicBool::new(true),
+            claims: AtomicU64::new(0),
+            before: [0; 8],
+            shard: Mutex::new(ruled),
+            behind: [0; 8],
         }
     }
 
@@ -191,7 +234,7 @@ impl<'d, P: Policy> Slot<'d, P> {
         ensures err { OnErr result (seat.new ≡ seat.old) }
         ensures why { IfErr result (λ why. OpenIsRefused shelf definition why) }
     {
-        let mut locked = self.shard.lock(rt);
+        let mut locked = self.lock(rt);
         let ruled: &mut Ruled<'d, P> = &mut *locked;
         if ruled.first() != self.number || ruled.definitions() != shelf {
             // Never taken: a shard keeps its number and its shelf. Nothing is known of what a lock holds but its type.
@@ -200,24 +243,113 @@ impl<'d, P: Policy> Slot<'d, P> {
         }
         let saga = ruled.open_saga(seat, definition)?;
         self.settled.store(false, Ordering::SeqCst);
+        self.may_serve.store(true, Ordering::SeqCst);
         Ok(saga)
     }
 
-    /// What this shard has for the seat, as [`Shard::serve`] tells it. Where the flag is set, the lock is not taken.
+    /// The shard under its lock.
+    fn lock<R: Wait>(&self, rt: &R) -> MutexGuard<'_, Ruled<'d, P>> {
+        for _ in 0..TRIES {
+            if let Some(locked) = self.shard.try_lock() {
+                return locked;
+            }
+            pause(SHORT);
+        }
+        self.shard.lock(rt)
+    }
+
+    /// Whether it may have a task.
+    fn may_serve(&self) -> bool {
+        self.may_serve.load(Ordering::SeqCst)
+    }
+
+    /// Whether it is settled.
+    fn is_settled(&self) -> bool {
+        self.settled.load(Ordering::SeqCst)
+    }
+
+    /// Tells those who look without the lock what an event made of the shard, under its lock.
+    fn tell(&self, ruled: &Ruled<'d, P>) {
+        if self.may_serve() {
+            return;
+        }
+        if ruled.has_task() {
+            self.may_serve.store(true, Ordering::SeqCst);
+        } else if ruled.is_settled() {
+            self.settled.store(true, Ordering::SeqCst);
+        }
+    }
+
+    /// What the shard has for the seat, under its lock, as [`Shard::serve`] tells it.
+    fn serve(&self, ruled: &mut Ruled<'d, P>, seat: &mut Seat) -> Result<Claim<'d>, AllocError>
+        ensures ok { IfOk result (λ claim. Claims seat.old seat.new claim) }
+        ensures err { OnErr result (seat.new ≡ seat.old) }
+    {
+        let claim = ruled.serve(seat)?;
+        match &claim {
+            Claim::Settled => {
+                self.settled.store(true, Ordering::SeqCst);
+                self.may_serve.store(false, Ordering::SeqCst);
+            }
+            Claim::Idle => self.may_serve.store(false, Ordering::SeqCst),
+            _ => {
+                let before = self.claims.fetch_add(1, Ordering::SeqCst);
+                seat.stay(self.number, before.wrapping_add(1));
+            }
+        }
+        Ok(claim)
+    }
+
+    /// Whether another seat claimed here last, and one claims again within a moment: then a seat more would only have them wait for
+    /// each other.
+    fn is_busy(&self, seat: &Seat) -> bool {
+        let claims = self.claims.load(Ordering::SeqCst);
+        if !seat.is_careful() || seat.claimed_last(self.number, claims) {
+            return false;
+        }
+        pause(MOMENT);
+        self.claims.load(Ordering::SeqCst) != claims
+    }
+
+    /// The answer where the shard has no task.
+    fn rest(&self, seat: &Seat) -> Claim<'d>
+        ensures { Claims seat.now seat.now result }
+    {
+        rest(seat, self.is_settled())
+    }
+
+    /// What this shard has for the seat. Where it has no task, the lock is not taken.
     fn claim<R: Wait>(&self, rt: &R, seat: &mut Seat) -> Result<Claim<'d>, AllocError>
         ensures ok { IfOk result (λ claim. Claims seat.old seat.new claim) }
         ensures err { OnErr result (seat.new ≡ seat.old) }
     {
-        if self.settled.load(Ordering::SeqCst) {
-            return Ok(Claim::Settled);
+        if !self.may_serve() {
+            return Ok(self.rest(seat));
         }
-        let mut locked = self.shard.lock(rt);
-        let ruled: &mut Ruled<'d, P> = &mut *locked;
-        let claim = ruled.serve(seat)?;
-        if let Claim::Settled = claim {
-            self.settled.store(true, Ordering::SeqCst);
+        let mut locked = self.lock(rt);
+        self.serve(&mut *locked, seat)
+    }
+
+    /// The same, or none where it may have a task, and other seats are at it.
+    fn try_claim(&self, seat: &mut Seat) -> Result<Option<Claim<'d>>, AllocError>
+        ensures some { IfOk result
+            (λ o. IfSome o (λ claim. Claims seat.old seat.new claim)) }
+        ensures none { IfOk result (λ o. IfNone o (seat.new ≡ seat.old)) }
+        ensures err { OnErr result (seat.new ≡ seat.old) }
+    {
+        if !self.may_serve() {
+            return Ok(Some(self.rest(seat)));
         }
-        Ok(claim)
+        if self.is_busy(seat) {
+            return Ok(None);
+        }
+        let Some(mut locked) = self.shard.try_lock() else {
+            seat.be_careful(true);
+            return Ok(None);
+        };
+        seat.be_careful(false);
+        let claim = self.serve(&mut *locked, seat)?;
+        Ok(Some(claim))
     }
 
     fn into_book(self) -> Book<'d>
@@ -226,6 +358,14 @@ impl<'d, P: Policy> Slot<'d, P> {
         let Slot { shard, .. } = self;
         shard.into_inner().into_book()
     }
+}
+
+/// The answer where no shard has a task.
+fn rest<'d>(seat: &Seat, settled: bool) -> Claim<'d>
+    ensures { Claims seat.now seat.now result }
+{
+    let _ = seat;
+    if settled { Claim::Settled } else { Claim::Idle }
 }
 
 /// Shards that several seats share. Contracts see its shelf, and how many seats and shards it has.
@@ -297,7 +437,7 @@ impl<'d, P: Policy> Desk<'d, P> {
         }
         let mut all = Vec::with_capacity(alloc, seats as usize)?;
         for number in 0..seats {
-            all.push_reserved(Seat::new(alloc, number));
+            all.push_reserved(Seat::new(alloc, number, number * shards / seats));
         }
         let desk = Desk {
             shelf,
@@ -334,15 +474,57 @@ impl<'d, P: Policy> Desk<'d, P> {
         self.slots[shard as usize].open_saga(rt, seat, shelf, definition)
     }
 
-    /// Claims the first task of the first shard that has one, beginning at the shard of the seat's number modulo
-    /// `shards()` and going round. Settled: each shard was settled when it was looked at. Idle: none had a task, and one
-    /// at least was not settled. A claim also takes all memory that its end needs.
+    /// Claims the first task of a shard that has one: of the one at which the seat claimed last, and else of the next, going round.
+    /// A shard at which other seats claim at once is passed over for about a millisecond. Settled: each shard was settled when it
+    /// was looked at. Idle: none had a task, and one at least was not settled. A claim also takes all memory that its end needs.
     pub fn claim<R: Wait>(&self, rt: &R, seat: &mut Seat) -> Result<Claim<'d>, AllocError>
         ensures ok { IfOk result (λ claim. Claims seat.old seat.new claim) }
         ensures err { OnErr result (seat.new ≡ seat.old) }
     {
+        for look in 0..LOOKS {
+            if let Some(claim) = self.try_claim(seat)? {
+                return Ok(claim);
+            }
+            pause(MOMENT << look.min(SHORT_LOOKS));
+            if look >= SHORT_LOOKS {
+                yield_now();
+            }
+        }
+        self.wait_and_claim(rt, seat)
+    }
+
+    /// The same, without waiting for a lock: none where a shard may have a task, and other seats are at it.
+    fn try_claim(&self, seat: &mut Seat) -> Result<Option<Claim<'d>>, AllocError>
+        ensures some { IfOk result
+            (λ o. IfSome o (λ claim. Claims seat.old seat.new claim)) }
+        ensures none { IfOk result (λ o. IfNone o (seat.new ≡ seat.old)) }
+        ensures err { OnErr result (seat.new ≡ seat.old) }
+    {
         let count = self.slots.len();
-        let begin = seat.number() as usize % count;
+        let begin = seat.place() as usize % count;
+        let mut settled = true;
+        let mut busy = false;
+        for turn in 0..count {
+            match self.slots[(begin + turn) % count].try_claim(seat)? {
+                None => busy = true,
+                Some(Claim::Settled) => {}
+                Some(Claim::Idle) => settled = false,
+                claim => return Ok(claim),
+            }
+        }
+        if busy {
+            return Ok(None);
+        }
+        Ok(Some(rest(seat, settled)))
+    }
+
+    /// The same, waiting for the lock of each shard that may have a task.
+    fn wait_and_claim<R: Wait>(&self, rt: &R, seat: &mut Seat) -> Result<Claim<'d>, AllocError>
+        ensures ok { IfOk result (λ claim. Claims seat.old seat.new claim) }
+        ensures err { OnErr result (seat.new ≡ seat.old) }
+    {
+        let count = self.slots.len();
+        let begin = seat.place() as usize % count;
         let mut settled = true;
         for turn in 0..count {
             match self.slots[(begin + turn) % count].claim(rt, seat)? {
@@ -351,10 +533,19 @@ impl<'d, P: Policy> Desk<'d, P> {
                 claim => return Ok(claim),
             }
         }
-        if settled {
-            return Ok(Claim::Settled);
+        Ok(rest(seat, settled))
+    }
+
+    /// Whether a claim would be answered by idle, as far as can be seen without a lock.
+    pub fn is_idle(&self) -> bool {
+        let mut settled = true;
+        for slot in &self.slots {
+            if slot.may_serve() {
+                return false;
+            }
+            settled = settled && slot.is_settled();
         }
-        Ok(Claim::Idle)
+        !settled
     }
 
     /// The action or the compensation of a job ended: done, or failed, to be tried again while the step has tries left.
@@ -375,9 +566,12 @@ impl<'d, P: Policy> Desk<'d, P> {
         ensures why { IfErr result
             (λ refused. EndIsRefused job.entry.seat seat.old (Unit {0}) (λ why. Unit {0}) refused.why) }
     {
-        let mut locked = self.slots[self.place_of(job.saga())].shard.lock(rt);
+        let slot = &self.slots[self.place_of(job.saga())];
+        let mut locked = slot.lock(rt);
         let ruled: &mut Ruled<'d, P> = &mut *locked;
-        ruled.report(seat, job, outcome)
+        ruled.report(seat, job, outcome)?;
+        slot.tell(ruled);
+        Ok(())
     }
 
     /// A planning ends by an answer: a verdict on the saga's present case is adopted. Takes no memory. A refusal hands job
@@ -398,9 +592,12 @@ impl<'d, P: Policy> Desk<'d, P> {
         ensures why { IfErr result
             (λ refused. EndIsRefused job.seat seat.old ⊥ (λ why. Unit {0}) refused.why) }
     {
-        let mut locked = self.slots[self.place_of(job.saga())].shard.lock(rt);
+        let slot = &self.slots[self.place_of(job.saga())];
+        let mut locked = slot.lock(rt);
         let ruled: &mut Ruled<'d, P> = &mut *locked;
-        ruled.adopt(seat, job, verdict)
+        ruled.adopt(seat, job, verdict)?;
+        slot.tell(ruled);
+        Ok(())
     }
 
     /// A planning ends without an answer. Takes no memory. A refusal hands the job back, with the cause as
@@ -419,9 +616,12 @@ impl<'d, P: Policy> Desk<'d, P> {
         ensures why { IfErr result
             (λ refused. EndIsRefused job.seat seat.old ⊥ (λ why. Unit {0}) refused.why) }
     {
-        let mut locked = self.slots[self.place_of(job.saga())].shard.lock(rt);
+        let slot = &self.slots[self.place_of(job.saga())];
+        let mut locked = slot.lock(rt);
         let ruled: &mut Ruled<'d, P> = &mut *locked;
-        ruled.give_back(seat, job)
+        ruled.give_back(seat, job)?;
+        slot.tell(ruled);
+        Ok(())
     }
 
     /// A saga is aborted.
@@ -430,9 +630,12 @@ impl<'d, P: Policy> Desk<'d, P> {
         ensures ok { OnOk result (Gains seat.old seat.new (mark.Abort saga) seat.old.claims) }
         ensures err { OnErr result (seat.new ≡ seat.old) }
     {
-        let mut locked = self.slots[self.place_of(saga)].shard.lock(rt);
+        let slot = &self.slots[self.place_of(saga)];
+        let mut locked = slot.lock(rt);
         let ruled: &mut Ruled<'d, P> = &mut *locked;
-        ruled.abort(seat, saga)
+        ruled.abort(seat, saga)?;
+        slot.tell(ruled);
+        Ok(())
     }
 
     /// The place of the shard that has the sagas of such a number.

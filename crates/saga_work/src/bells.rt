@@ -2,15 +2,15 @@
 use std::sync::atomic::{AtomicU64, Ordering};
 use std::sync::{Condvar, Mutex, Wait};
 
-/// A count of rings. A worker reads it before it claims, and where there is nothing to claim it waits while the count stays.
+/// How many workers wait, and how often it rang for them. A worker with nothing to claim counts itself, looks once more, and then
+/// waits until it rings. Who ended a job looks whether anyone is counted, and only then rings.
 ///
-/// The count is an atomic, and the lock is taken only by those who wait, and by who rings while one waits. No wake-up is
-/// lost: who waits counts itself under the lock before it reads the rings, and who rings reads that count after it rang, and
-/// wakes the others under the lock.
+/// No wake-up is lost: who waits counts itself before its last look, and who ends a job looks at the count behind that.
+/// So either the look finds what the job made, or the count is seen and the bell rings after it was noted how often it did.
 #[derive(Drop)]
 pub struct Bell {
-    rings: AtomicU64,
     waiting: AtomicU64,
+    rings: AtomicU64,
     door: Mutex<()>,
     rung: Condvar,
 }
@@ -19,34 +19,41 @@ impl Bell {
     /// A bell that never rang. Takes no memory.
     pub fn new() -> Bell {
         Bell {
-            rings: AtomicU64::new(0),
             waiting: AtomicU64::new(0),
+            rings: AtomicU64::new(0),
             door: Mutex::new(()),
             rung: Condvar::new(),
         }
     }
 
-    /// How often it rang, modulo 2^64.
-    pub(crate) fn count(&self) -> u64 {
+    /// Counts one more that waits. Gives how often it rang, modulo 2^64.
+    pub(crate) fn enter(&self) -> u64 {
+        self.waiting.fetch_add(1, Ordering::SeqCst);
         self.rings.load(Ordering::SeqCst)
+    }
+
+    /// Counts one less.
+    pub(crate) fn leave(&self) {
+        self.waiting.fetch_sub(1, Ordering::SeqCst);
+    }
+
+    /// Whether anyone waits.
+    pub(crate) fn is_awaited(&self) -> bool {
+        self.waiting.load(Ordering::SeqCst) > 0
     }
 
     /// Rings, and wakes whoever waits.
     pub(crate) fn ring<R: Wait>(&self, rt: &R) {
+        let _door = self.door.lock(rt);
         self.rings.fetch_add(1, Ordering::SeqCst);
-        if self.waiting.load(Ordering::SeqCst) > 0 {
-            let _door = self.door.lock(rt);
-            self.rung.notify_all();
-        }
+        self.rung.notify_all();
     }
 
-    /// Waits while the count is what was seen.
+    /// Waits until it has rung more often than that.
     pub(crate) fn wait_past<R: Wait>(&self, rt: &R, seen: u64) {
         let door = self.door.lock(rt);
-        self.waiting.fetch_add(1, Ordering::SeqCst);
         let _door = self
             .rung
             .wait_while(rt, door, |_| self.rings.load(Ordering::SeqCst) == seen);
-        self.waiting.fetch_sub(1, Ordering::SeqCst);
     }
 }

@@ -1,5 +1,6 @@
 //! Workers.
-ghost use Rattle.std.specs.Prelude.{◌≡◌, ◌-◌, IfOk, length, true};
+ghost use Rattle.std.specs.Prelude.{◌≡◌, ◌-◌, IfOk, OnErr, length, true};
+ghost use Rattle.saga_desk.specs.Effects.{Claims};
 ghost use Rattle.saga_work.specs.Added.{Adds, EachAdds, HasClaims, stop_of};
 ghost use Rattle.saga_work.specs.Answered.{EndsPlan, IsAbortOf, IsWork, MayBeTold};
 
@@ -144,6 +145,36 @@ fn after(stop: Option<Stop>) -> Course
     }
 }
 
+/// What there is for a seat. Where there is nothing it waits until that may have changed.
+fn claim<'d, R: Wait, P: Policy>(
+    rt: &R,
+    desk: &Desk<'d, P>,
+    bell: &Bell,
+    seat: &mut Seat,
+) -> Result<Claim<'d>, AllocError>
+    ensures ok { IfOk result (λ claim. Claims seat.old seat.new claim) }
+    ensures err { OnErr result (seat.new ≡ seat.old) }
+{
+    let claim = desk.claim(rt, seat)?;
+    let Claim::Idle = claim else {
+        return Ok(claim);
+    };
+    let seen = bell.enter();
+    let claim = desk.claim(rt, seat);
+    if let Ok(Claim::Idle) = claim {
+        bell.wait_past(rt, seen);
+    }
+    bell.leave();
+    claim
+}
+
+/// Rings where someone waits, and may have something to claim, or is to go home.
+fn call<R: Wait, P: Policy>(rt: &R, desk: &Desk<'_, P>, bell: &Bell) {
+    if bell.is_awaited() && !desk.is_idle() {
+        bell.ring(rt);
+    }
+}
+
 /// Claims once, and does what was claimed. Rings when it is done.
 fn take_turn<R: Wait, A: Actor, P: Policy>(
     rt: &R,
@@ -157,27 +188,23 @@ fn take_turn<R: Wait, A: Actor, P: Policy>(
     ensures adds { Adds IsWork seat.old seat.new }
     ensures ended { HasClaims (stop_of result) seat.new seat.old.claims }
 {
-    let seen = bell.count();
-    match desk.claim(rt, seat) {
+    match claim(rt, desk, bell, seat) {
         Err(_) => Course::Ends(Some(Stop::OutOfMemory)),
         Ok(Claim::Settled) => Course::Ends(None),
-        Ok(Claim::Idle) => {
-            bell.wait_past(rt, seen);
-            Course::Goes
-        }
+        Ok(Claim::Idle) => Course::Goes,
         Ok(Claim::Run(job)) => {
             let stop = perform(rt, desk, seat, actor, job);
-            bell.ring(rt);
+            call(rt, desk, bell);
             after(stop)
         }
         Ok(Claim::Undo(job)) => {
             let stop = perform(rt, desk, seat, actor, job);
-            bell.ring(rt);
+            call(rt, desk, bell);
             after(stop)
         }
         Ok(Claim::Plan(job, case)) => {
             let stop = settle(rt, alloc, desk, seat, job, case);
-            bell.ring(rt);
+            call(rt, desk, bell);
             after(stop)
         }
     }
