@@ -94,7 +94,7 @@ async def ours(url: str, count: int, together: int, inside: bool = False, rows: 
     if rows:
         with psycopg.connect(url) as link:
             link.execute("CREATE TABLE book(key text, step text)")
-    async with sagas.open(url, [saga], concurrency=max(16, min(together, 16 if inside else together))) as store:
+    async with sagas.open(url, [saga], concurrency=max(16, min(together, 16 if rows else together))) as store:
 
         async def go(number: int) -> None:
             await (await store.start(saga, f"{together}-{number}-{random.random()}", {"n": number})).wait()
@@ -122,12 +122,38 @@ async def hand(store: by_hand.Each, count: int, together: int) -> float:
         await store.close()
 
 
+async def bare(url: str, count: int, together: int) -> float:
+    """What steps inside take at least: for each saga three transactions of psycopg, of a row and its record, over 16 connections, and nothing else."""
+    every = [await psycopg.AsyncConnection.connect(url) for _ in range(16)]
+    await every[0].execute("CREATE TABLE book(key text, step text)")
+    await every[0].execute("CREATE TABLE record(key text, step text, value text, PRIMARY KEY(key, step))")
+    await every[0].commit()
+    links: asyncio.Queue[psycopg.AsyncConnection[tuple[object, ...]]] = asyncio.Queue()
+    for one in every:
+        links.put_nowait(one)
+
+    async def go(number: int) -> None:
+        for step in ("one", "two", "three"):
+            link = await links.get()
+            await link.execute("INSERT INTO book VALUES(%s, %s)", (str(number), step))
+            await link.execute("INSERT INTO record VALUES(%s, %s, %s)", (str(number), step, "1"))
+            await link.commit()
+            links.put_nowait(link)
+
+    try:
+        return await rate(go, count, together)
+    finally:
+        for one in every:
+            await one.close()
+
+
 def speed(server: Server, words: argparse.Namespace) -> None:
     """Sagas a second, at four concurrencies."""
     ways: dict[str, Callable[[str, int, int], Awaitable[float]]] = {
         "sagas": ours,
         "sagas, steps inside that do nothing there": lambda url, count, together: ours(url, count, together, True),
         "sagas, steps inside, a row each": lambda url, count, together: ours(url, count, together, True, True),
+        "psycopg alone, three transactions of two rows each": bare,
         "by hand, a commit a change": lambda url, count, together: hand(by_hand.Each(url), count, together),
         "by hand, commits shared": lambda url, count, together: hand(by_hand.Shared(url), count, together),
     }

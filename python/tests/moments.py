@@ -25,7 +25,7 @@ from server import Server
 from witness import Witness, witness_at
 from world import Eye, World, started
 
-COMMIT = rb'\"event\":\"commit\"'
+COMMIT = b'"event":"commit"'  # as a word of its own: there is one row of each kind
 """What stands in the statement that keeps a step's end."""
 
 

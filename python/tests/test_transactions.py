@@ -20,6 +20,7 @@ import sagas
 from cases import QUICK, Task, ended, run, until
 from driving import program
 from relay import relaying
+from sagas.step_pool import Pool
 from server import Server
 
 
@@ -163,7 +164,7 @@ KILLED = """
     async def book(task):
         await task.connection.execute("INSERT INTO book(key, step, token) VALUES(%s, 'book', %s)", (task.key, task.token))
         return "booked"
-    Doing.outcome = lambda self, attempt, outcome: os._exit(9)
+    Doing.outcome = lambda self, attempt, outcome, now=False: os._exit(9)
     async def main():
         async with sagas.open({url!r}, [saga], node="killed") as store:
             await (await store.start(saga, "k")).wait()
@@ -314,5 +315,135 @@ def test_what_does_nothing_over_its_connection_is_as_another_step(url: str) -> N
     async def main() -> None:
         async with sagas.open(url, [kind]) as store:
             assert (await ended(store, kind, "k")).results == {"in_loop": "IDLE", "in_thread": "IDLE"}
+
+    run(main())
+
+
+@pytest.mark.parametrize("in_thread", [False, True])
+def test_a_first_statement_that_fails(url: str, in_thread: bool) -> None:
+    """It goes to the server together with the begin. What psycopg refuses leaves the transaction as it is, what the server refuses ends it."""
+    prepare(url)
+    text, said = "INSERT INTO book(key, step, token) VALUES(%s, 'book', %s)", []
+    kind = sagas.Saga("one")
+
+    if in_thread:
+
+        @kind.step(transaction=True, tries=4, backoff=QUICK)
+        def book(task: Task) -> None:
+            link = task.connection
+            if task.attempt == 1:
+                with pytest.raises(psycopg.ProgrammingError):
+                    link.execute(text, (task.key,))
+                said.append(link.info.transaction_status.name)
+                raise ValueError("again")
+            if task.attempt == 2:
+                with pytest.raises(psycopg.errors.DivisionByZero):
+                    link.execute("SELECT 1 / %s::int", (0,))
+                said.append(link.info.transaction_status.name)
+                with pytest.raises(psycopg.errors.InFailedSqlTransaction):
+                    link.execute(text, (task.key, "second"))
+            if task.attempt == 3:
+                with pytest.raises(psycopg.errors.QueryCanceled):  # an operational error, and the connection is there
+                    link.execute("SELECT set_config('statement_timeout', '20', true), %s::int", (1,))
+                    link.execute("SELECT pg_sleep(%s)", (60,))
+                said.append(link.info.transaction_status.name)
+                raise ValueError("again")
+            if task.attempt == 4:
+                said.append(str(link.execute("SELECT %(a)s::int + %(b)s", {"a": 1, "b": 2}).fetchall()))
+                link.execute(text, (task.key, "fourth"))
+    else:
+
+        @kind.step(name="book", transaction=True, tries=4, backoff=QUICK)
+        async def book_in_loop(task: Task) -> None:
+            link = task.connection
+            if task.attempt == 1:
+                with pytest.raises(psycopg.ProgrammingError):
+                    await link.execute(text, (task.key,))
+                said.append(link.info.transaction_status.name)
+                raise ValueError("again")
+            if task.attempt == 2:
+                with pytest.raises(psycopg.errors.DivisionByZero):
+                    await link.execute("SELECT 1 / %s::int", (0,))
+                said.append(link.info.transaction_status.name)
+                with pytest.raises(psycopg.errors.InFailedSqlTransaction):
+                    await link.execute(text, (task.key, "second"))
+            if task.attempt == 3:
+                with pytest.raises(psycopg.errors.QueryCanceled):
+                    await link.execute("SELECT set_config('statement_timeout', '20', true), %s::int", (1,))
+                    await link.execute("SELECT pg_sleep(%s)", (60,))
+                said.append(link.info.transaction_status.name)
+                raise ValueError("again")
+            if task.attempt == 4:
+                said.append(str(await (await link.execute("SELECT %(a)s::int + %(b)s", {"a": 1, "b": 2})).fetchall()))
+                await link.execute(text, (task.key, "fourth"))
+
+    async def main() -> None:
+        async with sagas.open(url, [kind]) as store:
+            assert (await asyncio.wait_for(ended(store, kind, "k"), 60)).ok
+
+    run(main())
+    assert said == ["INTRANS", "INERROR", "INERROR", "[(3,)]"]
+    assert booked(url) == {("k", "book"): 1}
+
+
+def test_a_first_statement_that_nobody_waits_for(url: str) -> None:
+    """The function gives up on it, and goes on: its connection is of no use any more, nothing of that is kept, and it is called again."""
+    prepare(url)
+    kind, calls = sagas.Saga("one"), []
+
+    @kind.step(transaction=True, backoff=QUICK)
+    async def book(task: Task) -> None:
+        calls.append(task.token)
+        if len(calls) == 1:
+            with contextlib.suppress(TimeoutError):
+                async with asyncio.timeout(0.05):
+                    await task.connection.execute("SELECT pg_sleep(%s)", (60,))
+        await task.connection.execute("INSERT INTO book(key, step, token) VALUES(%s, 'book', '')", (task.key,))
+
+    async def main() -> None:
+        async with sagas.open(url, [kind]) as store:
+            assert (await asyncio.wait_for(ended(store, kind, "k"), 30)).ok
+
+    run(main())
+    assert len(calls) == 2 and len(set(calls)) == 1
+    assert booked(url) == {("k", "book"): 1}
+
+
+def test_connections_are_handed_out(postgresql: Server, url: str) -> None:
+    """As many as there may be; who waits gets the next one; one that broke while it rested is not handed out; who gave up has none."""
+
+    async def main() -> None:
+        pool = Pool(url, 2)
+        assert pool.at_hand() is None
+        first, second = await asyncio.gather(pool.take(), pool.take())
+        given_up, third = asyncio.create_task(pool.take()), asyncio.create_task(pool.take())
+        await asyncio.sleep(0)
+        given_up.cancel()
+        pool.give(first)
+        assert await third is first
+        pool.give(first)
+        pool.give(second)
+        await second.execute("SELECT 1")
+        await second.rollback()
+        with psycopg.connect(url, autocommit=True) as link:
+            link.execute("SELECT pg_terminate_backend(pid) FROM pg_stat_activity WHERE datname = current_database() AND pid <> pg_backend_pid()")
+        await until(lambda: not first.is_there() and not second.is_there())
+        assert pool.at_hand() is None
+        fourth = await pool.take()
+        assert fourth not in (first, second)
+        await fourth.execute("SELECT 1")
+        pool.give(fourth)  # in the middle of a transaction: it is not handed out again
+        assert fourth.closed or pool.at_hand() is None
+        last = asyncio.create_task(pool.take())
+        await last
+        waits = [asyncio.create_task(pool.take()) for _ in range(2)]
+        await waits[0]
+        await pool.close()
+        with pytest.raises(psycopg.OperationalError):
+            await waits[1]
+        pool.give(last.result())
+        assert last.result() and pool.at_hand() is None
+        with pytest.raises(psycopg.OperationalError):
+            await pool.take()
 
     run(main())

@@ -20,6 +20,8 @@ AGAIN = 100
 """Calls of a function that waited, after which it is looked at whether it still does."""
 Begins = Callable[[Attempt], bool]
 Ended = Callable[[Attempt, float, "Outcome | None"], None]
+Within = Callable[[Attempt, Function, Task[Any]], Awaitable[Any]]
+"""How a function is called that is not called alone."""
 
 
 class Callers:
@@ -27,10 +29,10 @@ class Callers:
 
     `begins` is asked before each call, and `ended` is told when it began, by the monotonic clock, and what came of it."""
 
-    def __init__(self, begins: Begins, ended: Ended) -> None:
+    def __init__(self, begins: Begins, ended: Ended, within: Within | None = None) -> None:
         self._loop = asyncio.get_running_loop()
         self._context = contextvars.copy_context()
-        self._begins, self._ended = begins, ended
+        self._begins, self._ended, self._within = begins, ended, within
         self._ready: deque[tuple[Attempt, Function]] = deque()
         self._next: asyncio.Task[None] | None = None  # the task that is about to call those
         self._waiters: dict[Function, int] = {}  # functions that waited the last time, and how many calls have their own task at once
@@ -54,6 +56,11 @@ class Callers:
     def start(self, work: Coroutine[Any, Any, None]) -> asyncio.Task[None]:
         """A task for one that is called by other means, in a context of its own."""
         return self._loop.create_task(work, context=self._context.copy())
+
+    @property
+    def waiting(self) -> int:
+        """How many are to be called."""
+        return len(self._ready)
 
     async def settled(self) -> None:
         """Waits until all are called that are to be."""
@@ -84,7 +91,8 @@ class Callers:
         began = time.monotonic()
         try:
             task = attempt.task()
-            outcome: Outcome | None = calling.done(await function(task), task)
+            work = self._within(attempt, function, task) if self._within else function(task)
+            outcome: Outcome | None = calling.done(await work, task)
         except BaseException as error:
             outcome = calling.interrupted(error, attempt.manner)
         self._ended(attempt, began, outcome)
@@ -94,7 +102,7 @@ class Callers:
         began, context = time.monotonic(), self._context.copy()
         try:
             task = attempt.task()
-            work = function(task)
+            work = self._within(attempt, function, task) if self._within else function(task)
             if not isinstance(work, types.CoroutineType):  # it only says that it is async
                 work = _awaited(work)
             waits_for = context.run(work.send, None)

@@ -2,6 +2,7 @@
 
 from __future__ import annotations
 
+from collections.abc import Iterable
 from typing import TYPE_CHECKING
 
 if TYPE_CHECKING:
@@ -20,6 +21,10 @@ class Children:
     def wanted(self) -> bool:
         """Whether somebody waits for a child."""
         return bool(self._waiting)
+
+    def up(self) -> Iterable[Pump]:
+        """The logs that have one, or are about to."""
+        return self._up
 
     def want(self, pump: Pump) -> None:
         """Calls `pump.granted` once it may have a child."""

@@ -18,6 +18,7 @@ from .elsewhere import Elsewhere
 from .errors import ChildError, Closed, Lost, SagasError
 from .events import Teller
 from .forks import private
+from .holding import Holding
 from .kinds import Kind, Shelf
 from .live import Live
 from .pump import Pump
@@ -54,6 +55,7 @@ class Coordinator:
         self._placing: list[Live] = []
         self._queue: list[Batch] = []
         self._writing = self._feeding = False
+        self.holding = Holding()
         self._opening: asyncio.Future[None] | None = None
         self._loading: set[Pump] = set()
         self._rested: asyncio.Event = asyncio.Event()
@@ -153,6 +155,7 @@ class Coordinator:
     def enqueue(self, batch: Batch) -> None:
         """Goes into the next transaction."""
         self._queue.append(batch)
+        self.holding.came()
         self._write()
 
     def empty_batch(self, log: int, then: Callable[[BaseException | None], None]) -> Batch:
@@ -160,7 +163,7 @@ class Coordinator:
         return Batch(log, self.clock(), then=then)
 
     def _write(self) -> None:
-        if self._queue and not self._writing:
+        if self._queue and not self._writing and not self._holds_back():
             batches, self._queue = self._queue, []
             self._writing = True
             self.store.commit(batches, self._written)
@@ -173,7 +176,8 @@ class Coordinator:
         if logs:  # what stands behind these in their logs cannot be written either
             batches = [*batches, *(batch for batch in self._queue if batch.log in logs)]
             self._queue = [batch for batch in self._queue if batch.log not in logs]
-        if fault is None:
+        takes = self.store.takes
+        if fault is None and not (takes and self.holding.is_soon(sum(len(batch.results) + len(batch.opened) for batch in batches), takes)):
             self._write()
         for batch in batches:
             assert batch.then
@@ -181,7 +185,17 @@ class Coordinator:
                 batch.then(fault or (Lost(f"log {batch.log}") if batch.log in lost else None))
             except Exception:  # a fault of this package: the others have to hear of theirs
                 logger.exception("log %d: what follows a commit", batch.log)
+        if takes:
+            self.holding.committed(self.doing.about_to_call())
         self._write()
+
+    def _holds_back(self) -> bool:
+        """Whether what waits to be written waits for what is on its way to it."""
+        takes = self.store.takes
+        if not takes:
+            return False
+        coming = self.doing.about_to_call() + sum(pump.asked() for pump in self.children.up())
+        return self.holding.is_worth(coming, takes, self._write)
 
     # -- sagas
 
@@ -358,6 +372,7 @@ class Coordinator:
                 self.refuse(live, self.closed)
             pump.opens.clear()
         await self.doing.callers.settled()
+        await self.doing.inside.settled()
         running = {attempt.job for attempt in self.doing.running if attempt.job}
         late: set[asyncio.Task[None]] = set()
         if running:

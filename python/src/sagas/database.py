@@ -17,7 +17,7 @@ from .records import Batch, Grant, Loaded, LogRow, Request, SagaRow, Start
 
 if TYPE_CHECKING:
     from .calling import Outcome
-    from .definition import Bounds, Manner
+    from .definition import Bounds, Function, Manner
     from .live import Attempt
     from .task import Task
 
@@ -66,6 +66,10 @@ class Database(Protocol):
     """Whether other nodes may have logs of it."""
 
     @property
+    def takes(self) -> float:
+        """Seconds that a commit takes of late, while which this program does other things; 0 where there is no sense in holding one back."""
+
+    @property
     def commits(self) -> int:
         """How many transactions were written."""
 
@@ -98,6 +102,9 @@ class Database(Protocol):
 
     async def call(self, attempt: Attempt, manner: Manner, task: Task[Any], executor: Executor | None, late: Callable[[], object] | None) -> Outcome | None:
         """Calls a function in a transaction that holds its result. Raises `Lost` where nobody knows whether that was committed."""
+
+    async def within(self, attempt: Attempt, function: Function, task: Task[Any]) -> Any:
+        """Calls an async function so, and raises what it raises. `attempt.record` tells what became of the transaction."""
 
     async def admit(self, name: str, bounds: Bounds, want: int, have: Sequence[int]) -> Grant:
         """Takes up to `want` places of a step for calls that begin now, over all nodes; of those of its limit this node `have`s just these, and gives

@@ -104,8 +104,8 @@ class Manner:
 
     @property
     def is_simple(self) -> bool:
-        """Whether it is an async function that is called here, and nothing besides."""
-        plain = self.function is not None and self.timeout is None and self.run_on is None and not self.transaction
+        """Whether it is an async function that is called here, alone or in a transaction, for as long as it takes."""
+        plain = self.function is not None and self.timeout is None and self.run_on is None
         return plain and inspect.iscoroutinefunction(self.function)
 
 

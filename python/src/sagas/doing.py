@@ -57,8 +57,13 @@ class Doing:
         self.slots = Slots(concurrency, self._run, owner.feed)
         self.fleet = Fleet(owner, self.slots.enter)
         self.callers = Callers(self._begins, self._called)
+        self.inside = Callers(self._begins, self._called_inside, owner.store.within)
         self.running: set[Attempt] = set()
         self.closing = False
+
+    def about_to_call(self) -> int:
+        """How many functions are about to be called, which may end at once."""
+        return self.callers.waiting + self.inside.waiting
 
     # -- begin
 
@@ -219,7 +224,8 @@ class Doing:
         attempt.state, attempt.fresh = "running", False
         function = kind.simple[attempt.kind][attempt.step]
         if function:
-            self.callers.call(attempt, function)
+            callers = self.inside if kind.inside[attempt.kind][attempt.step] else self.callers
+            callers.call(attempt, function)
         else:
             attempt.job = self.callers.start(self._call(attempt))
 
@@ -265,11 +271,15 @@ class Doing:
             outcome, fault = None, error
         if self._over(attempt, began):
             if fault is not None:
-                attempt.state = "taken"
-                assert attempt.live.pump
-                attempt.live.pump.fail(fault)
+                self._lose(attempt, fault)
             elif outcome is not None:
                 self._sort(attempt, outcome)
+
+    def _lose(self, attempt: Attempt, fault: Lost) -> None:
+        """Nobody knows whether its transaction was committed: its log is taken up again, which tells."""
+        attempt.state = "taken"
+        assert attempt.live.pump
+        attempt.live.pump.fail(fault)
 
     def _called(self, attempt: Attempt, began: float, outcome: Outcome | None) -> None:
         """A simple one was called."""
@@ -278,6 +288,15 @@ class Doing:
                 self.outcome(attempt, outcome, now=True)
             else:
                 self._sort(attempt, outcome)
+
+    def _called_inside(self, attempt: Attempt, began: float, outcome: Outcome | None) -> None:
+        """A simple one was called in a transaction."""
+        record, attempt.record = attempt.record, None
+        fault = record.lost() if record else None
+        if fault is None:
+            self._called(attempt, began, outcome)
+        elif self._over(attempt, began):
+            self._lose(attempt, fault)
 
     def _over(self, attempt: Attempt, began: float) -> bool:
         """Its function is over; whether anything comes of that, since it was not forgotten meanwhile."""

@@ -62,6 +62,7 @@ class Kind:
         self.undo_inputs = [values.hints(step.undo.function)[0] if step and step.undo.function else None for step in self.steps]
         self.all_done = json.dumps({"aborted": False, "answer": None, "kept": list(range(self.count)), "states": ["committed"] * self.count}, separators=(",", ":"))
         self.simple: dict[str, list[Function | None]] = {word: [_simple(step, word) for step in self.steps] for word in ("run", "undo")}
+        self.inside = {word: [bool(step and step.manner(word).transaction) for step in self.steps] for word in ("run", "undo")}
         self.has_bounds = any(step and step.bounds for step in self.steps)
         self.has_remote = any(step and (step.run.run_on or step.undo.run_on) for step in self.steps)
         self.decoders = {name: decoder for name, (_, decoder) in zip(self.names, told_hints) if decoder}

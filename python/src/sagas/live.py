@@ -16,6 +16,7 @@ if TYPE_CHECKING:
     from .definition import Manner
     from .pump import Pump
     from .records import Wanted
+    from .transactions import Record
 
 
 class Rare:
@@ -117,7 +118,7 @@ class Attempt:
 
     `why` it is held: backoff, unknown, wait, approval, elsewhere, limit. `fresh`: it cannot have been called, by this program or an earlier one."""
 
-    __slots__ = ("live", "step", "kind", "attempt", "word", "state", "why", "fresh", "outcome", "at", "timer", "job", "since", "count", "has_row", "request", "told", "until", "pending", "awaited", "lease", "took", "event")
+    __slots__ = ("live", "step", "kind", "attempt", "word", "state", "why", "fresh", "outcome", "at", "timer", "job", "since", "count", "has_row", "request", "told", "until", "pending", "awaited", "lease", "took", "event", "record")
 
     def __init__(self, live: Live, step: int, kind: str, attempt: int, fresh: bool) -> None:
         self.live, self.step, self.attempt, self.fresh = live, step, attempt, fresh
@@ -138,6 +139,7 @@ class Attempt:
         self.lease: Lease | None = None  # of a worker elsewhere: the newest
         self.took: float | None = None  # seconds, of its last call
         self.event = ""  # that its report came to
+        self.record: Record | None = None  # of the transaction that it is called in
 
     @property
     def name(self) -> str:

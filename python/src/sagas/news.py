@@ -3,6 +3,7 @@
 from __future__ import annotations
 
 import asyncio
+import contextlib
 from collections import OrderedDict
 from collections.abc import Callable, Iterable
 
@@ -37,6 +38,7 @@ class News:
 
     def __init__(self, url: str, look: Callable[[str], None]) -> None:
         self._url, self._look = url, look
+        self._wire: Wire | None = None
         self._waiting: dict[tuple[str, int], list[asyncio.Future[None]]] = {}
         self._recent: OrderedDict[tuple[str, int], None] = OrderedDict()
         self._job = asyncio.get_running_loop().create_task(self._listen())
@@ -47,11 +49,17 @@ class News:
             self._job.cancel()
             await asyncio.wait([self._job], timeout=0.2)
 
+    async def say(self, words: Iterable[str]) -> None:
+        """Tells the others, if they can be told now: whoever waits also looks by himself."""
+        if self._wire and not self._wire.closed:
+            with contextlib.suppress(*links.FAULTS):
+                await self._wire.rows(SAY_WIRED, wired(words))
+
     async def _listen(self) -> None:
         pause = 0.1
         while True:
             try:
-                wire = Wire(await links.connect(self._url), self._heard)
+                wire = self._wire = Wire(await links.connect(self._url), self._heard)
                 try:
                     await wire.rows(f"LISTEN {CHANNEL}")
                     pause = 0.1

@@ -26,6 +26,7 @@ from .values import clean, cleaned
 
 logger = logging.getLogger("sagas")
 NUMBERS = 64  # of logs to be born, that are kept at hand
+SOON = 0.001  # seconds behind a commit in which others hear of it: what is to be done here goes first
 MANY = 64  # starts of clients that are taken at once
 
 KEYS = "key = ANY(ARRAY(SELECT json_array_elements_text(%(keys)s::json)))"
@@ -34,6 +35,7 @@ SELECT {questions.SAGA} FROM sagas WHERE {KEYS}
 UNION ALL SELECT -id, key, saga, -1, input, at, NULL, NULL, NULL, NULL FROM inbox WHERE {KEYS}
 """
 FIND_WIRED = FIND.replace("%(keys)s", "$1")
+FIND_ONE = FIND.replace(KEYS, "key = $1")
 WAKE = """
 SELECT NOT EXISTS (SELECT 1 FROM logs WHERE log = %(log)s AND (owner IS DISTINCT FROM %(node)s OR epoch <> %(epoch)s OR closed <> 0)), l.first, l.text
 FROM (SELECT) one LEFT JOIN lines l ON l.log = %(log)s ORDER BY l.first
@@ -66,7 +68,7 @@ class PostgreSQL(questions.Questions):
         self.lease = Lease(self.asker, node, lease, version)
         self._sagas = list(sagas)
         self._transactions = Transactions(url, self.path, self.lease.node, lambda: self._line, most)
-        self.call = self._transactions.call
+        self.call, self.within = self._transactions.call, self._transactions.within
         self._places = Places(self.asker, self.lease.node)
         self._line = ""
         self._numbers: deque[int] = deque()
@@ -119,6 +121,9 @@ class PostgreSQL(questions.Questions):
                 await asyncio.wait(late)
         await self._writer.close()
         if self._news:
+            with contextlib.suppress(TimeoutError):
+                async with asyncio.timeout(links.CONNECT):
+                    await self._tell()
             await self._news.close()
         if self.lease.holds():
             with contextlib.suppress(StoreUnwritable):
@@ -207,6 +212,11 @@ class PostgreSQL(questions.Questions):
         return await self._places.take(name, bounds, want, have, self.lease.pause)
 
     @property
+    def takes(self) -> float:
+        """How long a commit takes."""
+        return self._writer.takes
+
+    @property
     def commits(self) -> int:
         """How many transactions were written."""
         return self._writer.commits
@@ -230,17 +240,16 @@ class PostgreSQL(questions.Questions):
     def _say(self, words: list[str]) -> None:
         """Tells the other nodes and the clients, behind the commit: a commit that tells takes a lock over the whole server."""
         self._said += words
-        if self._said and not self._saying and not self._closing:
+        if self._said and not self._saying and not self._closing and self._news:
             self._saying = True
-            self._spawn(self._tell())
+            asyncio.get_running_loop().call_later(SOON, lambda: self._spawn(self._tell()))
 
     async def _tell(self) -> None:
+        assert self._news
         try:
             while self._said:
                 words, self._said = self._said, []
-                await self._finder.ask(news.SAY_WIRED, news.wired(words))
-        except StoreUnwritable:
-            pass  # whoever waits also looks by himself
+                await self._news.say(words)
         finally:
             self._saying = False
 
@@ -262,7 +271,9 @@ class PostgreSQL(questions.Questions):
             fault: StoreUnwritable | None = None
             found: dict[str, SagaRow] = {}
             try:
-                for row in map(saga_row, await self._finder.read(FIND_WIRED, json.dumps([clean(key) for key in wanted]).encode())):
+                keys = [clean(key) for key in wanted]
+                found_rows = self._finder.read(FIND_ONE, keys[0].encode()) if len(keys) == 1 else self._finder.read(FIND_WIRED, json.dumps(keys).encode())
+                for row in map(saga_row, await found_rows):
                     if row.key not in found or row.id >= 0:
                         found[row.key] = row
             except StoreUnwritable as error:

@@ -1,10 +1,12 @@
 """What a commit writes to PostgreSQL: one statement, whose parts join the logs that are still this node's.
 
-All rows go as one JSON text, each as a list; parts without rows are left out, and each form of the statement is prepared once."""
+All rows go as one JSON text, each as a list; where no part has more than one, each value is a word of its own instead, which takes the server some
+four fifths of the time. Parts without rows are left out, and each form of the statement is prepared once."""
 
 from __future__ import annotations
 
 import functools
+import itertools
 import json
 from collections.abc import Callable, Iterable, Sequence
 from typing import Any
@@ -65,20 +67,36 @@ MOST = 100 << 20
 dumps = json.JSONEncoder(separators=(",", ":"), check_circular=False).encode
 
 
+WORDS = "words"
+"""The form of a statement of one row of each part."""
+
+
 @functools.lru_cache(maxsize=None)
 def statement(parts: tuple[str, ...], form: str = "jsonb") -> str:
-    """The statement with these parts. $1: the rows of each, by its name; $2: the node; $3 and $4: its logs and their epochs."""
+    """The statement with these parts. $1: the rows of each, by its name; $2: the node; $3 and $4: its logs and their epochs.
 
-    def rows(part: str) -> str:
-        cells = (f"(e ->> {place}){'' if kind == 'text' else f'::{kind}'} AS {name}" for place, (name, kind) in enumerate(COLUMNS[part]))
-        return f"(SELECT {', '.join(cells)} FROM {form}_array_elements($1::{form} -> '{part}') e) v"
-
+    As words, where each part has one row: $1, $5 and so on are the values, part by part."""
+    rows = _rows_of_words(parts) if form == WORDS else _rows_of_json(form)
     texts = [f"mine AS MATERIALIZED ({KEPT})"]
     if "born" in parts:
         texts = [f"kept AS MATERIALIZED ({KEPT})", f"born AS ({BORN.format(rows=rows('born'))})"]
         texts.append("mine AS MATERIALIZED (SELECT log FROM kept UNION ALL SELECT log FROM born)")
     texts += [f"{part}_ AS ({PARTS[part].format(rows=rows(part))})" for part in parts if part != "born"]
     return f"WITH {', '.join(texts)} SELECT log FROM mine"
+
+
+def _rows_of_json(form: str) -> Callable[[str], str]:
+    def rows(part: str) -> str:
+        cells = (f"(e ->> {place}){'' if kind == 'text' else f'::{kind}'} AS {name}" for place, (name, kind) in enumerate(COLUMNS[part]))
+        return f"(SELECT {', '.join(cells)} FROM {form}_array_elements($1::{form} -> '{part}') e) v"
+
+    return rows
+
+
+def _rows_of_words(parts: tuple[str, ...]) -> Callable[[str], str]:
+    places = itertools.chain([1], itertools.count(5))
+    cells = {part: ", ".join(f"${next(places)}::{kind} AS {name}" for name, kind in COLUMNS[part]) for part in parts}
+    return lambda part: f"(SELECT {cells[part]}) v"
 
 
 class Commit:
@@ -149,6 +167,13 @@ class Commit:
 
     def words(self, node: str) -> tuple[str, list[bytes | None]]:
         """The statement and its words."""
-        rows, logs, epochs = dumps(self._rows).encode(), ",".join(map(str, self.epochs)), ",".join(map(str, self.epochs.values()))
-        text = statement(tuple(sorted(self._rows)), "jsonb" if len(rows) < MOST else "json")
-        return text, [rows, node.encode(), f"{{{logs}}}".encode(), f"{{{epochs}}}".encode()]
+        parts = tuple(sorted(self._rows))
+        logs, epochs = ",".join(map(str, self.epochs)), ",".join(map(str, self.epochs.values()))
+        mine = [node.encode(), f"{{{logs}}}".encode(), f"{{{epochs}}}".encode()]
+        if parts and all(len(rows) == 1 for rows in self._rows.values()):
+            cells = [None if cell is None else str(cell).encode() for part in parts for cell in self._rows[part][0]]
+            told = b"".join(cell for cell in cells if cell)
+            if len(told) < MOST and b"\0" not in told:  # a word would end there; the form below has it refused
+                return statement(parts, WORDS), [cells[0], *mine, *cells[1:]]
+        rows = dumps(self._rows).encode()
+        return statement(parts, "jsonb" if len(rows) < MOST else "json"), [rows, *mine]

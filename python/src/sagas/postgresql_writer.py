@@ -5,6 +5,7 @@ from __future__ import annotations
 import asyncio
 import contextlib
 import functools
+import time
 from collections.abc import Callable, Coroutine, Sequence
 from typing import Any, Optional
 
@@ -30,6 +31,8 @@ class Writer:
     ) -> None:
         self._url, self._where, self._node, self._check, self._kept = url, where, node, check, kept
         self.commits = 0
+        self.takes = 0.0
+        """Seconds that a commit takes, in the middle of the last ones."""
         self.events: dict[int, int] = {}
         self._wire: Wire | None = None
         self._job: asyncio.Task[None] | None = None
@@ -106,9 +109,11 @@ class Writer:
         except Exception as error:  # told to the coordinator, which begins again from the database
             asyncio.get_running_loop().call_soon(came, NONE, error)
         else:
-            wire.ask(text, words, lambda rows, fault: came(*self._read(commit, rows, fault)))
+            began = time.monotonic()
+            wire.ask(text, words, lambda rows, fault: came(*self._read(commit, rows, fault, began)))
 
-    def _read(self, commit: Commit, rows: list[Values], fault: Exception | None) -> tuple[frozenset[int], Exception | None]:
+    def _read(self, commit: Commit, rows: list[Values], fault: Exception | None, began: float) -> tuple[frozenset[int], Exception | None]:
+        self.takes += (time.monotonic() - began - self.takes) / 8
         if fault is not None:
             if not isinstance(fault, errors.UniqueViolation):
                 self.cut()

@@ -85,6 +85,10 @@ class Pump(Answers):
         """Whether something is on its way to the store, and the store takes it."""
         return bool(self.unwritten or ((self.reports or self.reporting or self.opens or self.sent) and not self.fault and not self.pause))
 
+    def asked(self) -> int:
+        """How much its child is about to answer."""
+        return len(self.reports) + (self.child.asked if self.child else 0) if self.state == "up" else 0
+
     def rests(self) -> bool:
         """Whether its child may go: nothing is on its way, and all that it knows is in the store."""
         if self.state != "up" or self.unwritten or not self.child or self.child.asked:

@@ -85,6 +85,7 @@ class Sqlite(questions.Questions):
     """The file and its lock. Reads happen in the loop; a `Writer` writes."""
 
     shared = False
+    takes = 0.0
 
     def __init__(self, path: str | os.PathLike[str]) -> None:
         self.path = os.fspath(path)
@@ -217,6 +218,10 @@ class Sqlite(questions.Questions):
 
     async def call(self, *words: Any) -> Any:
         """A file has no transactions of others: a store with such steps was refused."""
+        raise NotImplementedError
+
+    async def within(self, *words: Any) -> Any:
+        """As `call`."""
         raise NotImplementedError
 
     # -- reading

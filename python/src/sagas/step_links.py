@@ -3,12 +3,14 @@ end is the record of the step's result."""
 
 from __future__ import annotations
 
+import asyncio
 import contextlib
-from collections.abc import Sequence
+import threading
+from collections.abc import Mapping, Sequence
 from typing import TYPE_CHECKING, Any, TypeVar
 
 import psycopg
-from psycopg import errors, generators, pq
+from psycopg import errors, generators, pq, waiting
 
 from .links import Row
 
@@ -17,24 +19,116 @@ if TYPE_CHECKING:
 
 RV = TypeVar("RV")
 FORBIDDEN = "Explicit {}() forbidden: the transaction is the step's, and ends with it"
+OPEN = (pq.TransactionStatus.INTRANS, pq.TransactionStatus.INERROR)
+JOINS = pq.version() >= 140000
+"""Whether libpq can send one statement behind another, without waiting."""
+
+
+class AsyncStepCursor(psycopg.AsyncCursor[Row]):
+    """The begin of the transaction goes with the function's first statement, where that is one statement for sure."""
+
+    async def execute(self, query: Any, params: Any = None, **more: Any) -> Any:
+        """As psycopg's."""
+        return await super().execute(query, params, **_joined(self.connection, query, params, more))
 
 
 class AsyncStepLink(psycopg.AsyncConnection[Row]):
-    """For functions in the loop. `begun` is None where no step has it, else whether anything was done over it."""
+    """For functions in the loop. `begun` is None where no step has it, else whether anything was done over it.
+
+    While it lives it is registered with the loop once: psycopg itself registers it anew for each answer, which takes as long as the rest."""
 
     begun: bool | None = None
+    joins = 0
+    """The thread whose next statement may go with the begin."""
+    halfway = False
+    """Such a pair is under way: where it is left there, the connection is of no use."""
+    _reads: int | None = None  # the socket, as far as the loop knows it
+    _gen: PQGen[Any] | None = None  # what waits for the server
+    _answer: asyncio.Future[tuple[Any, Any]] | None = None  # what it gave, or what it waits for if that is not an answer
+
+    def __init__(self, *words: Any, **more: Any) -> None:
+        super().__init__(*words, **more)
+        self.cursor_factory = AsyncStepCursor
+        self._home = asyncio.get_running_loop()
 
     async def wait(self, gen: PQGen[RV], *words: Any, **more: Any) -> RV:
         """All that psycopg does over a connection goes by here."""
         if self.begun is False:
-            self.begun = True
             gen = _behind_begin(self, gen)
-        return await super().wait(gen, *words, **more)
+        try:
+            value, state = self._step(gen, None)
+            if state == waiting.WAIT_R:
+                value, state = await self._answered(gen)
+            if state is not None:
+                self.silence()
+                value = await super().wait(_on(gen, state), *words, **more)
+        except asyncio.CancelledError as error:
+            self._gen = None
+            await super().wait(_raising(error), *words, **more)  # what psycopg does where it is interrupted
+            raise
+        finally:
+            if self.halfway:
+                await self.close()
+        return value  # type: ignore[no-any-return]
+
+    def _answered(self, gen: PQGen[Any]) -> asyncio.Future[tuple[Any, Any]]:
+        """Steps of it for what comes, until it wants something else."""
+        if self._reads is None:
+            self._reads = self.pgconn.socket
+            self._home.add_reader(self._reads, self._came)
+        self._gen, self._answer = gen, self._home.create_future()
+        return self._answer
+
+    def _step(self, gen: PQGen[Any], ready: Any) -> tuple[Any, Any]:
+        """One step of it: what it gave at its end, or what it waits for."""
+        try:
+            return None, gen.send(ready)
+        except StopIteration as end:
+            return end.value, None
+        finally:
+            if self._reads is not None and self.pgconn.status == pq.ConnStatus.BAD:  # then libpq has closed the socket
+                self.silence()
+
+    def silence(self) -> None:
+        """The loop knows nothing of it."""
+        if self._reads is not None:
+            self._home.remove_reader(self._reads)
+            self._reads = None
+
+    def _came(self) -> None:
+        """There is something to be read."""
+        gen, answer = self._gen, self._answer
+        if gen is None or answer is None or answer.done():
+            self.silence()  # nobody waits: whoever is next reads it
+            return
+        try:
+            told = self._step(gen, waiting.READY_R)
+        except Exception as error:
+            self._gen = None
+            answer.set_exception(error)
+        else:
+            if told[1] != waiting.WAIT_R:
+                self._gen = None
+                answer.set_result(told)
+
+    def is_there(self) -> bool:
+        """Whether it can be used, as far as is known without asking the server."""
+        if self._reads is None and not self.closed:  # something came that nobody asked for
+            try:
+                self.pgconn.consume_input()
+            except psycopg.Error:
+                return False
+        return not self.closed
+
+    async def close(self) -> None:
+        """Ends it."""
+        self.silence()
+        await super().close()
 
     async def leave(self) -> None:
         """The step is over: what it did and did not commit is rolled back."""
         self.begun = None
-        if self.pgconn.transaction_status != pq.TransactionStatus.IDLE:
+        if self.pgconn.transaction_status in OPEN:
             with contextlib.suppress(psycopg.Error):  # then the pool lets it go
                 await self.rollback()
 
@@ -53,25 +147,42 @@ class AsyncStepLink(psycopg.AsyncConnection[Row]):
     async def end(self, text: str, *words: str) -> None:
         """A last statement, with braces for its words, and the commit, in one go. Raises what the server says of either that it refuses."""
         async with self.lock:
-            await super().wait(_end(self, text, words))
+            await self.wait(_end(self, text, words))
+
+
+class StepCursor(psycopg.Cursor[Row]):
+    """As `AsyncStepCursor`."""
+
+    def execute(self, query: Any, params: Any = None, **more: Any) -> Any:
+        """As psycopg's."""
+        return super().execute(query, params, **_joined(self.connection, query, params, more))
 
 
 class StepLink(psycopg.Connection[Row]):
     """The same for functions in threads."""
 
     begun: bool | None = None
+    joins = 0
+    halfway = False
+
+    def __init__(self, *words: Any, **more: Any) -> None:
+        super().__init__(*words, **more)
+        self.cursor_factory = StepCursor
 
     def wait(self, gen: PQGen[RV], *words: Any, **more: Any) -> RV:
         """All that psycopg does over a connection goes by here."""
         if self.begun is False:
-            self.begun = True
             gen = _behind_begin(self, gen)
-        return super().wait(gen, *words, **more)
+        try:
+            return super().wait(gen, *words, **more)
+        finally:
+            if self.halfway:
+                self.close()
 
     def leave(self) -> None:
         """The step is over: what it did and did not commit is rolled back."""
         self.begun = None
-        if self.pgconn.transaction_status != pq.TransactionStatus.IDLE:
+        if self.pgconn.transaction_status in OPEN:
             with contextlib.suppress(psycopg.Error):  # then the pool lets it go
                 self.rollback()
 
@@ -90,15 +201,33 @@ class StepLink(psycopg.Connection[Row]):
     def end(self, text: str, *words: str) -> None:
         """A last statement, with braces for its words, and the commit, in one go. Raises what the server says of either that it refuses."""
         with self.lock:
-            super().wait(_end(self, text, words))
+            self.wait(_end(self, text, words))
 
 
-def _done(link: Any, text: str, encoding: str) -> PQGen[None]:
-    """Statements in one text. Raises what the server says of the first that fails."""
-    link.pgconn.send_query(text.encode(encoding))
-    for result in (yield from generators.execute(link.pgconn)):
-        if result.status == pq.ExecStatus.FATAL_ERROR:
-            raise errors.error_from_result(result, encoding=encoding)
+def _joined(link: Any, query: Any, params: Any, more: dict[str, Any]) -> dict[str, Any]:
+    """The words for psycopg. Where it is the first of a transaction, and goes to the server as one statement with words, it is not prepared,
+    so that it takes one trip and can go with the begin."""
+    if link.begun is False and JOINS and params and more.get("prepare") is None and isinstance(query, str):
+        has_words = "%(" in query.replace("%%", "") if isinstance(params, Mapping) else isinstance(params, (tuple, list))
+        if has_words:
+            link.joins = threading.get_ident()
+            return more | {"prepare": False}
+    return more
+
+
+def _on(gen: PQGen[RV], state: Any) -> PQGen[RV]:
+    """A generator that has said already what it waits for."""
+    while True:
+        ready = yield state
+        try:
+            state = gen.send(ready)
+        except StopIteration as end:
+            return end.value  # type: ignore[no-any-return]
+
+
+def _raising(error: BaseException) -> PQGen[None]:
+    raise error
+    yield
 
 
 def _encoding(link: Any) -> str:
@@ -107,9 +236,63 @@ def _encoding(link: Any) -> str:
     return "utf-8" if encoding == "ascii" else encoding
 
 
+def _done(link: Any, text: str, encoding: str) -> PQGen[None]:
+    """Statements in one text. Raises what the server says of the first that fails."""
+    link.pgconn.send_query(text.encode(encoding))
+    _raise_first(link, (yield from generators.execute(link.pgconn)))
+
+
+def _raise_first(link: Any, results: Sequence[Any]) -> None:
+    for result in results:
+        if result.status == pq.ExecStatus.FATAL_ERROR:
+            raise errors.error_from_result(result, encoding=_encoding(link))
+
+
 def _behind_begin(link: Any, gen: PQGen[RV]) -> PQGen[RV]:
+    """The first thing that a function does over it, in a transaction."""
+    joins, link.joins, link.begun = link.joins == threading.get_ident(), 0, True
+    if joins and link.pgconn.transaction_status == pq.TransactionStatus.IDLE:
+        return (yield from _with_begin(link, gen))
     yield from _done(link, "BEGIN", _encoding(link))
     return (yield from gen)
+
+
+def _with_begin(link: Any, gen: PQGen[RV]) -> PQGen[RV]:
+    """The begin and one statement, sent at once: where the begin is refused, the server does nothing of what is behind it."""
+    pgconn, fault, value = link.pgconn, None, None
+    link.halfway = True
+    pgconn.enter_pipeline_mode()
+    pgconn.send_query_params(b"BEGIN", None)
+    try:
+        next(gen)  # it is on its way
+    except Exception as error:  # psycopg refused it
+        fault = error
+    pgconn.pipeline_sync()
+    yield from generators.send(pgconn)
+    begun = yield from generators.fetch_many(pgconn)
+    try:
+        if fault is None:
+            value = yield from _from(gen)
+    except Exception as error:
+        if pgconn.status == pq.ConnStatus.BAD:  # nothing more comes
+            raise
+        fault = error
+    yield from generators.fetch_many(pgconn)  # where both end
+    pgconn.exit_pipeline_mode()
+    link.halfway = False
+    _raise_first(link, begun)
+    if fault is not None:
+        raise fault
+    return value  # type: ignore[return-value]
+
+
+def _from(gen: PQGen[RV]) -> PQGen[RV]:
+    """A generator that waits for an answer, which may be there."""
+    try:
+        state = gen.send(waiting.READY_R)
+    except StopIteration as end:
+        return end.value  # type: ignore[no-any-return]
+    return (yield from _on(gen, state))
 
 
 def _end(link: Any, text: str, words: Sequence[str]) -> PQGen[None]:

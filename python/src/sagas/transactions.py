@@ -5,20 +5,20 @@ to the commit is lost, the log is taken up again, and the record tells."""
 
 from __future__ import annotations
 
+import asyncio
 import contextlib
 import dataclasses
-import threading
+import functools
 from collections.abc import Callable, Iterator
 from typing import TYPE_CHECKING, Any
 
 import psycopg
-from psycopg_pool import AsyncConnectionPool, ConnectionPool
 
 from . import calling, links
 from .calling import Outcome
-from .definition import Manner
+from .definition import Function, Manner
 from .errors import Lost, Unknown
-from .step_links import AsyncStepLink, StepLink
+from .step_pool import REST, Pool, ThreadPool
 from .task import Task
 
 if TYPE_CHECKING:
@@ -31,6 +31,8 @@ INSERT INTO sagas.results VALUES (%(id)s, %(step)s, '%(kind)s', %(attempt)s, (SE
   WHERE log = %(log)s AND owner = {{}} AND epoch = %(epoch)s AND {links.LINE} = '%(line)s' FOR SHARE), {{}}, extract(epoch FROM clock_timestamp()))
 """
 """Its outcome would be null where the log is not this node's any more: that is refused, and nothing is committed. In braces: the node, the value."""
+LOOK = REST / 10
+"""Seconds between two looks for connections that rest too long."""
 ROLLED_BACK = ("23", "25P02", "40001", "40P01", "P0")
 """A constraint, also one that is looked at in the commit; a statement that failed before, unnoticed; others in the way; a trigger's own word."""
 
@@ -40,10 +42,15 @@ class Record:
     """Whether the result's record was written, or is about to be."""
 
     attempt: Attempt
+    where: str
     node: str
     line: str
     begun: bool = False
     done: bool = False
+
+    def lost(self) -> Lost | None:
+        """What to say where nobody knows whether it was committed."""
+        return Lost(f"{self.where}: nobody knows whether {self.attempt.token()} was committed") if self.begun and not self.done else None
 
     def refused(self, error: psycopg.Error) -> None:
         """The server's own answer may say that all is rolled back: then the function had no effect. What it says of the record means that the log,
@@ -77,80 +84,74 @@ class Transactions:
 
     def __init__(self, url: str, where: str, node: str, line: Callable[[], str], most: int) -> None:
         self._where, self._node, self._line = where, node, line
-        words: dict[str, Any] = {"min_size": 0, "max_size": most, "open": False, "timeout": links.PATIENCE}
-        self._pool = AsyncConnectionPool(links.address(url), connection_class=AsyncStepLink, **words)
-        self._threads = ConnectionPool(links.address(url), connection_class=StepLink, **words)
-        self._lock = threading.Lock()
-        self._open = self._open_threads = False
+        self._pool, self._threads = Pool(url, most), ThreadPool(url, most)
+        self._timer: asyncio.TimerHandle | None = None
 
     async def close(self) -> None:
         """Ends their connections."""
-        if self._open:
-            await self._pool.close(timeout=links.CONNECT)
-        if self._open_threads:
-            self._threads.close(timeout=links.CONNECT)
+        if self._timer:
+            self._timer.cancel()
+        await self._pool.close()
+        await asyncio.to_thread(self._threads.close)
+
+    def _look(self) -> None:
+        self._pool.look()
+        self._threads.look()
+        self._timer = asyncio.get_running_loop().call_later(LOOK, self._look)
 
     async def call(self, attempt: Attempt, manner: Manner, task: Task[Any], executor: Executor | None, late: Callable[[], object] | None) -> Outcome | None:
         """As `calling.call`; where the function did nothing over its connection, there is nothing to commit, and no record.
 
         Raises `Lost` where nobody knows whether it was committed, or where the log is another node's: then it is looked up."""
-        record = Record(attempt, self._node, self._line())
-        function = manner.function
+        function, record = manner.function, self._record(attempt)
         assert function
-        if calling.is_async(function):
-            if not self._open:
-                self._open = True
-                await self._pool.open()
-            within: Callable[[Task[Any]], Any] = self._in_loop(function, record)
-        else:
-            within = self._in_thread(function, record)
+        within = functools.partial(self._in_loop if calling.is_async(function) else self._in_thread, function, record)
         outcome = await calling.call(manner, task, executor, late, within)
-        if record.begun and not record.done:
-            raise Lost(f"{self._where}: nobody knows whether {task.token} was committed")
+        if lost := record.lost():
+            raise lost
         return outcome
 
-    def _in_loop(self, function: Callable[[Task[Any]], Any], record: Record) -> Callable[[Task[Any]], Any]:
-        async def within(task: Task[Any]) -> Any:
-            with record.judged():
-                link = await self._pool.getconn()
-                assert isinstance(link, AsyncStepLink)
-                task.enter(link)
-                link.begun = False
+    async def within(self, attempt: Attempt, function: Function, task: Task[Any]) -> Any:
+        """As `Database.within`."""
+        attempt.record = self._record(attempt)
+        return await self._in_loop(function, attempt.record, task)
+
+    def _record(self, attempt: Attempt) -> Record:
+        if self._timer is None:
+            self._look()
+        return Record(attempt, self._where, self._node, self._line())
+
+    async def _in_loop(self, function: Function, record: Record, task: Task[Any]) -> Any:
+        with record.judged():
+            link = self._pool.at_hand() or await self._pool.take()
+            task.enter(link)
+            link.begun = False
+            try:
+                value = await function(task)
+                if link.begun:
+                    await link.end(*record.words(value))
+                    record.done = True
+            finally:
+                if link.begun is False:
+                    link.begun = None
+                else:
+                    await link.leave()
+                self._pool.give(link)
+        return value
+
+    def _in_thread(self, function: Function, record: Record, task: Task[Any]) -> Any:
+        with record.judged():
+            link = self._threads.take()
+            task.enter(link)
+            link.begun = False
+            try:
+                value = function(task)
+                if link.begun:
+                    link.end(*record.words(value))
+                    record.done = True
+            finally:
                 try:
-                    value = await function(task)
-                    if link.begun:
-                        await link.end(*record.words(value))
-                        record.done = True
+                    link.leave()
                 finally:
-                    try:
-                        await link.leave()
-                    finally:
-                        await self._pool.putconn(link)
-            return value
-
-        return within
-
-    def _in_thread(self, function: Callable[[Task[Any]], Any], record: Record) -> Callable[[Task[Any]], Any]:
-        def within(task: Task[Any]) -> Any:
-            with self._lock:
-                if not self._open_threads:
-                    self._threads.open()
-                    self._open_threads = True
-            with record.judged():
-                link = self._threads.getconn()
-                assert isinstance(link, StepLink)
-                task.enter(link)
-                link.begun = False
-                try:
-                    value = function(task)
-                    if link.begun:
-                        link.end(*record.words(value))
-                        record.done = True
-                finally:
-                    try:
-                        link.leave()
-                    finally:
-                        self._threads.putconn(link)
-            return value
-
-        return within
+                    self._threads.give(link)
+        return value

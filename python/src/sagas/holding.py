@@ -1,0 +1,51 @@
+"""When a commit waits for what is about to come to it: two that follow each other closely take the database twice the time of one."""
+
+from __future__ import annotations
+
+import asyncio
+import time
+from collections.abc import Callable
+
+MOST = 0.005
+"""Seconds that a commit waits, at most."""
+SHARE = 0.5
+"""Of the time that a commit takes: it waits for what comes in less."""
+FADE = 8
+"""How many of the last ones count, about."""
+
+
+class Holding:
+    """Knows how soon a call of a function that waits for nothing came to a commit, and so how soon those that are to be called will."""
+
+    def __init__(self) -> None:
+        self._each = 0.0  # seconds
+        self._since: float | None = None
+        self._count = 0
+        self._timer: asyncio.TimerHandle | None = None
+
+    def committed(self, count: int) -> None:
+        """A commit is over, and so many functions are to be called."""
+        self._since, self._count = (time.monotonic(), count) if count else (None, 0)
+
+    def came(self) -> None:
+        """Something is to be written."""
+        if self._since is not None:
+            took, self._since = time.monotonic() - self._since, None
+            self._each += (min(took / self._count, MOST) - self._each) / FADE
+
+    def is_soon(self, coming: int, takes: float) -> bool:
+        """Whether so many calls come to a commit in less than what is worth to wait, where one takes so long."""
+        return 0 < coming * self._each < takes * SHARE
+
+    def is_worth(self, coming: int, takes: float, write: Callable[[], None]) -> bool:
+        """Whether what is to be written waits for so many that are on their way; `write` is called in case they do not come."""
+        if self._timer:
+            if coming and not self._timer.cancelled() and self._timer.when() > asyncio.get_running_loop().time():
+                return True
+            self._timer.cancel()
+            self._timer = None
+            return False
+        if not self.is_soon(coming, takes):
+            return False
+        self._timer = asyncio.get_running_loop().call_later(min(2 * coming * self._each, MOST), write)
+        return True
