@@ -24,7 +24,7 @@ import records
 import sagas
 from cases import HOUR, Task, ended, run, simple, until
 from kills import children
-from sagas import lines, program, pump, sqlite_writer
+from sagas import child, lines, program, pump, sqlite_writer
 
 
 def row(gate: asyncio.Event | None = None) -> sagas.Saga:
@@ -707,6 +707,62 @@ def test_commits_in_the_loop_and_in_the_thread(tmp_path: pathlib.Path, monkeypat
 
     run(main())
     assert most < 16 << 20
+
+
+@pytest.mark.parametrize("wait", [0, 50])
+def test_answers_that_are_waited_for_and_others(place: str, monkeypatch: pytest.MonkeyPatch, wait: int) -> None:
+    """An answer that is not there in time comes by the loop, and for a while none is waited for."""
+    monkeypatch.setattr(child, "WAIT", wait)
+    monkeypatch.setattr(child, "AGAIN", 3)
+    saga = row()
+
+    async def main() -> None:
+        async with sagas.open(place, [saga]) as store:
+            for number in range(12):
+                given = "fails" if number % 4 == 3 else None
+                end = await ended(store, saga, f"k{number}", given)
+                assert end.ok == (given is None) and not (await store.start(saga, f"k{number}", given)).new
+            ends = await asyncio.gather(*(ended(store, saga, f"more-{number}") for number in range(40)))
+            assert all(end.ok for end in ends)
+            assert all(said.startswith("yes") for said in (await store.audit()).values())
+
+    run(main())
+
+
+def test_each_step_gives_the_loop_a_turn(place: str) -> None:
+    """Whatever is committed and answered at once: what else goes on in the loop is not held up by a saga of many steps."""
+    saga, turns, seen = sagas.Saga("long"), 0, []
+    for number in range(30):
+
+        async def step(task: Task) -> None:
+            seen.append(turns)
+
+        saga.step(name=f"s{number}", needs=[f"s{number - 1}"] if number else [])(step)
+
+    async def main() -> None:
+        nonlocal turns
+        async with sagas.open(place, [saga]) as store:
+            going = asyncio.ensure_future(ended(store, saga))
+            while not going.done():
+                turns += 1
+                await asyncio.sleep(0)
+            assert going.result().ok
+
+    run(main())
+    assert len(set(seen)) == 30
+
+
+def test_tasks_of_a_reply() -> None:
+    """They are read without a parser, unless there is a plan among them."""
+    one = '{"attempt":1,"name":"hotel","saga":0,"step":1,"task":"run"}'
+    two = '{"attempt":12,"name":"a-b_c","saga":999,"step":65535,"task":"undo"}'
+    plan = '{"answer":{"cost":1,"kept":[],"kind":"plan"},"phase":"going","saga":0,"task":"plan"}'
+    told = [(0, 1, "run", 1), (999, 65535, "undo", 12)]
+    assert lines.tasks_in(f'{{"tasks":[{one}]}}') == told[:1]
+    assert lines.tasks_in(f'{{"tasks":[{one},{two}]}}') == told
+    assert lines.tasks_in(f'{{"settled":false,"tasks":[{two}]}}') == told[1:]
+    for other in (f'{{"tasks":[{one},{plan}]}}', f'{{"tasks":[{plan}]}}', '{"settled":true,"tasks":[]}'):
+        assert lines.tasks_in(other) is None
 
 
 def test_a_commit_in_the_loop_waits_for_nobody(tmp_path: pathlib.Path, monkeypatch: pytest.MonkeyPatch) -> None:

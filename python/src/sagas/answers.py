@@ -56,6 +56,15 @@ class Answers:
         """What begins now, of the reply to `next` where it was asked."""
         begun = self._begun
         for reply in replies:
+            tasks = lines.tasks_in(reply)
+            if tasks is not None:  # most replies have no plan
+                self.hungry = not reply.startswith(lines.SETTLED)
+                for saga, step, word, number in tasks:
+                    live = self.live[saga]
+                    attempt = Attempt(live, step, word, number, fresh=True)
+                    live.busy[attempt.word] = attempt
+                    begun.append(attempt)
+                continue
             told = values.read(reply)
             self.hungry = "settled" not in told
             for task in told["tasks"]:
@@ -75,9 +84,7 @@ class Answers:
 
     def _begin(self, attempts: list[Attempt]) -> None:
         self.owner.slots.release(len(attempts))
-        begin = self.owner.doing.begin
-        for attempt in attempts:
-            begin(attempt)
+        self.owner.doing.begin_all(attempts)
 
     def _told_reports(self, batch: Batch, acts: list[Act], attempts: Sequence[Attempt], replies: Sequence[str]) -> None:
         first, rows = self.log * ROOM, batch.results

@@ -70,20 +70,31 @@ class Callers:
     async def _work(self) -> None:
         job, self._next = asyncio.current_task(), None
         assert job
+        rest = self._row(job)
+        if rest is not None:
+            await rest
+
+    def _row(self, job: asyncio.Task[None]) -> Coroutine[Any, Any, None] | None:
+        """Calls those that are ready, up to one that waits: then what is left of it. What begins meanwhile is for the loop's next turn, behind who
+        was told something before it."""
         ready = self._ready
-        while ready and not job.cancelling():  # a function may have cancelled the task that it was in
-            attempt, function = ready.popleft()
-            if ready and self._next is None:  # who goes on with the others, should this one wait
+        try:
+            for _ in range(len(ready)):
+                if job.cancelling():  # a function cancelled the task that it was in
+                    break
+                attempt, function = ready.popleft()
+                if self._waiters and self._waits(attempt, function):
+                    continue
+                if self._begins(attempt):
+                    attempt.job = job
+                    rest = self._call(attempt, function)
+                    if rest is not None:
+                        self._waiters[function] = AGAIN
+                        return rest
+            return None
+        finally:
+            if ready and (self._next is None or self._next.done()):
                 self._next = self.start(self._work())
-            if self._waiters and self._waits(attempt, function):
-                continue
-            if self._begins(attempt):
-                attempt.job = job
-                rest = self._call(attempt, function)
-                if rest is not None:
-                    self._waiters[function] = AGAIN
-                    await rest
-                    return
 
     async def _alone(self, attempt: Attempt, function: Function) -> None:
         if not self._begins(attempt):

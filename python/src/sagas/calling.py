@@ -11,7 +11,7 @@ import os
 import traceback
 from collections.abc import Callable
 from concurrent.futures import Executor
-from typing import Any, NamedTuple
+from typing import Any, NamedTuple, cast
 
 from . import values
 from .definition import Manner
@@ -33,6 +33,10 @@ class Outcome(NamedTuple):
     error: BaseException | None = None
 
 
+_outcome = cast("Callable[[tuple[str, str, bool, None]], Outcome]", functools.partial(tuple.__new__, Outcome))
+"""As `Outcome`, for what is made all the time."""
+
+
 def failure(text: str, final: bool = False, called: bool = True) -> Outcome:
     """A failure by its text. `called` is false where a try was given up without a call."""
     told: dict[str, Any] = {"error": text[:MOST_TEXT]}
@@ -46,7 +50,7 @@ def failure(text: str, final: bool = False, called: bool = True) -> Outcome:
 def done(value: Any, task: Task[Any] | None = None) -> Outcome:
     """The function returned. A result that is not JSON is kept as `{"unstorable": ..}`: the effect is there, and is not to be lost."""
     try:
-        return Outcome("done", values.write(value))
+        return _outcome(("done", values.write(value), True, None))
     except NotJson as error:
         whose = f" key={task.key} saga={task.saga} step={task.step}" if task else ""
         logger.warning("result_unstorable%s detail=%s", whose, error)

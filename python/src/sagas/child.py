@@ -6,6 +6,7 @@ import asyncio
 import contextlib
 import fcntl
 import os
+import select
 import subprocess
 from collections.abc import Callable, Sequence
 from . import lines
@@ -15,6 +16,9 @@ from .program import memory_file
 
 PIPE = 1 << 20  # bytes
 READ = 1 << 16  # bytes that are read at once: what is larger is mapped, and given back, at each read
+WAIT = 1  # milliseconds
+AGAIN = 32
+"""Questions after one whose answer was late, until answers are waited for again."""
 Reply = str
 Answered = Callable[[list[Reply], str], None]
 """What is called with the replies to a batch, and the lines of the log that they came to."""
@@ -36,6 +40,7 @@ class Child:
         self._replies = 0  # that came
         self._out = b""
         self._writing = self.dead = False
+        self._late = 0  # questions whose answers are not waited for
         self._start(program, definitions, text)
 
     def _start(self, program: str, definitions: Sequence[str], text: str) -> None:
@@ -65,13 +70,30 @@ class Child:
             with contextlib.suppress(OSError):  # a user has so many pages of pipes, and no more
                 fcntl.fcntl(fd, fcntl.F_SETPIPE_SZ, PIPE)
         self._loop.add_reader(self._back, self._readable)
+        self._poll = select.poll()
+        self._poll.register(self._back, select.POLLIN)
 
-    def ask(self, requests: Sequence[str], answered: Answered) -> None:
-        """Sends a batch; `answered` is called with a reply for each request, in order, and the lines of the log."""
+    def ask(self, requests: Sequence[str], answered: Answered, wait: bool = False) -> None:
+        """Sends a batch; `answered` is called with a reply for each request, in order, and the lines of the log.
+
+        `wait`: the answer is waited for here, as long as answers come within `WAIT`: that takes less than a turn of the loop."""
         assert not self.asked
         self.asked, self._answered = len(requests), answered
         self._out += ("\n".join(requests) + "\n").encode()
         self._write()
+        if wait:
+            self._await()
+
+    def _await(self) -> None:
+        if self._late:
+            self._late -= 1
+        elif self._poll.poll(WAIT):
+            try:
+                self._readable()
+            except Exception as error:  # who asks has nothing to do with what the answer comes to
+                self._loop.call_exception_handler({"message": "an answer of sagas drive", "exception": error})
+        else:
+            self._late = AGAIN
 
     def _write(self) -> None:
         try:
@@ -152,12 +174,14 @@ class Child:
 
 def parted(told: str) -> tuple[list[Reply], str]:
     """The replies, and the lines of the log that stand before them, without the header. A reply begins with a brace, a line of the log with a plus."""
-    first, *parts = f"\n{told}".split("\n{")
-    replies, texts = [], [first]
-    for part in parts:
-        reply, _, more = part.partition("\n")
-        replies.append(f"{{{reply}")
-        if more:
-            texts.append(more)
-    text = "\n".join(texts).replace("\n+", "\n")
-    return replies, f"{text[1:]}\n".removeprefix(lines.HEADER) if len(text) > 1 else ""
+    replies: list[Reply] = []
+    shown: list[str] = []
+    for line in told.split("\n"):
+        if line.startswith("+"):
+            shown.append(line[1:])
+        elif line:
+            replies.append(line)
+    if not shown:
+        return replies, ""
+    shown.append("")
+    return replies, "\n".join(shown).removeprefix(lines.HEADER)

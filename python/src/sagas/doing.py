@@ -67,6 +67,18 @@ class Doing:
 
     # -- begin
 
+    def begin_all(self, attempts: Sequence[Attempt]) -> None:
+        """They are in the store as begun. Most are called at once."""
+        slots = self.slots
+        for attempt in attempts:
+            live = attempt.live
+            is_simple = attempt.attempt == 1 and not live.draining and live.kind.simple[attempt.kind][attempt.step]
+            if is_simple and slots.running < slots.most and not self.closing:
+                slots.running += 1
+                self._run(attempt)
+            else:
+                self.begin(attempt)
+
     def begin(self, attempt: Attempt) -> None:
         """It is in the store as begun."""
         live = attempt.live

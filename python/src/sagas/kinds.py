@@ -55,6 +55,7 @@ class Kind:
         self.count = len(listed)
         place = {name: number for number, name in enumerate(self.names)}
         self.below = self._below([[place[need] for need in step.get("needs", ())] for step in listed])
+        self.given = [[(number, self.names[number]) for number in below] for below in self.below]
         self.needs = sum(len(step.get("needs", ())) for step in listed)
         self.fits = room.fits(self.count, self.needs)
         told_hints = [values.hints(step.run.function) if step and step.run.function else (None, None) for step in self.steps]

@@ -8,6 +8,12 @@ HEADER = '{"format":2}\n'
 NEXT = '{"do":"next"}'
 BUSY = '{"do":"busy"}'
 EVENT = '{"event":{'
+COMMIT = '{"event":{"event":"commit",'
+GOING = '"phase":"going"}'
+SETTLED = '{"settled":'
+TASKS = '"tasks":[{'
+PLAN = '"task":"plan"'
+UNDO = '"task":"undo"'
 
 
 def open_line(place: int, number: int) -> str:
@@ -35,8 +41,22 @@ def next_line(most: int) -> str:
 
 def event_and_phase(reply: str) -> tuple[str, str]:
     """The word of the event that a report came to, and that of the saga's phase after it."""
+    if reply.endswith(GOING) and reply.startswith(COMMIT):  # most do
+        return "commit", "going"
     parts = reply.split('"')
     return parts[5], parts[-2]
+
+
+def tasks_in(reply: str) -> list[tuple[int, int, str, int]] | None:
+    """Of the tasks of a reply to `next`, where there is no plan among them: saga, step, `run` or `undo`, attempt."""
+    _, there, told = reply.partition(TASKS)
+    if not there or PLAN in told:
+        return None
+    found = []
+    for task in told[:-3].split("},{"):
+        attempt, _, saga, step, word = task.split(",")  # a step's name has letters, digits, _ and - alone
+        found.append((int(saga[7:]), int(step[7:]), "undo" if word == UNDO else "run", int(attempt[10:])))
+    return found
 
 
 def number_in(reply: str) -> int:

@@ -200,8 +200,9 @@ class Attempt:
     def task(self) -> Task[Any]:
         """What its function is handed."""
         live, step = self.live, self.step
-        kind, below = live.kind, live.kind.below[step]
-        results = {kind.names[step]: live.results.get(step, "null") for step in below} if below else {}
+        kind, told = live.kind, live.results
+        given = kind.given[step]
+        results = {name: told.get(number, "null") for number, name in given} if given else {}
         undo = self.kind == "undo"
         hint = (kind.undo_inputs if undo else kind.inputs)[step]
         own = live.results.get(step) if undo else None

@@ -24,6 +24,8 @@ logger = logging.getLogger("sagas")
 MOST_NEXT = 1000
 LOT = 256
 """Reports and opens that go to the child at once: while it decides on one lot, functions of another run."""
+FEW = 64
+"""Requests whose answer comes soon."""
 Asked = tuple[Callable[[Batch, list[Act], Sequence[Any], Sequence[Reply]], None], Sequence[Any]]
 """What reads some replies, and what each of them is about."""
 TURN = 0.1  # seconds that a log keeps its child while others wait for one
@@ -73,8 +75,9 @@ class Pump(Answers):
             assert self.child
             if self.child.asked:  # when it has answered, it is asked what is due
                 return
-            if now and (not self.owner.slots.running or len(self.reports) >= LOT):
-                self._send()
+            running = self.owner.slots.running
+            if now and (not running or len(self.reports) >= LOT):
+                self._send(wait=not running)
             elif not self._scheduled:
                 self._scheduled = True
                 self.owner.loop.call_soon(self._send)
@@ -139,7 +142,8 @@ class Pump(Answers):
         if self.due():
             self.owner.loop.call_soon(self.poke)
 
-    def _send(self) -> None:
+    def _send(self, wait: bool = False) -> None:
+        """Asks what is due. `wait`: nothing else goes on here that could be done until the answer comes."""
         self._scheduled = False
         child = self.child
         if self.state != "up" or child is None or child.asked:
@@ -149,6 +153,8 @@ class Pump(Answers):
             if not self.unwritten:
                 return
         self.owner.place_now(self)
+        if self.state != "up" or child.asked:  # another log took its child, or it was asked
+            return
         requests: list[str] = []
         asked: list[Asked] = []
         if self.reports:
@@ -163,7 +169,7 @@ class Pump(Answers):
             asked.append((self._told_next, (None,)))
         if requests:
             self.used = self.owner.loop.time()
-            child.ask(requests, lambda replies, text: self._answered(asked, replies, text))
+            child.ask(requests, lambda replies, text: self._answered(asked, replies, text), wait and len(requests) <= FEW)
         else:
             self.offer()
 
@@ -256,7 +262,7 @@ class Pump(Answers):
             self.fail(error)
 
     def _read(self, batch: Batch, acts: list[Act]) -> None:
-        """What was answered is committed, and what is to be asked is asked."""
+        """What is to be asked is asked, and what was answered is committed: a commit may be made here, and meanwhile the child decides."""
         if self._ended:
             acts.append((self.owner.ended, self._ended))
         if self._begun:
@@ -266,10 +272,15 @@ class Pump(Answers):
         self.more = min(MOST_NEXT, 2 * took) if self.hungry else 1
         batch.text = self._text
         self.events += batch.text.count("\n")
-        self.commit(batch, acts)
-        if self.due():
-            self._send()
-        else:
+        is_due, held = self.due(), int(bool(batch))
+        self.unwritten += held  # it keeps its child until then
+        try:
+            if is_due:
+                self._send()
+        finally:
+            self.unwritten -= held
+            self.commit(batch, acts)
+        if not is_due:
             self.offer()
         self.owner.store.settle()
 

@@ -2,8 +2,9 @@
 
 from __future__ import annotations
 
+import bisect
 import json
-from collections.abc import Sequence
+from collections.abc import Callable, Sequence
 from typing import Any
 
 from .errors import NoSuchSaga
@@ -26,6 +27,7 @@ COUNT = "SELECT count(*) FROM sagas s WHERE s.id >= ? AND s.id < ?"
 FIND = f"SELECT {SAGA} FROM sagas WHERE key = ?"
 FIND_MANY = {count: f"SELECT {SAGA} FROM sagas WHERE key IN ({', '.join('?' * count)})" for count in (1, 2, 4, 8, 16, 32, 64, 128, 256)}
 """By how many keys: few numbers, so that their statements are kept."""
+FOUND, MOST_FOUND = [*FIND_MANY], max(FIND_MANY)
 PHASES = {
     "open": "phase IS NULL", "ended": "phase = 'ended'", "planned": PLANNED,
     "stuck": "phase = 'stuck' AND note IS NULL", "resolved": "phase = 'stuck' AND note IS NOT NULL",
@@ -78,11 +80,16 @@ class Questions:
 
     def find_many(self, keys: Sequence[str]) -> dict[str, SagaRow]:
         """The sagas with these keys, by key, as far as they are there."""
-        found, most = {}, max(FIND_MANY)
-        for place in range(0, len(keys), most):
-            lot = keys[place : place + most]
-            count = next(count for count in FIND_MANY if count >= len(lot))
-            for row in self.rows(FIND_MANY[count], *lot, *[lot[0]] * (count - len(lot))):
+        return self.found(keys, lambda query, words: self.rows(query, *words))
+
+    def found(self, keys: Sequence[str], rows: Callable[[str, Sequence[str]], list[tuple[Any, ...]]]) -> dict[str, SagaRow]:
+        """As `find_many`, by what gives the rows of a query."""
+        found = {}
+        for place in range(0, len(keys), MOST_FOUND):
+            lot = [*keys[place : place + MOST_FOUND]]
+            count = FOUND[bisect.bisect_left(FOUND, len(lot))]
+            lot += lot[:1] * (count - len(lot))
+            for row in rows(FIND_MANY[count], lot):
                 found[row[1]] = SagaRow(*row)
         return found
 

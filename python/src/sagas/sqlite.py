@@ -228,10 +228,18 @@ class Sqlite(questions.Questions):
 
     def rows(self, query: str, *words: Any) -> list[tuple[Any, ...]]:
         """Rows of the reader. Raises `StoreUnwritable` where the file cannot be read."""
+        return self._read(self._reader, query, cleaned(words))
+
+    def _read(self, db: sqlite3.Connection, query: str, words: Sequence[Any]) -> list[tuple[Any, ...]]:
         try:
-            return self._reader.execute(query, cleaned(words)).fetchall()
+            return db.execute(query, words).fetchall()
         except sqlite3.Error as error:
             raise StoreUnwritable(f"{self.path}: {error}") from error
+
+    def find_many(self, keys: Sequence[str]) -> dict[str, SagaRow]:
+        """The sagas with these keys, by key, as far as they are there."""
+        assert self._writer
+        return self.found(keys, functools.partial(self._read, self._writer.reader() or self._reader))
 
     def reader(self) -> Reader:
         """Another connection, for a thread that only reads."""

@@ -12,7 +12,7 @@ import sqlite3
 import threading
 import time
 from collections.abc import Iterable, Sequence
-from typing import Any, TypeVar
+from typing import Any
 
 from .database import Then
 from .records import Batch, Ended
@@ -39,9 +39,6 @@ ENDED = "UPDATE sagas SET phase = ?, end = ?, ended = ? WHERE id IN ({})"
 SETTLED = "INSERT INTO reports(token, log, outcome) VALUES(?, ?, 'taken') ON CONFLICT(token) DO UPDATE SET outcome = 'taken', value = NULL"
 
 
-Row = TypeVar("Row")
-
-
 class Gap(Exception):
     """A batch does not join on to its log: a fault of this package, and nothing is written."""
 
@@ -57,6 +54,7 @@ class Writer:
         self._jobs: queue.SimpleQueue[tuple[Sequence[Batch], Then] | None] = queue.SimpleQueue()
         self._took = AT_ONCE  # seconds, by the slowest of the last commits
         self._patient: bool | None = None
+        self._lent = False  # the thread has the connection
         self._pages = 0  # that the loop wrote into the WAL, about
         self._over: tuple[Then, Sequence[Batch], BaseException | None] | None = None  # a commit of the loop's, whose `then` is to be called
         self._thread = threading.Thread(target=self._work, name="sagas-writer", daemon=True)
@@ -69,13 +67,15 @@ class Writer:
 
     def commit(self, batches: Sequence[Batch], then: Then) -> None:
         """As `Database.commit`."""
-        rows = sum(len(batch.results) + len(batch.opened) for batch in batches)
+        rows = 0
+        for batch in batches:
+            rows += len(batch.results) + len(batch.opened)
         if self._took < AT_ONCE and self._pages < CHECKPOINT and rows <= FEW_ROWS:
             self._pages += 6 + rows // 8
             self._loop.call_soon(self.settle)
             if self._here(batches, then):
                 return
-        self._pages = 0
+        self._pages, self._lent = 0, True
         self._jobs.put((batches, then))
 
     def _here(self, batches: Sequence[Batch], then: Then) -> bool:
@@ -102,7 +102,15 @@ class Writer:
             fault = self._try(batches, patient=True)
             self._took *= FORGET
             with contextlib.suppress(RuntimeError):  # the loop is closed
-                self._loop.call_soon_threadsafe(then, batches, fault, NONE)
+                self._loop.call_soon_threadsafe(self._done, batches, then, fault)
+
+    def _done(self, batches: Sequence[Batch], then: Then, fault: Exception | None) -> None:
+        self._lent = False
+        then(batches, fault, NONE)
+
+    def reader(self) -> sqlite3.Connection | None:
+        """The connection, to read by where it is not writing: it knows what it wrote, and another one would have to look."""
+        return None if self._lent else self._db
 
     def _try(self, batches: Sequence[Batch], patient: bool) -> Exception | None:
         """One transaction, or what kept it from being: that is told to the coordinator, which begins again from the database."""
@@ -142,30 +150,52 @@ class Writer:
 
     def _put(self, batches: Sequence[Batch]) -> dict[int, int]:
         """Writes the rows of all; gives how many events the logs have now."""
+        events = self._put_lines(batches)
+        if len(batches) == 1:
+            (batch,) = batches
+            opened, results, ended = batch.opened, batch.results, batch.ended
+        else:
+            opened = [row for batch in batches for row in batch.opened]
+            results = [row for batch in batches for row in batch.results]
+            ended = [row for batch in batches for row in batch.ended]
+        if opened:
+            self._lots(OPENED, 6, opened)
+        if results:
+            self._lots(RESULTS, 7, results)
+        if ended:
+            self._put_ended(ended)
+        rare = [batch for batch in batches if batch.is_rare]
+        if rare:
+            self._put_rare(rare)
+        return events
+
+    def _put_lines(self, batches: Sequence[Batch]) -> dict[int, int]:
+        """Writes the lines, one row a log; gives how many events the logs have now."""
         chunks: dict[int, tuple[int, list[str]]] = {}
         events: dict[int, int] = {}
+        at = 0.0
         for batch in batches:
             if batch.born:
                 name, shelf, texts = batch.born
                 self._db.execute("INSERT OR IGNORE INTO shelves VALUES(?, ?)", (shelf, texts))
                 self._db.execute("INSERT OR IGNORE INTO logs(log, name, shelf) VALUES(?, ?, ?)", (batch.log, name, shelf))
             if batch.text:
-                had = events.get(batch.log, self.events.get(batch.log, 0))
+                log = batch.log
+                had = events[log] if log in events else self.events.get(log, 0)
                 if batch.first != had:
-                    raise Gap(f"log {batch.log}: event {batch.first} behind {had}")
-                events[batch.log] = had + batch.text.count("\n")
-                chunks.setdefault(batch.log, (had, []))[1].append(batch.text)
-        at = max(batch.at for batch in batches)
+                    raise Gap(f"log {log}: event {batch.first} behind {had}")
+                events[log] = had + batch.text.count("\n")
+                chunks.setdefault(log, (had, []))[1].append(batch.text)
+            at = max(at, batch.at)
         for log, (first, lines) in chunks.items():
             self._db.execute(LINES, (log, first, at, "".join(lines)))
-        self._lots(OPENED, 6, _joined([batch.opened for batch in batches]))
-        self._lots(RESULTS, 7, _joined([batch.results for batch in batches]))
-        self._put_ended(_joined([batch.ended for batch in batches]))
-        self._put_rare([batch for batch in batches if batch.is_rare])
         return events
 
     def _put_ended(self, rows: Sequence[Ended]) -> None:
         """Most of them ended in the same way, and at the same time."""
+        if len(rows) == 1:
+            self._db.execute(_statement(ENDED, 1, 1), rows[0])
+            return
         ways: dict[tuple[str, str, float], list[tuple[int]]] = {}
         for phase, end, at, id in rows:
             ways.setdefault((phase, end, at), []).append((id,))
@@ -173,8 +203,6 @@ class Writer:
             self._lots(ENDED, 1, ids, way)
 
     def _put_rare(self, batches: Sequence[Batch]) -> None:
-        if not batches:
-            return
         self._many("INSERT OR REPLACE INTO held VALUES(?, ?, ?, ?, ?, ?, ?, ?, ?)", ([cleaned(row) for row in b.held] for b in batches))
         self._many("DELETE FROM held WHERE id = ? AND step = ? AND kind = ? AND attempt <= ?", (b.freed for b in batches))
         self._many(SETTLED, (b.settled for b in batches))
@@ -191,15 +219,14 @@ class Writer:
 
     def _lots(self, statement: str, width: int, rows: Sequence[Sequence[Any]], words: Sequence[Any] = ()) -> None:
         """As `_many`, by a statement for many rows: one for each row takes longer, and gives up the interpreter's lock each time. `words` stand before them."""
+        if len(rows) == 1 and not words:
+            self._db.execute(_statement(statement, width, 1), rows[0])
+            return
         place = 0
         while place < len(rows):
             count = ROWS[bisect.bisect_right(ROWS, len(rows) - place) - 1]
             self._db.execute(_statement(statement, width, count), [*words, *itertools.chain.from_iterable(rows[place : place + count])])
             place += count
-
-
-def _joined(lists: Sequence[Sequence[Row]]) -> Sequence[Row]:
-    return lists[0] if len(lists) == 1 else [*itertools.chain.from_iterable(lists)]
 
 
 @functools.lru_cache(maxsize=256)

@@ -148,10 +148,13 @@ class Store:
             raise kind.too_large()
         else:
             live = inside.new_live(key, text, kind, place)
+            begun = live.started(inside.loop)  # before it is placed: it may be there at once, or refused
             inside.place(live)
+            await begun
+            return Run(self, key, new=live.committed)  # else another node was first
         if live and not live.committed:
             await live.started(inside.loop)
-        return Run(self, key, new=there is None and live is not None and live.committed)  # else it was there, or another node was first
+        return Run(self, key)
 
     async def _find(self, key: str) -> SagaRow | None:
         """Looks whether a key that is to be started is there, where that takes a while."""
@@ -166,6 +169,14 @@ class Store:
 
     async def wait(self, key: str) -> End:
         """Waits for a saga's end. Raises `NoSuchSaga`, `Closed`."""
+        inside = self._here()
+        live = inside.lives.get(key)
+        if live is not None:  # as most are: it is driven here
+            try:
+                await live.ended(inside.loop)
+                return histories.end_of_live(live)
+            except Moved:
+                pass
         over = await self.over(key)
         if isinstance(over, Live):
             return histories.end_of_live(over)
