@@ -1,4 +1,7 @@
-"""The connections of steps that are transactions, as they are handed out: at once where one rests, else as soon as one is there."""
+"""The connections of steps that are transactions, as they are handed out: at once where one rests, else as soon as one is there.
+
+Not psycopg_pool's: it loses the connection that comes to a caller who is cancelled meanwhile, as a step's function may be, hands out one that broke
+while it rested (both in 3.1), and takes the loop several turns for each."""
 
 from __future__ import annotations
 
