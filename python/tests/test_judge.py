@@ -84,7 +84,9 @@ def change_a_token(copy: Copy) -> None:
 
 
 def lose_an_effect(copy: Copy) -> None:
-    copy.notes.remove(copy.first(what="effect"))
+    """Each note of it: a function that was interrupted is called again under its token."""
+    token = copy.first(what="effect")["token"]
+    copy.notes = [note for note in copy.notes if note["what"] != "effect" or note["token"] != token]
 
 
 def miss_without_a_call(copy: Copy) -> None:
