@@ -1,4 +1,5 @@
 -- Lemmas of driven books.
+pub mod PlainLemmas
 pub mod BookLemmas
 pub mod KnownLemmas
 pub mod PhaseLemmas

@@ -4,6 +4,7 @@ pub mod Fields
 pub mod Attempts
 pub mod Openings
 pub mod Requests
+pub mod Plain
 pub mod Replies
 pub mod Happenings
 pub mod Tellings

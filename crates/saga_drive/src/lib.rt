@@ -29,6 +29,7 @@ mod laws;
 mod many;
 mod openings;
 mod phases;
+mod plain;
 mod questions;
 mod replies;
 mod reports;

@@ -8,6 +8,7 @@ ghost use Rattle.saga_drive.specs.Requests as spec;
 use crate::attempts::Attempt;
 use crate::fields::{attempt_of, has, most_of, u32_if, wanted_of};
 use crate::openings::Wanted;
+use crate::plain::plain_request;
 use crate::verbs::Verb;
 use saga_history::{Outcome, Phase};
 use saga_json::{JsonFault, check_keys, text_at, u16_at, u32_at, value_at, value_of_text};
@@ -213,11 +214,21 @@ fn request_of_value(alloc: Global, value: &Value) -> Result<Request, JsonFault>
 }
 
 #[tactic(auto, unfolding(crate::specs::Requests::request_of_text))]
-fn request_of_text(alloc: Global, line: &[u8]) -> Result<Request, JsonFault>
+fn request_by_value(alloc: Global, line: &[u8]) -> Result<Request, JsonFault>
     ensures { Gives (λ r. r) result (spec.request_of_text line.now) }
 {
     let value = value_of_text(alloc, line)?;
     request_of_value(alloc, &value)
+}
+
+/// The request of a line: piece by piece in a usual spelling, and else by a tree of values.
+fn request_of_text(alloc: Global, line: &[u8]) -> Result<Request, JsonFault>
+    ensures { Gives (λ r. r) result (spec.request_of_text line.now) }
+{
+    match plain_request(line) {
+        Some(request) => Ok(request),
+        None => request_by_value(alloc, line),
+    }
 }
 
 fn is_too_long(line: &[u8]) -> bool
