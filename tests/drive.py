@@ -479,10 +479,11 @@ def fault_of(line):
 
 
 def hostile(state):
-    """Each prefix of each request, each request with one byte changed, and objects of random keys and values: the fault that has to come."""
+    """Each prefix of each request, each request with one byte changed, and objects of random keys and values, in their usual spelling and in
+    another one: the fault that has to come."""
     draw = random.Random(state.seed)
     asked = [named("a", 0), many(64), report(0, 0, "ok", task("run", 0, 0, "a")), BUSY, {"do": "ready", "from": 0}, {"do": "list", "phase": "stuck"}, {"do": "status"}]
-    shortest = [written(request).encode() for request in (opening(0), NEXT, report(0, 0, "ok"), aborting(0), shown(0), *asked)]
+    shortest = [written(request).encode() for request in (opening(0), opening(0) | {"saga": 0}, NEXT, report(0, 0, "ok"), aborting(0), shown(0), *asked)]
     lines = [text[:place] for text in shortest for place in range(len(text))]
     lines += [text[:place] + byte + text[place + 1 :] for text in shortest for place in range(len(text)) for byte in (b"\0", b"\xff", b"}")]
     values = [0, 1, 3, 65535, 65536, 2**32 - 1, 2**32, -1, 1.5, "ok", "fail", "run", "going", "0", "", None, True, [], {}, {"do": "next"}]
@@ -492,7 +493,7 @@ def hostile(state):
         keys = [*KEYS.get(word, []), *OPTIONAL.get(word, []), *draw.sample(others, draw.choice([0, 0, 0, 1]))]
         pairs = [("do", word)] + [(key, draw.choice(values)) for key in keys if draw.random() < 0.9]
         draw.shuffle(pairs)
-        lines.append(json.dumps(dict(pairs)).encode())
+        lines.append(draw.choice([written, json.dumps])(dict(pairs)).encode())
     status, replies, _ = state.ran(state.defined("pair"), None, b"".join(line + b"\n" for line in lines))
     found = [json.loads(reply).get("fault") for reply in replies.splitlines()]
     state.expect("hostile: the end", (status, len(found)), (0, len(lines)))
