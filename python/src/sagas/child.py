@@ -35,9 +35,9 @@ class Child:
         self._answered: Answered | None = None
         self.asked = 0
         """How many replies are to come: while there are any, nothing else is asked."""
-        self._came: list[bytes] = []
-        self._last = b"\n"  # the last byte that came
-        self._replies = 0  # that came
+        self._replies: list[Reply] = []  # that came
+        self._shown: list[str] = []  # lines of the log that came
+        self._part = b""  # of a line that has not come whole
         self._out = b""
         self._writing = self.dead = False
         self._late = 0  # questions whose answers are not waited for
@@ -121,14 +121,25 @@ class Child:
         if not data:
             self._die()
             return
-        self._came.append(data)
-        self._replies += data.count(b"\n") - (self._last + data).count(b"\n+")  # a line of the log stands behind a plus
-        self._last = data[-1:]
-        if self.asked and self._replies >= self.asked:
-            told, self._came, self._replies, self.asked = b"".join(self._came), [], 0, 0
+        self._sort(data)
+        if self.asked and len(self._replies) >= self.asked:
+            replies, self._replies, self.asked = self._replies, [], 0
+            text, self._shown = "\n".join([*self._shown, ""]), []
             answered, self._answered = self._answered, None
             assert answered
-            answered(*parted(told.decode()))
+            answered(replies, text.removeprefix(lines.HEADER))
+
+    def _sort(self, data: bytes) -> None:
+        """The whole lines that have come: one of the log stands behind a plus, and is shown before the reply that it belongs to; a reply begins with a brace."""
+        data = self._part + data
+        whole = data.rfind(b"\n") + 1
+        self._part = data[whole:]
+        replies, shown = self._replies, self._shown
+        for line in filter(None, data[:whole].decode().split("\n")):
+            if line[0] == "+":
+                shown.append(line[1:])
+            else:
+                replies.append(line)
 
     def _die(self) -> None:
         if not self.dead:
@@ -170,18 +181,3 @@ class Child:
         os.close(end)
         self.process.wait()
         os.close(self._words)
-
-
-def parted(told: str) -> tuple[list[Reply], str]:
-    """The replies, and the lines of the log that stand before them, without the header. A reply begins with a brace, a line of the log with a plus."""
-    replies: list[Reply] = []
-    shown: list[str] = []
-    for line in told.split("\n"):
-        if line.startswith("+"):
-            shown.append(line[1:])
-        elif line:
-            replies.append(line)
-    if not shown:
-        return replies, ""
-    shown.append("")
-    return replies, "\n".join(shown).removeprefix(lines.HEADER)
