@@ -16,10 +16,13 @@ from .definition import Function
 from .live import Attempt
 from .task import Task
 
+LOT = 256
+"""So many that ended well are told at once: they go to the child while others are called."""
 AGAIN = 100
 """Calls of a function that waited, after which it is looked at whether it still does."""
 Begins = Callable[[Attempt], bool]
 Ended = Callable[[Attempt, float, "Outcome | None"], None]
+Done = Callable[[list[Attempt]], None]
 Within = Callable[[Attempt, Function, Task[Any]], Awaitable[Any]]
 """How a function is called that is not called alone."""
 
@@ -27,26 +30,30 @@ Within = Callable[[Attempt, Function, Task[Any]], Awaitable[Any]]
 class Callers:
     """Tasks that call the functions of attempts, in the order in which they come. What a function sets of its context no other one sees.
 
-    `begins` is asked before each call, and `ended` is told when it began, by the monotonic clock, and what came of it."""
+    `begins` is asked before each call, and `ended` is told when it began, by the monotonic clock, and what came of it. `done`: what is told instead, of
+    several at once, where each ended well without waiting: they have their outcomes."""
 
-    def __init__(self, begins: Begins, ended: Ended, within: Within | None = None) -> None:
+    def __init__(self, begins: Begins, ended: Ended, within: Within | None = None, done: Done | None = None) -> None:
         self._loop = asyncio.get_running_loop()
         self._context = contextvars.copy_context()
-        self._begins, self._ended, self._within = begins, ended, within
-        self._ready: deque[tuple[Attempt, Function]] = deque()
+        self._begins, self._ended, self._within, self._done = begins, ended, within, done
+        self._ready: deque[Attempt] = deque()
         self._next: asyncio.Task[None] | None = None  # the task that is about to call those
         self._waiters: dict[Function, int] = {}  # functions that waited the last time, and how many calls have their own task at once
+        self._over: list[Attempt] = []  # ended well, and not told
 
-    def call(self, attempt: Attempt, function: Function) -> None:
-        """Calls its function soon."""
-        if self._waiters and self._waits(attempt, function):
+    def call(self, attempt: Attempt) -> None:
+        """Calls its simple function soon."""
+        if self._waiters and self._waits(attempt):
             return
-        self._ready.append((attempt, function))
+        self._ready.append(attempt)
         if self._next is None or self._next.done():  # somebody may have cancelled it
             self._next = self.start(self._work())
 
-    def _waits(self, attempt: Attempt, function: Function) -> bool:
+    def _waits(self, attempt: Attempt) -> bool:
         """Calls it by a task of its own, where it will wait as far as is known."""
+        function = attempt.action.simple
+        assert function
         left = self._waiters.get(function, 0)
         if left:
             self._waiters[function] = left - 1
@@ -82,19 +89,26 @@ class Callers:
             for _ in range(len(ready)):
                 if job.cancelling():  # a function cancelled the task that it was in
                     break
-                attempt, function = ready.popleft()
-                if self._waiters and self._waits(attempt, function):
+                attempt = ready.popleft()
+                if self._waiters and self._waits(attempt):
                     continue
                 if self._begins(attempt):
                     attempt.job = job
-                    rest = self._call(attempt, function)
+                    rest = self._call(attempt)
                     if rest is not None:
-                        self._waiters[function] = AGAIN
                         return rest
             return None
         finally:
+            self._tell()
             if ready and (self._next is None or self._next.done()):
                 self._next = self.start(self._work())
+
+    def _tell(self) -> None:
+        """Tells of those that ended well."""
+        if self._over:
+            over, self._over = self._over, []
+            assert self._done
+            self._done(over)
 
     async def _alone(self, attempt: Attempt, function: Function) -> None:
         if not self._begins(attempt):
@@ -108,9 +122,10 @@ class Callers:
             outcome = calling.interrupted(error, attempt.manner)
         self._ended(attempt, began, outcome)
 
-    def _call(self, attempt: Attempt, function: Function) -> Coroutine[Any, Any, None] | None:
+    def _call(self, attempt: Attempt) -> Coroutine[Any, Any, None] | None:
         """Its function up to where it waits: then what is left."""
-        began, context = time.monotonic(), self._context.copy()
+        function, began, context = attempt.action.simple, time.monotonic(), self._context.copy()
+        assert function
         try:
             task = attempt.task()
             work = self._within(attempt, function, task) if self._within else function(task)
@@ -119,10 +134,18 @@ class Callers:
             waits_for = context.run(work.send, None)
         except StopIteration as end:
             outcome: Outcome | None = calling.done(end.value, task)
+            if self._done:
+                attempt.took, attempt.outcome = time.monotonic() - began, outcome
+                self._over.append(attempt)
+                if len(self._over) >= LOT:
+                    self._tell()
+                return None
         except BaseException as error:
             outcome = calling.interrupted(error, attempt.manner)
         else:
+            self._waiters[function] = AGAIN
             return self._wait(attempt, began, task, _Rest(work, waits_for, context))
+        self._tell()
         self._ended(attempt, began, outcome)
         return None
 

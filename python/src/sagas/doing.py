@@ -26,6 +26,7 @@ from .slots import Slots
 
 if TYPE_CHECKING:
     from .coordinator import Coordinator
+    from .pump import Pump
 
 logger = logging.getLogger("sagas")
 LOOK = 30.0  # seconds: a clock may jump, so nobody sleeps longer without a look at it
@@ -56,7 +57,7 @@ class Doing:
         self.owner, self.executor = owner, executor
         self.slots = Slots(concurrency, self._run, owner.feed)
         self.fleet = Fleet(owner, self.slots.enter)
-        self.callers = Callers(self._begins, self._called)
+        self.callers = Callers(self._begins, self._called, done=self._done)
         self.inside = Callers(self._begins, self._called_inside, owner.store.within)
         self.running: set[Attempt] = set()
         self.closing = False
@@ -71,18 +72,20 @@ class Doing:
         """They are in the store as begun. Most are called at once."""
         slots = self.slots
         for attempt in attempts:
-            live = attempt.live
-            is_simple = attempt.attempt == 1 and not live.draining and live.kind.simple[attempt.kind][attempt.step]
-            if is_simple and slots.running < slots.most and not self.closing:
+            if self._is_simple(attempt) and slots.running < slots.most and not self.closing:
                 slots.running += 1
-                self._run(attempt)
+                self._call_simple(attempt)
             else:
                 self.begin(attempt)
+
+    def _is_simple(self, attempt: Attempt) -> bool:
+        """Whether its function is called at once, and nothing is to be thought of."""
+        return attempt.action.simple is not None and attempt.attempt == 1 and not attempt.live.draining
 
     def begin(self, attempt: Attempt) -> None:
         """It is in the store as begun."""
         live = attempt.live
-        if attempt.attempt == 1 and not live.draining and live.kind.simple[attempt.kind][attempt.step]:
+        if self._is_simple(attempt):
             if not self.closing:
                 self.slots.come(attempt)
         elif attempt.word in live.rare.final:
@@ -227,19 +230,21 @@ class Doing:
                 self.slots.enter(attempt)
 
     def _run(self, attempt: Attempt) -> None:
+        if attempt.action.simple:
+            self._call_simple(attempt)
+            return
         self.running.add(attempt)
-        kind = attempt.live.kind
-        gate = self.fleet.gate(attempt) if kind.has_bounds else None
+        gate = self.fleet.gate(attempt) if attempt.live.kind.has_bounds else None
         if gate:
             attempt.job = self.callers.start(self._pass(attempt, gate))
             return
         attempt.state, attempt.fresh = "running", False
-        function = kind.simple[attempt.kind][attempt.step]
-        if function:
-            callers = self.inside if kind.inside[attempt.kind][attempt.step] else self.callers
-            callers.call(attempt, function)
-        else:
-            attempt.job = self.callers.start(self._call(attempt))
+        attempt.job = self.callers.start(self._call(attempt))
+
+    def _call_simple(self, attempt: Attempt) -> None:
+        self.running.add(attempt)
+        attempt.state, attempt.fresh = "running", False
+        (self.inside if attempt.action.inside else self.callers).call(attempt)
 
     async def _pass(self, attempt: Attempt, gate: Gate) -> None:
         """It has a slot, and is called if it gets a place of its step; else it waits without either."""
@@ -262,6 +267,7 @@ class Doing:
 
     def _begins(self, attempt: Attempt) -> bool:
         """Whether it is called now: it was not forgotten meanwhile, and its log is this program's."""
+        self._stay_one()
         live, teller = attempt.live, self.owner.teller
         if attempt.state == "running" and self.owner.store.holds():
             if teller.listens:
@@ -301,6 +307,30 @@ class Doing:
             else:
                 self._sort(attempt, outcome)
 
+    def _done(self, attempts: list[Attempt]) -> None:
+        """Simple ones were called, and each is done: as `_called`, of all at once."""
+        self._stay_one()
+        self.running.difference_update(attempts)
+        self.slots.left(len(attempts))
+        at = self.owner.clock()
+        pumps: dict[Pump, None] = {}
+        for attempt in attempts:
+            attempt.job = None
+            if attempt.state == "running":
+                attempt.state, attempt.at = "done", at
+                if attempt.awaited:
+                    attempt.changed()
+                pump = attempt.live.pump
+                assert pump
+                pump.reports[attempt] = pumps[pump] = None
+        for pump in pumps:
+            pump.poke(now=True)
+
+    def _stay_one(self) -> None:
+        """Ends a process that a function forked, and that came back here: it has no store and no loop."""
+        if private.forks != self.owner.forks:
+            os._exit(70)
+
     def _called_inside(self, attempt: Attempt, began: float, outcome: Outcome | None) -> None:
         """A simple one was called in a transaction."""
         record, attempt.record = attempt.record, None
@@ -312,8 +342,7 @@ class Doing:
 
     def _over(self, attempt: Attempt, began: float) -> bool:
         """Its function is over; whether anything comes of that, since it was not forgotten meanwhile."""
-        if private.forks != self.owner.forks:  # a function forked, and its child came back here
-            os._exit(70)
+        self._stay_one()
         attempt.took, attempt.job = time.monotonic() - began, None
         self.running.discard(attempt)
         if attempt.live.kind.has_bounds:

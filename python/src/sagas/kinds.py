@@ -13,6 +13,7 @@ from . import room, values
 from .definition import Function, Saga, Step
 from .errors import DefinitionError, TooLarge
 from .schema import ROOM
+from .values import Decoder
 
 Word = tuple[int, str]
 """A step's number, and `run` or `undo`."""
@@ -37,6 +38,22 @@ def _simple(step: Step[Any] | None, word: str) -> Function | None:
     return step.manner(word).function if step.manner(word).is_simple else None
 
 
+class Action:
+    """What a step does, or its compensation: what is the same for all sagas of a definition. `word`: the step's number, and `run` or `undo`.
+
+    `simple`: the function, where it begins at once and is awaited here, and has no limit; `inside`: in a transaction of the database.
+    `given`: the steps whose results its function may see; `hint`: how its input is read."""
+
+    __slots__ = ("name", "word", "kind", "undo", "simple", "inside", "given", "hint")
+
+    def __init__(self, name: str, word: Word, step: Step[Any] | None, given: list[tuple[int, str]], hint: Decoder | None) -> None:
+        self.name, self.word, self.given, self.hint = name, word, given, hint
+        self.kind = word[1]
+        self.undo = self.kind == "undo"
+        self.simple = _simple(step, self.kind)
+        self.inside = bool(step and step.manner(self.kind).transaction)
+
+
 class Kind:
     """A definition on a log's shelf. `steps` has None where the program has no such step any more."""
 
@@ -46,7 +63,6 @@ class Kind:
         self.text, self.name, self.version = text, str(told["name"]), version_of(text)
         today = {step.name: step for step in saga.steps} if saga else {}
         self.names: list[str] = [step["name"] for step in listed]
-        self.words: dict[str, list[Word]] = {kind: [(step, kind) for step in range(len(listed))] for kind in ("run", "undo")}
         self.heads = [f'"{name}":' for name in self.names]
         self.steps: list[Step[Any] | None] = [today.get(name) for name in self.names]
         self.is_given = saga is not None
@@ -55,18 +71,21 @@ class Kind:
         self.count = len(listed)
         place = {name: number for number, name in enumerate(self.names)}
         self.below = self._below([[place[need] for need in step.get("needs", ())] for step in listed])
-        self.given = [[(number, self.names[number]) for number in below] for below in self.below]
         self.needs = sum(len(step.get("needs", ())) for step in listed)
         self.fits = room.fits(self.count, self.needs)
         told_hints = [values.hints(step.run.function) if step and step.run.function else (None, None) for step in self.steps]
         self.inputs = [hint for hint, _ in told_hints]
         self.undo_inputs = [values.hints(step.undo.function)[0] if step and step.undo.function else None for step in self.steps]
         self.all_done = json.dumps({"aborted": False, "answer": None, "kept": list(range(self.count)), "states": ["committed"] * self.count}, separators=(",", ":"))
-        self.simple: dict[str, list[Function | None]] = {word: [_simple(step, word) for step in self.steps] for word in ("run", "undo")}
-        self.inside = {word: [bool(step and step.manner(word).transaction) for step in self.steps] for word in ("run", "undo")}
+        self.actions = {"run": self._actions("run", self.inputs), "undo": self._actions("undo", self.undo_inputs)}
         self.has_bounds = any(step and step.bounds for step in self.steps)
         self.has_remote = any(step and (step.run.run_on or step.undo.run_on) for step in self.steps)
         self.decoders = {name: decoder for name, (_, decoder) in zip(self.names, told_hints) if decoder}
+
+    def _actions(self, kind: str, hints: list[Decoder | None]) -> list[Action]:
+        """What each step does, or its compensation."""
+        given = [[(number, self.names[number]) for number in below] for below in self.below]
+        return [Action(name, (number, kind), self.steps[number], given[number], hints[number]) for number, name in enumerate(self.names)]
 
     def _below(self, needs: list[list[int]]) -> list[list[int]]:
         """The steps that each step needs, directly or not."""

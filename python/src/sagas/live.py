@@ -118,12 +118,12 @@ class Attempt:
 
     `why` it is held: backoff, unknown, wait, approval, elsewhere, limit. `fresh`: it cannot have been called, by this program or an earlier one."""
 
-    __slots__ = ("live", "step", "kind", "attempt", "word", "state", "why", "fresh", "outcome", "at", "timer", "job", "since", "count", "has_row", "request", "told", "until", "pending", "awaited", "lease", "took", "event", "record")
+    __slots__ = ("live", "step", "kind", "attempt", "action", "word", "state", "why", "fresh", "outcome", "at", "timer", "job", "since", "count", "has_row", "request", "told", "until", "pending", "awaited", "lease", "took", "event", "record")
 
     def __init__(self, live: Live, step: int, kind: str, attempt: int, fresh: bool) -> None:
         self.live, self.step, self.attempt, self.fresh = live, step, attempt, fresh
-        self.word = live.kind.words[kind][step]
-        self.kind = self.word[1]
+        action = self.action = live.kind.actions[kind][step]
+        self.word, self.kind = action.word, action.kind
         self.state, self.why = "taken", ""
         self.outcome: Outcome | None = None
         self.at = self.since = 0.0
@@ -143,7 +143,7 @@ class Attempt:
 
     @property
     def name(self) -> str:
-        return self.live.kind.names[self.step]
+        return self.action.name
 
     @property
     def row(self) -> tuple[int, int, str, int]:
@@ -199,11 +199,8 @@ class Attempt:
 
     def task(self) -> Task[Any]:
         """What its function is handed."""
-        live, step = self.live, self.step
+        live, action = self.live, self.action
         kind, told = live.kind, live.results
-        given = kind.given[step]
-        results = {name: told.get(number, "null") for number, name in given} if given else {}
-        undo = self.kind == "undo"
-        hint = (kind.undo_inputs if undo else kind.inputs)[step]
-        own = live.results.get(step) if undo else None
-        return Task(kind.name, live.key, kind.names[step], undo, self.attempt, live.token or self.saga_token(), live.text, results, own, hint, kind.decoders)
+        results = {name: told.get(number, "null") for number, name in action.given} if action.given else {}
+        own = told.get(self.step) if action.undo else None
+        return Task(kind.name, live.key, action.name, action.undo, self.attempt, live.token or self.saga_token(), live.text, results, own, action.hint, kind.decoders)

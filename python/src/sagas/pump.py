@@ -11,6 +11,7 @@ from typing import TYPE_CHECKING, Any
 
 from . import lines, restoring
 from .answers import Abort, Act, Answers, Disagrees
+from .callers import LOT
 from .child import Child, Reply
 from .errors import Lost, SagasError
 from .kinds import Kind
@@ -22,8 +23,6 @@ if TYPE_CHECKING:
 
 logger = logging.getLogger("sagas")
 MOST_NEXT = 1000
-LOT = 256
-"""Reports and opens that go to the child at once: while it decides on one lot, functions of another run."""
 FEW = 64
 """Requests whose answer comes soon."""
 Asked = tuple[Callable[[Batch, list[Act], Sequence[Any], Sequence[Reply]], None], Sequence[Any]]

@@ -54,9 +54,13 @@ class Slots:
 
     def leave(self, attempt: Attempt) -> None:
         """Its function ended, or it will not be called; whose turn it is begins."""
-        self.running -= 1
         if self._limits:
             self.cancel(attempt)
+        self.left(1)
+
+    def left(self, count: int) -> None:
+        """As `leave`, of so many whose steps have no limit."""
+        self.running -= count
         while self._ready and self.running < self.most:
             following = next(iter(self._ready))
             del self._ready[following]
