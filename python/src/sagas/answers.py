@@ -39,7 +39,7 @@ class Answers:
     log: int
     live: dict[int, Live]
     sent: dict[Live, None]
-    reporting: dict[Attempt, None]
+    reporting: deque[list[Attempt]]
     aborting: list[Abort]
     opened: int
     reserved: int
@@ -59,9 +59,10 @@ class Answers:
             tasks = lines.tasks_in(reply)
             if tasks is not None:  # most replies have no plan
                 self.hungry = not reply.startswith(lines.SETTLED)
+                lives = self.live
                 for saga, step, word, number in tasks:
-                    live = self.live[saga]
-                    attempt = Attempt(live, step, word, number, fresh=True)
+                    live = lives[saga]
+                    attempt = Attempt(live, step, word, number, True)
                     live.busy[attempt.word] = attempt
                     begun.append(attempt)
                 continue
@@ -72,7 +73,7 @@ class Answers:
                 if word == "plan":
                     self._told_plan(batch, acts, live, task)
                     continue
-                attempt = Attempt(live, task["step"], word, task["attempt"], fresh=True)
+                attempt = Attempt(live, task["step"], word, task["attempt"], True)
                 live.busy[attempt.word] = attempt
                 begun.append(attempt)
 
@@ -89,9 +90,10 @@ class Answers:
     def _told_reports(self, batch: Batch, acts: list[Act], attempts: Sequence[Attempt], replies: Sequence[str]) -> None:
         first, rows = self.log * ROOM, batch.results
         for attempt, reply in zip(attempts, replies):
-            if not reply.startswith(lines.EVENT):  # it is not what is on its way: it is over, or was another's
+            told = lines.event_and_phase(reply)
+            if told is None:  # it is not what is on its way: it is over, or was another's
                 raise Disagrees(f"saga {attempt.live.number}, step {attempt.step}, attempt {attempt.attempt}: {reply}")
-            event, phase = lines.event_and_phase(reply)
+            event, phase = told
             live, outcome = attempt.live, attempt.outcome
             assert outcome
             attempt.event = event
@@ -128,8 +130,8 @@ class Answers:
             live.rare.missed_at[attempt.word] = attempt.at
 
     def _reported(self, attempts: Sequence[Attempt]) -> None:
-        for attempt in attempts:
-            self.reporting.pop(attempt, None)
+        if self.reporting and self.reporting[0] is attempts:  # lots are written in the order in which they were reported
+            self.reporting.popleft()
         self.owner.doing.reported(attempts)
 
     def _is_over(self, batch: Batch, live: Live) -> None:

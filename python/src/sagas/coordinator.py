@@ -271,17 +271,21 @@ class Coordinator:
 
     def ended(self, lives: list[Live]) -> None:
         """Their ends are in the store."""
+        wants = {"ended": self.teller.wants("saga_ended"), "stuck": self.teller.wants("saga_stuck")}
         for live in lives:
             assert live.pump
             live.pump.live.pop(live.number, None)
             if self.lives.get(live.key) is live:
                 del self.lives[live.key]
             live.tell(live.ending)
-            name = "saga_ended" if live.phase == "ended" else "saga_stuck"
-            if self.teller.wants(name):
-                chain = [live.kind.names[step] for step in (live.answer or {}).get("chain", ())] if name == "saga_stuck" else []
-                self.teller.tell(name, key=live.key, saga=live.kind.name, detail=f"because of {' and '.join(chain)}" if chain else None)
+            if wants[live.phase]:
+                self._tell_end(live)
         self.rest()
+
+    def _tell_end(self, live: Live) -> None:
+        """How a saga ended; of a stuck one because of which steps."""
+        chain = [live.kind.names[step] for step in (live.answer or {}).get("chain", ())] if live.phase == "stuck" else []
+        self.teller.tell(f"saga_{live.phase}", key=live.key, saga=live.kind.name, detail=f"because of {' and '.join(chain)}" if chain else None)
 
     def rest(self) -> None:
         """Perhaps no saga is open any more."""
@@ -405,7 +409,7 @@ class Coordinator:
         """Who waits for an abort or for a step's end to be kept hears that it was not."""
         assert self.closed
         waiting = [future for _, future, _ in (*pump.aborts, *pump.aborting)]
-        waiting += [attempt.told for attempt in (*pump.reports, *pump.reporting)]
+        waiting += [attempt.told for attempt in pump.unkept()]
         for future in waiting:
             if future and not future.done():
                 future.set_exception(self.closed)

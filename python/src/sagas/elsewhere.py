@@ -308,7 +308,7 @@ class Elsewhere:
         if step not in live.kind.names:
             raise NoSuchTask(f"{token!r} is no task's token")
         word = (live.kind.names.index(step), kind)
-        under = [live.busy.get(word), *(one for one in pump.reporting if one.live is live and one.word == word)]
+        under = [live.busy.get(word), *(one for lot in pump.reporting for one in lot if one.live is live and one.word == word)]
         return next((one for one in under if one is not None and one.attempt == count), None)
 
     async def beat(self, token: str, number: int, seconds: float) -> float:

@@ -134,6 +134,7 @@ class Shelf:
         self.kinds = [self.kind(text) for text in self.texts]
         self.room = ROOM  # how many sagas a log takes, where they are small
         self.places = {(kind.name, kind.version): place for place, kind in enumerate(self.kinds)}
+        self._places = {saga: self.places[name] for name, saga in self.sagas.items()}
 
     def kind(self, text: str) -> Kind:
         if text not in self._kinds:
@@ -146,6 +147,7 @@ class Shelf:
         """Where its definition stands; raises `DefinitionError` where the store was not opened with this very saga."""
         if not isinstance(saga, Saga):
             raise DefinitionError(f"{saga!r} is no saga: give what sagas.Saga(..) made")
-        if self.sagas.get((saga.name, saga.version)) is not saga:
+        place = self._places.get(saga)
+        if place is None:
             raise DefinitionError(f"{saga.where}: saga {saga.name!r}: the store was not opened with it; name it in open(.., [..])")
-        return self.places[saga.name, saga.version]
+        return place

@@ -39,10 +39,12 @@ def next_line(most: int) -> str:
     return f'{{"do":"next","most":{most}}}'
 
 
-def event_and_phase(reply: str) -> tuple[str, str]:
-    """The word of the event that a report came to, and that of the saga's phase after it."""
+def event_and_phase(reply: str) -> tuple[str, str] | None:
+    """The word of the event that a report came to, and that of the saga's phase after it; None where it came to none."""
     if reply.endswith(GOING) and reply.startswith(COMMIT):  # most do
         return "commit", "going"
+    if not reply.startswith(EVENT):
+        return None
     parts = reply.split('"')
     return parts[5], parts[-2]
 

@@ -54,7 +54,7 @@ def lose(owner: Coordinator, pump: Pump) -> None:
     moved = Moved("the saga is another node's now")
     for pending in (*pump.aborts, *pump.aborting):
         fail(pending[1], moved)
-    attempts = {attempt: None for attempt in (*pump.reports, *pump.reporting)}
+    attempts = {attempt: None for attempt in pump.unkept()}
     attempts |= {attempt: None for live in lives for attempt in live.busy.values()}
     pump.stop()
     owner.pumps.pop(pump.log, None)

@@ -6,7 +6,7 @@ import itertools
 import json
 import logging
 from collections import deque
-from collections.abc import Callable, Sequence
+from collections.abc import Callable, Iterable, Sequence
 from typing import TYPE_CHECKING, Any
 
 from . import lines, restoring
@@ -43,7 +43,7 @@ class Pump(Answers):
         self.opens: deque[Live] = deque()
         self.sent: dict[Live, None] = {}  # asked to be opened, and not known to be kept
         self.reports: dict[Attempt, None] = {}  # ended, and to be reported
-        self.reporting: dict[Attempt, None] = {}  # reported to the child, and not known to be kept
+        self.reporting: deque[list[Attempt]] = deque()  # lots that were reported to the child, and are not known to be kept
         self.aborts: list[Abort] = []
         self.aborting: list[Abort] = []
         self.events: int = 0  # how many stand in the store or on their way to it
@@ -86,6 +86,10 @@ class Pump(Answers):
     def owes(self) -> bool:
         """Whether something is on its way to the store, and the store takes it."""
         return bool(self.unwritten or ((self.reports or self.reporting or self.opens or self.sent) and not self.fault and not self.pause))
+
+    def unkept(self) -> Iterable[Attempt]:
+        """The attempts that ended, and whose reports are not known to be kept."""
+        return itertools.chain(self.reports, *self.reporting)
 
     def asked(self) -> int:
         """How much its child is about to answer."""
@@ -176,13 +180,13 @@ class Pump(Answers):
         """A lot of them, the first first."""
         lot = list(itertools.islice(self.reports, LOT))
         self.reports = {} if len(lot) == len(self.reports) else dict.fromkeys(itertools.islice(self.reports, LOT, None))
+        self.reporting.append(lot)
         for attempt in lot:
             live, outcome = attempt.live, attempt.outcome
             assert outcome
             ok = outcome.kind == "done"
             requests.append(lines.report_line(live.number, attempt.step, attempt.kind, attempt.attempt, ok))
             live.busy.pop(attempt.word, None)
-            self.reporting[attempt] = None
             if not ok or attempt.kind == "undo":
                 live.odd = True
         return lot

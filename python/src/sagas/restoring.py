@@ -145,9 +145,9 @@ def _rows(pump: Pump, loaded: Loaded) -> Old:
     for live in pump.live.values():
         for attempt in live.busy.values():
             old[live.number, attempt.step, attempt.kind, attempt.attempt] = attempt
-    for attempt in (*pump.reports, *pump.reporting):
+    for attempt in pump.unkept():
         old[attempt.live.number, attempt.step, attempt.kind, attempt.attempt] = attempt
-    pump.reporting = {}
+    pump.reporting.clear()
     before, pump.live = pump.live, {}
     owner = pump.owner
     for id, key, place, text in loaded.open:

@@ -113,7 +113,9 @@ class Store:
 
     def _here(self) -> Coordinator:
         """As `_inside`, for calls that wait for something in the store's loop. Raises `RuntimeError` in another loop."""
-        inside = self._inside
+        inside = self._coordinator
+        if inside is None or inside.closed:
+            inside = self._inside  # raises
         if asyncio.get_running_loop() is not inside.loop:
             raise RuntimeError(f"{self.path}: the store was opened in another event loop: call it there, or use sagas.open_sync, for any thread")
         return inside
