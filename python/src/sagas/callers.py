@@ -38,7 +38,7 @@ class Callers:
         self._context = contextvars.copy_context()
         self._begins, self._ended, self._within, self._done = begins, ended, within, done
         self._ready: deque[Attempt] = deque()
-        self._next: asyncio.Task[None] | None = None  # the task that is about to call those
+        self._next: asyncio.Task[None] | None = None  # the task that calls those
         self._waiters: dict[Function, int] = {}  # functions that waited the last time, and how many calls have their own task at once
         self._over: list[Attempt] = []  # ended well, and not told
 
@@ -75,40 +75,42 @@ class Callers:
             await asyncio.sleep(0)
 
     async def _work(self) -> None:
-        job, self._next = asyncio.current_task(), None
+        """Calls those that are ready. What begins meanwhile is for the loop's next turn, behind who was told something before it."""
+        job, rest = asyncio.current_task(), None
         assert job
-        rest = self._row(job)
+        try:
+            while self._ready and rest is None and not job.cancelling():  # a function may cancel the task that it is in
+                rest = self._row(job)
+                if self._ready and rest is None:
+                    await asyncio.sleep(0)
+        finally:
+            self._next = self.start(self._work()) if self._ready else None
         if rest is not None:
             await rest
 
     def _row(self, job: asyncio.Task[None]) -> Coroutine[Any, Any, None] | None:
-        """Calls those that are ready, up to one that waits: then what is left of it. What begins meanwhile is for the loop's next turn, behind who
-        was told something before it."""
+        """Calls those that are ready now, up to one that waits: then what is left of it."""
         ready = self._ready
         try:
             for _ in range(len(ready)):
-                if job.cancelling():  # a function cancelled the task that it was in
-                    break
                 attempt = ready.popleft()
                 if self._waiters and self._waits(attempt):
                     continue
                 if self._begins(attempt):
                     attempt.job = job
                     rest = self._call(attempt)
-                    if rest is not None:
+                    if rest is not None or job.cancelling():
                         return rest
             return None
         finally:
-            self._tell()
-            if ready and (self._next is None or self._next.done()):
-                self._next = self.start(self._work())
+            if self._over:
+                self._tell()
 
     def _tell(self) -> None:
         """Tells of those that ended well."""
-        if self._over:
-            over, self._over = self._over, []
-            assert self._done
-            self._done(over)
+        over, self._over = self._over, []
+        assert self._done
+        self._done(over)
 
     async def _alone(self, attempt: Attempt, function: Function) -> None:
         if not self._begins(attempt):
@@ -145,7 +147,8 @@ class Callers:
         else:
             self._waiters[function] = AGAIN
             return self._wait(attempt, began, task, _Rest(work, waits_for, context))
-        self._tell()
+        if self._over:
+            self._tell()
         self._ended(attempt, began, outcome)
         return None
 

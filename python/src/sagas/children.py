@@ -15,12 +15,7 @@ class Children:
     def __init__(self, most: int) -> None:
         self.most = most
         self._up: dict[Pump, None] = {}
-        self._waiting: dict[Pump, None] = {}
-
-    @property
-    def wanted(self) -> bool:
-        """Whether somebody waits for a child."""
-        return bool(self._waiting)
+        self.wanted: dict[Pump, None] = {}  # by the logs that wait for one
 
     def up(self) -> Iterable[Pump]:
         """The logs that have one, or are about to."""
@@ -31,25 +26,25 @@ class Children:
         if pump in self._up:
             pump.granted()
         else:
-            self._waiting[pump] = None
+            self.wanted[pump] = None
             self.turn()
 
     def gone(self, pump: Pump) -> None:
         """Its child is gone, or it wants none any more."""
-        self._waiting.pop(pump, None)
+        self.wanted.pop(pump, None)
         if self._up.pop(pump, pump) is None:
             self.turn()
 
     def turn(self) -> None:
         """Takes children from who rests, for who waits."""
-        for pump in list(self._up) if self._waiting and len(self._up) >= self.most else ():
+        for pump in list(self._up) if self.wanted and len(self._up) >= self.most else ():
             if len(self._up) < self.most:
                 break
             if pump.rests():
                 self._up.pop(pump)
                 pump.sleep()
-        while self._waiting and len(self._up) < self.most:
-            pump = next(iter(self._waiting))
-            del self._waiting[pump]
+        while self.wanted and len(self._up) < self.most:
+            pump = next(iter(self.wanted))
+            del self.wanted[pump]
             self._up[pump] = None
             pump.granted()

@@ -52,7 +52,7 @@ class Coordinator:
         self.current: Pump | None = None
         self.closed: SagasError | None = None
         self.jobs: set[asyncio.Task[None]] = set()
-        self._placing: list[Live] = []
+        self.placing: list[Live] = []  # sagas that go into a log in this turn of the loop
         self._queue: list[Batch] = []
         self._writing = self._feeding = False
         self.holding = Holding()
@@ -155,7 +155,8 @@ class Coordinator:
     def enqueue(self, batch: Batch) -> None:
         """Goes into the next transaction."""
         self._queue.append(batch)
-        self.holding.came()
+        if self.store.takes:
+            self.holding.came()
         self._write()
 
     def empty_batch(self, log: int, then: Callable[[BaseException | None], None]) -> Batch:
@@ -177,7 +178,7 @@ class Coordinator:
             batches = [*batches, *(batch for batch in self._queue if batch.log in logs)]
             self._queue = [batch for batch in self._queue if batch.log not in logs]
         takes = self.store.takes
-        if fault is None and not (takes and self.holding.is_soon(sum(len(batch.results) + len(batch.opened) for batch in batches), takes)):
+        if fault is None and self._queue and not (takes and self.holding.is_soon(sum(len(batch.results) + len(batch.opened) for batch in batches), takes)):
             self._write()
         for batch in batches:
             assert batch.then
@@ -187,7 +188,8 @@ class Coordinator:
                 logger.exception("log %d: what follows a commit", batch.log)
         if takes:
             self.holding.committed(self.doing.about_to_call())
-        self._write()
+        if self._queue:
+            self._write()
 
     def _holds_back(self) -> bool:
         """Whether what waits to be written waits for what is on its way to it."""
@@ -205,17 +207,17 @@ class Coordinator:
 
     def place(self, live: Live) -> None:
         """Into a log, with what else is placed in this turn of the loop, unless its key is there. Its callers, who may wait in a moment, hear why it is not."""
-        self._placing.append(live)
+        self.placing.append(live)
         if len(self.lives) == 1:
             self.place_now()
-        elif len(self._placing) == 1:
+        elif len(self.placing) == 1:
             self.loop.call_soon(self.place_now)
 
     def place_now(self, asker: Pump | None = None) -> None:
         """Those that are to be placed, before a child is asked. `asker` is about to ask its own."""
-        if not self._placing:
+        if not self.placing:
             return
-        placing, self._placing = self._placing, []
+        placing, self.placing = self.placing, []
         try:
             self._raise_if_closed()
             there = {} if self.store.shared else self.store.find_many([live.key for live in placing])

@@ -267,7 +267,8 @@ class Doing:
 
     def _begins(self, attempt: Attempt) -> bool:
         """Whether it is called now: it was not forgotten meanwhile, and its log is this program's."""
-        self._stay_one()
+        if private.forks != self.owner.forks:  # a function forked, and its child came back here
+            os._exit(70)
         live, teller = attempt.live, self.owner.teller
         if attempt.state == "running" and self.owner.store.holds():
             if teller.listens:
@@ -309,7 +310,8 @@ class Doing:
 
     def _done(self, attempts: list[Attempt]) -> None:
         """Simple ones were called, and each is done: as `_called`, of all at once."""
-        self._stay_one()
+        if private.forks != self.owner.forks:  # the last one forked
+            os._exit(70)
         self.running.difference_update(attempts)
         self.slots.left(len(attempts))
         at = self.owner.clock()
@@ -326,11 +328,6 @@ class Doing:
         for pump in pumps:
             pump.poke(now=True)
 
-    def _stay_one(self) -> None:
-        """Ends a process that a function forked, and that came back here: it has no store and no loop."""
-        if private.forks != self.owner.forks:
-            os._exit(70)
-
     def _called_inside(self, attempt: Attempt, began: float, outcome: Outcome | None) -> None:
         """A simple one was called in a transaction."""
         record, attempt.record = attempt.record, None
@@ -342,7 +339,8 @@ class Doing:
 
     def _over(self, attempt: Attempt, began: float) -> bool:
         """Its function is over; whether anything comes of that, since it was not forgotten meanwhile."""
-        self._stay_one()
+        if private.forks != self.owner.forks:  # a function forked, and its child came back here
+            os._exit(70)
         attempt.took, attempt.job = time.monotonic() - began, None
         self.running.discard(attempt)
         if attempt.live.kind.has_bounds:

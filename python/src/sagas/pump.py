@@ -155,7 +155,8 @@ class Pump(Answers):
             self.owner.loop.call_soon(self.owner.yield_child, self)
             if not self.unwritten:
                 return
-        self.owner.place_now(self)
+        if self.owner.placing:
+            self.owner.place_now(self)
         if self.state != "up" or child.asked:  # another log took its child, or it was asked
             return
         requests: list[str] = []

@@ -115,7 +115,8 @@ class Writer:
     def _try(self, batches: Sequence[Batch], patient: bool) -> Exception | None:
         """One transaction, or what kept it from being: that is told to the coordinator, which begins again from the database."""
         try:
-            self._wait(patient)
+            if patient != self._patient:
+                self._wait(patient)
             took = self._transaction(batches)
         except Exception as fault:
             return fault
@@ -125,11 +126,10 @@ class Writer:
 
     def _wait(self, patient: bool) -> None:
         """Whether it may take a while: to wait for another program's commit, and to move the WAL into the file."""
-        if patient != self._patient:
-            self._patient = None
-            self._db.execute(f"PRAGMA busy_timeout = {BUSY if patient else 0}")
-            self._db.execute(f"PRAGMA wal_autocheckpoint = {CHECKPOINT if patient else 0}")
-            self._patient = patient
+        self._patient = None
+        self._db.execute(f"PRAGMA busy_timeout = {BUSY if patient else 0}")
+        self._db.execute(f"PRAGMA wal_autocheckpoint = {CHECKPOINT if patient else 0}")
+        self._patient = patient
 
     def _transaction(self, batches: Sequence[Batch]) -> float:
         """Gives how many seconds the disk took."""
