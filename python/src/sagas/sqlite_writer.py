@@ -31,6 +31,8 @@ AT_ONCE = 0.002
 it also waits for the interpreter's lock: so after some of them the loop tries again."""
 FORGET = 0.97  # of what the disk took, a commit
 NONE: frozenset[int] = frozenset()
+Events = dict[int, int]
+"""How many events each log has."""
 
 LINES = "INSERT INTO lines VALUES(?, ?, ?, ?)"
 OPENED = "INSERT INTO sagas(id, key, saga, def, input, at) VALUES {}"
@@ -51,9 +53,10 @@ class Writer:
         self.commits = 0
         self.events: dict[int, int] = {}
         self._loop = asyncio.get_running_loop()
-        self._jobs: queue.SimpleQueue[tuple[Sequence[Batch], Then] | None] = queue.SimpleQueue()
+        self._jobs: queue.SimpleQueue[tuple[Sequence[Batch], Then, Events | None] | None] = queue.SimpleQueue()
         self._took = AT_ONCE  # seconds, by the slowest of the last commits
-        self._patient: bool | None = None
+        self._patient: bool | None = None  # waits for other programs, as the connection is set
+        self._moves: bool | None = None  # moves the WAL into the file, as the connection is set
         self._lent = False  # the thread has the connection
         self._pages = 0  # that the loop wrote into the WAL, about
         self._over: tuple[Then, Sequence[Batch], BaseException | None] | None = None  # a commit of the loop's, whose `then` is to be called
@@ -70,25 +73,33 @@ class Writer:
         rows = 0
         for batch in batches:
             rows += len(batch.results) + len(batch.opened)
-        if self._took < AT_ONCE and self._pages < CHECKPOINT and rows <= FEW_ROWS:
-            self._pages += 6 + rows // 8
+        events: Events | None = None
+        if rows <= FEW_ROWS:
             self._loop.call_soon(self.settle)
-            if self._here(batches, then):
+            try:
+                events = self._put_here(batches)
+                if events is not None and self._took < AT_ONCE and self._pages < CHECKPOINT:
+                    self._pages += 6 + rows // 8
+                    self._took = max(self._sync(events, patient=False), FORGET * self._took)
+                    self._over = then, batches, None
+                    return
+            except Exception as fault:
+                self._over = then, batches, fault
                 return
+            except BaseException as error:  # Ctrl-C, say: nobody knows how far it came
+                self._over = then, batches, error
+                raise
         self._pages, self._lent = 0, True
-        self._jobs.put((batches, then))
+        self._jobs.put((batches, then, events))
 
-    def _here(self, batches: Sequence[Batch], then: Then) -> bool:
-        """Commits them here, unless somebody else writes just now."""
+    def _put_here(self, batches: Sequence[Batch]) -> Events | None:
+        """As `_put`; None where somebody else writes just now."""
         try:
-            fault = self._try(batches, patient=False)
-        except BaseException as error:  # Ctrl-C, say: nobody knows how far it came
-            self._over = then, batches, error
+            return self._put(batches, patient=False)
+        except sqlite3.OperationalError as fault:
+            if fault.sqlite_errorcode & 0xFF == sqlite3.SQLITE_BUSY:
+                return None
             raise
-        if isinstance(fault, sqlite3.OperationalError) and fault.sqlite_errorcode & 0xFF == sqlite3.SQLITE_BUSY:
-            return False
-        self._over = then, batches, fault
-        return True
 
     def settle(self) -> None:
         """As `Database.settle`."""
@@ -98,11 +109,20 @@ class Writer:
 
     def _work(self) -> None:
         while (job := self._jobs.get()) is not None:
-            batches, then = job
-            fault = self._try(batches, patient=True)
+            batches, then, events = job
+            fault = self._try(batches, events)
             self._took *= FORGET
             with contextlib.suppress(RuntimeError):  # the loop is closed
                 self._loop.call_soon_threadsafe(self._done, batches, then, fault)
+
+    def _try(self, batches: Sequence[Batch], events: Events | None) -> Exception | None:
+        """Ends a transaction, of which all rows are put if there are `events`; or what kept it from being: that is told to the coordinator, which
+        begins again from the database."""
+        try:
+            self._sync(self._put(batches, patient=True) if events is None else events, patient=True)
+        except Exception as fault:
+            return fault
+        return None
 
     def _done(self, batches: Sequence[Batch], then: Then, fault: Exception | None) -> None:
         self._lent = False
@@ -112,44 +132,43 @@ class Writer:
         """The connection, to read by where it is not writing: it knows what it wrote, and another one would have to look."""
         return None if self._lent else self._db
 
-    def _try(self, batches: Sequence[Batch], patient: bool) -> Exception | None:
-        """One transaction, or what kept it from being: that is told to the coordinator, which begins again from the database."""
+    def _put(self, batches: Sequence[Batch], patient: bool) -> Events:
+        """Begins a transaction, and puts the rows of all into it. `patient`: it waits for another program's commit."""
+        if patient != self._patient:
+            self._patient = None
+            self._db.execute(f"PRAGMA busy_timeout = {BUSY if patient else 0}")
+            self._patient = patient
         try:
-            if patient != self._patient:
-                self._wait(patient)
-            took = self._transaction(batches)
-        except Exception as fault:
-            return fault
-        if not patient:
-            self._took = max(took, FORGET * self._took)
-        return None
-
-    def _wait(self, patient: bool) -> None:
-        """Whether it may take a while: to wait for another program's commit, and to move the WAL into the file."""
-        self._patient = None
-        self._db.execute(f"PRAGMA busy_timeout = {BUSY if patient else 0}")
-        self._db.execute(f"PRAGMA wal_autocheckpoint = {CHECKPOINT if patient else 0}")
-        self._patient = patient
-
-    def _transaction(self, batches: Sequence[Batch]) -> float:
-        """Gives how many seconds the disk took."""
-        db = self._db
-        try:
-            db.execute("BEGIN IMMEDIATE")
-            events = self._put(batches)
-            began = time.perf_counter()
-            db.execute("COMMIT")
+            self._db.execute("BEGIN IMMEDIATE")
+            return self._put_rows(batches)
         except BaseException:
-            if db.in_transaction:
-                with contextlib.suppress(sqlite3.Error):
-                    db.execute("ROLLBACK")
+            self._roll_back()
+            raise
+
+    def _sync(self, events: Events, patient: bool) -> float:
+        """Commits what was put; gives how many seconds the disk took. `patient`: it may move the WAL into the file."""
+        try:
+            if patient != self._moves:
+                self._moves = None
+                self._db.execute(f"PRAGMA wal_autocheckpoint = {CHECKPOINT if patient else 0}")
+                self._moves = patient
+            began = time.perf_counter()
+            self._db.execute("COMMIT")
+        except BaseException:
+            self._roll_back()
             raise
         self.commits += 1
         self.events.update(events)
         return time.perf_counter() - began
 
-    def _put(self, batches: Sequence[Batch]) -> dict[int, int]:
-        """Writes the rows of all; gives how many events the logs have now."""
+    def _roll_back(self) -> None:
+        """A transaction that fails is as if it had never begun."""
+        if self._db.in_transaction:
+            with contextlib.suppress(sqlite3.Error):
+                self._db.execute("ROLLBACK")
+
+    def _put_rows(self, batches: Sequence[Batch]) -> Events:
+        """Writes the rows of all; gives how many events the logs have then."""
         events = self._put_lines(batches)
         if len(batches) == 1:
             (batch,) = batches
