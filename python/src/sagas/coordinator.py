@@ -48,13 +48,13 @@ class Coordinator:
         self.reports = Reports(self)
         self.lives: dict[str, Live] = {}
         self.pumps: dict[int, Pump] = {}
-        self.starved: dict[Pump, None] = {}
         self.current: Pump | None = None
         self.closed: SagasError | None = None
         self.jobs: set[asyncio.Task[None]] = set()
         self.placing: list[Live] = []  # sagas that go into a log in this turn of the loop
         self._queue: list[Batch] = []
         self._writing = self._feeding = False
+        self.reading = False  # an answer is read, behind which the store is settled
         self.holding = Holding()
         self._opening: asyncio.Future[None] | None = None
         self._loading: set[Pump] = set()
@@ -168,6 +168,13 @@ class Coordinator:
             batches, self._queue = self._queue, []
             self._writing = True
             self.store.commit(batches, self._written)
+            if not self.reading:
+                self.settle_soon()
+
+    def settle_soon(self) -> None:
+        """What is over is told in the loop's next turn."""
+        if not self.store.shared:  # a server's answer comes in a turn of its own
+            self.loop.call_soon(self.store.settle)
 
     def _written(self, batches: Sequence[Batch], fault: BaseException | None, lost: frozenset[int]) -> None:
         self._writing = False
@@ -309,14 +316,14 @@ class Coordinator:
 
     def feed(self) -> None:
         """There are slots again: the logs that have no more tasks taken for want of them go on."""
-        if self.starved and not self._feeding:
+        if not self._feeding:
             self._feeding = True
             self.loop.call_soon(self._feed)
 
     def _feed(self) -> None:
         self._feeding = False
         if self.slots.free() > 0:
-            starved, self.starved = self.starved, {}
+            starved, self.slots.starved = self.slots.starved, {}
             for pump in starved:
                 pump.poke()
 

@@ -92,7 +92,8 @@ class Database(Protocol):
         """One transaction for all; `then` is called in the loop. One at a time: not again before `then`."""
 
     def settle(self) -> None:
-        """Calls `then` of a commit that is over already, and not only in the loop's next turn: for who is in the middle of nothing."""
+        """Calls `then` of a commit that was over when `commit` returned. Of a database that is not shared it is called behind each `commit`, by who is in
+        the middle of nothing, or in the loop's next turn."""
 
     def new_log(self) -> int:
         """The number of a log that is to be born (`Batch.born`)."""

@@ -39,7 +39,10 @@ class Live:
     )
 
     def __init__(self, key: str, text: str, kind: Kind, place: int) -> None:
-        self.key, self.text, self.kind, self.place = key, text, kind, place
+        self.key = key
+        self.text = text
+        self.kind = kind
+        self.place = place
         self.number = -1
         self.pump: Pump | None = None
         self.committed = False
@@ -121,10 +124,15 @@ class Attempt:
     __slots__ = ("live", "step", "kind", "attempt", "action", "word", "state", "why", "fresh", "outcome", "at", "timer", "job", "since", "count", "has_row", "request", "told", "until", "pending", "awaited", "lease", "took", "event", "record")
 
     def __init__(self, live: Live, step: int, kind: str, attempt: int, fresh: bool) -> None:
-        self.live, self.step, self.attempt, self.fresh = live, step, attempt, fresh
+        self.live = live
+        self.step = step
+        self.attempt = attempt
+        self.fresh = fresh
         action = self.action = live.kind.actions[kind][step]
-        self.word, self.kind = action.word, action.kind
-        self.state, self.why = "taken", ""
+        self.word = action.word
+        self.kind = action.kind
+        self.state = "taken"
+        self.why = ""
         self.outcome: Outcome | None = None
         self.at = self.since = 0.0
         self.timer: asyncio.TimerHandle | None = None

@@ -105,7 +105,7 @@ class Pump(Answers):
 
     def due(self) -> bool:
         """Whether something can be sent now: tasks only where there is a slot for them."""
-        starved = self in self.owner.starved or self.owner.closed is not None
+        starved = self in self.owner.slots.starved or self.owner.closed is not None
         return bool(self.reports or self.opens or self.aborts or (self.hungry and not starved))
 
     def granted(self) -> None:
@@ -217,7 +217,7 @@ class Pump(Answers):
             return False
         count = min(max(len(requests) + 1, self.more), self.owner.slots.free())
         if count <= 0:
-            self.owner.starved[self] = None
+            self.owner.slots.starved[self] = None
             return False
         self.outstanding = count
         self.owner.slots.reserve(count)
@@ -283,9 +283,20 @@ class Pump(Answers):
                 self._send()
         finally:
             self.unwritten -= held
-            self.commit(batch, acts)
-        if not is_due:
+            self._commit_now(batch, acts)
+        if not is_due and self.owner.children.wanted:
             self.offer()
+
+    def _commit_now(self, batch: Batch, acts: list[Act]) -> None:
+        """As `commit`. Nothing else is in the middle of something: where the commit was made here, what is done after it is done at once."""
+        self.owner.reading = True
+        try:
+            self.commit(batch, acts)
+        except BaseException:
+            self.owner.settle_soon()
+            raise
+        finally:
+            self.owner.reading = False
         self.owner.store.settle()
 
     def commit(self, batch: Batch, acts: list[Act]) -> None:
@@ -318,7 +329,8 @@ class Pump(Answers):
     def _settle(self) -> None:
         if self.state == "stale":
             restoring.again(self)
-        self.offer()
+        if self.owner.children.wanted:
+            self.offer()
         self.owner.close_if_over(self)
         self.owner.changed()
 
@@ -359,4 +371,4 @@ class Pump(Answers):
             self.child.stop()
         self._unreserve()
         self.owner.children.gone(self)
-        self.owner.starved.pop(self, None)
+        self.owner.slots.starved.pop(self, None)

@@ -5,15 +5,23 @@ from __future__ import annotations
 from collections import deque
 from collections.abc import Callable
 
+from typing import TYPE_CHECKING
+
 from .live import Attempt
+
+if TYPE_CHECKING:
+    from .pump import Pump
 
 
 class Slots:
-    """A place for each running function. Who is over its step's limit waits apart, and holds back nobody else."""
+    """A place for each running function. Who is over its step's limit waits apart, and holds back nobody else.
+
+    `starved`: the logs that have no more tasks taken for want of places. While there are any, `freed` is called when there may be places."""
 
     def __init__(self, most: int, start: Callable[[Attempt], None], freed: Callable[[], None]) -> None:
         self.most, self._start, self._freed = most, start, freed
         self.running = self._reserved = 0
+        self.starved: dict[Pump, None] = {}
         self._ready: dict[Attempt, None] = {}
         self._limits: dict[tuple[str, str], tuple[set[Attempt], deque[Attempt]]] = {}
 
@@ -26,9 +34,9 @@ class Slots:
         self._reserved += count
 
     def release(self, count: int) -> None:
-        """Reserved places are free: their tasks begin now, or there were none. Whoever waits for a place is told."""
+        """Reserved places are free: their tasks begin now, or there were none."""
         self._reserved -= count
-        if count:
+        if count and self.starved:
             self._freed()
 
     def enter(self, attempt: Attempt) -> None:
@@ -66,7 +74,8 @@ class Slots:
             del self._ready[following]
             self.running += 1
             self._start(following)
-        self._freed()
+        if self.starved:
+            self._freed()
 
     def cancel(self, attempt: Attempt) -> None:
         """It waits no more; its place under its step's limit is for the next."""

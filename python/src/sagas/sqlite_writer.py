@@ -75,7 +75,6 @@ class Writer:
             rows += len(batch.results) + len(batch.opened)
         events: Events | None = None
         if rows <= FEW_ROWS:
-            self._loop.call_soon(self.settle)
             try:
                 events = self._put_here(batches)
                 if events is not None and self._took < AT_ONCE and self._pages < CHECKPOINT:

@@ -27,9 +27,17 @@ class Task(Generic[I]):
         self, saga: str, key: str, step: str, undo: bool, attempt: int, saga_token: str, input: str, results: dict[str, str], result: str | None,
         hint: values.Decoder | None = None, decoders: dict[str, values.Decoder] | None = None,
     ) -> None:
-        self.saga, self.key, self.step, self.undo, self.attempt = saga, key, step, undo, attempt
-        self._saga_token, self._input, self._results, self._result = saga_token, input, results, result
-        self._hint, self._decoders = hint, decoders or {}
+        self.saga = saga  # one by one, since a step makes one of these: that takes less time than a tuple of all
+        self.key = key
+        self.step = step
+        self.undo = undo
+        self.attempt = attempt
+        self._saga_token = saga_token
+        self._input = input
+        self._results = results
+        self._result = result
+        self._hint = hint
+        self._decoders = decoders or {}
         self._connection: Any = None
 
     def enter(self, connection: Any) -> None:
