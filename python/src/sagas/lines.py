@@ -10,6 +10,7 @@ BUSY = '{"do":"busy"}'
 EVENT = '{"event":{'
 COMMIT = '{"event":{"event":"commit",'
 GOING = '"phase":"going"}'
+ENDED = '"phase":"ended"}'
 SETTLED = '{"settled":'
 TASKS = '"tasks":[{'
 PLAN = '"task":"plan"'
@@ -41,8 +42,11 @@ def next_line(most: int) -> str:
 
 def event_and_phase(reply: str) -> tuple[str, str] | None:
     """The word of the event that a report came to, and that of the saga's phase after it; None where it came to none."""
-    if reply.endswith(GOING) and reply.startswith(COMMIT):  # most do
-        return "commit", "going"
+    if reply.startswith(COMMIT):  # most do
+        if reply.endswith(GOING):
+            return "commit", "going"
+        if reply.endswith(ENDED):
+            return "commit", "ended"
     if not reply.startswith(EVENT):
         return None
     parts = reply.split('"')
