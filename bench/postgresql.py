@@ -1,7 +1,7 @@
 """Sagas a second over PostgreSQL, beside coordinators by hand; what a saga takes in rows, bytes and commits; what a node costs that only waits;
 how soon another takes over, and goes on after a start; how long starts wait while ended sagas are let go.
 
-    /usr/bin/python3 bench/postgresql.py [speed|nodes|size|idle|takeover|opening|prune ..] [--turns N] [--scale F]
+    /usr/bin/python3 bench/postgresql.py [speed|nodes|size|idle|takeover|opening|prune ..] [--turns N] [--scale F] [--at 1,16,..]
 
 needs the package's program (`SAGAS_PROGRAM`, or dist/sagas), psycopg, and Debian's postgresql; it starts a server of its own. Three trivial
 steps, small results, `synchronous_commit=on`, `fsync=on`; the median of the turns, each over an empty database.
@@ -11,6 +11,7 @@ from __future__ import annotations
 
 import argparse
 import asyncio
+import collections
 import contextlib
 import os
 import pathlib
@@ -22,7 +23,7 @@ import subprocess
 import sys
 import threading
 import time
-from collections.abc import Awaitable, Callable
+from collections.abc import AsyncIterator, Awaitable, Callable
 
 HERE = pathlib.Path(__file__).resolve().parent
 sys.path[:0] = [str(HERE.parent / "python" / "src"), str(HERE.parent / "python" / "tests"), str(HERE)]
@@ -33,6 +34,8 @@ import by_hand  # noqa: E402
 import sagas  # noqa: E402
 from server import Server, serving  # noqa: E402
 
+Links = asyncio.Queue[psycopg.AsyncConnection[tuple[object, ...]]]
+"""Connections that nobody uses at the moment."""
 SIZES = {1: 100, 16: 800, 256: 3000, 1000: 5000}
 """Sagas of a turn, by how many are under way at once."""
 LEASE = 3.0
@@ -61,17 +64,26 @@ def trip(inside: bool = False, gate: asyncio.Event | None = None, called: list[f
     return saga
 
 
-def booking() -> sagas.Saga:
-    """Three steps in a row, each of which writes a row in its own transaction."""
+ROW = "INSERT INTO book VALUES(%s, %s)"
+
+
+def booking(links: Links | None = None) -> sagas.Saga:
+    """Three steps in a row, each of which writes a row: in its own transaction, or over a connection of the caller's, where some are given."""
     saga = sagas.Saga("booking")
 
     async def book(task: sagas.Task[object]) -> int:
-        await task.connection.execute("INSERT INTO book VALUES(%s, %s)", (task.key, task.step))
+        if links is None:
+            await task.connection.execute(ROW, (task.key, task.step))
+            return 1
+        link = await links.get()
+        await link.execute(ROW, (task.key, task.step))
+        await link.commit()
+        links.put_nowait(link)
         return 1
 
-    one = saga.step(name="one", transaction=True)(book)
-    two = saga.step(name="two", transaction=True, needs=[one])(book)
-    saga.step(name="three", transaction=True, needs=[two])(book)
+    one = saga.step(name="one", transaction=links is None)(book)
+    two = saga.step(name="two", transaction=links is None, needs=[one])(book)
+    saga.step(name="three", transaction=links is None, needs=[two])(book)
     return saga
 
 
@@ -88,19 +100,44 @@ async def rate(go: Callable[[int], Awaitable[object]], count: int, together: int
     return count / (time.perf_counter() - began)
 
 
-async def ours(url: str, count: int, together: int, inside: bool = False, rows: bool = False) -> float:
+async def driven(url: str, saga: sagas.Saga, count: int, together: int, concurrency: int) -> float:
     """By the package."""
-    saga = booking() if rows else trip(inside)
-    if rows:
-        with psycopg.connect(url) as link:
-            link.execute("CREATE TABLE book(key text, step text)")
-    async with sagas.open(url, [saga], concurrency=max(16, min(together, 16 if rows else together))) as store:
+    async with sagas.open(url, [saga], concurrency=concurrency) as store:
 
         async def go(number: int) -> None:
             await (await store.start(saga, f"{together}-{number}-{random.random()}", {"n": number})).wait()
 
         await rate(go, 20, 4)
         return await rate(go, count, together)
+
+
+async def ours(url: str, count: int, together: int, inside: bool = False) -> float:
+    """Steps that do nothing."""
+    return await driven(url, trip(inside), count, together, max(16, together))
+
+
+async def ours_with_rows(url: str, count: int, together: int, inside: bool) -> float:
+    """Steps that write a row each, over 16 connections: of the steps' transactions (`inside`), or of the caller's own."""
+    async with resting(url) as links:
+        link = links.get_nowait()
+        await link.execute("CREATE TABLE book(key text, step text)")
+        await link.commit()
+        links.put_nowait(link)
+        return await driven(url, booking(None if inside else links), count, together, 16)
+
+
+@contextlib.asynccontextmanager
+async def resting(url: str) -> AsyncIterator[Links]:
+    """Sixteen connections of psycopg's."""
+    every = [await psycopg.AsyncConnection.connect(url) for _ in range(16)]
+    links: Links = asyncio.Queue()
+    for one in every:
+        links.put_nowait(one)
+    try:
+        yield links
+    finally:
+        for one in every:
+            await one.close()
 
 
 async def hand(store: by_hand.Each, count: int, together: int) -> float:
@@ -124,50 +161,47 @@ async def hand(store: by_hand.Each, count: int, together: int) -> float:
 
 async def bare(url: str, count: int, together: int) -> float:
     """What steps inside take at least: for each saga three transactions of psycopg, of a row and its record, over 16 connections, and nothing else."""
-    every = [await psycopg.AsyncConnection.connect(url) for _ in range(16)]
-    await every[0].execute("CREATE TABLE book(key text, step text)")
-    await every[0].execute("CREATE TABLE record(key text, step text, value text, PRIMARY KEY(key, step))")
-    await every[0].commit()
-    links: asyncio.Queue[psycopg.AsyncConnection[tuple[object, ...]]] = asyncio.Queue()
-    for one in every:
-        links.put_nowait(one)
+    async with resting(url) as links:
+        link = links.get_nowait()
+        await link.execute("CREATE TABLE book(key text, step text)")
+        await link.execute("CREATE TABLE record(key text, step text, value text, PRIMARY KEY(key, step))")
+        await link.commit()
+        links.put_nowait(link)
 
-    async def go(number: int) -> None:
-        for step in ("one", "two", "three"):
-            link = await links.get()
-            await link.execute("INSERT INTO book VALUES(%s, %s)", (str(number), step))
-            await link.execute("INSERT INTO record VALUES(%s, %s, %s)", (str(number), step, "1"))
-            await link.commit()
-            links.put_nowait(link)
+        async def go(number: int) -> None:
+            for step in ("one", "two", "three"):
+                link = await links.get()
+                await link.execute(ROW, (str(number), step))
+                await link.execute("INSERT INTO record VALUES(%s, %s, %s)", (str(number), step, "1"))
+                await link.commit()
+                links.put_nowait(link)
 
-    try:
         return await rate(go, count, together)
-    finally:
-        for one in every:
-            await one.close()
+
+
+WAYS: dict[str, Callable[[str, int, int], Awaitable[float]]] = {
+    "sagas": ours,
+    "sagas, steps inside that do nothing there": lambda url, count, together: ours(url, count, together, True),
+    "sagas, steps inside, a row each": lambda url, count, together: ours_with_rows(url, count, together, True),
+    "sagas, steps that write the same row over a connection of their own": lambda url, count, together: ours_with_rows(url, count, together, False),
+    "psycopg alone, three transactions of two rows each": bare,
+    "by hand, a commit a change": lambda url, count, together: hand(by_hand.Each(url), count, together),
+    "by hand, commits shared": lambda url, count, together: hand(by_hand.Shared(url), count, together),
+}
 
 
 def speed(server: Server, words: argparse.Namespace) -> None:
-    """Sagas a second, at four concurrencies."""
-    ways: dict[str, Callable[[str, int, int], Awaitable[float]]] = {
-        "sagas": ours,
-        "sagas, steps inside that do nothing there": lambda url, count, together: ours(url, count, together, True),
-        "sagas, steps inside, a row each": lambda url, count, together: ours(url, count, together, True, True),
-        "psycopg alone, three transactions of two rows each": bare,
-        "by hand, a commit a change": lambda url, count, together: hand(by_hand.Each(url), count, together),
-        "by hand, commits shared": lambda url, count, together: hand(by_hand.Shared(url), count, together),
-    }
-    print("| sagas a second, so many at once |", " | ".join(map(str, SIZES)), "|")
-    for name, way in ways.items():
-        cells = []
-        for together, count in SIZES.items():
-            turns = []
-            for _ in range(words.turns):
+    """Sagas a second, at four concurrencies. The ways take turns, so that a slow minute of the machine is a slow minute of each."""
+    turns: dict[tuple[str, int], list[float]] = collections.defaultdict(list)
+    for together in words.at:
+        for _ in range(words.turns):
+            for name, way in WAYS.items():
                 url = server.create()
-                turns.append(asyncio.run(way(url, max(20, int(count * words.scale)), together)))  # type: ignore[arg-type]
+                turns[name, together].append(asyncio.run(way(url, max(20, int(SIZES[together] * words.scale)), together)))  # type: ignore[arg-type]
                 server.drop(url)
-            cells.append(f"{statistics.median(turns):.0f}")
-        print(f"| {name} | {' | '.join(cells)} |", flush=True)
+    print("| sagas a second, so many at once |", " | ".join(map(str, words.at)), "|")
+    for name in WAYS:
+        print(f"| {name} | {' | '.join(f'{statistics.median(turns[name, together]):.0f}' for together in words.at)} |", flush=True)
 
 
 def child(url: str, count: int, name: str) -> subprocess.Popen[str]:
@@ -423,6 +457,7 @@ def main() -> None:
     parser.add_argument("parts", nargs="*", choices=[*parts, []], default=[])
     parser.add_argument("--turns", type=int, default=3)
     parser.add_argument("--scale", type=float, default=1.0)
+    parser.add_argument("--at", type=lambda text: [int(one) for one in text.split(",")], default=[*SIZES], help="of `speed`: how many at once, as 1,16")
     words = parser.parse_args()
     print(f"{os.cpu_count()} processors, load {os.getloadavg()[0]:.1f}")
     with serving({"fsync": "on", "synchronous_commit": "on", "shared_buffers": "256MB"}) as server:
