@@ -152,6 +152,8 @@ class Answers:
             self.opened += 1
             if live.start is not None:
                 batch.begun.append(live.start)
+            if live.guessed:
+                batch.guessed.append(live.key)
             batch.opened.append((self.log * ROOM + number, live.key, live.kind.name, live.place, live.text, batch.at))
             there.append(live)
         acts.append((self._opened, there))

@@ -35,7 +35,7 @@ class Live:
     """From `start` to its end."""
 
     __slots__ = (
-        "key", "text", "kind", "place", "number", "pump", "results", "busy", "odd", "over", "aborted", "draining", "answer", "_rare", "committed", "starting", "ending", "phase", "end", "start", "token",
+        "key", "text", "kind", "place", "number", "pump", "results", "busy", "odd", "over", "aborted", "draining", "answer", "_rare", "committed", "starting", "ending", "phase", "end", "start", "token", "guessed",
     )
 
     def __init__(self, key: str, text: str, kind: Kind, place: int) -> None:
@@ -47,6 +47,7 @@ class Live:
         self.pump: Pump | None = None
         self.committed = False
         self.start: int | None = None  # a client's start that it is of
+        self.guessed = False  # begun without a look for its key: until it is committed, the key may be another saga's
         self.starting: list[asyncio.Future[None]] = []  # who waits until it is there
         self.ending: list[asyncio.Future[None]] = []  # who waits for its end
         self.phase, self.end = "", ""  # as they are in the store, once it is over

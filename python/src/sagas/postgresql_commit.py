@@ -1,7 +1,10 @@
 """What a commit writes to PostgreSQL: one statement, whose parts join the logs that are still this node's.
 
 All rows go as one JSON text, each as a list; where no part has more than one, each value is a word of its own instead, which takes the server some
-four fifths of the time. Parts without rows are left out, and each form of the statement is prepared once."""
+four fifths of the time. Parts without rows are left out, and each form of the statement is prepared once.
+
+A log that was opened a saga in whose key nobody has looked for (`Batch.guessed`) counts as another's where that key is taken: of it nothing is
+written, and no row is refused, which would end the whole transaction."""
 
 from __future__ import annotations
 
@@ -20,6 +23,7 @@ FREE = f"(v.log < 0 OR v.log IN (SELECT log FROM mine))"
 
 ROWS = {
     "born": "log bigint, name text, shelf text",
+    "guessed": "log bigint, key text",
     "shelves": "shelf text, texts text",
     "lines": "log bigint, first integer, at double precision, text text",
     "opened": "id bigint, key text, saga text, def integer, input text, at double precision",
@@ -60,8 +64,14 @@ PARTS = {
 }
 """What becomes of them."""
 
-KEPT = "SELECT log FROM logs WHERE log = ANY($3::bigint[]) AND owner = $2 AND epoch = ($4::bigint[])[array_position($3, log)] FOR SHARE"
-BORN = "INSERT INTO logs(log, name, shelf, owner, epoch) SELECT v.log, v.name, v.shelf, $2, 1 FROM {rows} ON CONFLICT DO NOTHING RETURNING log"
+KEPT = {
+    True: "SELECT log FROM logs WHERE log = $3::bigint AND owner = $2 AND epoch = $4::bigint{free} FOR SHARE",
+    False: "SELECT log FROM logs WHERE log = ANY($3::bigint[]) AND owner = $2 AND epoch = ($4::bigint[])[array_position($3, log)]{free} FOR SHARE",
+}
+"""The logs that are this node's still, of one alone, and of a list."""
+BORN = "INSERT INTO logs(log, name, shelf, owner, epoch) SELECT v.log, v.name, v.shelf, $2, 1 FROM {rows}{free} ON CONFLICT DO NOTHING RETURNING log"
+TAKEN = "SELECT v.log FROM {rows} WHERE EXISTS (SELECT 1 FROM sagas s WHERE s.key = v.key) OR EXISTS (SELECT 1 FROM inbox i WHERE i.key = v.key)"
+"""The logs whose guess was wrong: a saga has the key, or a client's start that no log has yet."""
 MOST = 100 << 20
 """Bytes of rows that PostgreSQL takes apart at once: more than some 200 MiB it does only piece by piece, which takes longer."""
 dumps = json.JSONEncoder(separators=(",", ":"), check_circular=False).encode
@@ -72,17 +82,27 @@ WORDS = "words"
 
 
 @functools.lru_cache(maxsize=None)
-def statement(parts: tuple[str, ...], form: str = "jsonb") -> str:
-    """The statement with these parts. $1: the rows of each, by its name; $2: the node; $3 and $4: its logs and their epochs.
+def statement(parts: tuple[str, ...], form: str = "jsonb", alone: bool = False) -> str:
+    """The statement with these parts. $1: the rows of each, by its name; $2: the node; $3 and $4: its logs and their epochs, or where it is `alone`
+    the log and its epoch, which the server looks up in less time.
 
     As words, where each part has one row: $1, $5 and so on are the values, part by part."""
     rows = _rows_of_words(parts) if form == WORDS else _rows_of_json(form)
-    texts = [f"mine AS MATERIALIZED ({KEPT})"]
+    texts, kept, born = [], KEPT[alone].format(free=""), ""
+    if "guessed" in parts:
+        texts, kept = [f"taken AS MATERIALIZED ({TAKEN.format(rows=rows('guessed'))})"], KEPT[alone].format(free=f" AND {_free('logs')}")
+        born = f" WHERE {_free('v')}"
     if "born" in parts:
-        texts = [f"kept AS MATERIALIZED ({KEPT})", f"born AS ({BORN.format(rows=rows('born'))})"]
-        texts.append("mine AS MATERIALIZED (SELECT log FROM kept UNION ALL SELECT log FROM born)")
-    texts += [f"{part}_ AS ({PARTS[part].format(rows=rows(part))})" for part in parts if part != "born"]
+        texts += [f"kept AS MATERIALIZED ({kept})", f"born AS ({BORN.format(rows=rows('born'), free=born)})"]
+        kept = "SELECT log FROM kept UNION ALL SELECT log FROM born"
+    texts.append(f"mine AS MATERIALIZED ({kept})")
+    texts += [f"{part}_ AS ({PARTS[part].format(rows=rows(part))})" for part in parts if part in PARTS]
     return f"WITH {', '.join(texts)} SELECT log FROM mine"
+
+
+def _free(name: str) -> str:
+    """Whether no guess of that log was wrong."""
+    return f"NOT EXISTS (SELECT 1 FROM taken WHERE taken.log = {name}.log)"
 
 
 def _rows_of_json(form: str) -> Callable[[str], str]:
@@ -155,25 +175,30 @@ class Commit:
         yield "born", [[(log, name, shelf) for log, (name, shelf, _) in born.items()]]
         yield "shelves", [{(shelf, texts): None for _, shelf, texts in born.values()}]  # type: ignore[list-item]
         yield "opened", (batch.opened for batch in self.batches)
+        yield "guessed", ([(batch.log, key) for key in batch.guessed] for batch in self.batches)
         yield "results", (batch.results for batch in self.batches)
         yield "ended", (batch.ended for batch in self.batches)
+        yield "begun", ([(batch.log, id) for id in batch.begun] for batch in self.batches)
+        if any(batch.is_rare for batch in self.batches):
+            yield from self._rare_lists()
+
+    def _rare_lists(self) -> Iterable[tuple[str, Iterable[Sequence[Any]]]]:
         yield "settled", (batch.settled for batch in self.batches)
         yield "emptied", ([(batch.log,)] for batch in self.batches if batch.closed)
         yield "answers", ([(batch.log, *answer) for answer in batch.answers] for batch in self.batches)
         yield "asked", ([(batch.log, *row, answer) for row, answer in batch.asked] for batch in self.batches)
-        yield "begun", ([(batch.log, id) for id in batch.begun] for batch in self.batches)
         yield "notes", ([(clean(note), id) for note, id in batch.notes] for batch in self.batches)
         yield "closed", ([(batch.log, *batch.closed)] for batch in self.batches if batch.closed)
 
     def words(self, node: str) -> tuple[str, list[bytes | None]]:
         """The statement and its words."""
-        parts = tuple(sorted(self._rows))
+        parts, alone = tuple(sorted(self._rows)), len(self.epochs) == 1
         logs, epochs = ",".join(map(str, self.epochs)), ",".join(map(str, self.epochs.values()))
-        mine = [node.encode(), f"{{{logs}}}".encode(), f"{{{epochs}}}".encode()]
+        mine = [node.encode(), *(told.encode() if alone else f"{{{told}}}".encode() for told in (logs, epochs))]
         if parts and all(len(rows) == 1 for rows in self._rows.values()):
             cells = [None if cell is None else str(cell).encode() for part in parts for cell in self._rows[part][0]]
             told = b"".join(cell for cell in cells if cell)
             if len(told) < MOST and b"\0" not in told:  # a word would end there; the form below has it refused
-                return statement(parts, WORDS), [cells[0], *mine, *cells[1:]]
+                return statement(parts, WORDS, alone), [cells[0], *mine, *cells[1:]]
         rows = dumps(self._rows).encode()
-        return statement(parts, "jsonb" if len(rows) < MOST else "json"), [rows, *mine]
+        return statement(parts, "jsonb" if len(rows) < MOST else "json", alone), [rows, *mine]

@@ -53,6 +53,8 @@ class Batch:
     notes: list[tuple[str, int]] = dataclasses.field(default_factory=list)
     begun: list[int] = dataclasses.field(default_factory=list)
     """starts of clients (`Start`) that are done with"""
+    guessed: list[str] = dataclasses.field(default_factory=list)
+    """keys of sagas that it opens, which nobody has looked for: where one is taken, nothing of the batch is written, as where the log is another's"""
     settled: list[tuple[str, int]] = dataclasses.field(default_factory=list)
     """attempts that were ordered elsewhere: their tokens, and their log; no report of them is taken any more"""
     closed: tuple[int, str] | None = None

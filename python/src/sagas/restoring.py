@@ -88,12 +88,13 @@ async def load(pump: Pump) -> None:
 
 
 async def _elsewhere(pump: Pump, there: set[str]) -> None:
-    """Of the sagas that were asked to be opened here, those that another log has."""
+    """Of the sagas that were asked to be opened here, those whose keys are other sagas': of another log, or over in this one."""
     asked = [live for live in pump.sent if not live.committed and live.key not in there]
     rows = await asyncio.gather(*(pump.owner.store.find(live.key) for live in asked))
     for live, row in zip(asked, rows):
-        if row is not None and row.id >= 0 and row.id // ROOM != pump.log:
+        if row is not None and (row.id >= 0 or live.guessed):
             pump.sent.pop(live, None)
+            live.number, live.pump = -1, None
             moving.found(pump.owner, live, row)
 
 

@@ -8,6 +8,7 @@ from __future__ import annotations
 
 import asyncio
 import builtins
+import contextlib
 import datetime
 import os
 import signal
@@ -22,9 +23,10 @@ from .coordinator import Coordinator
 from .database import Reader
 from .definition import Saga, Step
 from .elsewhere import Leased, Queue, Word
-from .errors import Closed, KeyConflict, Moved, NoSuchSaga, NotJson, NotWaiting
+from .errors import Closed, KeyConflict, Moved, NoSuchSaga, NotJson, NotWaiting, SagasError
 from .events import Hook, Teller, logger
-from .kinds import Shelf
+from .guessing import Guessing
+from .kinds import Kind, Shelf
 from .live import Attempt, Live
 from .plans import Plan
 from .records import Asked, Wanted, SagaRow
@@ -56,6 +58,7 @@ class Store:
         self._teller, self._program = Teller(on_event, clock), program
         self._coordinator: Coordinator | None = None
         self._finding: dict[str, asyncio.Future[None]] = {}  # keys that are about to be started
+        self._guessing = Guessing()
         self.leased = False
         """Set it before opening: steps with `handler=None` are for `take`, and none of them begins before it is taken."""
 
@@ -133,7 +136,9 @@ class Store:
         place, text = self._shelf.place(saga), values.write(input)
         kind = self._shelf.kinds[place]
         looks = inside.store.shared or not self.new or not kind.fits  # else it is looked for with others, where it is placed
-        row = await self._find(key) if looks and key not in inside.lives else None
+        live = await self._live(key)
+        guesses = live is None and self._guesses(kind)
+        row = await self._find(key) if looks and not guesses and live is None else None
         live = inside.lives.get(key)  # another start of it may have come meanwhile
         there = (live.kind.name, live.text) if live else (row.saga, row.input) if row else None
         if there:
@@ -150,20 +155,41 @@ class Store:
             raise kind.too_large()
         else:
             live = inside.new_live(key, text, kind, place)
+            live.guessed = guesses
             begun = live.started(inside.loop)  # before it is placed: it may be there at once, or refused
             inside.place(live)
-            await begun
+            try:
+                await begun
+            finally:
+                self._guessing.told(was_there=not live.committed)
             return Run(self, key, new=live.committed)  # else another node was first
         if live and not live.committed:
             await live.started(inside.loop)
         return Run(self, key)
+
+    def _guesses(self, kind: Kind) -> bool:
+        """Whether a start begins without a look for its key, which takes a while."""
+        inside = self._inside
+        return inside.store.shared and self.new and kind.fits and not inside.lives and not self._finding and self._guessing.is_worth()
+
+    async def _live(self, key: str) -> Live | None:
+        """The saga with this key, as far as it is driven here and the key is known to be its own."""
+        while True:
+            live = self._inside.lives.get(key)
+            if live is None or not live.guessed or live.committed:
+                return live
+            with contextlib.suppress(SagasError):  # its start hears of it
+                await live.started(self._inside.loop)
 
     async def _find(self, key: str) -> SagaRow | None:
         """Looks whether a key that is to be started is there, where that takes a while."""
         inside = self._inside
         finding = self._finding.setdefault(key, inside.loop.create_future())
         try:
-            return await inside.store.find(key)
+            row = await inside.store.find(key)
+            if row is not None:
+                self._guessing.told(was_there=True)
+            return row
         finally:
             self._finding.pop(key, None)
             if not finding.done():
@@ -172,7 +198,7 @@ class Store:
     async def wait(self, key: str) -> End:
         """Waits for a saga's end. Raises `NoSuchSaga`, `Closed`."""
         inside = self._here()
-        live = inside.lives.get(key)
+        live = await self._live(key)
         if live is not None:  # as most are: it is driven here
             try:
                 await live.ended(inside.loop)
@@ -189,7 +215,7 @@ class Store:
         """As `wait`, for who reads the end by himself: a saga that was driven here, or its row."""
         turn, inside = 0, self._here()
         while True:
-            live = inside.lives.get(key)
+            live = await self._live(key)
             if live is None:
                 row = await moving.surely(lambda: self._row(key))
                 if row.phase is not None:
@@ -222,7 +248,7 @@ class Store:
     async def _abort(self, key: str, request: Wanted) -> bool:
         while True:
             inside = self._inside
-            live = inside.lives.get(key)
+            live = await self._live(key)
             if live is None and key in self._finding:
                 await asyncio.shield(self._finding[key])
                 continue
@@ -276,7 +302,7 @@ class Store:
     async def _finish(self, key: str, step: str, outcome: Outcome, undo: bool, request: Wanted) -> None:
         kind = "undo" if undo else "run"
         while True:
-            live = self._inside.lives.get(key)
+            live = await self._live(key)
             if live is None:
                 if (await self._row(key)).phase is not None:
                     raise NotWaiting(f"saga {key!r} is over")

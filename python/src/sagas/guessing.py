@@ -1,0 +1,24 @@
+"""Whether a start begins without a look for its key: then its commit finds out whether the key is taken.
+
+Where nobody else has the store's attention, that saves a lone saga a trip to the server. A key that turns out to be taken costs its log a new child,
+so nothing is begun so while other sagas are open, or where keys that were there have come of late."""
+
+from __future__ import annotations
+
+AGAIN = 100
+"""Starts of new keys in a row, behind one of a key that was there, until one begins without a look."""
+
+
+class Guessing:
+    """Counts the starts whose keys are looked for."""
+
+    def __init__(self) -> None:
+        self._looks = 0
+
+    def is_worth(self) -> bool:
+        """Whether the next key is new, as far as those before it tell."""
+        return not self._looks
+
+    def told(self, was_there: bool) -> None:
+        """What became of a start."""
+        self._looks = AGAIN if was_there else max(0, self._looks - 1)
