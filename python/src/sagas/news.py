@@ -5,7 +5,7 @@ from __future__ import annotations
 import asyncio
 import contextlib
 from collections import OrderedDict
-from collections.abc import Callable, Iterable
+from collections.abc import Callable, Iterable, Sequence
 
 import psycopg
 
@@ -43,17 +43,24 @@ class News:
         self._recent: OrderedDict[tuple[str, int], None] = OrderedDict()
         self._job = asyncio.get_running_loop().create_task(self._listen())
 
-    async def close(self) -> None:
-        """Listens no more."""
+    async def close(self, words: Sequence[str] = ()) -> None:
+        """Says a last thing, and listens no more."""
+        if words:
+            said = asyncio.Event()
+            self.say(words, said.set)
+            with contextlib.suppress(TimeoutError):
+                async with asyncio.timeout(links.CONNECT):
+                    await said.wait()
         while not self._job.done():  # a connection that is being made may swallow the first word
             self._job.cancel()
             await asyncio.wait([self._job], timeout=0.2)
 
-    async def say(self, words: Iterable[str]) -> None:
-        """Tells the others, if they can be told now: whoever waits also looks by himself."""
-        if self._wire and not self._wire.closed:
-            with contextlib.suppress(*links.FAULTS):
-                await self._wire.rows(SAY_WIRED, wired(words))
+    def say(self, words: Sequence[str], then: Callable[[], object]) -> None:
+        """Tells the others, if they can be told now: whoever waits also looks by himself. `then` is called behind that."""
+        if words and self._wire and not self._wire.closed:
+            self._wire.ask(SAY_WIRED, [wired(words)], lambda rows, fault: then())
+        else:
+            then()
 
     async def _listen(self) -> None:
         pause = 0.1

@@ -26,7 +26,7 @@ from .values import clean, cleaned
 
 logger = logging.getLogger("sagas")
 NUMBERS = 64  # of logs to be born, that are kept at hand
-SOON = 0.001  # seconds behind a commit in which others hear of it: what is to be done here goes first
+SOON = 0.001  # seconds behind a commit in which others hear of it, or sooner behind the next one: what is to be done here goes first
 MANY = 64  # starts of clients that are taken at once
 
 KEYS = "key = ANY(ARRAY(SELECT json_array_elements_text(%(keys)s::json)))"
@@ -77,6 +77,7 @@ class PostgreSQL(questions.Questions):
         self._reader = self.reader()
         self._wanted: dict[str, list[asyncio.Future[SagaRow | None]]] = {}
         self._said: list[str] = []
+        self._telling: asyncio.TimerHandle | None = None
         self._jobs: set[asyncio.Task[Any]] = set()
         self._news: news.News | None = None
         self._watcher: Watcher | None = None
@@ -121,16 +122,16 @@ class PostgreSQL(questions.Questions):
                 await asyncio.wait(late)
         await self._writer.close()
         if self._news:
-            with contextlib.suppress(TimeoutError):
-                async with asyncio.timeout(links.CONNECT):
-                    await self._tell()
-            await self._news.close()
+            words, self._said = self._said, []
+            await self._news.close(words)
         if self.lease.holds():
             with contextlib.suppress(StoreUnwritable):
                 await self.lease.end()
         await self._transactions.close()
         await self.asker.close()
         self._finder.close()
+        if self._jobs:  # who looked for a key hears that it is closed
+            await asyncio.wait(list(self._jobs))
         self._reader.close()
 
     def _heard(self, what: str) -> None:
@@ -222,8 +223,11 @@ class PostgreSQL(questions.Questions):
         return self._writer.commits
 
     def commit(self, batches: Sequence[Batch], then: Then) -> None:
-        """One statement for all; `then` is called in the loop."""
+        """One statement for all; `then` is called in the loop. What others are to hear goes behind it: the server is at work anyway."""
         self._writer.commit(batches, then)
+        if self._telling:
+            self._telling.cancel()
+            self._tell()
 
     def settle(self) -> None:
         """Nothing: `then` is called as soon as the server's answer is there."""
@@ -234,56 +238,77 @@ class PostgreSQL(questions.Questions):
 
     def _kept(self, commit: Commit) -> None:
         """A commit is in the store: the others hear of it."""
-        begun, answered = (id for batch in commit.batches for id in batch.begun), (id for batch in commit.batches for _, id in batch.answers)
-        self._say(news.payloads("ended", commit.ended) + news.payloads("begun", begun) + news.payloads("answered", answered))
+        begun, answered = [id for batch in commit.batches for id in batch.begun], [id for batch in commit.batches for _, id in batch.answers]
+        for what, ids in (("ended", commit.ended), ("begun", begun), ("answered", answered)):
+            if ids:
+                self._say(news.payloads(what, ids))
 
     def _say(self, words: list[str]) -> None:
         """Tells the other nodes and the clients, behind the commit: a commit that tells takes a lock over the whole server."""
         self._said += words
         if self._said and not self._saying and not self._closing and self._news:
             self._saying = True
-            asyncio.get_running_loop().call_later(SOON, lambda: self._spawn(self._tell()))
+            self._telling = asyncio.get_running_loop().call_later(SOON, self._tell)
 
-    async def _tell(self) -> None:
+    def _tell(self) -> None:
         assert self._news
-        try:
-            while self._said:
-                words, self._said = self._said, []
-                await self._news.say(words)
-        finally:
-            self._saying = False
+        self._telling, words, self._said = None, self._said, []
+        self._news.say(words, self._told)
+
+    def _told(self) -> None:
+        """They were told; what came meanwhile is next."""
+        self._saying = False
+        self._say([])
 
     # -- reading, for the coordinator
 
     async def find(self, key: str) -> SagaRow | None:
         """The saga with this key; with an id below 0 one that a client started and no log has yet."""
-        future: asyncio.Future[SagaRow | None] = asyncio.get_running_loop().create_future()
+        loop = asyncio.get_running_loop()
+        future: asyncio.Future[SagaRow | None] = loop.create_future()
         self._wanted.setdefault(key, []).append(future)
         if not self._finding:
             self._finding = True
-            self._spawn(self._find())
+            loop.call_soon(self._find)
         return await future
 
-    async def _find(self) -> None:
+    def _find(self) -> None:
         """Looks for all keys that are wanted at once."""
-        while self._wanted:
-            wanted, self._wanted = self._wanted, {}
-            fault: StoreUnwritable | None = None
-            found: dict[str, SagaRow] = {}
-            try:
-                keys = [clean(key) for key in wanted]
-                found_rows = self._finder.read(FIND_ONE, keys[0].encode()) if len(keys) == 1 else self._finder.read(FIND_WIRED, json.dumps(keys).encode())
-                for row in map(saga_row, await found_rows):
-                    if row.key not in found or row.id >= 0:
-                        found[row.key] = row
-            except StoreUnwritable as error:
-                fault = error
-            finally:
-                self._finding = bool(self._wanted)
-                for key, futures in wanted.items():
-                    for future in futures:
-                        if not future.done():
-                            future.set_exception(fault) if fault else future.set_result(found.get(key))
+        wanted, self._wanted = self._wanted, {}
+        keys = [clean(key) for key in wanted]
+        query, word = (FIND_ONE, keys[0].encode()) if len(keys) == 1 else (FIND_WIRED, json.dumps(keys).encode())
+
+        def then(rows: list[wire.Values], fault: Exception | None) -> None:
+            if fault is None:
+                self._found(wanted, rows)
+            else:
+                self._spawn(self._find_anew(wanted, query, word))
+
+        if not self._finder.tell(query, [word], then):
+            self._spawn(self._find_anew(wanted, query, word))
+
+    async def _find_anew(self, wanted: dict[str, list[asyncio.Future[SagaRow | None]]], query: str, word: bytes) -> None:
+        """As `_find`, over a connection that is made first."""
+        try:
+            rows = await self._finder.read(query, word)
+        except StoreUnwritable as fault:
+            self._found(wanted, [], fault)
+        else:
+            self._found(wanted, rows)
+
+    def _found(self, wanted: dict[str, list[asyncio.Future[SagaRow | None]]], rows: list[wire.Values], fault: StoreUnwritable | None = None) -> None:
+        """Tells who wanted to know, and looks for what is wanted by now."""
+        found: dict[str, SagaRow] = {}
+        for row in map(saga_row, rows):
+            if row.key not in found or row.id >= 0:
+                found[row.key] = row
+        for key, futures in wanted.items():
+            for future in futures:
+                if not future.done():
+                    future.set_exception(fault) if fault else future.set_result(found.get(key))
+        self._finding = bool(self._wanted)
+        if self._finding:
+            self._find()
 
     async def load(self, log: int, epoch: int, unborn: bool) -> Loaded | None:
         """A log as a pump takes it up, under a new epoch: what was on its way to the server is fenced. None where it is another node's, or is not there."""

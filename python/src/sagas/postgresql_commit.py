@@ -40,6 +40,8 @@ ROWS = {
     "closed": "log bigint, closed smallint, audit text",
 }
 """The columns of the rows of each part."""
+USUAL = "opened", "results", "ended"
+"""The parts that most commits have, beside lines: they stand in a batch as they are written."""
 COLUMNS = {part: [(name, kind) for name, _, kind in (column.partition(" ") for column in columns.split(", "))] for part, columns in ROWS.items()}
 
 OF_LOG = f"JOIN mine ON mine.log = v.id / {ROOM}"
@@ -129,11 +131,12 @@ class Commit:
         self._before = events
         self._rows: dict[str, list[Any]] = {}
         self._lines()
-        self._held()
-        for part, lists in self._lists():
-            rows = [row for rows in lists for row in rows]
+        for part in USUAL:
+            rows = [row for batch in batches for row in getattr(batch, part)]
             if rows:
                 self._rows[part] = rows
+        if any(batch.born or batch.begun or batch.guessed or batch.is_rare for batch in batches):
+            self._others()
 
     @property
     def ended(self) -> list[int]:
@@ -170,23 +173,24 @@ class Commit:
         if freed:
             self._rows["freed"] = [(*at, attempt) for at, attempt in freed.items()]
 
+    def _others(self) -> None:
+        """What most commits have nothing of."""
+        self._held()
+        for part, lists in self._lists():
+            rows = [row for rows in lists for row in rows]
+            if rows:
+                self._rows[part] = rows
+
     def _lists(self) -> Iterable[tuple[str, Iterable[Sequence[Any]]]]:
         born = {batch.log: batch.born for batch in self.batches if batch.born}
         yield "born", [[(log, name, shelf) for log, (name, shelf, _) in born.items()]]
         yield "shelves", [{(shelf, texts): None for _, shelf, texts in born.values()}]  # type: ignore[list-item]
-        yield "opened", (batch.opened for batch in self.batches)
         yield "guessed", ([(batch.log, key) for key in batch.guessed] for batch in self.batches)
-        yield "results", (batch.results for batch in self.batches)
-        yield "ended", (batch.ended for batch in self.batches)
-        yield "begun", ([(batch.log, id) for id in batch.begun] for batch in self.batches)
-        if any(batch.is_rare for batch in self.batches):
-            yield from self._rare_lists()
-
-    def _rare_lists(self) -> Iterable[tuple[str, Iterable[Sequence[Any]]]]:
         yield "settled", (batch.settled for batch in self.batches)
         yield "emptied", ([(batch.log,)] for batch in self.batches if batch.closed)
         yield "answers", ([(batch.log, *answer) for answer in batch.answers] for batch in self.batches)
         yield "asked", ([(batch.log, *row, answer) for row, answer in batch.asked] for batch in self.batches)
+        yield "begun", ([(batch.log, id) for id in batch.begun] for batch in self.batches)
         yield "notes", ([(clean(note), id) for note, id in batch.notes] for batch in self.batches)
         yield "closed", ([(batch.log, *batch.closed)] for batch in self.batches if batch.closed)
 

@@ -46,7 +46,8 @@ class Wire:
         self._preparing: bytes | None = None
         self._result: PGresult | None = None
         self._is_full = False  # more is to be sent than the socket takes
-        self._timer: asyncio.TimerHandle | None = None
+        self._timer: asyncio.TimerHandle | None = None  # one for all statements: it looks at `_until` when it rings
+        self._until = 0.0
         self.closed = False
         self.gone = asyncio.Event()
         """It is closed."""
@@ -58,7 +59,7 @@ class Wire:
         if self.closed:
             self._loop.call_soon(self._tell, errors.OperationalError("the connection is closed"))
         elif len(self._jobs) == 1:
-            self._begin()
+            self._go_on()
 
     async def rows(self, text: str, *words: bytes | None) -> list[Values]:
         """As `ask`, for who waits; who is cancelled leaves the statement to its end."""
@@ -77,10 +78,15 @@ class Wire:
 
     # -- there
 
+    def _go_on(self) -> None:
+        """The next one: it has its time from now on."""
+        self._until = self._loop.time() + self._patience
+        if self._timer is None:
+            self._timer = self._loop.call_at(self._until, self._look)
+        self._begin()
+
     def _begin(self) -> None:
         job = self._jobs[0]
-        if self._timer is None:
-            self._timer = self._loop.call_later(self._patience, self._late)
         try:
             name = self._names.get(job.text)
             if name is None:
@@ -133,25 +139,27 @@ class Wire:
     def _over(self) -> None:
         result, self._result = self._result, None
         preparing, self._preparing = self._preparing, None
-        assert result and self._timer
+        assert result
         fault = None if result.status in GOOD else errors.error_from_result(result)
         if preparing and not fault:
             self._names[self._jobs[0].text] = preparing
             self._begin()
             return
-        self._timer.cancel()
-        self._timer = None
-        rows = [] if fault else [tuple(result.get_value(row, column) for column in range(result.nfields)) for row in range(result.ntuples)]
         job = self._jobs.popleft()
+        rows = [] if fault else read(result)
         if self._jobs:
-            self._begin()
+            self._go_on()
         job.then(rows, fault)
 
     # -- what goes wrong
 
-    def _late(self) -> None:
+    def _look(self) -> None:
+        """Whether the statement that is under way is late."""
         self._timer = None
-        self._break(TimeoutError(f"no answer in {self._patience:g} s"))
+        if self._jobs and self._loop.time() >= self._until:
+            self._break(TimeoutError(f"no answer in {self._patience:g} s"))
+        elif self._jobs:
+            self._timer = self._loop.call_at(self._until, self._look)
 
     def _break(self, error: Exception) -> None:
         """It is of no use any more."""
@@ -172,6 +180,15 @@ class Wire:
             job.then([], error)
 
 
+def read(result: PGresult) -> list[Values]:
+    """Its rows."""
+    count = result.ntuples
+    if not count:
+        return []
+    columns = range(result.nfields)
+    return [tuple([result.get_value(row, column) for column in columns]) for row in range(count)]
+
+
 class Kept:
     """A wire that is made again where it broke, for short statements."""
 
@@ -188,6 +205,13 @@ class Kept:
             if wire is None or wire.closed:
                 wire = await self._made()
             return await wire.rows(text, *words)
+
+    def tell(self, text: str, words: Words, then: Then) -> bool:
+        """As `Wire.ask`, which takes the loop no turn of a task's; False where there is no connection yet, or any more."""
+        if self._wire is None or self._wire.closed:
+            return False
+        self._wire.ask(text, words, then)
+        return True
 
     async def read(self, text: str, *words: bytes | None) -> list[Values]:
         """As `ask`, for what may be asked twice: a connection that broke unnoticed is tried past."""
