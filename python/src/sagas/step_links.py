@@ -6,7 +6,7 @@ from __future__ import annotations
 import asyncio
 import contextlib
 import threading
-from collections.abc import Mapping, Sequence
+from collections.abc import Callable, Mapping, Sequence
 from typing import TYPE_CHECKING, Any, TypeVar
 
 import psycopg
@@ -38,6 +38,8 @@ class AsyncStepLink(psycopg.AsyncConnection[Row]):
     While it lives it is registered with the loop once: psycopg itself registers it anew for each answer, which takes as long as the rest."""
 
     begun: bool | None = None
+    heard: Callable[[AsyncStepLink], None] | None = None
+    """Who hears that something came while nobody waits for an answer."""
     joins = 0
     """The thread whose next statement may go with the begin."""
     halfway = False
@@ -71,11 +73,15 @@ class AsyncStepLink(psycopg.AsyncConnection[Row]):
                 await self.close()
         return value  # type: ignore[no-any-return]
 
-    def _answered(self, gen: PQGen[Any]) -> asyncio.Future[tuple[Any, Any]]:
-        """Steps of it for what comes, until it wants something else."""
+    def watch(self) -> None:
+        """The loop tells when something comes."""
         if self._reads is None:
             self._reads = self.pgconn.socket
             self._home.add_reader(self._reads, self._came)
+
+    def _answered(self, gen: PQGen[Any]) -> asyncio.Future[tuple[Any, Any]]:
+        """Steps of it for what comes, until it wants something else."""
+        self.watch()
         self._gen, self._answer = gen, self._home.create_future()
         return self._answer
 
@@ -100,6 +106,8 @@ class AsyncStepLink(psycopg.AsyncConnection[Row]):
         gen, answer = self._gen, self._answer
         if gen is None or answer is None or answer.done():
             self.silence()  # nobody waits: whoever is next reads it
+            if self.heard:
+                self.heard(self)
             return
         try:
             told = self._step(gen, waiting.READY_R)

@@ -23,6 +23,7 @@ AGAIN = 0.1, 2.0
 """Seconds between two tries to connect: the first pause, and the longest."""
 NONE_FREE = f"no connection for a step in {links.PATIENCE:g} s"
 CLOSED = "the store is closed"
+BROKE = "the connection broke before the function asked for it"
 
 
 def is_good(link: AsyncStepLink | StepLink) -> bool:
@@ -31,10 +32,14 @@ def is_good(link: AsyncStepLink | StepLink) -> bool:
 
 
 class Pool:
-    """For functions in the loop. A connection is made while somebody waits for one and there are fewer than `most`: one at a time."""
+    """For functions in the loop. A connection is made while somebody waits for one and there are fewer than `most`: one at a time.
+
+    A function that may want one has one reserved, which rests until it is wanted; the loop watches those that rest, so that one which breaks is
+    dropped before somebody has it."""
 
     def __init__(self, url: str, most: int) -> None:
         self._url, self._most, self._count = url, most, 0
+        self._reserved = 0  # of those that rest
         self._rests: list[tuple[AsyncStepLink, float]] = []  # since when; who came last is the last
         self._waiting: deque[asyncio.Future[AsyncStepLink]] = deque()
         self._grows: asyncio.Task[None] | None = None
@@ -42,14 +47,57 @@ class Pool:
         self._drops: set[asyncio.Task[None]] = set()
         self._is_over = False
 
+    def reserve(self) -> bool:
+        """Whether one rests that nobody has reserved: then it is the caller's, who calls `reserved` or `release`."""
+        if len(self._rests) <= self._reserved:
+            return False
+        self._reserved += 1
+        return True
+
+    async def reserve_next(self) -> None:
+        """As `reserve`, as soon as one is there. Raises `psycopg.OperationalError` where that takes too long."""
+        self._rest(await self.take())
+        self._reserved += 1
+
+    def reserved(self) -> AsyncStepLink:
+        """The caller's, from now on as `take` gives it. Raises `psycopg.OperationalError` where all that rested are broken."""
+        link = self._resting()
+        if link is None:
+            raise errors.OperationalError(BROKE)
+        self._reserved -= 1
+        return link
+
+    def release(self) -> None:
+        """What the caller has reserved is for others: nothing was wanted of it."""
+        self._reserved -= 1
+        if self._waiting and (link := self.at_hand()):
+            self.give(link)
+
     def at_hand(self) -> AsyncStepLink | None:
-        """One that rests."""
+        """One that rests, and that nobody has reserved."""
+        return self._resting() if len(self._rests) > self._reserved else None
+
+    def _resting(self) -> AsyncStepLink | None:
         while self._rests:
             link, _ = self._rests.pop()
             if link.is_there():
                 return link
             self._drop(link)
         return None
+
+    def _rest(self, link: AsyncStepLink) -> None:
+        link.heard = self._heard
+        link.watch()
+        self._rests.append((link, time.monotonic()))
+
+    def _heard(self, link: AsyncStepLink) -> None:
+        """Something came to one that rests: it broke, or goes on resting."""
+        place = next((place for place, (one, _) in enumerate(self._rests) if one is link), None)
+        if place is not None and link.is_there():
+            link.watch()
+        elif place is not None:
+            del self._rests[place]
+            self._drop(link)
 
     async def take(self) -> AsyncStepLink:
         """One, as soon as it is there. Raises `psycopg.OperationalError` where that takes too long."""
@@ -83,11 +131,11 @@ class Pool:
             if not future.done():
                 future.set_result(link)
                 return
-        self._rests.append((link, time.monotonic()))
+        self._rest(link)
 
     def look(self) -> None:
         """Closes those that rested long."""
-        while self._rests and time.monotonic() - self._rests[0][1] >= REST:
+        while len(self._rests) > self._reserved and time.monotonic() - self._rests[0][1] >= REST:
             self._drop(self._rests.pop(0)[0])
 
     def _drop(self, link: AsyncStepLink) -> None:

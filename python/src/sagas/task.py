@@ -2,6 +2,7 @@
 
 from __future__ import annotations
 
+from collections.abc import Callable
 from typing import TYPE_CHECKING, Any, Generic, TypeVar
 
 from . import values
@@ -21,7 +22,7 @@ class Task(Generic[I]):
     - `token`: another one for each attempt, for a service that remembers a refusal under its key.
     - `action_token`: in a compensation the effect token of what it undoes; in an action its own."""
 
-    __slots__ = ("saga", "key", "step", "undo", "attempt", "_saga_token", "_input", "_results", "_result", "_hint", "_decoders", "_connection")
+    __slots__ = ("saga", "key", "step", "undo", "attempt", "_saga_token", "_input", "_results", "_result", "_hint", "_decoders", "_connection", "_take")
 
     def __init__(
         self, saga: str, key: str, step: str, undo: bool, attempt: int, saga_token: str, input: str, results: dict[str, str], result: str | None,
@@ -39,16 +40,28 @@ class Task(Generic[I]):
         self._hint = hint
         self._decoders = decoders or {}
         self._connection: Any = None
+        self._take: Callable[[], Any] | None = None
 
     def enter(self, connection: Any) -> None:
         """Sets the connection of a step with `transaction=True`."""
         self._connection = connection
 
+    def enter_by(self, take: Callable[[], Any]) -> None:
+        """Sets what gives that connection, once the function asks for it."""
+        self._take = take
+
+    def leave(self) -> Any:
+        """The connection, if the function asked for it; from now on it gets none."""
+        self._take = None
+        return self._connection
+
     @property
     def connection(self) -> Any:
         """In a step with `transaction=True`: a psycopg connection, in whose transaction the step's result is kept. Neither commit nor roll it back."""
         if self._connection is None:
-            raise RuntimeError(f"step {self.step!r} has no transaction: declare it with transaction=True")
+            if self._take is None:
+                raise RuntimeError(f"step {self.step!r} has no transaction: declare it with transaction=True")
+            self._connection = self._take()
         return self._connection
 
     @property

@@ -6,10 +6,9 @@ to the commit is lost, the log is taken up again, and the record tells."""
 from __future__ import annotations
 
 import asyncio
-import contextlib
 import dataclasses
 import functools
-from collections.abc import Callable, Iterator
+from collections.abc import Callable, Coroutine
 from typing import TYPE_CHECKING, Any
 
 import psycopg
@@ -18,6 +17,7 @@ from . import calling, links
 from .calling import Outcome
 from .definition import Function, Manner
 from .errors import Lost, Unknown
+from .step_links import AsyncStepLink
 from .step_pool import REST, Pool, ThreadPool
 from .task import Task
 
@@ -58,16 +58,15 @@ class Record:
         if (error.sqlstate or "").startswith(ROLLED_BACK) and (error.diag.schema_name, error.diag.table_name) != ("sagas", "results"):
             self.begun = False
 
-    @contextlib.contextmanager
-    def judged(self) -> Iterator[None]:
-        """Around the transaction: what the server says of it is looked at, and a connection that is lost is an outcome that nobody knows."""
-        try:
-            yield
-        except psycopg.Error as error:
-            self.refused(error)
-            if isinstance(error, psycopg.OperationalError):
-                raise Unknown(str(error)) from error
-            raise
+    def judged(self, error: psycopg.Error) -> Exception:
+        """What is raised where the transaction raised that: what the server says of it is looked at, and a connection that is lost is an outcome that
+        nobody knows."""
+        self.refused(error)
+        if not isinstance(error, psycopg.OperationalError):
+            return error
+        unknown = Unknown(str(error))
+        unknown.__cause__ = error
+        return unknown
 
     def words(self, value: Any) -> tuple[str, str, str]:
         """What is written of a result, from here on: the statement, the node and the value."""
@@ -111,10 +110,10 @@ class Transactions:
             raise lost
         return outcome
 
-    async def within(self, attempt: Attempt, function: Function, task: Task[Any]) -> Any:
+    def within(self, attempt: Attempt, function: Function, task: Task[Any]) -> Coroutine[Any, Any, Any]:
         """As `Database.within`."""
-        attempt.record = self._record(attempt)
-        return await self._in_loop(function, attempt.record, task)
+        record = attempt.record = self._record(attempt)
+        return self._in_loop(function, record, task)
 
     def _record(self, attempt: Attempt) -> Record:
         if self._timer is None:
@@ -122,25 +121,42 @@ class Transactions:
         return Record(attempt, self._where, self._node, self._line())
 
     async def _in_loop(self, function: Function, record: Record, task: Task[Any]) -> Any:
-        with record.judged():
-            link = self._pool.at_hand() or await self._pool.take()
-            task.enter(link)
-            link.begun = False
+        """It has a connection from when it asks for one; one that asks for none costs little more than without a transaction."""
+        try:
+            if not self._pool.reserve():
+                await self._pool.reserve_next()
+            task.enter_by(self._taken)
             try:
                 value = await function(task)
-                if link.begun:
+                link = task.leave()
+                if link is not None and link.begun:
                     await link.end(*record.words(value))
                     record.done = True
             finally:
-                if link.begun is False:
-                    link.begun = None
+                if (link := task.leave()) is None:
+                    self._pool.release()
                 else:
-                    await link.leave()
-                self._pool.give(link)
+                    await self._left(link)
+        except psycopg.Error as error:
+            raise record.judged(error)
         return value
 
+    def _taken(self) -> AsyncStepLink:
+        link = self._pool.reserved()
+        link.begun = False
+        return link
+
+    async def _left(self, link: AsyncStepLink) -> None:
+        try:
+            if link.begun is False:
+                link.begun = None
+            else:
+                await link.leave()
+        finally:
+            self._pool.give(link)
+
     def _in_thread(self, function: Function, record: Record, task: Task[Any]) -> Any:
-        with record.judged():
+        try:
             link = self._threads.take()
             task.enter(link)
             link.begun = False
@@ -154,4 +170,6 @@ class Transactions:
                     link.leave()
                 finally:
                     self._threads.give(link)
+        except psycopg.Error as error:
+            raise record.judged(error)
         return value
