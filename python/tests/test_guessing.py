@@ -1,0 +1,186 @@
+"""Starts over PostgreSQL that begin without a look for their key: a key that is taken is answered as if it had been looked for."""
+
+from __future__ import annotations
+
+import asyncio
+from typing import Any
+
+import psycopg
+import pytest
+
+import records
+import sagas
+from cases import Task, ended, run, simple
+from sagas import guessing
+from sagas.postgresql import PostgreSQL
+from sagas.postgresql_commit import Commit
+from sagas.postgresql_writer import Writer
+
+
+@pytest.fixture
+def looks(monkeypatch: pytest.MonkeyPatch) -> list[str]:
+    """The keys that were looked for. No commit may be refused for its keys."""
+    keys: list[str] = []
+    find = PostgreSQL.find
+
+    async def noted(self: PostgreSQL, key: str) -> Any:
+        keys.append(key)
+        return await find(self, key)
+
+    async def refused(self: Writer, *words: Any) -> None:
+        raise AssertionError("a key was refused by the server")
+
+    monkeypatch.setattr(PostgreSQL, "find", noted)
+    monkeypatch.setattr(Writer, "_one_by_one", refused)
+    return keys
+
+
+def step(gate: asyncio.Event | None = None) -> sagas.Saga:
+    """A saga of one step, which waits for a gate where one is given."""
+
+    async def a(task: Task) -> Any:
+        if gate:
+            await gate.wait()
+        return task.input
+
+    return simple(a)
+
+
+def count(url: str) -> int:
+    """How many sagas there are."""
+    return len(records.read(url).sagas)
+
+
+def test_a_new_key_is_not_looked_for(url: str, looks: list[str]) -> None:
+    """Lone starts of new keys; where another saga is open, a key is looked for."""
+    gate = asyncio.Event()
+    kind = step(gate)
+
+    async def main() -> None:
+        async with sagas.open(url, [kind]) as store:
+            gate.set()
+            for number in range(5):
+                assert (await ended(store, kind, f"k{number}", number)).results == {"a": number}
+            assert looks == []
+            gate.clear()
+            runs = [await store.start(kind, "open"), await store.start(kind, "behind")]
+            assert looks == ["behind"] and all(run.new for run in runs)
+            gate.set()
+            for one in runs:
+                await one.wait()
+
+    run(main())
+    assert count(url) == 7
+
+
+def test_a_key_that_is_over(url: str, looks: list[str], monkeypatch: pytest.MonkeyPatch) -> None:
+    """It is in the same log: its saga is given, the next keys are looked for, and after enough new ones no more. A store that is opened again the same."""
+    monkeypatch.setattr(guessing, "AGAIN", 3)
+    kind = step()
+
+    async def main() -> None:
+        async with sagas.open(url, [kind]) as store:
+            assert (await ended(store, kind, "k", 1)).results == {"a": 1}
+        async with sagas.open(url, [kind]) as store:
+            for _ in range(2):
+                again = await store.start(kind, "k", 1)
+                assert not again.new and (await again.wait()).results == {"a": 1}
+            assert looks.count("k") >= 2
+            looks.clear()
+            for number in range(5):
+                await ended(store, kind, f"new{number}")
+            assert looks == ["new0", "new1", "new2"]
+            with pytest.raises(sagas.KeyConflict, match="another input"):
+                await store.start(kind, "k", 2)
+            await ended(store, kind, "last")
+            assert all(said.startswith("yes") for said in (await store.audit()).values())
+
+    run(main())
+    assert count(url) == 7
+
+
+def test_a_key_of_another_node(url: str, looks: list[str]) -> None:
+    """It is open there: who starts it here hears of its end. Another saga with that key is a conflict."""
+    gate = asyncio.Event()
+    kinds, other = [step(gate), step()], sagas.Saga("other")
+
+    @other.step
+    async def b(task: Task) -> None: ...
+
+    async def main() -> None:
+        async with sagas.open(url, [kinds[0]]) as first, sagas.open(url, [kinds[1], other]) as second:
+            await first.start(kinds[0], "k", 1)
+            there = await second.start(kinds[1], "k", 1)
+            assert not there.new
+            with pytest.raises(sagas.KeyConflict, match="'simple'"):
+                await second.start(other, "k", 1)
+            gate.set()
+            assert (await asyncio.wait_for(there.wait(), 60)).results == {"a": 1}
+            assert (await ended(second, kinds[1], "own")).ok
+
+    run(main())
+    assert count(url) == 2
+
+
+def test_a_key_that_a_client_started(url: str, looks: list[str]) -> None:
+    """No node has its saga: it waits, and a node's start of the key is one of that saga's, or a conflict."""
+    kind, other = step(), sagas.Saga("other")
+
+    @other.step
+    async def b(task: Task) -> None: ...
+
+    async def main() -> None:
+        async with sagas.open(url, [kind]) as store, sagas.Client(url) as client:
+            await client.start(other, "k", 1)
+            with pytest.raises(sagas.KeyConflict, match="'other'"):
+                await store.start(kind, "k", 1)
+            assert (await ended(store, kind, "own")).ok
+
+    run(main())
+    assert count(url) == 1
+
+
+def test_who_asks_meanwhile(url: str, looks: list[str]) -> None:
+    """While a guess is on its way to the store, who aborts, waits for or starts its key waits, and hears of the saga that has it."""
+    kind = step()
+
+    async def main() -> None:
+        async with sagas.open(url, [kind]) as store:
+            await ended(store, kind, "k", 1)
+        async with sagas.open(url, [kind]) as store:
+            starting = asyncio.create_task(store.start(kind, "k", 1))
+            await asyncio.sleep(0)  # it has begun
+            assert store._coordinator and "k" in store._coordinator.lives
+            told = await asyncio.gather(
+                store.abort("k"), store.wait("k"), store.start(kind, "k", 2), store.start(kind, "k", 1), store.finish("k", "a", 3), return_exceptions=True
+            )
+            assert told[0] is False and isinstance(told[1], sagas.End) and told[1].results == {"a": 1}
+            assert isinstance(told[2], sagas.KeyConflict) and isinstance(told[3], sagas.Run) and not told[3].new
+            assert isinstance(told[4], sagas.NotWaiting) and "is over" in str(told[4])
+            assert not (await starting).new
+            assert all(said.startswith("yes") for said in (await store.audit()).values())
+
+    run(main())
+    assert count(url) == 1
+
+
+def test_an_answer_that_is_lost(url: str, looks: list[str], monkeypatch: pytest.MonkeyPatch) -> None:
+    """The commit of each start is done, and the answer to it lost: the saga is there once, and its start is answered."""
+    kind, lost, read = step(), list[str](), Writer._read
+
+    def loses(self: Writer, commit: Commit, rows: Any, fault: Any, began: float) -> Any:
+        opened = [row[1] for batch in commit.batches for row in batch.opened]
+        if opened and fault is None:
+            lost.extend(opened)
+            return read(self, commit, [], psycopg.OperationalError("the answer is lost"), began)
+        return read(self, commit, rows, fault, began)
+
+    monkeypatch.setattr(Writer, "_read", loses)
+
+    async def main() -> None:
+        async with sagas.open(url, [kind]) as store:
+            for number in range(3):
+                assert (await ended(store, kind, f"k{number}", number)).results == {"a": number}
+
+    run(main())
+    assert lost == ["k0", "k1", "k2"] and count(url) == 3
