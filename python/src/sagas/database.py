@@ -4,7 +4,8 @@ It holds keys, inputs, results, ends and the lines of each log, and it is the on
 (records.py); a batch is what one log gained at once, and after its commit, and only then, functions are called and callers told.
 
 A database that is `shared` has more than one node. There each log has an owner and an epoch, which grows at each `load`; a batch whose log
-or epoch is not its writer's any more is not written, and its `then` is called with `Lost`.
+or epoch is not its writer's any more is not written, and its `then` is called with `Lost`. So is one that opens a saga whose key is taken,
+where nobody has looked for that (`Batch.guessed`).
 """
 
 from __future__ import annotations
