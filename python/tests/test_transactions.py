@@ -447,3 +447,69 @@ def test_connections_are_handed_out(postgresql: Server, url: str) -> None:
             await pool.take()
 
     run(main())
+
+
+def test_connections_are_reserved(url: str) -> None:
+    """One that rests is kept for who may want it, and is for others as soon as he does not; one that breaks meanwhile is nobody's."""
+
+    async def main() -> None:
+        pool = Pool(url, 2)
+        assert not pool.reserve()
+        await pool.reserve_next()
+        assert not pool.reserve() and pool.at_hand() is None
+        first = pool.reserved()
+        pool.give(first)
+        assert pool.reserve()
+        second = await pool.take()
+        assert second is not first
+        waits = asyncio.create_task(pool.take())
+        await asyncio.sleep(0)
+        pool.release()
+        assert await waits is first
+        pool.give(first)
+        assert pool.reserve()
+        with psycopg.connect(url, autocommit=True) as link:
+            link.execute("SELECT pg_terminate_backend(pid) FROM pg_stat_activity WHERE datname = current_database() AND pid <> pg_backend_pid()")
+        await until(lambda: first.closed)
+        with pytest.raises(psycopg.OperationalError, match="broke"):
+            pool.reserved()
+        pool.release()
+        assert not pool.reserve()
+        await pool.reserve_next()
+        third = pool.reserved()
+        await third.execute("SELECT 1")
+        await third.rollback()
+        pool.give(third)
+        pool.give(second)
+        await pool.close()
+
+    run(main())
+
+
+def test_a_function_that_asks_late(url: str) -> None:
+    """It waits for something before it asks for its connection, which is there; who asks behind its end gets none."""
+    prepare(url)
+    kind, left = sagas.Saga("one"), []
+
+    @kind.step(transaction=True)
+    async def book(task: Task) -> None:
+        async def behind() -> None:
+            await asyncio.sleep(0.05)
+            with pytest.raises(RuntimeError, match="no transaction"):
+                task.connection
+            left.append(task.key)
+
+        if task.input == "leaves":
+            left.append(asyncio.create_task(behind()))
+            return
+        await asyncio.sleep(0.05)
+        await task.connection.execute("INSERT INTO book(key, step, token) VALUES(%s, 'book', '')", (task.key,))
+
+    async def main() -> None:
+        async with sagas.open(url, [kind], concurrency=2) as store:
+            ends = await asyncio.gather(*(ended(store, kind, f"k{number}") for number in range(5)), ended(store, kind, "left", "leaves"))
+            assert all(end.ok for end in ends)
+            await left[0]
+
+    run(main())
+    assert left[1] == "left" and booked(url) == {(f"k{number}", "book"): 1 for number in range(5)}
