@@ -89,11 +89,12 @@ class AsyncStepLink(psycopg.AsyncConnection[Row]):
         """One step of it: what it gave at its end, or what it waits for."""
         try:
             return None, gen.send(ready)
-        except StopIteration as end:
-            return end.value, None
-        finally:
+        except BaseException as end:
             if self._reads is not None and self.pgconn.status == pq.ConnStatus.BAD:  # then libpq has closed the socket
                 self.silence()
+            if isinstance(end, StopIteration):
+                return end.value, None
+            raise
 
     def silence(self) -> None:
         """The loop knows nothing of it."""
