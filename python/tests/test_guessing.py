@@ -3,6 +3,7 @@
 from __future__ import annotations
 
 import asyncio
+import contextlib
 from typing import Any
 
 import psycopg
@@ -184,3 +185,33 @@ def test_an_answer_that_is_lost(url: str, looks: list[str], monkeypatch: pytest.
 
     run(main())
     assert lost == ["k0", "k1", "k2"] and count(url) == 3
+
+
+def test_a_store_that_takes_nothing(url: str, looks: list[str]) -> None:
+    """A key that is there is answered, and a new one is not begun."""
+    kind = step()
+
+    async def main() -> None:
+        async with sagas.open(url, [kind]) as store:
+            await ended(store, kind, "k", 1)
+        async with sagas.open(url, [kind]) as store:
+            with psycopg.connect(url, autocommit=True) as link:
+                link.execute("CREATE FUNCTION refuse() RETURNS trigger LANGUAGE plpgsql AS $$ BEGIN RAISE EXCEPTION 'full'; END $$")
+                link.execute("CREATE TRIGGER refuse BEFORE INSERT OR UPDATE ON sagas.logs FOR EACH ROW EXECUTE FUNCTION refuse()")
+                link.execute("CREATE TRIGGER refuse BEFORE INSERT ON sagas.lines FOR EACH ROW EXECUTE FUNCTION refuse()")
+            again = await store.start(kind, "k", 1)
+            assert not again.new and (await again.wait()).results == {"a": 1}
+            with pytest.raises(sagas.KeyConflict):
+                await store.start(kind, "k", 2)
+            with pytest.raises(sagas.StoreUnwritable, match="full"):
+                await store.start(kind, "new")
+            with psycopg.connect(url, autocommit=True) as link:
+                link.execute("DROP FUNCTION refuse() CASCADE")
+            end = None
+            while end is None:
+                with contextlib.suppress(sagas.StoreUnwritable):  # until its log is tried again
+                    end = await ended(store, kind, "new")
+            assert end.ok
+
+    run(main())
+    assert count(url) == 2

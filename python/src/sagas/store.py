@@ -23,7 +23,7 @@ from .coordinator import Coordinator
 from .database import Reader
 from .definition import Saga, Step
 from .elsewhere import Leased, Queue, Word
-from .errors import Closed, KeyConflict, Moved, NoSuchSaga, NotJson, NotWaiting, SagasError
+from .errors import Closed, KeyConflict, Moved, NoSuchSaga, NotJson, NotWaiting, SagasError, StoreUnwritable
 from .events import Hook, Teller, logger
 from .guessing import Guessing
 from .kinds import Kind, Shelf
@@ -154,18 +154,32 @@ class Store:
         elif not kind.fits:
             raise kind.too_large()
         else:
-            live = inside.new_live(key, text, kind, place)
-            live.guessed = guesses
-            begun = live.started(inside.loop)  # before it is placed: it may be there at once, or refused
-            inside.place(live)
-            try:
-                await begun
-            finally:
-                self._guessing.told(was_there=not live.committed)
-            return Run(self, key, new=live.committed)  # else another node was first
+            return await self._begin(inside.new_live(key, text, kind, place), guesses)
         if live and not live.committed:
             await live.started(inside.loop)
         return Run(self, key)
+
+    async def _begin(self, live: Live, guessed: bool) -> Run:
+        """Starts one whose key is free, as far as is known."""
+        inside, live.guessed = self._inside, guessed
+        begun = live.started(inside.loop)  # before it is placed: it may be there at once, or refused
+        inside.place(live)
+        try:
+            await begun
+        except StoreUnwritable:
+            if not (guessed and await self._is_there(live)):
+                raise
+        finally:
+            self._guessing.told(was_there=not live.committed)
+        return Run(self, live.key, new=live.committed)  # else another node was first
+
+    async def _is_there(self, live: Live) -> bool:
+        """Whether the key of one that could not be begun has that saga all the same. Raises `KeyConflict`, `StoreUnwritable`."""
+        row = await self._find(live.key)
+        error = moving.conflict(live.key, live.kind.name, live.text, row.saga, row.input) if row else None
+        if error:
+            raise error
+        return row is not None
 
     def _guesses(self, kind: Kind) -> bool:
         """Whether a start begins without a look for its key, which takes a while."""
