@@ -185,7 +185,19 @@ async def the_commit_takes_long(stage: Stage) -> int:
 
 async def two_nodes_start_a_key_at_once(stage: Stage) -> int:
     """Both have looked for it, and neither has written it."""
+    return await at_once(stage, looks=True)
+
+
+async def two_nodes_guess_a_key_at_once(stage: Stage) -> int:
+    """Neither has looked for it, nor written it."""
+    return await at_once(stage, looks=False)
+
+
+async def at_once(stage: Stage, looks: bool) -> int:
+    """Two nodes whose starts of one key wait for the same table."""
     async with stage.node("one", gates=False) as (first, store), stage.node("two", gates=False) as (second, other):
+        for one in (store, other):
+            one._guessing.told(was_there=looks)  # so that its next keys are looked for, or are not
         with stage.locked("sagas"):
             work = [asyncio.create_task(first.one(store, 0)), asyncio.create_task(second.one(other, 0))]
             await until(lambda: stage.waiting() == 2)
@@ -212,7 +224,8 @@ async def a_node_lives(stage: Stage) -> int:
 MOMENTS = {
     moment.__name__: moment
     for moment in (
-        nothing_happens, another_node_has_the_log, the_answer_to_a_commit_is_lost, the_commit_takes_long, two_nodes_start_a_key_at_once, a_node_lives,
+        nothing_happens, another_node_has_the_log, the_answer_to_a_commit_is_lost, the_commit_takes_long, two_nodes_start_a_key_at_once,
+        two_nodes_guess_a_key_at_once, a_node_lives,
     )
 }
 

@@ -66,11 +66,10 @@ PARTS = {
 }
 """What becomes of them."""
 
-KEPT = {
-    True: "SELECT log FROM logs WHERE log = $3::bigint AND owner = $2 AND epoch = $4::bigint{free} FOR SHARE",
-    False: "SELECT log FROM logs WHERE log = ANY($3::bigint[]) AND owner = $2 AND epoch = ($4::bigint[])[array_position($3, log)]{free} FOR SHARE",
-}
-"""The logs that are this node's still, of one alone, and of a list."""
+KEPT = "SELECT log FROM logs WHERE {mine}{free} FOR SHARE"
+ALONE = "log = $3::bigint AND owner = $2 AND epoch = $4::bigint"
+LISTED = "log = ANY($3::bigint[]) AND owner = $2 AND epoch = ($4::bigint[])[array_position($3, log)]"
+"""Whether a log is this node's still: the only one of a commit, or one of several."""
 BORN = "INSERT INTO logs(log, name, shelf, owner, epoch) SELECT v.log, v.name, v.shelf, $2, 1 FROM {rows}{free} ON CONFLICT DO NOTHING RETURNING log"
 TAKEN = "SELECT v.log FROM {rows} WHERE EXISTS (SELECT 1 FROM sagas s WHERE s.key = v.key) OR EXISTS (SELECT 1 FROM inbox i WHERE i.key = v.key)"
 """The logs whose guess was wrong: a saga has the key, or a client's start that no log has yet."""
@@ -90,12 +89,13 @@ def statement(parts: tuple[str, ...], form: str = "jsonb", alone: bool = False) 
 
     As words, where each part has one row: $1, $5 and so on are the values, part by part."""
     rows = _rows_of_words(parts) if form == WORDS else _rows_of_json(form)
-    texts, kept, born = [], KEPT[alone].format(free=""), ""
-    if "guessed" in parts:
-        texts, kept = [f"taken AS MATERIALIZED ({TAKEN.format(rows=rows('guessed'))})"], KEPT[alone].format(free=f" AND {_free('logs')}")
-        born = f" WHERE {_free('v')}"
+    guessed, texts = "guessed" in parts, []
+    if guessed:
+        texts.append(f"taken AS MATERIALIZED ({TAKEN.format(rows=rows('guessed'))})")
+    kept = KEPT.format(mine=ALONE if alone else LISTED, free=f" AND {_free('logs')}" if guessed else "")
     if "born" in parts:
-        texts += [f"kept AS MATERIALIZED ({kept})", f"born AS ({BORN.format(rows=rows('born'), free=born)})"]
+        born = BORN.format(rows=rows("born"), free=f" WHERE {_free('v')}" if guessed else "")
+        texts += [f"kept AS MATERIALIZED ({kept})", f"born AS ({born})"]
         kept = "SELECT log FROM kept UNION ALL SELECT log FROM born"
     texts.append(f"mine AS MATERIALIZED ({kept})")
     texts += [f"{part}_ AS ({PARTS[part].format(rows=rows(part))})" for part in parts if part in PARTS]

@@ -11,5 +11,7 @@ MOMENT = "another_node_has_the_log"
 
 def apply() -> None:
     """Takes each log for this node's, and what is there for what it meant."""
-    setattr(postgresql_commit, "KEPT", "SELECT log FROM logs WHERE log = ANY($3::bigint[]) AND $2::text IS NOT NULL AND $4::bigint[] IS NOT NULL")
+    setattr(postgresql_commit, "KEPT", postgresql_commit.KEPT.replace(" FOR SHARE", ""))
+    setattr(postgresql_commit, "ALONE", "log = $3::bigint AND $2::text IS NOT NULL AND $4::bigint IS NOT NULL")
+    setattr(postgresql_commit, "LISTED", "log = ANY($3::bigint[]) AND $2::text IS NOT NULL AND $4::bigint[] IS NOT NULL")
     postgresql_commit.PARTS["lines"] += " ON CONFLICT DO NOTHING"

@@ -13,5 +13,6 @@ def apply() -> None:
     """Epochs stay what they are, and owners are not compared."""
     setattr(leases, "TAKE", leases.TAKE.replace("epoch = epoch + 1", "epoch = epoch"))
     setattr(postgresql, "TAKE_UP", postgresql.TAKE_UP.replace("SET epoch = epoch + 1", "SET epoch = epoch"))
-    setattr(postgresql_commit, "KEPT", postgresql_commit.KEPT.replace("owner = $2", "$2::text IS NOT NULL"))
+    for name in ("ALONE", "LISTED"):
+        setattr(postgresql_commit, name, getattr(postgresql_commit, name).replace("owner = $2", "$2::text IS NOT NULL"))
     postgresql_commit.PARTS["lines"] += " ON CONFLICT DO NOTHING"
