@@ -40,7 +40,7 @@ def main():
         for kind, made in [("any", random_needs), ("forward", forward), ("backward", backward)]:
             found = []
             for seed in range(1, words.seeds + 1):
-                commands = [[program, "build", runs.put(folder, str(steps), made(steps, seed))] for steps in SIZES]
+                commands = [[*program, "build", runs.put(folder, str(steps), made(steps, seed))] for steps in SIZES]
                 found.append([seconds for _, seconds in runs.timed(commands, words.turns)])
             middles = [statistics.median(times) for times in zip(*found)]
             for steps, middle in zip(SIZES, middles):

@@ -33,7 +33,7 @@ def log(events):
 
 def seconds(program, path, turns):
     """The seconds of each part in the best of all runs."""
-    return runs.best_of_parts([program, "log", path], len(PARTS), turns)[1]
+    return runs.best_of_parts([*program, "log", path], len(PARTS), turns)[1]
 
 
 def main():

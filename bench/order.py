@@ -24,7 +24,7 @@ def main():
                 commands = []
                 for steps in SIZES:
                     text = case_net.case(*case_net.made(shape, steps, NEEDS * steps, seed))
-                    commands.append([program, "order", runs.put(folder, str(steps), text)])
+                    commands.append([*program, "order", runs.put(folder, str(steps), text)])
                 found.append([seconds for _, seconds in runs.timed(commands, words.turns)])
             middles = [statistics.median(times) for times in zip(*found)]
             for steps, middle in zip(SIZES, middles):

@@ -37,7 +37,7 @@ PARTS = ["a book alone", "run", "writing the log", "audit"]
 
 def command(program, file, sagas, crew, logs):
     """What runs so many sagas by a crew, which is a number of workers and one of shards, and writes and audits the log or not."""
-    return [program, "run", file, str(sagas), *map(str, crew), *(["log"] if logs else [])]
+    return [*program, "run", file, str(sagas), *map(str, crew), *(["log"] if logs else [])]
 
 
 def seconds(program, file, crews, turns):

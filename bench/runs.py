@@ -1,6 +1,6 @@
 """What the scripts of timing share: the programs that are timed, and how they take turns.
 
-The program is crates/saga_bench, which ./build proves and builds on its first use; the peer is LEMON's preflow (Debian:
+The program is crates/saga_trials, whose word `time` times a thing, and which ./build proves and builds on its first use; the peer is LEMON's preflow (Debian:
 liblemon-dev), built by g++. Each prints one line, and on standard error the seconds of each of 101 runs.
 """
 import argparse
@@ -11,7 +11,7 @@ import subprocess
 import tempfile
 
 HERE = pathlib.Path(__file__).resolve().parent
-CRATE = HERE.parent / "crates" / "saga_bench"
+CRATE = HERE.parent / "crates" / "saga_trials"
 
 # Tells the allocator of the C library to keep the memory that a run gives back, and not to take it anew, page by page.
 KEPT = {"MALLOC_MMAP_THRESHOLD_": str(2**30), "MALLOC_TRIM_THRESHOLD_": str(2**32)}
@@ -22,16 +22,15 @@ def options(summary):
     parser = argparse.ArgumentParser(description=summary.strip().splitlines()[0])
     parser.add_argument("--seeds", type=int, default=5, help="how many inputs of each kind")
     parser.add_argument("--turns", type=int, default=5, help="how often the programs take turns")
-    parser.add_argument("--program", type=pathlib.Path, help="a built program, in place of crates/saga_bench's")
+    parser.add_argument("--program", type=pathlib.Path, help="a built program, in place of crates/saga_trials's")
     return parser.parse_args()
 
 
 def built(words):
-    """The program, built where its sources changed."""
-    if words.program:
-        return words.program
-    subprocess.run([HERE.parent / "build", "saga_bench"], check=True)
-    return CRATE / "out" / "saga_bench"
+    """The program and its word `time`, built where its sources changed."""
+    if not words.program:
+        subprocess.run([HERE.parent / "build", "saga_trials"], check=True)
+    return [words.program or CRATE / "out" / "saga_trials", "time"]
 
 
 def built_peer(folder):
@@ -75,7 +74,7 @@ def best_of_parts(command, parts, turns):
 
 def events_of(program, words, parts, turns):
     """How many events the load of a command has, which it prints as its second word, and the seconds of each part in the best of all runs."""
-    said, best = best_of_parts([program, *words], parts, turns)
+    said, best = best_of_parts([*program, *words], parts, turns)
     return int(said[1]), best
 
 
@@ -92,7 +91,7 @@ def compared(summary, command, kinds):
             ratios = []
             for seed in range(1, words.seeds + 1):
                 text, net = made(seed)
-                commands = [[program, command, put(folder, "text", text)], [peer, put(folder, "net", net)]]
+                commands = [[*program, command, put(folder, "text", text)], [peer, put(folder, "net", net)]]
                 (ours, our_time), (theirs, their_time) = timed(commands, words.turns)
                 same = ours[1:2] == theirs[1:2]
                 agree = agree and same

@@ -13,7 +13,7 @@ ROOT = pathlib.Path(__file__).resolve().parent.parent
 PROGRAM = {"check_input", "read_words", "run"}
 
 # Programs that promise nothing, or nothing that others stand on.
-SILENT = {"saga_bench", "saga_trials", "saga_booking"}
+SILENT = {"saga_trials"}
 
 CITED = re.compile(r"ghost use Rattle\.(saga_\w+)\.specs\.([\w.]+)\.\{([^}]*)\}")
 EXPORTED = re.compile(r"^pub use (?:crate::)?[\w:]+::(?:\{([^}]*)\}|(\w+));", re.M)

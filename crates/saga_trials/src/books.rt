@@ -217,7 +217,44 @@ fn offer<'d>(
     Ok(why)
 }
 
-/// Makes calls one after the other, those that end something where each growth is refused.
+/// Begins a plan and drops it so often, each time where each growth is refused, and tells whether that was done.
+fn drop_often(trial: &Trial<'_>, book: &mut Book<'_>, times: u16) -> bool {
+    for _ in 0..times {
+        if book.take_plan(0).is_err() {
+            return false;
+        }
+        trial.none();
+        if book.drop_plan(0).is_err() {
+            return false;
+        }
+        trial.ample();
+    }
+    true
+}
+
+/// Makes a call, where each growth is refused if it ends something, and tells whether it was as expected.
+fn make_one<'d>(
+    trial: &mut Trial<'_>,
+    book: &mut Book<'d>,
+    on: Offered<'d>,
+    word: &str,
+) -> Result<bool> {
+    let (verb, number) = call_of(word)?;
+    match verb {
+        "open" | "run" | "undo" | "plan" | "present" | "abort" => {
+            begin_twice(trial, book, on.case, verb, number)
+        }
+        "adopt" => Ok(offer(trial, book, on.definition, on.texts)?.is_none()),
+        "stale" => Ok(offer(trial, book, on.other, FREE)? == Some(AdoptRefusal::Stale)),
+        "drops" => Ok(drop_often(trial, book, number)),
+        _ => {
+            trial.none();
+            Ok(ends(book, verb, number))
+        }
+    }
+}
+
+/// Makes calls one after the other.
 fn make<'d>(
     trial: &mut Trial<'_>,
     book: &mut Book<'d>,
@@ -225,28 +262,7 @@ fn make<'d>(
     calls: &str,
 ) -> Result<()> {
     for word in calls.split_whitespace() {
-        let (verb, number) = call_of(word)?;
-        let right = match verb {
-            "open" | "run" | "undo" | "plan" | "present" | "abort" => {
-                begin_twice(trial, book, on.case, verb, number)?
-            }
-            "adopt" => offer(trial, book, on.definition, on.texts)?.is_none(),
-            "stale" => offer(trial, book, on.other, FREE)? == Some(AdoptRefusal::Stale),
-            "drops" => {
-                let mut right = true;
-                for _ in 0..number {
-                    right = right && book.take_plan(0).is_ok();
-                    trial.none();
-                    right = right && book.drop_plan(0).is_ok();
-                    trial.ample();
-                }
-                right
-            }
-            _ => {
-                trial.none();
-                ends(book, verb, number)
-            }
-        };
+        let right = make_one(trial, book, on, word)?;
         trial.ample();
         ensure!(right, "another answer to {word}");
     }
@@ -262,28 +278,50 @@ struct Offered<'d> {
     other: &'d Definition,
 }
 
-/// Makes a trial.
-pub fn run(trial: &mut Trial<'_>, script: Script) -> Result<()> {
+/// Makes the calls that come before, with ample memory, and then those that are tried.
+fn make_all<'d>(
+    trial: &mut Trial<'_>,
+    book: &mut Book<'d>,
+    on: Offered<'d>,
+    script: Script,
+) -> Result<()> {
+    let Script(_, before, tried) = script;
+    let refuses = trial.refuses;
+    trial.refuses = false;
+    make(trial, book, on, before)?;
+    trial.refuses = refuses;
+    make(trial, book, on, tried)
+}
+
+/// Makes a trial on the example's shelf, and another definition.
+fn run_on(
+    trial: &mut Trial<'_>,
+    script: Script,
+    shelf: &[Definition],
+    other: &Definition,
+) -> Result<()> {
     let alloc = trial.alloc();
-    let Script(texts, before, tried) = script;
-    let shelf = samples::shelf(alloc, texts.definition)?;
-    let other = samples::definition(alloc, samples::FREE_TRIP)?;
-    let definition = samples::first(&shelf)?;
+    let texts = script.0;
+    let definition = samples::first(shelf)?;
     let case = samples::case(alloc, definition, texts.case)?;
     let on = Offered {
         texts,
         definition,
         case: &case,
-        other: &other,
+        other,
     };
-    let mut book = Book::new(alloc, &shelf, 0, 1);
-    let refuses = trial.refuses;
-    trial.refuses = false;
-    make(trial, &mut book, on, before)?;
-    trial.refuses = refuses;
-    make(trial, &mut book, on, tried)?;
+    let mut book = Book::new(alloc, shelf, 0, 1);
+    make_all(trial, &mut book, on, script)?;
     ensure!(is_legal(alloc, &book), "not legal");
     Ok(())
+}
+
+/// Makes a trial.
+pub fn run(trial: &mut Trial<'_>, script: Script) -> Result<()> {
+    let alloc = trial.alloc();
+    let shelf = samples::shelf(alloc, script.0.definition)?;
+    let other = samples::definition(alloc, samples::FREE_TRIP)?;
+    run_on(trial, script, &shelf, &other)
 }
 
 /// Whether the history of a book is legal.

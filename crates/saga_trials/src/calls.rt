@@ -46,7 +46,15 @@ struct On<'a, 'd> {
 pub fn run(trial: &mut Trial<'_>, call: Call) -> Result<()> {
     let alloc = trial.alloc();
     let shelf = samples::shelf(alloc, TRIP)?;
-    let definition = samples::first(&shelf)?;
+    let events = samples::events(alloc, TRIP_LOG)?;
+    let book = samples::book(alloc, &shelf, events)?;
+    run_on(trial, call, &shelf, &book)
+}
+
+/// Makes it on a shelf and a book.
+fn run_on(trial: &mut Trial<'_>, call: Call, shelf: &[Definition], book: &Book<'_>) -> Result<()> {
+    let alloc = trial.alloc();
+    let definition = samples::first(shelf)?;
     let case = samples::case(alloc, definition, TRIP_CASE)?;
     let answer = samples::answer(alloc, TRIP_ANSWER)?;
     let log = match call {
@@ -54,15 +62,20 @@ pub fn run(trial: &mut Trial<'_>, call: Call) -> Result<()> {
         _ => TRIP_LOG,
     };
     let events = samples::events(alloc, log)?;
-    let book = samples::book(alloc, &shelf, TRIP_LOG)?;
     let on = On {
-        shelf: &shelf,
+        shelf,
         definition,
         case: &case,
         answer: &answer,
         events: &events,
-        book: &book,
+        book,
     };
+    call_twice(trial, call, on)
+}
+
+/// Makes the call, and again where memory was refused.
+fn call_twice(trial: &mut Trial<'_>, call: Call, on: On<'_, '_>) -> Result<()> {
+    let alloc = trial.alloc();
     if trial.refuses {
         trial.each();
     } else {

@@ -4,7 +4,7 @@ use crate::books::{call_of, is_legal, unless};
 use crate::samples::{self, FAILED, RETRIED, STUCK, Sample, TRIP, TRIP_SCRIPT};
 use crate::trial::Trial;
 use anyhow::{Result, bail, ensure};
-use saga_case::Answer;
+use saga_case::{Answer, Case};
 use saga_check::{Verdict, verify};
 use saga_core::{Book, OpenRefusal, SagaRefusal};
 use saga_def::Definition;
@@ -63,18 +63,35 @@ pub const LONG: Script = Script(FAILED, false, "", LONG_CLAIMS);
 
 pub const SHARD: Script = Script(STUCK, true, "", STOPS);
 
-/// A desk of one seat, or a shard.
-#[derive(Drop)]
-enum Place<'d> {
-    Desk(Desk<'d>),
-    Shard(Shard<'d>),
-}
-
-/// A place, and its seat.
+/// A desk of one seat, and a shard beside it: one of them is called.
 #[derive(Drop)]
 struct At<'d> {
-    place: Place<'d>,
+    desk: Desk<'d>,
+    shard: Shard<'d>,
+    is_shard: bool,
     seat: Seat,
+}
+
+/// How what is claimed is ended.
+#[derive(Clone, Copy)]
+enum End {
+    Done,
+    Missed,
+    GivenBack,
+    Adopted,
+    Settled,
+}
+
+/// An end by its word.
+fn end_of(verb: &str) -> Result<End> {
+    match verb {
+        "did" => Ok(End::Done),
+        "miss" => Ok(End::Missed),
+        "give-back" => Ok(End::GivenBack),
+        "adopt" => Ok(End::Adopted),
+        "settled" => Ok(End::Settled),
+        _ => bail!("no call {verb}"),
+    }
 }
 
 /// The first seat alone.
@@ -85,13 +102,9 @@ pub fn only(seats: Vec<Seat>) -> Result<Seat> {
     bail!("no seat")
 }
 
-/// What is seen: how many receipts there are, and how many events, where they can be seen.
+/// What is seen: how many receipts there are, and how many events of the shard, which has none where the desk is called.
 fn seen(at: &At<'_>) -> (usize, usize) {
-    let events = match &at.place {
-        Place::Desk(_) => 0,
-        Place::Shard(shard) => shard.history().len(),
-    };
-    (at.seat.receipts().len(), events)
+    (at.seat.receipts().len(), at.shard.history().len())
 }
 
 /// Opens a saga on the first shard.
@@ -108,108 +121,178 @@ pub fn open_on_first<R: Wait>(
 }
 
 fn open_at<R: Wait>(rt: &R, at: &mut At<'_>, definition: u32) -> Result<u32, OpenRefusal> {
-    match &mut at.place {
-        Place::Desk(desk) => open_on_first(rt, desk, &mut at.seat, definition),
-        Place::Shard(shard) => shard.open_saga(&mut at.seat, definition),
+    if at.is_shard {
+        at.shard.open_saga(&mut at.seat, definition)
+    } else {
+        open_on_first(rt, &at.desk, &mut at.seat, definition)
+    }
+}
+
+/// Claims what there is on a shard, where nothing left is as settled.
+fn claim_on<'d>(shard: &mut Shard<'d>, seat: &mut Seat) -> Result<Claim<'d>, AllocError> {
+    match shard.claim(seat)? {
+        Some(claim) => Ok(claim),
+        None => Ok(Claim::Settled),
     }
 }
 
 fn claim_at<'d, R: Wait>(rt: &R, at: &mut At<'d>) -> Result<Claim<'d>, AllocError> {
-    match &mut at.place {
-        Place::Desk(desk) => desk.claim(rt, &mut at.seat),
-        Place::Shard(shard) => match shard.claim(&mut at.seat) {
-            Ok(Some(claim)) => Ok(claim),
-            Ok(None) => Ok(Claim::Settled),
-            Err(fault) => Err(fault),
-        },
+    if at.is_shard {
+        claim_on(&mut at.shard, &mut at.seat)
+    } else {
+        at.desk.claim(rt, &mut at.seat)
     }
 }
 
 fn report_at<'d, R: Wait>(rt: &R, at: &mut At<'d>, job: Job<'d>, outcome: Outcome) -> bool {
-    match &mut at.place {
-        Place::Desk(desk) => desk.report(rt, &mut at.seat, job, outcome).is_ok(),
-        Place::Shard(shard) => shard.report(&mut at.seat, job, outcome).is_ok(),
+    if at.is_shard {
+        at.shard.report(&mut at.seat, job, outcome).is_ok()
+    } else {
+        at.desk.report(rt, &mut at.seat, job, outcome).is_ok()
     }
 }
 
 fn give_back_at<R: Wait>(rt: &R, at: &mut At<'_>, job: PlanJob) -> bool {
-    match &mut at.place {
-        Place::Desk(desk) => desk.give_back(rt, &mut at.seat, job).is_ok(),
-        Place::Shard(shard) => shard.give_back(&mut at.seat, job).is_ok(),
+    if at.is_shard {
+        at.shard.give_back(&mut at.seat, job).is_ok()
+    } else {
+        at.desk.give_back(rt, &mut at.seat, job).is_ok()
     }
 }
 
 fn adopt_at<'d, R: Wait>(rt: &R, at: &mut At<'d>, job: PlanJob, verdict: Verdict<'d>) -> bool {
-    match &mut at.place {
-        Place::Desk(desk) => desk.adopt(rt, &mut at.seat, job, verdict).is_ok(),
-        Place::Shard(shard) => shard.adopt(&mut at.seat, job, verdict).is_ok(),
+    if at.is_shard {
+        at.shard.adopt(&mut at.seat, job, verdict).is_ok()
+    } else {
+        at.desk.adopt(rt, &mut at.seat, job, verdict).is_ok()
     }
 }
 
 fn abort_at<R: Wait>(rt: &R, at: &mut At<'_>, saga: u32) -> Result<(), SagaRefusal> {
-    match &mut at.place {
-        Place::Desk(desk) => desk.abort(rt, &mut at.seat, saga),
-        Place::Shard(shard) => shard.abort(&mut at.seat, saga),
+    if at.is_shard {
+        at.shard.abort(&mut at.seat, saga)
+    } else {
+        at.desk.abort(rt, &mut at.seat, saga)
     }
 }
 
-/// Ends what was claimed where each growth is refused, and tells whether it was as expected.
-fn end<'d, R: Wait>(rt: &R, at: &mut At<'d>, claim: Claim<'d>, answer: Answer, verb: &str) -> bool {
+/// Adopts an answer to a case, and tells whether it was adopted.
+fn adopt_answer<'d, R: Wait>(
+    rt: &R,
+    at: &mut At<'d>,
+    job: PlanJob,
+    case: Case<'d>,
+    answer: Answer,
+) -> bool {
+    match verify(case, answer) {
+        Ok(verdict) => adopt_at(rt, at, job, verdict),
+        Err(_) => false,
+    }
+}
+
+/// Ends a plan where each growth is refused, by the example's answer, and tells whether it was as expected.
+fn end_plan<'d, R: Wait>(
+    rt: &R,
+    trial: &Trial<'_>,
+    at: &mut At<'d>,
+    job: PlanJob,
+    case: Case<'d>,
+    how: (Sample, End),
+) -> Result<bool> {
+    match how {
+        (texts, End::Adopted) => {
+            let answer = samples::answer(trial.alloc(), texts.answer)?;
+            trial.none();
+            Ok(adopt_answer(rt, at, job, case, answer))
+        }
+        (_, End::GivenBack) => {
+            trial.none();
+            Ok(give_back_at(rt, at, job))
+        }
+        _ => Ok(false),
+    }
+}
+
+/// Ends a job where each growth is refused, and tells whether it was as expected.
+fn end_job<'d, R: Wait>(
+    rt: &R,
+    trial: &Trial<'_>,
+    at: &mut At<'d>,
+    job: Job<'d>,
+    how: End,
+) -> bool {
+    trial.none();
+    match how {
+        End::Done => report_at(rt, at, job, Outcome::Done),
+        End::Missed => report_at(rt, at, job, Outcome::Failed),
+        _ => false,
+    }
+}
+
+/// Ends what was claimed, and tells whether it was as expected.
+fn end_claim<'d, R: Wait>(
+    rt: &R,
+    trial: &Trial<'_>,
+    at: &mut At<'d>,
+    claim: Claim<'d>,
+    how: (Sample, End),
+) -> Result<bool> {
     match claim {
-        Claim::Run(job) | Claim::Undo(job) => match verb {
-            "did" => report_at(rt, at, job, Outcome::Done),
-            _ => verb == "miss" && report_at(rt, at, job, Outcome::Failed),
-        },
-        Claim::Plan(job, case) => match verb {
-            "adopt" => match verify(case, answer) {
-                Ok(verdict) => adopt_at(rt, at, job, verdict),
-                Err(_) => false,
-            },
-            _ => verb == "give-back" && give_back_at(rt, at, job),
-        },
-        Claim::Idle => false,
-        Claim::Settled => verb == "settled",
+        Claim::Run(job) | Claim::Undo(job) => Ok(end_job(rt, trial, at, job, how.1)),
+        Claim::Plan(job, case) => end_plan(rt, trial, at, job, case, how),
+        Claim::Idle => Ok(false),
+        Claim::Settled => Ok(matches!(how.1, End::Settled)),
     }
 }
 
-/// Claims what there is, and again where memory was refused, and ends it.
+/// Claims what there is, and again where memory was refused.
+fn claim_twice<'d, R: Wait>(rt: &R, trial: &mut Trial<'_>, at: &mut At<'d>) -> Result<Claim<'d>> {
+    let before = seen(at);
+    trial.each();
+    let claim = claim_at(rt, at);
+    trial.ample();
+    if let Ok(claim) = claim {
+        return Ok(claim);
+    }
+    trial.refused = true;
+    ensure!(seen(at) == before, "not as before");
+    match claim_at(rt, at) {
+        Ok(claim) => Ok(claim),
+        Err(_) => bail!("refused again, with ample memory"),
+    }
+}
+
+/// Claims what there is so often, and ends it each time. Tells whether each was as expected.
 fn claim_and_end<R: Wait>(
     rt: &R,
     trial: &mut Trial<'_>,
     at: &mut At<'_>,
-    texts: Sample,
-    verb: &str,
+    how: (Sample, End),
+    times: u16,
 ) -> Result<bool> {
-    let answer = samples::answer(trial.alloc(), texts.answer)?;
-    let before = seen(at);
-    trial.each();
-    let mut claim = claim_at(rt, at);
-    trial.ample();
-    if claim.is_err() {
-        trial.refused = true;
-        ensure!(seen(at) == before, "not as before");
-        claim = claim_at(rt, at);
+    for _ in 0..times {
+        let claim = claim_twice(rt, trial, at)?;
+        let right = end_claim(rt, trial, at, claim, how)?;
+        trial.ample();
+        if !right {
+            return Ok(false);
+        }
     }
-    let Ok(claim) = claim else {
-        bail!("refused again, with ample memory");
-    };
-    trial.none();
-    let ended = end(rt, at, claim, answer, verb);
-    trial.ample();
-    Ok(ended)
+    Ok(true)
 }
 
 /// Opens or aborts a saga, and tells whether that was done; none where there was no memory.
-fn begin<R: Wait>(rt: &R, at: &mut At<'_>, verb: &str, saga: u32) -> Option<bool> {
-    match verb {
-        "open" => match open_at(rt, at, 0) {
+fn begin<R: Wait>(rt: &R, at: &mut At<'_>, opens: bool, saga: u32) -> Option<bool> {
+    if opens {
+        match open_at(rt, at, 0) {
             Ok(_) => Some(true),
             Err(why) => unless(why == OpenRefusal::OutOfMemory),
-        },
-        _ => match abort_at(rt, at, saga) {
+        }
+    } else {
+        match abort_at(rt, at, saga) {
             Ok(()) => Some(true),
             Err(why) => unless(why == SagaRefusal::OutOfMemory),
-        },
+        }
     }
 }
 
@@ -218,19 +301,39 @@ fn begin_twice<R: Wait>(
     rt: &R,
     trial: &mut Trial<'_>,
     at: &mut At<'_>,
-    verb: &str,
+    opens: bool,
     saga: u32,
 ) -> Result<bool> {
     let before = seen(at);
     trial.each();
-    let first = begin(rt, at, verb, saga);
+    let first = begin(rt, at, opens, saga);
     trial.ample();
     if let Some(right) = first {
         return Ok(right);
     }
     trial.refused = true;
     ensure!(seen(at) == before, "not as before");
-    Ok(begin(rt, at, verb, saga) == Some(true))
+    Ok(begin(rt, at, opens, saga) == Some(true))
+}
+
+/// Makes a call, and tells whether it was as expected.
+fn make_one<R: Wait>(
+    rt: &R,
+    trial: &mut Trial<'_>,
+    at: &mut At<'_>,
+    texts: Sample,
+    word: &str,
+) -> Result<bool> {
+    let (verb, number) = call_of(word)?;
+    let saga = u32::from(number);
+    match verb {
+        "open" => begin_twice(rt, trial, at, true, saga),
+        "abort" => begin_twice(rt, trial, at, false, saga),
+        "other" => Ok(open_at(rt, at, 1) == Err(OpenRefusal::NoSuchDefinition)),
+        "again" => Ok(abort_at(rt, at, saga) == Err(SagaRefusal::NotNow)),
+        "events" => Ok(at.seat.receipts().len() == number as usize),
+        _ => claim_and_end(rt, trial, at, (texts, end_of(verb)?), number.max(1)),
+    }
 }
 
 /// Makes calls one after the other.
@@ -242,71 +345,89 @@ fn make<R: Wait>(
     calls: &str,
 ) -> Result<()> {
     for word in calls.split_whitespace() {
-        let (verb, number) = call_of(word)?;
-        let saga = u32::from(number);
-        let right = match verb {
-            "open" | "abort" => begin_twice(rt, trial, at, verb, saga)?,
-            "other" => open_at(rt, at, 1) == Err(OpenRefusal::NoSuchDefinition),
-            "again" => abort_at(rt, at, saga) == Err(SagaRefusal::NotNow),
-            "events" => at.seat.receipts().len() == number as usize,
-            _ => {
-                let mut right = true;
-                for _ in 0..number.max(1) {
-                    right = right && claim_and_end(rt, trial, at, texts, verb)?;
-                }
-                right
-            }
-        };
+        let right = make_one(rt, trial, at, texts, word)?;
         ensure!(right, "another answer to {word}");
     }
     Ok(())
 }
 
 /// How many events books have.
-fn events_in(books: &[Book<'_>]) -> usize {
-    books.iter().fold(0usize, |sum, book| sum.saturating_add(book.history().len()))
+pub fn events_in(books: &[Book<'_>]) -> usize {
+    let mut events = 0usize;
+    for book in books {
+        events = events.saturating_add(book.history().len());
+    }
+    events
+}
+
+/// How many receipts seats have.
+pub fn receipts_in(seats: &[Seat]) -> usize {
+    let mut receipts = 0usize;
+    for seat in seats {
+        receipts = receipts.saturating_add(seat.receipts().len());
+    }
+    receipts
+}
+
+/// The books that a desk of one seat leaves.
+fn books_of<'d>(alloc: Global, desk: Desk<'d>, seat: Seat) -> Result<Vec<Book<'d>>> {
+    match desk.finish(vec![in alloc; seat]?) {
+        Ok(books) => Ok(books),
+        Err(_) => bail!("not ended"),
+    }
 }
 
 /// How many events there are in the end.
 fn events_at(alloc: Global, at: At<'_>) -> Result<usize> {
-    let At { place, seat } = at;
-    match place {
-        Place::Shard(shard) => Ok(shard.history().len()),
-        Place::Desk(desk) => match desk.finish(vec![in alloc; seat]?) {
-            Ok(books) => Ok(events_in(&books)),
-            Err(_) => bail!("not ended"),
-        },
+    let At {
+        desk,
+        shard,
+        is_shard,
+        seat,
+    } = at;
+    if is_shard {
+        return Ok(shard.history().len());
     }
+    let books = books_of(alloc, desk, seat)?;
+    Ok(events_in(&books))
 }
 
 /// A place on which nothing has happened.
 fn make_place<'d>(alloc: Global, shelf: &'d [Definition], is_shard: bool) -> Result<At<'d>> {
     let (desk, seats) = Desk::open(alloc, shelf, 1, 1)?;
     let seat = only(seats)?;
-    let place = if is_shard {
-        Place::Shard(Shard::new(alloc, shelf, 0, 1))
-    } else {
-        Place::Desk(desk)
-    };
-    Ok(At { place, seat })
+    Ok(At {
+        desk,
+        shard: Shard::new(alloc, shelf, 0, 1),
+        is_shard,
+        seat,
+    })
+}
+
+/// Makes the calls that come before, with ample memory, and then those that are tried. Tells how many receipts there are then.
+fn make_all<R: Wait>(
+    rt: &R,
+    trial: &mut Trial<'_>,
+    at: &mut At<'_>,
+    script: Script,
+) -> Result<usize> {
+    let Script(texts, _, before, tried) = script;
+    let refuses = trial.refuses;
+    trial.refuses = false;
+    make(rt, trial, at, texts, before)?;
+    trial.refuses = refuses;
+    make(rt, trial, at, texts, tried)?;
+    Ok(at.seat.receipts().len())
 }
 
 /// Makes a trial of a script.
 pub fn run<R: Wait>(rt: &R, trial: &mut Trial<'_>, script: Script) -> Result<()> {
     let alloc = trial.alloc();
-    let Script(texts, is_shard, before, tried) = script;
-    let shelf = samples::shelf(alloc, texts.definition)?;
-    let mut at = make_place(alloc, &shelf, is_shard)?;
-    let refuses = trial.refuses;
-    trial.refuses = false;
-    make(rt, trial, &mut at, texts, before)?;
-    trial.refuses = refuses;
-    make(rt, trial, &mut at, texts, tried)?;
-    let receipts = at.seat.receipts().len();
-    ensure!(
-        events_at(alloc, at)? == receipts,
-        "another number of events"
-    );
+    let shelf = samples::shelf(alloc, script.0.definition)?;
+    let mut at = make_place(alloc, &shelf, script.1)?;
+    let receipts = make_all(rt, trial, &mut at, script)?;
+    let events = events_at(alloc, at)?;
+    ensure!(events == receipts, "another number of events");
     Ok(())
 }
 
@@ -331,12 +452,8 @@ fn finish_again<'d>(refused: FinishRefused<'d>, count: usize) -> Result<Vec<Book
     let FinishRefused::OutOfMemory(desk, seats) = refused else {
         bail!("another fault than want of memory");
     };
-    let told = seats.iter().fold(
-        0usize,
-        |sum, seat| sum.saturating_add(seat.receipts().len()),
-    );
     ensure!(
-        seats.len() == 2 && desk.shards() == 2 && told == count,
+        seats.len() == 2 && desk.shards() == 2 && receipts_in(&seats) == count,
         "not as before"
     );
     match desk.finish(seats) {
@@ -345,61 +462,99 @@ fn finish_again<'d>(refused: FinishRefused<'d>, count: usize) -> Result<Vec<Book
     }
 }
 
+/// Opens a saga of each seat on each shard.
+fn open_each<R: Wait>(rt: &R, desk: &Desk<'_>, seats: &mut Vec<Seat>) -> Result<()> {
+    for seat in seats {
+        for shard in 0..desk.shards() {
+            ensure!(desk.open_saga(rt, seat, shard, 0).is_ok(), "not opened");
+        }
+    }
+    Ok(())
+}
+
+/// Ends a desk, and again where memory was refused.
+fn finish_twice<'d>(
+    trial: &mut Trial<'_>,
+    desk: Desk<'d>,
+    seats: Vec<Seat>,
+) -> Result<Vec<Book<'d>>> {
+    trial.each();
+    let ended = desk.finish(seats);
+    trial.ample();
+    match ended {
+        Ok(books) => Ok(books),
+        Err(refused) => {
+            trial.refused = true;
+            finish_again(refused, 4)
+        }
+    }
+}
+
 /// A desk of two seats and two shards that is ended.
 pub fn finish<R: Wait>(rt: &R, trial: &mut Trial<'_>) -> Result<()> {
     let alloc = trial.alloc();
     let shelf = samples::shelf(alloc, TRIP)?;
     let (desk, mut seats) = Desk::open(alloc, &shelf, 2, 2)?;
-    for seat in &mut seats {
-        for shard in 0..desk.shards() {
-            ensure!(desk.open_saga(rt, seat, shard, 0).is_ok(), "not opened");
-        }
-    }
-    trial.each();
-    let ended = desk.finish(seats);
-    trial.ample();
-    let books = match ended {
-        Ok(books) => books,
-        Err(refused) => {
-            trial.refused = true;
-            finish_again(refused, 4)?
-        }
-    };
+    open_each(rt, &desk, &mut seats)?;
+    let books = finish_twice(trial, desk, seats)?;
     ensure!(events_in(&books) == 4, "another number of events");
     Ok(())
 }
 
 /// The book that a desk of one seat leaves.
 fn book_of<'d>(alloc: Global, desk: Desk<'d>, seat: Seat) -> Result<Book<'d>> {
-    let Ok(books) = desk.finish(vec![in alloc; seat]?) else {
-        bail!("not ended");
-    };
-    for book in books {
+    for book in books_of(alloc, desk, seat)? {
         return Ok(book);
     }
     bail!("no book")
+}
+
+/// Works, and goes on from there where a worker that found no memory gave its seat back.
+fn work_twice<R: Wait>(
+    rt: &R,
+    trial: &mut Trial<'_>,
+    desk: &Desk<'_>,
+    seat: Seat,
+    script: &saga_script::Script,
+) -> Result<Seat> {
+    let alloc = trial.alloc();
+    let bell = Bell::new();
+    trial.each();
+    let (mut seat, mut stop) = work(rt, alloc, desk, &bell, seat, script);
+    trial.ample();
+    if stop == Some(Stop::OutOfMemory) {
+        trial.refused = true;
+        (seat, stop) = work(rt, alloc, desk, &bell, seat, script);
+    }
+    ensure!(stop.is_none(), "stopped with ample memory");
+    Ok(seat)
+}
+
+/// Opens a saga, and works until it is ended.
+fn work_one<R: Wait>(
+    rt: &R,
+    trial: &mut Trial<'_>,
+    desk: &Desk<'_>,
+    mut seat: Seat,
+) -> Result<Seat> {
+    let script = samples::script(trial.alloc(), TRIP_SCRIPT)?;
+    ensure!(open_on_first(rt, desk, &mut seat, 0).is_ok(), "not opened");
+    work_twice(rt, trial, desk, seat, &script)
+}
+
+/// Whether the saga is ended, in a legal history of so many events.
+fn is_ended(alloc: Global, book: &Book<'_>, events: usize) -> bool {
+    book.phase(0) == Some(Phase::Ended) && book.history().len() == events && is_legal(alloc, book)
 }
 
 /// A worker that found no memory gives its seat back, and goes on from there.
 pub fn work_alone<R: Wait>(rt: &R, trial: &mut Trial<'_>) -> Result<()> {
     let alloc = trial.alloc();
     let shelf = samples::shelf(alloc, TRIP)?;
-    let script = samples::script(alloc, TRIP_SCRIPT)?;
-    let bell = Bell::new();
     let (desk, seats) = Desk::open(alloc, &shelf, 1, 1)?;
-    let mut seat = only(seats)?;
-    ensure!(open_on_first(rt, &desk, &mut seat, 0).is_ok(), "not opened");
-    trial.each();
-    let (mut seat, mut stop) = work(rt, alloc, &desk, &bell, seat, &script);
-    trial.ample();
-    if stop == Some(Stop::OutOfMemory) {
-        trial.refused = true;
-        (seat, stop) = work(rt, alloc, &desk, &bell, seat, &script);
-    }
-    ensure!(stop.is_none(), "stopped with ample memory");
+    let seat = work_one(rt, trial, &desk, only(seats)?)?;
     let told = seat.receipts().len();
     let book = book_of(alloc, desk, seat)?;
-    let whole = book.phase(0) == Some(Phase::Ended) && book.history().len() == told;
-    ensure!(whole && is_legal(alloc, &book), "not ended");
+    ensure!(is_ended(alloc, &book, told), "not ended");
     Ok(())
 }

@@ -1,21 +1,27 @@
 //! Trials of public calls where memory is refused that no command of the program shows: those of a book, a shard and a desk, and
-//! those that no command makes.
+//! those that no command makes. Beside them stand what `bench/` times, and a booking service that embeds the crates.
 //!
 //! `names` prints how each trial is made, and its name: with `each` growth refused in turn, with `none` granted, or with `ample`
 //! memory at the greatest sizes. `try NAME` makes a trial: the call, and where memory was refused the same call again; it prints
-//! `refused` or `whole`, or what is wrong. Without words each trial is made once, with ample memory.
+//! `refused` or `whole`, or what is wrong. `time` has the words of [`timing`], and `book` books the trips of [`booking`], by the
+//! definition of standard input. Without words each trial is made once, with ample memory, the flow of a small network is timed,
+//! and the trips are booked.
 //!
 //! The program refuses no memory itself. It tells on standard error where the calls begin and end, for a library that is
 //! loaded before the C library and refuses growths there (`tests/memory.py`).
 #![tactic(auto)]
 
+mod agency;
+mod booking;
 mod books;
 mod calls;
 mod desks;
 mod greatest;
 mod nets;
 mod samples;
+mod timing;
 mod trial;
+mod trips;
 
 use crate::calls::Call;
 use crate::greatest::Size;
@@ -25,6 +31,7 @@ use Tried::{Alone, Book, Desk, FinishDesk, Great, Net, OpenDesk, Work};
 use anyhow::{Context, Result, bail, ensure};
 use std::env;
 use std::sync::Wait;
+use std::thread::Threads;
 
 /// What is tried: calls of a book, or of a shard or a desk, by the name of their script, or a call alone.
 #[derive(Clone, Copy)]
@@ -91,6 +98,11 @@ const TRIALS: &[(&str, Tried)] = &[
     ("ample saga_plan::plan,greatest", Great(Size::Plan)),
 ];
 
+/// The trials, by a call: whatever names the constant itself is checked with all its rows.
+fn trials() -> &'static [(&'static str, Tried)] {
+    TRIALS
+}
+
 /// Makes a trial.
 fn run<R: Wait>(rt: &R, trial: &mut Trial<'_>, how: &str, tried: Tried) -> Result<()> {
     trial.refuses = how == "each";
@@ -109,7 +121,7 @@ fn run<R: Wait>(rt: &R, trial: &mut Trial<'_>, how: &str, tried: Tried) -> Resul
 /// Makes the trials of a name, or all, and tells how many there were.
 fn run_named<R: Wait>(rt: &R, trial: &mut Trial<'_>, wanted: Option<&str>) -> Result<usize> {
     let mut count = 0usize;
-    for (row, tried) in TRIALS {
+    for (row, tried) in trials() {
         let (how, name) = row.split_once(' ').context("a row without a name")?;
         if wanted.is_none() || wanted == Some(name) {
             run(rt, trial, how, *tried).context(format_args!("{name}"))?;
@@ -119,27 +131,43 @@ fn run_named<R: Wait>(rt: &R, trial: &mut Trial<'_>, wanted: Option<&str>) -> Re
     Ok(count)
 }
 
-fn main(rt: HostRuntime) -> Result<()> {
-    let mut words = env::args(&rt)?.skip(1);
-    let what = words.next();
-    let mut trial = Trial::new(&rt);
-    match what.as_deref() {
-        None => {
-            let count = run_named(&rt, &mut trial, None)?;
-            println!(rt; "trials {count} whole")?;
-        }
-        Some("names") => {
-            for (row, _) in TRIALS {
-                println!(rt; "{row}")?;
-            }
-        }
-        Some("try") => {
-            let name = words.next().context("a name is missing")?;
-            let count = run_named(&rt, &mut trial, Some(name.as_str()))?;
-            ensure!(count == 1, "no trial {name}");
-            println!(rt; "{}", if trial.refused { "refused" } else { "whole" })?;
-        }
-        _ => bail!("names or try?"),
+/// Makes the trial of a name.
+fn try_named<R: Wait>(waits: &R, rt: &HostRuntime, name: Option<String>) -> Result<()> {
+    let name = name.context("a name is missing")?;
+    let mut trial = Trial::new(rt);
+    let count = run_named(waits, &mut trial, Some(name.as_str()))?;
+    ensure!(count == 1, "no trial {name}");
+    println!(rt; "{}", if trial.refused { "refused" } else { "whole" })?;
+    Ok(())
+}
+
+/// Makes each trial, times a flow, and books trips.
+fn run_all<R: Threads + Wait + Sync>(threads: &R, rt: &HostRuntime) -> Result<()> {
+    let mut trial = Trial::new(rt);
+    let count = run_named(threads, &mut trial, None)?;
+    println!(rt; "trials {count} whole")?;
+    timing::sample(rt)?;
+    booking::run(threads, rt)
+}
+
+/// Prints how each trial is made, and its name.
+fn print_names(rt: &HostRuntime) -> Result<()> {
+    for (row, _) in trials() {
+        println!(rt; "{row}")?;
     }
     Ok(())
+}
+
+fn main(rt: HostRuntime) -> Result<()> {
+    let mut words = env::args(&rt)?.skip(1);
+    let Some(what) = words.next() else {
+        return run_all(&rt, &rt);
+    };
+    match what.as_str() {
+        "names" => print_names(&rt),
+        "try" => try_named(&rt, &rt, words.next()),
+        "time" => timing::run(&rt, &rt, &mut words),
+        "book" => booking::run(&rt, &rt),
+        _ => bail!("names, try, time or book?"),
+    }
 }

@@ -6,7 +6,7 @@ use saga_check::{Verdict, verify};
 use saga_core::Book;
 use saga_def::Definition;
 use saga_history::Event;
-use saga_log::read_log;
+use saga_log::{LogFault, read_log};
 use saga_script::Script;
 use saga_text::read_definition;
 use std::alloc::Global;
@@ -205,7 +205,8 @@ pub fn verdict<'d>(
 pub fn events(alloc: Global, log: &str) -> Result<Vec<Event>> {
     match read_log(alloc, log.as_bytes()) {
         Ok(events) => Ok(events),
-        Err(_) => bail!("no log"),
+        Err(LogFault::BadLine { line, .. }) => bail!("a fault in line {line}"),
+        Err(LogFault::OutOfMemory) => bail!("out of memory"),
     }
 }
 
@@ -217,10 +218,10 @@ pub fn script(alloc: Global, text: &str) -> Result<Script> {
     }
 }
 
-/// The book of a log's history.
-pub fn book<'d>(alloc: Global, shelf: &'d [Definition], log: &str) -> Result<Book<'d>> {
-    match Book::replay(alloc, shelf, 0, 1, events(alloc, log)?) {
+/// The book of a history.
+pub fn book(alloc: Global, shelf: &[Definition], events: Vec<Event>) -> Result<Book<'_>> {
+    match Book::replay(alloc, shelf, 0, 1, events) {
         Ok(book) => Ok(book),
-        Err(_) => bail!("no book"),
+        Err(_) => bail!("not replayed"),
     }
 }

@@ -1,0 +1,78 @@
+//! The agency, which books and cancels.
+use anyhow::{Result, bail};
+use saga_def::Definition;
+use saga_desk::Job;
+use saga_history::Outcome;
+use saga_work::Actor;
+use std::alloc::Global;
+
+/// How many seats the tour has, for the first trips.
+pub const SEATS: u32 = 2;
+
+/// What can be booked.
+#[derive(Clone, Copy, Debug)]
+pub enum Service {
+    Flight,
+    Hotel,
+    Tour,
+}
+
+/// Books the steps of trips, each by its service.
+#[derive(Debug, Drop)]
+pub struct Agency {
+    pub services: Vec<Service>,
+}
+
+impl Agency {
+    ghost use Rattle.std.specs.Prelude.{◌≡◌};
+    ghost use Rattle.saga_history.specs.declared.tasks.Outcome.{Outcome};
+    ghost use Rattle.saga_trials.specs.Seats.{HasSeat};
+
+    /// The agency for trips of that definition, each step of which has the name of a service.
+    pub fn of(alloc: Global, trip: &Definition) -> Result<Agency> {
+        let mut services = Vec::new(alloc);
+        for step in trip.all_steps() {
+            services.push(match step.name.as_str() {
+                "flight" => Service::Flight,
+                "hotel" => Service::Hotel,
+                "tour" => Service::Tour,
+                name => bail!("{name} is no service of this agency"),
+            })?;
+        }
+        Ok(Agency { services })
+    }
+
+    /// Books a step of a trip. A hotel answers at the second attempt.
+    pub fn book(&self, trip: u32, step: u16, attempt: u64) -> Outcome
+        ensures { result ≡ Outcome.Done → HasSeat self.now trip step }
+    {
+        match self.services.get(step as usize) {
+            Some(Service::Flight) => Outcome::Done,
+            Some(Service::Hotel) if attempt > 1 => Outcome::Done,
+            Some(Service::Tour) if trip < SEATS => Outcome::Done,
+            _ => Outcome::Failed,
+        }
+    }
+}
+
+impl Actor for Agency {
+    ghost use Rattle.saga_trials.specs.Seats.{MayAnswer};
+
+    ghost may = { λ agency job outcome. MayAnswer agency job outcome };
+
+    ghost may_abort = { λ agency job. ⊥ };
+
+    ghost must_abort = { λ agency job. ⊥ };
+
+    fn run(&self, job: &Job<'_>) -> Outcome {
+        self.book(job.saga(), job.step(), job.attempt())
+    }
+
+    fn undo(&self, _job: &Job<'_>) -> Outcome {
+        Outcome::Done
+    }
+
+    fn asks_abort(&self, _job: &Job<'_>) -> bool {
+        false
+    }
+}

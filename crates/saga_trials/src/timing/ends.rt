@@ -1,0 +1,93 @@
+//! Timing of the end of a desk: seats that have done all there is to do, and the comparison of all their receipts with the
+//! histories.
+use crate::desks::receipts_in;
+use crate::timing::cases::shelf_of;
+use crate::timing::{BOOK_TIMES, show};
+use anyhow::{Result, bail, ensure};
+use saga_def::Definition;
+use saga_desk::{Claim, Desk, Seat};
+use saga_history::Outcome;
+use std::sync::Wait;
+use std::time::{Duration, Instant};
+
+/// How many seats there are, and how many shards.
+const PLACES: u32 = 16;
+
+/// The most claims of one saga.
+const MOST_CLAIMS: u64 = 4096;
+
+/// Opens so many sagas, in turn on each shard.
+fn open_all<R: Wait>(rt: &R, desk: &Desk<'_>, seats: &mut Vec<Seat>, sagas: u32) -> Result<()> {
+    let shards = desk.shards();
+    for saga in 0..sagas {
+        let Some(seat) = seats.first_mut() else {
+            bail!("no seat");
+        };
+        ensure!(shards > 0, "no shard");
+        let opened = desk.open_saga(rt, seat, saga % shards, 0).is_ok();
+        ensure!(opened, "not opened");
+    }
+    Ok(())
+}
+
+/// Claims and reports one step, and answers whether there was one.
+fn perform<R: Wait>(rt: &R, desk: &Desk<'_>, seat: &mut Seat) -> Result<bool> {
+    match desk.claim(rt, seat)? {
+        Claim::Run(job) | Claim::Undo(job) => {
+            let reported = desk.report(rt, seat, job, Outcome::Done).is_ok();
+            ensure!(reported, "not reported");
+            Ok(true)
+        }
+        Claim::Plan(..) => bail!("a plan"),
+        Claim::Idle | Claim::Settled => Ok(false),
+    }
+}
+
+/// Opens so many sagas and lets the seats take turns until all is settled. Gives how many receipts there are then.
+fn drive_all<R: Wait>(
+    waits: &R,
+    desk: &Desk<'_>,
+    seats: &mut Vec<Seat>,
+    sagas: u32,
+) -> Result<usize> {
+    open_all(waits, desk, seats, sagas)?;
+    for _ in 0..MOST_CLAIMS * u64::from(sagas) {
+        let mut busy = false;
+        for seat in &mut *seats {
+            busy = perform(waits, desk, seat)? || busy;
+        }
+        if !busy {
+            break;
+        }
+    }
+    Ok(receipts_in(seats))
+}
+
+/// Drives so many sagas of a definition, and ends the desk. Gives how many receipts there were, and how long the end took.
+fn end_desk<R: Wait>(
+    waits: &R,
+    rt: &HostRuntime,
+    shelf: &[Definition],
+    sagas: u32,
+) -> Result<(usize, Duration)> {
+    let (desk, mut seats) = Desk::open(rt.alloc(), shelf, PLACES, PLACES)?;
+    let receipts = drive_all(waits, &desk, &mut seats, sagas)?;
+    let start = Instant::now(rt)?;
+    let Ok(books) = desk.finish(seats) else {
+        bail!("not ended");
+    };
+    let took = start.elapsed(rt)?;
+    ensure!(books.len() == PLACES as usize, "books");
+    Ok((receipts, took))
+}
+
+/// Times the end of a desk on whose shelf is the definition of a case.
+pub fn time_desk<R: Wait>(waits: &R, rt: &HostRuntime, text: &str, sagas: u32) -> Result<()> {
+    let shelf = shelf_of(rt.alloc(), text, 0)?;
+    println!(rt; "receipts {}", end_desk(waits, rt, &shelf, sagas)?.0)?;
+    for _ in 0..BOOK_TIMES {
+        let (_, took) = end_desk(waits, rt, &shelf, sagas)?;
+        show(rt, took)?;
+    }
+    Ok(())
+}

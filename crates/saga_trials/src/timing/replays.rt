@@ -1,0 +1,36 @@
+//! Timing of replays: a history that a book made becomes a book again.
+use crate::samples;
+use crate::timing::audits::ended;
+use crate::timing::cases::shelf_of;
+use crate::timing::loads::{Load, drive};
+use crate::timing::{BOOK_TIMES, show_since};
+use anyhow::{Result, ensure};
+use saga_audit::audit;
+use saga_def::Definition;
+use std::time::Instant;
+
+/// Audits a history, and then makes it a book again. Shows how long each took, and gives how many events there were.
+fn time_once(rt: &HostRuntime, shelf: &[Definition], load: Load) -> Result<usize> {
+    let (events, _) = drive(rt, shelf, load)?;
+    let count = events.len();
+    let start = Instant::now(rt)?;
+    ended(audit(rt.alloc(), shelf, &events)?)?;
+    show_since(rt, start)?;
+    let start = Instant::now(rt)?;
+    let book = samples::book(rt.alloc(), shelf, events)?;
+    show_since(rt, start)?;
+    ensure!(book.settled(), "not settled");
+    ensure!(book.history().len() == count, "another number of events");
+    Ok(count)
+}
+
+/// Times replays of the history of a load of a case's definition.
+pub fn time_replays(rt: &HostRuntime, text: &str, load: Load) -> Result<()> {
+    let shelf = shelf_of(rt.alloc(), text, load.misses)?;
+    let mut events = 0;
+    for _ in 0..BOOK_TIMES {
+        events = time_once(rt, &shelf, load)?;
+    }
+    println!(rt; "events {events}")?;
+    Ok(())
+}
