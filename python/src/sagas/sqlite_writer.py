@@ -1,4 +1,5 @@
-"""The one writer of a store's file: what waits goes into one transaction. A small one is made where it was asked for, others in a thread."""
+"""The one writer of a store's file: what waits goes into one transaction. The rows of a small one are put where it was asked for, and as long as the
+disk is fast it is committed there; else a thread does."""
 
 from __future__ import annotations
 
@@ -24,8 +25,8 @@ CHECKPOINT = 1000
 ROWS = (*range(1, 17), 20, 24, 28, 32, 40, 48, 56, 64, 80, 96, 112, 128, 160, 192, 224, 256, 320, 384, 448, 512)
 """Of a statement: few numbers, so that their statements are kept, and close, so that few statements make any number."""
 FEW_ROWS = 1000
-"""So many results and sagas are written in the loop, if the disk is fast: a thread gets the interpreter's lock when the loop has nothing to do, and that
-is later than the commit takes."""
+"""So many results and sagas are put in the loop: a thread waits at each statement for the interpreter's lock, and gets it when the loop has nothing to
+do, which is later than the rows take."""
 AT_ONCE = 0.002
 """Seconds: where the disk took longer for a commit of the loop's, those behind it are made in the thread. That cannot tell how long the disk takes, since
 it also waits for the interpreter's lock: so after some of them the loop tries again."""
@@ -73,23 +74,20 @@ class Writer:
         rows = 0
         for batch in batches:
             rows += len(batch.results) + len(batch.opened)
-        events: Events | None = None
-        if rows <= FEW_ROWS:
-            try:
-                events = self._put_here(batches)
-                if events is not None and self._took < AT_ONCE and self._pages < CHECKPOINT:
-                    self._pages += 6 + rows // 8
-                    self._took = max(self._sync(events, patient=False), FORGET * self._took)
-                    self._over = then, batches, None
-                    return
-            except Exception as fault:
-                self._over = then, batches, fault
-                return
-            except BaseException as error:  # Ctrl-C, say: nobody knows how far it came
-                self._over = then, batches, error
-                raise
-        self._pages, self._lent = 0, True
-        self._jobs.put((batches, then, events))
+        try:
+            events = self._put_here(batches) if rows <= FEW_ROWS else None
+            is_over = events is not None and self._sync_here(events, rows)
+        except Exception as fault:
+            self._over = then, batches, fault
+            return
+        except BaseException as error:  # Ctrl-C, say: nobody knows how far it came
+            self._over = then, batches, error
+            raise
+        if is_over:
+            self._over = then, batches, None
+        else:
+            self._pages, self._lent = 0, True
+            self._jobs.put((batches, then, events))
 
     def _put_here(self, batches: Sequence[Batch]) -> Events | None:
         """As `_put`; None where somebody else writes just now."""
@@ -99,6 +97,14 @@ class Writer:
             if fault.sqlite_errorcode & 0xFF == sqlite3.SQLITE_BUSY:
                 return None
             raise
+
+    def _sync_here(self, events: Events, rows: int) -> bool:
+        """As `_sync`, if the disk is fast, and the WAL need not be moved; whether it was done."""
+        if self._took >= AT_ONCE or self._pages >= CHECKPOINT:
+            return False
+        self._pages += 6 + rows // 8
+        self._took = max(self._sync(events, patient=False), FORGET * self._took)
+        return True
 
     def settle(self) -> None:
         """As `Database.settle`."""
