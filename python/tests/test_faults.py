@@ -218,6 +218,30 @@ def test_a_fork_that_comes_back(place: str, in_thread: bool) -> None:
     run(main())
 
 
+def test_a_fork_that_comes_back_calls_nothing_else(place: str, tmp_path: pathlib.Path) -> None:
+    """Of functions that are called in a row one forks: its child ends before the next one is called, and nothing that it did counts."""
+    called = tmp_path / "called"
+    ends_of_children: list[int] = []
+
+    async def fork(task: Task) -> int:
+        with called.open("a") as file:
+            print(os.getpid(), file=file)
+        child = os.fork() if task.key == "k2" else 0
+        if child:
+            ends_of_children.append(os.waitstatus_to_exitcode(os.waitpid(child, 0)[1]))
+        return os.getpid()
+
+    async def main() -> None:
+        saga = simple(fork)
+        async with sagas.open(place, [saga]) as store:
+            ends = await asyncio.gather(*(ended(store, saga, f"k{number}") for number in range(6)))
+            assert all(end.results == {"a": os.getpid()} for end in ends)
+        assert ends_of_children == [70]
+        assert called.read_text().split() == [str(os.getpid())] * 6
+
+    run(main())
+
+
 def test_the_child_is_killed_again_and_again(place: str) -> None:
     """It is started again from the database; what was asked and not committed never was."""
     tokens: Counter[str] = Counter()
