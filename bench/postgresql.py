@@ -191,11 +191,12 @@ WAYS: dict[str, Callable[[str, int, int], Awaitable[float]]] = {
 
 
 def speed(server: Server, words: argparse.Namespace) -> None:
-    """Sagas a second, at four concurrencies. The ways take turns, so that a slow minute of the machine is a slow minute of each."""
+    """Sagas a second, at four concurrencies. The ways take turns, so that a slow minute of the machine is a slow minute of each, and each second time in
+    the opposite order, since one that follows another finds the disk as that left it."""
     turns: dict[tuple[str, int], list[float]] = collections.defaultdict(list)
     for together in words.at:
-        for _ in range(words.turns):
-            for name, way in WAYS.items():
+        for turn in range(words.turns):
+            for name, way in [*WAYS.items()][:: -1 if turn % 2 else 1]:
                 url = server.create()
                 turns[name, together].append(asyncio.run(way(url, max(20, int(SIZES[together] * words.scale)), together)))  # type: ignore[arg-type]
                 server.drop(url)
