@@ -32,6 +32,7 @@ class Count:
 
     def __init__(self) -> None:
         self.now = self.most = 0
+        self.least = 0  # who is inside stays until so many are at once
         self.by: Counter[str] = Counter()
         self.at: list[float] = []
 
@@ -41,6 +42,8 @@ class Count:
         self.now += 1
         self.by[name] += 1
         self.most = max(self.most, self.now)
+        while self.most < self.least:
+            await asyncio.sleep(0.001)
         await asyncio.sleep(seconds)
         self.now -= 1
 
@@ -69,8 +72,9 @@ def test_no_more_than_its_limit_at_once(place: str) -> None:
 
 
 def test_a_limit_holds_over_all_nodes(url: str) -> None:
-    """Three nodes with more work than places: together no more than the limit, and each node has its turns."""
+    """Three nodes with more work than places: together no more than the limit, all places are used, and each node has its turns."""
     count = Count()
+    count.least = 4
     kinds = [counted(count, f"n{number}", fleet_limit=4) for number in range(3)]
 
     async def main() -> None:
