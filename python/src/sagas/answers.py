@@ -62,7 +62,7 @@ class Answers:
                 lives = self.live
                 for saga, step, word, number in tasks:
                     live = lives[saga]
-                    attempt = Attempt(live, step, word, number, True)
+                    attempt = Attempt(live, step, word, number, fresh=True)
                     live.busy[attempt.word] = attempt
                     begun.append(attempt)
                 continue
@@ -73,7 +73,7 @@ class Answers:
                 if word == "plan":
                     self._told_plan(batch, acts, live, task)
                     continue
-                attempt = Attempt(live, task["step"], word, task["attempt"], True)
+                attempt = Attempt(live, task["step"], word, task["attempt"], fresh=True)
                 live.busy[attempt.word] = attempt
                 begun.append(attempt)
 
