@@ -9,12 +9,13 @@ import datetime
 import logging
 import os
 import pathlib
+import signal
 import sqlite3
 import subprocess
 import threading
 import time
 from collections import Counter
-from collections.abc import Iterator, Sequence
+from collections.abc import Callable, Iterator, Sequence
 from typing import Any
 
 import psycopg
@@ -725,6 +726,50 @@ def test_answers_that_are_waited_for_and_others(place: str, monkeypatch: pytest.
             ends = await asyncio.gather(*(ended(store, saga, f"more-{number}") for number in range(40)))
             assert all(end.ok for end in ends)
             assert all(said.startswith("yes") for said in (await store.audit()).values())
+
+    run(main())
+
+
+@pytest.mark.parametrize(("place", "other"), [(0, 1), (4, "undone")])
+def test_the_child_says_otherwise_than_was_expected(tmp_path: pathlib.Path, monkeypatch: pytest.MonkeyPatch, place: int, other: Any) -> None:
+    """Rows that are put while it thinks were never there, unless it agrees to just these: not to those of another saga or another event."""
+    saga, expected = row(), pump.Pump._expected
+
+    def wrongly(self: pump.Pump, *words: Any) -> Any:
+        opened, results = expected(self, *words)
+        return [(id, f"not {key}", *more) for id, key, *more in opened], [(*one[:place], other, *one[place + 1 :]) for one in results]
+
+    async def main() -> None:
+        async with sagas.open(tmp_path / "store.db", [saga]) as store:
+            for number, wrong in enumerate((False, True, True, False)):
+                monkeypatch.setattr(pump.Pump, "_expected", wrongly if wrong else expected)
+                assert (await ended(store, saga, f"k{number}")).results["c"] == {"a": "A", "b": "AB"}
+                assert [event.event for event in store.log(f"k{number}") if event.event == "undone"] == []
+            assert [one.key for one in store.list()] == ["k0", "k1", "k2", "k3"]
+            assert all(said.startswith("yes") for said in (await store.audit()).values())
+
+    run(main())
+
+
+def test_nobody_waits_for_rows_of_an_answer_that_is_late(tmp_path: pathlib.Path) -> None:
+    """A child that stands still: meanwhile other programs write the file."""
+    path, saga = str(tmp_path / "store.db"), row()
+    others = set(children(os.getpid()))
+
+    async def main() -> None:
+        async with sagas.open(path, [saga]) as store:
+            assert (await ended(store, saga)).ok
+            (pid,) = set(children(os.getpid())) - others
+            os.kill(pid, signal.SIGSTOP)
+            going = asyncio.ensure_future(ended(store, saga, "late"))
+            assert store._coordinator
+            (log,) = store._coordinator.pumps.values()
+            await until(lambda: log.child and log.child.asked)
+            with contextlib.closing(sqlite3.connect(path, timeout=0)) as db:
+                db.execute("BEGIN IMMEDIATE")
+                assert db.execute("SELECT count(*) FROM sagas").fetchone() == (1,)
+            os.kill(pid, signal.SIGCONT)
+            assert (await going).ok
 
     run(main())
 

@@ -11,7 +11,7 @@ from typing import TYPE_CHECKING, Any
 from . import lines, values
 from .calling import Outcome
 from .live import Attempt, Live
-from .records import Batch, Wanted
+from .records import Batch, Opened, Result, Wanted
 from .schema import ROOM
 
 if TYPE_CHECKING:
@@ -22,6 +22,8 @@ Act = tuple[Callable[[Any], object], Any]
 FULL = '{"refused":"full"}'
 LOG_FULL = '{"refused":"log-full"}'
 OVER = ("ended", "stuck")
+WELL = {"run": "commit", "undo": "undone"}
+"""The events that what is done comes to."""
 
 
 def dumps(value: Any) -> str:
@@ -51,6 +53,22 @@ class Answers:
     _over_odd: dict[int, None]
     _passed: bool
     opens: deque[Live]
+
+    # -- rows
+
+    def _result(self, attempt: Attempt, event: str) -> Result:
+        assert attempt.outcome
+        return self.log * ROOM + attempt.live.number, attempt.step, attempt.kind, attempt.attempt, event, attempt.outcome.value, attempt.at
+
+    def _opening(self, live: Live, number: int, at: float) -> Opened:
+        return self.log * ROOM + number, live.key, live.kind.name, live.place, live.text, at
+
+    def _expected(self, batch: Batch, attempts: Sequence[Attempt], lives: Sequence[Live]) -> tuple[list[Opened], list[Result]]:
+        """The rows of sagas that are asked to be opened and of attempts that are reported, where the child agrees to all."""
+        opened = [self._opening(live, self.opened + place, batch.at) for place, live in enumerate(lives)]
+        return opened, [self._result(attempt, WELL[attempt.kind]) for attempt in attempts]
+
+    # -- replies
 
     def _told_next(self, batch: Batch, acts: list[Act], abouts: Sequence[None], replies: Sequence[str]) -> None:
         """What begins now, of the reply to `next` where it was asked."""
@@ -88,7 +106,7 @@ class Answers:
         self.owner.doing.begin_all(attempts)
 
     def _told_reports(self, batch: Batch, acts: list[Act], attempts: Sequence[Attempt], replies: Sequence[str]) -> None:
-        first, rows = self.log * ROOM, batch.results
+        rows = batch.results
         for attempt, reply in zip(attempts, replies):
             told = lines.event_and_phase(reply)
             if told is None:  # it is not what is on its way: it is over, or was another's
@@ -97,7 +115,7 @@ class Answers:
             live, outcome = attempt.live, attempt.outcome
             assert outcome
             attempt.event = event
-            rows.append((first + live.number, attempt.step, attempt.kind, attempt.attempt, event, outcome.value, attempt.at))
+            rows.append(self._result(attempt, event))
             if attempt.has_row or attempt.request is not None or live.kind.has_remote:
                 self._settle_rows(batch, attempt)
             if event == "commit":
@@ -154,7 +172,7 @@ class Answers:
                 batch.begun.append(live.start)
             if live.guessed:
                 batch.guessed.append(live.key)
-            batch.opened.append((self.log * ROOM + number, live.key, live.kind.name, live.place, live.text, batch.at))
+            batch.opened.append(self._opening(live, number, batch.at))
             there.append(live)
         acts.append((self._opened, there))
 

@@ -30,13 +30,13 @@ Within = Callable[[Attempt, Function, Task[Any]], Awaitable[Any]]
 class Callers:
     """Tasks that call the functions of attempts, in the order in which they come. What a function sets of its context no other one sees.
 
-    `begins` is asked before each call, and `ended` is told when it began, by the monotonic clock, and what came of it. `done`: what is told instead, of
-    several at once, where each ended well without waiting: they have their outcomes."""
+    `begins` is asked before each call, and `ended` is told when it began, by the monotonic clock, and what came of it; `done` is told instead of all that
+    ended well without waiting, several at once: they have their outcomes."""
 
-    def __init__(self, begins: Begins, ended: Ended, within: Within | None = None, done: Done | None = None) -> None:
+    def __init__(self, begins: Begins, ended: Ended, done: Done, within: Within | None = None) -> None:
         self._loop = asyncio.get_running_loop()
         self._context = contextvars.copy_context()
-        self._begins, self._ended, self._within, self._done = begins, ended, within, done
+        self._begins, self._ended, self._done, self._within = begins, ended, done, within
         self._ready: deque[Attempt] = deque()
         self._next: asyncio.Task[None] | None = None  # the task that calls those
         self._waiters: dict[Function, int] = {}  # functions that waited the last time, and how many calls have their own task at once
@@ -109,7 +109,6 @@ class Callers:
     def _tell(self) -> None:
         """Tells of those that ended well."""
         over, self._over = self._over, []
-        assert self._done
         self._done(over)
 
     async def _alone(self, attempt: Attempt, function: Function) -> None:
@@ -135,15 +134,13 @@ class Callers:
                 work = _awaited(work)
             waits_for = context.run(work.send, None)
         except StopIteration as end:
-            outcome: Outcome | None = calling.done(end.value, task)
-            if self._done:
-                attempt.took, attempt.outcome = time.monotonic() - began, outcome
-                self._over.append(attempt)
-                if len(self._over) >= LOT:
-                    self._tell()
-                return None
+            attempt.took, attempt.outcome = time.monotonic() - began, calling.done(end.value, task)
+            self._over.append(attempt)
+            if len(self._over) >= LOT:
+                self._tell()
+            return None
         except BaseException as error:
-            outcome = calling.interrupted(error, attempt.manner)
+            outcome: Outcome | None = calling.interrupted(error, attempt.manner)
         else:
             self._waiters[function] = AGAIN
             return self._wait(attempt, began, task, _Rest(work, waits_for, context))

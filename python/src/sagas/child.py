@@ -73,18 +73,15 @@ class Child:
         self._poll = select.poll()
         self._poll.register(self._back, select.POLLIN)
 
-    def ask(self, requests: Sequence[str], answered: Answered, wait: bool = False) -> None:
-        """Sends a batch; `answered` is called with a reply for each request, in order, and the lines of the log.
-
-        `wait`: the answer is waited for here, as long as answers come within `WAIT`: that takes less than a turn of the loop."""
+    def ask(self, requests: Sequence[str], answered: Answered) -> None:
+        """Sends a batch; `answered` is called with a reply for each request, in order, and the lines of the log."""
         assert not self.asked
         self.asked, self._answered = len(requests), answered
         self._out += ("\n".join(requests) + "\n").encode()
         self._write()
-        if wait:
-            self._await()
 
-    def _await(self) -> None:
+    def wait(self) -> None:
+        """Waits here for the answer, as long as answers come within `WAIT`: that takes less than a turn of the loop."""
         if self._late:
             self._late -= 1
         elif self._poll.poll(WAIT):

@@ -171,6 +171,11 @@ class Coordinator:
             if not self.reading:
                 self.settle_soon()
 
+    @property
+    def is_writing(self) -> bool:
+        """Whether a commit is under way, or more than the next batch waits for one."""
+        return self._writing or bool(self._queue)
+
     def settle_soon(self) -> None:
         """What is over is told in the loop's next turn."""
         if not self.store.shared:  # a server's answer comes in a turn of its own
@@ -203,7 +208,7 @@ class Coordinator:
         takes = self.store.takes
         if not takes:
             return False
-        coming = self.doing.about_to_call() + sum(pump.asked() for pump in self.children.up())
+        coming = self.doing.about_to_call() + sum(pump.asked() for pump in self.children.up()) + self.store.sought + len(self.placing)
         return self.holding.is_worth(coming, takes, self._write)
 
     # -- sagas

@@ -14,7 +14,7 @@ from collections.abc import Callable, Sequence
 from concurrent.futures import Executor
 from typing import TYPE_CHECKING, Any, Protocol
 
-from .records import Batch, Grant, Loaded, LogRow, Request, SagaRow, Start
+from .records import Batch, Grant, Loaded, LogRow, Opened, Request, Result, SagaRow, Start
 
 if TYPE_CHECKING:
     from .calling import Outcome
@@ -71,6 +71,10 @@ class Database(Protocol):
         """Seconds that a commit takes of late, while which this program does other things; 0 where there is no sense in holding one back."""
 
     @property
+    def sought(self) -> int:
+        """How many keys are looked for (`find`): most of them are about to be started."""
+
+    @property
     def commits(self) -> int:
         """How many transactions were written."""
 
@@ -91,6 +95,13 @@ class Database(Protocol):
 
     def commit(self, batches: Sequence[Batch], then: Then) -> None:
         """One transaction for all; `then` is called in the loop. One at a time: not again before `then`."""
+
+    def expect(self, opened: Sequence[Opened], results: Sequence[Result]) -> None:
+        """The next batch will have just these rows of sagas and results, unless `forget` is called before: they may be put already. Where it has others,
+        these were never there."""
+
+    def forget(self) -> None:
+        """Nothing is expected any more."""
 
     def settle(self) -> None:
         """Calls `then` of a commit that was over when `commit` returned. Of a database that is not shared it is called behind each `commit`, by who is in

@@ -57,8 +57,8 @@ class Doing:
         self.owner, self.executor = owner, executor
         self.slots = Slots(concurrency, self._run, owner.feed)
         self.fleet = Fleet(owner, self.slots.enter)
-        self.callers = Callers(self._begins, self._called, done=self._done)
-        self.inside = Callers(self._begins, self._called_inside, owner.store.within)
+        self.callers = Callers(self._begins, self._called, self._done)
+        self.inside = Callers(self._begins, self._called_inside, self._done_inside, owner.store.within)
         self.running: set[Attempt] = set()
         self.closing = False
 
@@ -336,6 +336,12 @@ class Doing:
             self._called(attempt, began, outcome)
         elif self._over(attempt, began):
             self._lose(attempt, fault)
+
+    def _done_inside(self, attempts: list[Attempt]) -> None:
+        """Simple ones were called in transactions, and did nothing there."""
+        for attempt in attempts:
+            attempt.record = None
+        self._done(attempts)
 
     def _over(self, attempt: Attempt, began: float) -> bool:
         """Its function is over; whether anything comes of that, since it was not forgotten meanwhile."""

@@ -20,7 +20,7 @@ from .leases import UNTAKEN, Lease
 from .places_postgresql import Places
 from .postgresql_commit import Commit
 from .postgresql_writer import Writer
-from .records import Batch, Grant, Loaded, LogRow, Request, SagaRow, Start
+from .records import Batch, Grant, Loaded, LogRow, Opened, Request, Result, SagaRow, Start
 from .transactions import Transactions
 from .values import clean, cleaned
 
@@ -82,6 +82,7 @@ class PostgreSQL(questions.Questions):
         self._news: news.News | None = None
         self._watcher: Watcher | None = None
         self._closing = self._finding = self._saying = False
+        self._seeking = 0  # keys that the server is asked for
         self._turn = asyncio.Event()
 
     # -- opening and closing
@@ -229,6 +230,12 @@ class PostgreSQL(questions.Questions):
             self._telling.cancel()
             self._tell()
 
+    def expect(self, opened: Sequence[Opened], results: Sequence[Result]) -> None:
+        """Nothing: all rows of a commit go to the server at once."""
+
+    def forget(self) -> None:
+        """Nothing."""
+
     def settle(self) -> None:
         """Nothing: `then` is called as soon as the server's answer is there."""
 
@@ -262,6 +269,11 @@ class PostgreSQL(questions.Questions):
 
     # -- reading, for the coordinator
 
+    @property
+    def sought(self) -> int:
+        """How many keys are looked for."""
+        return len(self._wanted) + self._seeking
+
     async def find(self, key: str) -> SagaRow | None:
         """The saga with this key; with an id below 0 one that a client started and no log has yet."""
         loop = asyncio.get_running_loop()
@@ -275,6 +287,7 @@ class PostgreSQL(questions.Questions):
     def _find(self) -> None:
         """Looks for all keys that are wanted at once."""
         wanted, self._wanted = self._wanted, {}
+        self._seeking = len(wanted)
         keys = [clean(key) for key in wanted]
         query, word = (FIND_ONE, keys[0].encode()) if len(keys) == 1 else (FIND_WIRED, json.dumps(keys).encode())
 
@@ -306,7 +319,7 @@ class PostgreSQL(questions.Questions):
             for future in futures:
                 if not future.done():
                     future.set_exception(fault) if fault else future.set_result(found.get(key))
-        self._finding = bool(self._wanted)
+        self._finding, self._seeking = bool(self._wanted), 0
         if self._finding:
             self._find()
 

@@ -161,21 +161,38 @@ class Pump(Answers):
             return
         requests: list[str] = []
         asked: list[Asked] = []
+        reports: list[Attempt] = []
+        opens: list[Live] = []
         if self.reports:
-            asked.append((self._told_reports, self._ask_reports(requests)))
+            reports = self._ask_reports(requests)
+            asked.append((self._told_reports, reports))
         if self.aborts:
             asked.append((self._told_aborts, self._ask_aborts(requests)))
         if self.opens:
-            asked.append((self._told_opens, self._ask_opens(requests)))
+            opens = self._ask_opens(requests)
+            asked.append((self._told_opens, opens))
         if requests:
             self.hungry = True
         if self._ask_next(requests):
             asked.append((self._told_next, (None,)))
         if requests:
             self.used = self.owner.loop.time()
-            child.ask(requests, lambda replies, text: self._answered(asked, replies, text), wait and len(requests) <= FEW)
+            batch = self.batch()
+            child.ask(requests, lambda replies, text: self._answered(batch, asked, replies, text))
+            if wait and len(requests) <= FEW:
+                self._wait(child, batch, reports, opens)
         else:
             self.offer()
+
+    def _wait(self, child: Child, batch: Batch, reports: Sequence[Attempt], opens: Sequence[Live]) -> None:
+        """Nothing else goes on: the rows that are written where the child agrees are put while it thinks."""
+        store = self.owner.store
+        if not self.owner.is_writing:
+            store.expect(*self._expected(batch, reports, opens))
+        try:
+            child.wait()
+        finally:
+            store.forget()
 
     def _ask_reports(self, requests: list[str]) -> list[Attempt]:
         """A lot of them, the first first."""
@@ -226,9 +243,9 @@ class Pump(Answers):
 
     # -- from the child
 
-    def _answered(self, asked: list[Asked], replies: list[Reply], text: str) -> None:
-        batch = self.batch()
+    def _answered(self, batch: Batch, asked: list[Asked], replies: list[Reply], text: str) -> None:
         acts: list[Act] = []
+        batch.first = self.events
         self._text, self._begun, self._ended, self._over_odd, self._passed = text, [], [], {}, False
         place = 0
         try:

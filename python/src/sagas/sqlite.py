@@ -18,7 +18,7 @@ from .database import Drives, Then, Watcher
 from .definition import Bounds
 from .errors import MissingHandler, StoreFault, StoreLocked, StoreNewer, StoreUnwritable
 from .forks import private
-from .records import Batch, Grant, Loaded, LogRow, Request, SagaRow, Start
+from .records import Batch, Grant, Loaded, LogRow, Opened, Request, Result, SagaRow, Start
 from .schema import MIGRATIONS, VERSION
 from .sqlite_writer import BUSY, Writer
 from .values import cleaned
@@ -86,6 +86,7 @@ class Sqlite(questions.Questions):
 
     shared = False
     takes = 0.0
+    sought = 0
 
     def __init__(self, path: str | os.PathLike[str]) -> None:
         self.path = os.fspath(path)
@@ -210,6 +211,16 @@ class Sqlite(questions.Questions):
         """One transaction for all; `then` is called in the loop with None, or with what kept it from being."""
         assert self._writer
         self._writer.commit(batches, then)
+
+    def expect(self, opened: Sequence[Opened], results: Sequence[Result]) -> None:
+        """Puts them while the child thinks."""
+        assert self._writer
+        self._writer.expect(opened, results)
+
+    def forget(self) -> None:
+        """Takes them back, if they were put and not committed."""
+        assert self._writer
+        self._writer.forget()
 
     def settle(self) -> None:
         """Calls `then` of a commit that is over."""

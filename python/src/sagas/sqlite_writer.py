@@ -16,7 +16,7 @@ from collections.abc import Iterable, Sequence
 from typing import Any
 
 from .database import Then
-from .records import Batch, Ended
+from .records import Batch, Ended, Opened, Result
 from .values import clean, cleaned
 
 BUSY = 5000  # ms: an operator's command may be writing
@@ -34,6 +34,7 @@ FORGET = 0.97  # of what the disk took, a commit
 NONE: frozenset[int] = frozenset()
 Events = dict[int, int]
 """How many events each log has."""
+Rows = tuple[Sequence[Opened], Sequence[Result]]
 
 LINES = "INSERT INTO lines VALUES(?, ?, ?, ?)"
 OPENED = "INSERT INTO sagas(id, key, saga, def, input, at) VALUES {}"
@@ -61,6 +62,7 @@ class Writer:
         self._lent = False  # the thread has the connection
         self._pages = 0  # that the loop wrote into the WAL, about
         self._over: tuple[Then, Sequence[Batch], BaseException | None] | None = None  # a commit of the loop's, whose `then` is to be called
+        self._early: Rows | None = None  # put already, in a transaction that is begun
         self._thread = threading.Thread(target=self._work, name="sagas-writer", daemon=True)
         self._thread.start()
 
@@ -74,6 +76,8 @@ class Writer:
         rows = 0
         for batch in batches:
             rows += len(batch.results) + len(batch.opened)
+        if rows > FEW_ROWS:
+            self.forget()
         try:
             events = self._put_here(batches) if rows <= FEW_ROWS else None
             is_over = events is not None and self._sync_here(events, rows)
@@ -106,6 +110,23 @@ class Writer:
         self._took = max(self._sync(events, patient=False), FORGET * self._took)
         return True
 
+    def expect(self, opened: Sequence[Opened], results: Sequence[Result]) -> None:
+        """As `Database.expect`: the transaction is begun, where nobody else writes."""
+        if self._lent or self._over or self._db.in_transaction or not (opened or results):
+            return
+        try:
+            self._begin(patient=False)
+            self._put_usual(opened, results)
+            self._early = opened, results
+        except sqlite3.Error:  # it is told where the batch is put
+            self._roll_back()
+
+    def forget(self) -> None:
+        """As `Database.forget`."""
+        if self._early:
+            self._early = None
+            self._roll_back()
+
     def settle(self) -> None:
         """As `Database.settle`."""
         if self._over:
@@ -135,20 +156,27 @@ class Writer:
 
     def reader(self) -> sqlite3.Connection | None:
         """The connection, to read by where it is not writing: it knows what it wrote, and another one would have to look."""
-        return None if self._lent else self._db
+        return None if self._lent or self._early else self._db
 
     def _put(self, batches: Sequence[Batch], patient: bool) -> Events:
-        """Begins a transaction, and puts the rows of all into it. `patient`: it waits for another program's commit."""
+        """Begins a transaction, unless it is begun with just these rows, and puts the rows of all into it. `patient`: it waits for another program's commit."""
+        early, self._early = self._early, None
+        try:
+            is_begun = self._db.in_transaction and len(batches) == 1 and early == (batches[0].opened, batches[0].results)
+            if not is_begun:
+                self._roll_back()
+                self._begin(patient)
+            return self._put_rows(batches, is_begun)
+        except BaseException:
+            self._roll_back()
+            raise
+
+    def _begin(self, patient: bool) -> None:
         if patient != self._patient:
             self._patient = None
             self._db.execute(f"PRAGMA busy_timeout = {BUSY if patient else 0}")
             self._patient = patient
-        try:
-            self._db.execute("BEGIN IMMEDIATE")
-            return self._put_rows(batches)
-        except BaseException:
-            self._roll_back()
-            raise
+        self._db.execute("BEGIN IMMEDIATE")
 
     def _sync(self, events: Events, patient: bool) -> float:
         """Commits what was put; gives how many seconds the disk took. `patient`: it may move the WAL into the file."""
@@ -172,8 +200,8 @@ class Writer:
             with contextlib.suppress(sqlite3.Error):
                 self._db.execute("ROLLBACK")
 
-    def _put_rows(self, batches: Sequence[Batch]) -> Events:
-        """Writes the rows of all; gives how many events the logs have then."""
+    def _put_rows(self, batches: Sequence[Batch], has_usual: bool) -> Events:
+        """Writes the rows of all, as far as they are not there; gives how many events the logs have then."""
         events = self._put_lines(batches)
         if len(batches) == 1:
             (batch,) = batches
@@ -182,16 +210,20 @@ class Writer:
             opened = [row for batch in batches for row in batch.opened]
             results = [row for batch in batches for row in batch.results]
             ended = [row for batch in batches for row in batch.ended]
-        if opened:
-            self._lots(OPENED, 6, opened)
-        if results:
-            self._lots(RESULTS, 7, results)
+        if not has_usual:
+            self._put_usual(opened, results)
         if ended:
             self._put_ended(ended)
         rare = [batch for batch in batches if batch.is_rare]
         if rare:
             self._put_rare(rare)
         return events
+
+    def _put_usual(self, opened: Sequence[Opened], results: Sequence[Result]) -> None:
+        if opened:
+            self._lots(OPENED, 6, opened)
+        if results:
+            self._lots(RESULTS, 7, results)
 
     def _put_lines(self, batches: Sequence[Batch]) -> dict[int, int]:
         """Writes the lines, one row a log; gives how many events the logs have now."""
