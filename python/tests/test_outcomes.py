@@ -51,6 +51,70 @@ class Seat:
     row: int
 
 
+def test_a_result_that_could_not_be_stored(place: str) -> None:
+    """It is never taken for one that could: who asks for it hears of it by a name, a later step, a compensation and the caller."""
+    saga, told = sagas.Saga("odd"), list[str]()
+
+    @saga.step
+    def send(task: Task) -> set[object]:
+        return {object()}
+
+    @send.compensation
+    def unsend(task: Task) -> None:
+        with pytest.raises(sagas.Unstorable, match="'send' returned what is no JSON"):
+            task.result
+
+    @saga.step(needs=[send])
+    def look(task: Task) -> None:
+        assert set(task.results["send"]) == {"unstorable"}
+        ways: tuple[Any, ...] = (send, "send")
+        for step in ways:
+            try:
+                task.of(step)
+            except sagas.NotJson as error:
+                told.append(f"{type(error).__name__}: {error}")
+        if task.input:
+            raise sagas.Fail("no")
+
+    async def main() -> None:
+        async with sagas.open(place, [saga]) as store:
+            end = await ended(store, saga, "well")
+            assert end.ok
+            ways: tuple[Any, ...] = (send, "send")
+            for step in ways:
+                with pytest.raises(sagas.Unstorable, match="'send' returned what is no JSON: object is not JSON"):
+                    end.of(step)
+            with pytest.raises(KeyError, match="there is no step 'sent', but send, look"):
+                end.of("sent")
+            end = await ended(store, saga, "ill", True)
+            assert end.states["send"] == "undone"
+            with pytest.raises(KeyError, match="step 'send' does not stand: it is undone"):
+                end.of("send")
+
+    run(main())
+    assert len(told) == 4 and told[0].startswith("Unstorable: 'send' returned what is no JSON")
+
+
+def test_a_set_crosses(place: str) -> None:
+    """As a list, which the hint makes a set again; `of` takes a step's name, too."""
+    saga = sagas.Saga("sets")
+
+    @saga.step
+    def seats(task: sagas.Task[dict[int, str]]) -> set[int]:
+        return {*task.input}
+
+    @saga.step(needs=[seats])
+    def send(task: Task) -> bool:
+        return task.of(seats) == {1, 2} == task.of("seats") and isinstance(task.of("seats"), set)
+
+    async def main() -> sagas.End:
+        async with sagas.open(place, [saga]) as store:
+            return await ended(store, saga, given={1: "a", 2: "b"})
+
+    end = run(main())
+    assert end.of(send) is True and end.of("seats") == {1, 2}
+
+
 def test_a_result_that_is_not_of_its_type(place: str) -> None:
     """What could not be stored, or a person said, is told as it is kept: who waits, or asks for what is stuck, hears of it all the same."""
     saga = sagas.Saga("typed")

@@ -29,6 +29,10 @@ class Colour(enum.Enum):
     RED = "red"
 
 
+class Size(enum.IntEnum):
+    LARGE = 3
+
+
 @dataclasses.dataclass
 class Seat:
     row: int
@@ -104,7 +108,7 @@ class Broken:
         return {"mode": mode}["none"]
 
 
-@pytest.mark.parametrize("value", [math.nan, math.inf, object(), {1, 2}, {"a": object()}, {(1, 2): 3}, b"bytes", Broken(), [Broken()]])
+@pytest.mark.parametrize("value", [math.nan, math.inf, object(), {1, object()}, {math.nan}, {"a": object()}, {(1, 2): 3}, b"bytes", Broken(), [Broken()]])
 def test_what_is_not_json(value: Any) -> None:
     with pytest.raises(sagas.NotJson):
         values.write(value)
@@ -138,6 +142,15 @@ def test_dataclasses() -> None:
         ([Colour.RED], list[Colour]),
         ("text", str),
         (Pair(Seat(1, Colour.RED), 2), Pair),
+        ({3, 1, 2}, set[int]),
+        (frozenset({"b", "a"}), frozenset[str]),
+        ({Colour.RED}, set[Colour]),
+        ({"a": {(1, 2), (1, 10)}}, dict[str, set[tuple[int, int]]]),
+        ({frozenset({1}), frozenset({2})}, set[frozenset[int]]),
+        ({1: 2, 10: 3}, dict[int, int]),
+        ({1.5: [Colour.RED]}, dict[float, list[Colour]]),
+        ({True: 1, False: 0}, dict[bool, int]),
+        ({Size.LARGE: 1}, dict[Size, int]),
     ],
 )
 def test_types(value: Any, hint: Any) -> None:
@@ -157,6 +170,27 @@ def test_what_is_told_of_a_wrong_value() -> None:
         values.write({1: 2, "a": 3})
     with pytest.raises(TypeError, match="Seat is read from an object"):
         there_and_back(None, Seat)
+
+
+def test_sets_are_written_in_one_order() -> None:
+    """As lists: numbers and texts as they are compared, all others by their JSON; the text is the same each time."""
+    assert values.write({10, 9, 1.5}) == "[1.5,9,10]" and values.write(frozenset({"b", "a"})) == '["a","b"]' and values.write(set()) == "[]"
+    assert values.write({2, "a", None}) == '["a",2,null]' and values.write({(2, 1), (1, 2)}) == "[[1,2],[2,1]]"
+
+
+@pytest.mark.parametrize(
+    "value, text",
+    [
+        ({"a": {1, 2, object()}}, r'input\["a"\]: object is not JSON'),
+        ([1, {"b": Seat(1, math.nan)}], r'input\[1\]\["b"\]\.colour: NaN and what is infinite are not JSON'),
+        ({3: b""}, r"input\[3\]: bytes is not JSON"),
+        (object(), "input: object is not JSON"),
+    ],
+)
+def test_where_it_is_no_json(value: Any, text: str) -> None:
+    """The way to it, as it would be written in Python."""
+    with pytest.raises(sagas.NotJson, match=f"^{text}"):
+        values.write(value, "input")
 
 
 def test_hints_of_functions() -> None:

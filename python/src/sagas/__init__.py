@@ -32,6 +32,8 @@ from . import databases
 from .definition import NEVER, Backoff, Price, Saga, Step
 from .elsewhere import Leased, Queue
 from .errors import (
+    BadInput,
+    BadKey,
     ChildError,
     Closed,
     DefinitionError,
@@ -52,6 +54,7 @@ from .errors import (
     StoreUnwritable,
     TooLarge,
     Unknown,
+    Unstorable,
     WrongStore,
 )
 from .events import Event
@@ -88,9 +91,16 @@ def __getattr__(name: str) -> Any:
     return getattr(module, name)
 
 
+def __dir__() -> list[str]:
+    """What is for users: the modules inside are not."""
+    return sorted([*__all__, *MODULES, "__version__"])
+
+
 __all__ = [
     "NEVER",
     "Backoff",
+    "BadInput",
+    "BadKey",
     "BadText",
     "ChildError",
     "Choice",
@@ -134,6 +144,7 @@ __all__ = [
     "Task",
     "TooLarge",
     "Unknown",
+    "Unstorable",
     "Verdict",
     "Worker",
     "WrongStore",

@@ -83,6 +83,18 @@ class NotJson(SagasError, TypeError):
     """A key, an input or a result that cannot be written as JSON. Use dicts, lists, texts, numbers, dataclasses or pydantic models."""
 
 
+class BadKey(NotJson):
+    """A key that is none: it is a text of 1 to 512 printable characters."""
+
+
+class BadInput(NotJson):
+    """An input that the first steps cannot read as the type that they say. Nothing was begun. The text says where, and what is wrong."""
+
+
+class Unstorable(NotJson):
+    """What a step returned was no JSON, and could not be kept; its effect is there. The text names the step: mend what it returns."""
+
+
 class ChildError(SagasError):
     """`sagas drive` cannot be started or refuses a log. The text is its last line, and docs/ERRORS.md has the remedy."""
 

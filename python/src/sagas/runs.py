@@ -3,7 +3,9 @@
 from __future__ import annotations
 
 import dataclasses
-from typing import TYPE_CHECKING, Any, TypeVar
+from typing import TYPE_CHECKING, Any, Protocol, TypeVar, overload
+
+from . import values
 
 if TYPE_CHECKING:
     from .plans import Plan
@@ -12,6 +14,44 @@ if TYPE_CHECKING:
 
 R = TypeVar("R")
 MOST_SAID = 120
+
+
+def result_of(step: Step[Any] | str, states: dict[str, str], results: dict[str, Any]) -> Any:
+    """What a step returned that stands, of these. Raises `KeyError`, `Unstorable`."""
+    name = step if isinstance(step, str) else step.name
+    if name not in results:
+        raise KeyError(f"step {name!r} does not stand: it is {states[name]}" if name in states else f"there is no step {name!r}, but {', '.join(states)}")
+    return values.stored(results[name], name)
+
+
+class Ended(Protocol):
+    """How a saga ended, in a store or in a test."""
+
+    @property
+    def saga(self) -> str: ...
+    @property
+    def key(self) -> str: ...
+    @property
+    def phase(self) -> str: ...
+    @property
+    def states(self) -> dict[str, str]: ...
+    @property
+    def cost(self) -> int | None: ...
+    @property
+    def chain(self) -> list[str]: ...
+    @property
+    def aborted(self) -> bool: ...
+    @property
+    def errors(self) -> dict[str, str]: ...
+
+
+def end_text(end: Ended) -> str:
+    """It as a text: a line, and one for each step, with the first line of what that raised."""
+    cost = "" if end.cost is None else f", plan of cost {end.cost}"
+    chain = f", because of {' and '.join(end.chain)}" if end.chain else ""
+    said = {step: f": {error.strip().splitlines()[0][:MOST_SAID]}" for step, error in end.errors.items() if error.strip()}
+    head = f"{end.saga} {end.key}: {end.phase}{' (aborted)' if end.aborted else ''}{cost}{chain}"
+    return "\n".join([head, *(f"  {state:9} {step}{said.get(step, '')}" for step, state in end.states.items())])
 
 
 @dataclasses.dataclass(frozen=True, slots=True)
@@ -42,20 +82,18 @@ class End:
         """Whether each step is done and stands."""
         return self.phase == "ended" and all(state == "committed" for state in self.states.values())
 
-    def of(self, step: Step[R]) -> R:
-        """What a step returned that stands. Raises `KeyError` where it does not."""
-        return self.results[step.name]  # type: ignore[no-any-return]
+    @overload
+    def of(self, step: Step[R]) -> R: ...
+
+    @overload
+    def of(self, step: str) -> Any: ...
+
+    def of(self, step: Step[Any] | str) -> Any:
+        """What a step, or the one of this name, returned that stands. Raises `KeyError` where it does not, and `Unstorable` where that could not be stored."""
+        return result_of(step, self.states, self.results)
 
     def __str__(self) -> str:
-        cost = "" if self.cost is None else f", plan of cost {self.cost}"
-        chain = f", because of {' and '.join(self.chain)}" if self.chain else ""
-        head = f"{self.saga} {self.key}: {self.phase}{' (aborted)' if self.aborted else ''}{cost}{chain}"
-        return "\n".join([head, *(f"  {state:9} {step}{self._said(step)}" for step, state in self.states.items())])
-
-    def _said(self, step: str) -> str:
-        """The first line of what a step raised."""
-        error = self.errors.get(step, "").strip()
-        return f": {error.splitlines()[0][:MOST_SAID]}" if error else ""
+        return end_text(self)
 
 
 @dataclasses.dataclass(frozen=True, slots=True)

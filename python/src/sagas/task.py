@@ -3,7 +3,7 @@
 from __future__ import annotations
 
 from collections.abc import Callable
-from typing import TYPE_CHECKING, Any, Generic, TypeVar
+from typing import TYPE_CHECKING, Any, Generic, TypeVar, overload
 
 from . import values
 
@@ -86,13 +86,13 @@ class Task(Generic[I]):
 
     @property
     def results(self) -> dict[str, Any]:
-        """The results of all steps that this one needs, directly or not, by name: the same in each run."""
-        return {name: values.read(text, self._decoders.get(name)) for name, text in self._results.items()}
+        """The results of all steps that this one needs, directly or not, by name: the same in each run. One that could not be stored is `{"unstorable": why}`."""
+        return {name: values.kept(text, self._decoders.get(name)) for name, text in self._results.items()}
 
     @property
     def result(self) -> Any:
-        """In a compensation: what the step returned. In an action: None."""
-        return None if self._result is None else values.read(self._result, self._decoders.get(self.step))
+        """In a compensation: what the step returned. In an action: None. Raises `Unstorable` where that could not be stored."""
+        return None if self._result is None else values.returned(self._result, self._decoders.get(self.step), self.step)
 
     @property
     def plain(self) -> dict[str, Any]:
@@ -106,15 +106,22 @@ class Task(Generic[I]):
         told = {"saga": self.saga, "key": self.key, "step": self.step, "undo": self.undo, "attempt": self.attempt, "of": self._saga_token}
         return told | {"input": self._input, "results": self._results, "result": self._result}
 
-    def of(self, step: Step[R]) -> R:
-        """What a step returned that this one needs, directly or not."""
-        text = self._results.get(step.name)
+    @overload
+    def of(self, step: Step[R]) -> R: ...
+
+    @overload
+    def of(self, step: str) -> Any: ...
+
+    def of(self, step: Step[Any] | str) -> Any:
+        """What a step, or the one of this name, returned that this one needs, directly or not. Raises `Unstorable` where that could not be stored."""
+        name = step if isinstance(step, str) else step.name
+        text = self._results.get(name)
         if text is None:
-            if self.undo and step.name == self.step and self._result is not None:
+            if self.undo and name == self.step and self._result is not None:
                 text = self._result
             else:
-                raise KeyError(f"step {self.step!r} does not need {step.name!r}: name it in needs")
-        return values.read(text, self._decoders.get(step.name))  # type: ignore[no-any-return]
+                raise KeyError(f"step {self.step!r} does not need {name!r}: name it in needs")
+        return values.returned(text, self._decoders.get(name), name)
 
     def __repr__(self) -> str:
         return f"<task {self.token} of {self.key!r}>"

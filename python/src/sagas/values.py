@@ -14,9 +14,12 @@ import uuid
 from collections.abc import Callable, Iterable
 from typing import Any
 
-from .errors import NotJson
+from .errors import NotJson, Unstorable
 
 Decoder = Callable[[Any], Any]
+NUMBERS = {int, float, bool}
+UNSTORABLE = "unstorable"
+MOST_DEEP = 16
 
 
 def _default(value: Any) -> Any:
@@ -32,7 +35,15 @@ def _default(value: Any) -> Any:
         return value.isoformat()
     if isinstance(value, (uuid.UUID, decimal.Decimal)):
         return str(value)
+    if isinstance(value, (set, frozenset)):
+        return _in_order(value)
     raise TypeError(f"{type(value).__name__} is not JSON: give dicts, lists, texts, numbers, dataclasses or pydantic models")
+
+
+def _in_order(items: Iterable[Any]) -> list[Any]:
+    """The items of a set, always in the same order: numbers and texts as they are compared, all others by their JSON."""
+    kinds = {type(item) for item in items}
+    return sorted(items) if kinds <= NUMBERS or kinds == {str} else sorted(items, key=lambda item: "".join(_chunks(item, 0)))
 
 
 def _is_old_model(kind: type) -> bool:
@@ -84,23 +95,73 @@ def cleaned(words: Iterable[Any]) -> tuple[Any, ...]:
     return tuple(clean(word) if isinstance(word, str) else word for word in words)
 
 
-def write(value: Any) -> str:
-    """The value as canonical JSON: keys in order, no spaces. Raises `NotJson`."""
+def write(value: Any, name: str = "") -> str:
+    """The value as canonical JSON: keys in order, no spaces. Raises `NotJson`, which says where in the value that is; `name` is the whole's."""
     if value is None:
         return "null"
     try:
         return "".join(_chunks(value, 0))
-    except (TypeError, ValueError, RecursionError) as error:
-        text = str(error)
-        raise NotJson("the keys of a dict have to be texts, all of them" if text.startswith("'<' not supported") else text) from error
-    except Exception as error:  # of the value's own code
-        raise NotJson(f"{type(value).__name__}: {type(error).__name__}: {error}") from error
+    except Exception as error:  # also of the value's own code
+        where = name + _where(value, MOST_DEEP) if not isinstance(error, RecursionError) else name
+        raise NotJson(f"{where}: {_why(value, error)}" if where else _why(value, error)) from error
+
+
+def _why(value: Any, error: Exception) -> str:
+    text = str(error)
+    if text.startswith("'<' not supported"):
+        return "the keys of a dict have to be texts, all of them"
+    if text.startswith("Out of range float"):
+        return "NaN and what is infinite are not JSON: give a number, or None"
+    return text if isinstance(error, (TypeError, ValueError, RecursionError)) else f"{type(value).__name__}: {type(error).__name__}: {error}"
+
+
+def _where(value: Any, deep: int) -> str:
+    """The way to what is no JSON in a value that cannot be written: `["seats"][0].row`."""
+    parts: Iterable[tuple[str, Any]] = ()
+    if isinstance(value, dict):
+        parts = ((f"[{json.dumps(key) if isinstance(key, str) else repr(key)}]", item) for key, item in value.items())
+    elif isinstance(value, (list, tuple)):
+        parts = ((f"[{place}]", item) for place, item in enumerate(value))
+    elif dataclasses.is_dataclass(value) and not isinstance(value, type):
+        parts = ((f".{field.name}", getattr(value, field.name)) for field in dataclasses.fields(value))
+    for name, part in parts if deep else ():
+        try:
+            "".join(_chunks(part, 0))
+        except Exception:
+            return name + _where(part, deep - 1)
+    return ""
 
 
 def read(text: str, decoder: Decoder | None = None) -> Any:
     """The value that `write` wrote; a new one each time."""
     value = _decode(text)
     return value if decoder is None else decoder(value)
+
+
+def unstorable(value: Any) -> str | None:
+    """Of what is kept of a result that could not be stored, why it could not."""
+    said = value.get(UNSTORABLE) if type(value) is dict and len(value) == 1 else None
+    return said if isinstance(said, str) else None
+
+
+def stored(value: Any, step: str) -> Any:
+    """What a step returned, as it is kept. Raises `Unstorable` where it could not be stored."""
+    said = unstorable(value)
+    if said is not None:
+        raise Unstorable(f"{step!r} returned what is no JSON: {said}")
+    return value
+
+
+def returned(text: str, decoder: Decoder | None, step: str) -> Any:
+    """As `read`, of what a step returned. Raises `Unstorable` where that could not be stored."""
+    value = stored(_decode(text), step)
+    return value if decoder is None else decoder(value)
+
+
+def kept(text: str, decoder: Decoder | None) -> Any:
+    """As `read`, of what a step returned; what could not be stored is as it is kept."""
+    value = _decode(text)
+    return value if decoder is None or unstorable(value) is not None else decoder(value)
 
 
 def fitting(text: str, decoder: Decoder | None) -> Any:
@@ -110,7 +171,7 @@ def fitting(text: str, decoder: Decoder | None) -> Any:
 
 def fitted(value: Any, decoder: Decoder | None) -> Any:
     """As `fitting`, of a value that was read."""
-    if decoder is None:
+    if decoder is None or unstorable(value) is not None:
         return value
     try:
         return decoder(value)
@@ -124,9 +185,18 @@ def hints(function: Callable[..., Any]) -> tuple[Decoder | None, Decoder | None]
         told = typing.get_type_hints(inspect.unwrap(function))
     except Exception:  # a name that is only there for the checker: then values are read as they are
         return None, None
+    return decoder(input_hint(function)), decoder(told.get("return", Any))
+
+
+def input_hint(function: Callable[..., Any]) -> Any:
+    """The type of its input, of its parameter's hint `Task[Order]`; None where it says none."""
+    try:
+        told = typing.get_type_hints(inspect.unwrap(function))
+    except Exception:  # as in `hints`
+        return None
     given = [hint for name, hint in told.items() if name != "return"]
     words = typing.get_args(given[0]) if given else ()
-    return decoder(words[0]) if words else None, decoder(told.get("return", Any))
+    return words[0] if words else None
 
 
 def unread(function: Callable[..., Any]) -> str | None:
@@ -153,7 +223,7 @@ def decoder(hint: Any) -> Decoder | None:
         parts = [decoder(word) or _same for word in words]
         return lambda value: tuple(part(item) for part, item in zip(parts, value))
     if origin is dict:
-        return _of_dict(decoder(words[1]))
+        return _of_dict(_key(words[0]), decoder(words[1]))
     return None
 
 
@@ -211,11 +281,27 @@ def _of_items(make: Decoder, inner: Decoder | None) -> Decoder | None:
     return lambda value: make(part(item) for item in value)
 
 
-def _of_dict(inner: Decoder | None) -> Decoder | None:
-    if inner is None:
+def _key(hint: Any) -> Decoder | None:
+    """How to make a key of a dict, which JSON has as a text."""
+    if hint in (int, float):
+        return typing.cast(Decoder, hint)
+    if hint is bool:
+        return {"true": True, "false": False}.__getitem__
+    if isinstance(hint, type) and issubclass(hint, enum.Enum):
+        return _enum_key(hint)
+    return _BY_TEXT.get(hint) if isinstance(hint, type) else None
+
+
+def _enum_key(hint: type[enum.Enum]) -> Decoder:
+    by_text = {str(one.value): one for one in hint}
+    return lambda key: by_text[key] if key in by_text else hint(key)
+
+
+def _of_dict(key: Decoder | None, inner: Decoder | None) -> Decoder | None:
+    if key is None and inner is None:
         return None
-    part = inner
-    return lambda value: {key: part(item) for key, item in value.items()}
+    name, part = key or _same, inner or _same
+    return lambda value: {name(word): part(item) for word, item in value.items()}
 
 
 def _of_union(words: tuple[Any, ...]) -> Decoder | None:
