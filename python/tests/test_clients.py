@@ -61,13 +61,24 @@ def test_a_client_starts_and_waits(url: str) -> None:
                 assert len(await other.list(most=1000)) == 41 and [row.key for row in await one.list(phase="stuck")] == []
                 with pytest.raises(sagas.NoSuchSaga):
                     await one.wait("none")
-                with pytest.raises(sagas.NotJson):
+                with pytest.raises(sagas.BadKey):
                     await one.start(kind, "")
+                with pytest.raises(sagas.NotJson, match=r"input\[0\]: object is not JSON"):
+                    await one.start(kind, "new", [object()])
         with pytest.raises(sagas.Closed):
             await one.start(kind, "late")
 
     run(main())
     assert len(records.read(url).sagas) == 41 and inbox(url) == 0
+
+
+def test_what_a_client_is_not_made_with() -> None:
+    """Told before it connects."""
+    for url in (None, 5, "store.db"):
+        with pytest.raises(sagas.StoreFault, match="no URL of a database"):
+            sagas.Client(url)  # type: ignore[arg-type]
+    with pytest.raises(ValueError, match="connections=0: it is a whole number from 1 on"):
+        sagas.SyncClient("postgresql://h/a", connections=0)
 
 
 def test_a_start_waits_for_a_node(url: str, capsys: pytest.CaptureFixture[str]) -> None:

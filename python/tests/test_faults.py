@@ -131,6 +131,9 @@ def test_two_programs_open_one_store(tmp_path: pathlib.Path) -> None:
         process.stdout.close()
 
 
+MONTH = datetime.timedelta(days=30)
+
+
 def test_what_is_no_file(tmp_path: pathlib.Path) -> None:
     """What users of other programs give as a store, folders, and numbers that are none: told before anything is made."""
     saga = simple(lambda task: 1)
@@ -153,9 +156,77 @@ def test_what_is_no_file(tmp_path: pathlib.Path) -> None:
         with pytest.raises(kind, match=text):
             run(opened(name))
     assert [*tmp_path.iterdir()] == [tmp_path / "folder"]
-    for word, number in (("concurrency", 0), ("threads", 1.5), ("children", -1)):
+    for path in (None, b"store.db", 17):
+        with pytest.raises(sagas.StoreFault, match="a store is a file: give its path"):
+            sagas.open(path, [saga])  # type: ignore[arg-type]
+    for word, number in (("concurrency", 0), ("threads", 1.5), ("threads", 0), ("children", -1)):
         with pytest.raises(ValueError, match=f"{word}=.*from 1 on"):
             sagas.open(tmp_path / "store.db", [saga], **{word: number})  # type: ignore[arg-type]
+
+
+async def heard(event: sagas.Event) -> None: ...
+
+
+@pytest.mark.parametrize(
+    "words, kind, text",
+    [
+        ({"grace": "30s"}, TypeError, "grace='30s': it is seconds, or a timedelta: grace=30"),
+        ({"grace": -1}, ValueError, "grace=-1: .* of no less than nothing"),
+        ({"grace": True}, TypeError, "grace=True: it is seconds"),
+        ({"lease": "x"}, TypeError, "lease='x': it is seconds"),
+        ({"lease": 0}, ValueError, "lease=0: .* of more than 0"),
+        ({"idle": "x"}, TypeError, "idle='x': it is seconds"),
+        ({"idle": float("nan")}, ValueError, "idle=nan"),
+        ({"node": 5}, TypeError, 'node=5: it is a text, .* node="web-1"'),
+        ({"on_event": 5}, TypeError, "on_event=5: it is a function that is called with each Event"),
+        ({"on_event": heard}, TypeError, "on_event=.*: it is a plain function"),
+        ({"clock": 5}, TypeError, "clock=5: it is a function that gives seconds since 1970"),
+        ({"keep_ended": 30}, TypeError, r"keep_ended=30: it is a timedelta, .* as datetime.timedelta\(days=30\)"),
+        ({"export_ended": "."}, ValueError, "export_ended='.': .* without keep_ended="),
+        ({"keep_ended": MONTH, "export_ended": "none/archive"}, ValueError, "export_ended='none/archive': there is no folder .*/none: make it"),
+        ({"keep_ended": MONTH, "export_ended": __file__}, ValueError, "export_ended=.*: it is no folder"),
+        ({"keep_ended": MONTH, "export_ended": 5}, TypeError, "export_ended=5: it is the path of a folder"),
+    ],
+)
+def test_what_a_store_is_not_opened_with(tmp_path: pathlib.Path, words: dict[str, Any], kind: type[Exception], text: str) -> None:
+    """Each is refused at once, by its word, and nothing is made or locked."""
+    for way in (sagas.open, sagas.open_sync):
+        with pytest.raises(kind, match=f"^{text}"):
+            way(tmp_path / "store.db", [simple(lambda task: 1)], **words)
+    assert [*tmp_path.iterdir()] == []
+
+
+def test_times_of_a_store(tmp_path: pathlib.Path) -> None:
+    """`grace`, `lease` and `idle` are seconds or a timedelta, in `close` too."""
+    second = datetime.timedelta(seconds=1)
+
+    async def main() -> None:
+        ways: tuple[float | datetime.timedelta, ...] = (1, 1.0, second)
+        for time in ways:
+            async with sagas.open(tmp_path / "store.db", [simple(lambda task: 1)], grace=time, lease=time, idle=time) as store:
+                assert (await ended(store, store.sagas[0])).ok
+                with pytest.raises(TypeError, match="grace='x': it is seconds"):
+                    await store.close("x")  # type: ignore[arg-type]
+                await store.close(time)
+
+    run(main())
+
+
+def test_the_other_kind_of_with(tmp_path: pathlib.Path) -> None:
+    """`with` and `async with` each say what is meant, and nothing is locked by it."""
+    saga = simple(lambda task: 1)
+    path = tmp_path / "store.db"
+    with pytest.raises(TypeError, match=r"`async with`; without async use `with sagas\.open_sync"):
+        with sagas.open(path, [saga]):  # type: ignore[attr-defined]
+            pass
+
+    async def main() -> None:
+        with pytest.raises(TypeError, match=r"by `with`; with async use `async with sagas\.open\("):
+            async with sagas.open_sync(path, [saga]):  # type: ignore[attr-defined]
+                pass
+
+    run(main())
+    assert not path.exists()
 
 
 def test_a_function_forks(place: str) -> None:

@@ -5,6 +5,7 @@ from __future__ import annotations
 import asyncio
 import contextvars
 import contextlib
+import dataclasses
 import datetime
 import logging
 import os
@@ -23,6 +24,7 @@ import pytest
 
 import records
 import sagas
+import sagas.testing
 from cases import HOUR, Task, ended, run, simple, until
 from kills import children
 from sagas import child, lines, program, pump, sqlite_writer
@@ -85,6 +87,72 @@ def test_start_with_a_key_that_is_there(place: str) -> None:
 
     run(main())
     assert len(records.read(place).sagas) == 2
+
+
+def test_a_key_that_is_none(place: str) -> None:
+    """A name of its own, and a text that is not too long."""
+    saga = simple(lambda task: 1)
+
+    async def main() -> None:
+        async with sagas.open(place, [saga]) as store:
+            for key in (17, "", "a\n", "k" * 3000, None):
+                with pytest.raises(sagas.BadKey, match="^key=.*: a key is a text of 1 to 512 printable characters$") as error:
+                    await store.start(saga, key)  # type: ignore[arg-type]
+                assert isinstance(error.value, sagas.NotJson) and len(str(error.value)) < 180
+            for given, text in (({"a": {1, object()}}, r'input\["a"\]: object is not JSON'), ([0.0, float("nan")], r"input\[1\]: NaN")):
+                with pytest.raises(sagas.NotJson, match=text):
+                    await store.start(saga, "k", given)
+
+    run(main())
+
+
+@dataclasses.dataclass
+class Line:
+    """A part of an input."""
+
+    item: str
+    count: int = 1
+
+
+@dataclasses.dataclass
+class Order:
+    """What the first step reads."""
+
+    amount: int
+    lines: list[Line] = dataclasses.field(default_factory=list)
+
+
+@pytest.mark.parametrize(
+    "given, text",
+    [
+        (None, "input: Order is read from an object of JSON, and this is none: None"),
+        ({}, "input: Order has 'amount', which it lacks"),
+        ({"amuont": 4}, "input: Order has 'amount', which it lacks; it has 'amuont', which Order has not"),
+        ({"amount": 4, "lines": [{"item": "a"}, {"count": 2}]}, r"input\['lines'\]\[1\]: Line has 'item', which it lacks"),
+    ],
+)
+def test_an_input_that_the_first_step_cannot_read(place: str, given: Any, text: str) -> None:
+    """It is refused by its place, and nothing is begun; what is there is found by its key all the same."""
+    loose, strict = sagas.Saga("order"), sagas.Saga("order")
+    loose.step(name="charge")(lambda task: None)
+
+    @strict.step
+    def charge(task: sagas.Task[Order]) -> int:
+        return task.input.amount
+
+    async def main() -> None:
+        async with sagas.open(place, [loose]) as store:
+            assert (await ended(store, loose, "old", given)).ok
+        async with sagas.open(place, [strict]) as store:
+            with pytest.raises(sagas.BadInput, match=f"saga 'order', step 'charge': {text}"):
+                await store.start(strict, "new", given)
+            assert store.get("new") is None and (await ended(store, strict, "old", given)).ok
+            for well in (Order(4), {"amount": 4, "more": 1}):
+                assert (await ended(store, strict, f"well-{type(well)}", well)).results == {"charge": 4}
+
+    run(main())
+    with pytest.raises(sagas.BadInput, match=text):
+        sagas.testing.run(strict, given)
 
 
 def test_results(place: str) -> None:
@@ -502,7 +570,8 @@ def test_a_function_that_is_gone(place: str) -> None:
             async with sagas.open(place, [new]) as store:
                 assert store.list(phase="open")[0].key == "k"
             return
-        with pytest.raises(sagas.MissingHandler, match="'a'"):
+        listed = r"; open sagas: 1, which `sagas store .* list --phase open` lists"
+        with pytest.raises(sagas.MissingHandler, match=f"'a'.*{listed}"):
             async with sagas.open(place, [new]):
                 pass
         with pytest.raises(sagas.MissingHandler, match="'trip' .* not open the store with that saga"):

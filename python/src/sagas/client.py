@@ -9,10 +9,11 @@ from typing import TYPE_CHECKING, Any
 
 import psycopg
 
-from . import histories, links, moving, news, postgresql, postgresql_schema, requests, room, values
+from . import checks, histories, links, moving, news, postgresql, postgresql_schema, requests, room, values
 from .calling import Outcome, failure
+from .databases import FORM
 from .definition import Saga, Step
-from .errors import Closed, NoSuchSaga, NotJson, NotWaiting, StoreFault, TooLarge
+from .errors import Closed, NoSuchSaga, NotWaiting, StoreFault, TooLarge
 from .kinds import Kind, version_of
 from .records import SagaRow
 from .runs import End, Summary
@@ -21,7 +22,6 @@ from .schema import ROOM
 if TYPE_CHECKING:
     from .links import Row
 
-MOST_KEY = 512
 Connection = psycopg.AsyncConnection[Any]
 
 START = """
@@ -37,16 +37,10 @@ UNION ALL SELECT saga, input FROM sagas.inbox WHERE key = %(key)s AND id <> ALL(
 BACK = "DELETE FROM sagas.inbox WHERE id = ANY(%(own)s::bigint[])"
 
 
-def check_key(key: str) -> None:
-    """Raises `NotJson` where it is no key."""
-    if not isinstance(key, str) or not 0 < len(key) <= MOST_KEY or not key.isprintable():
-        raise NotJson(f"key={key!r}: a key is a text of 1 to {MOST_KEY} printable characters")
-
-
 def start_words(saga: Saga, key: str, input: Any) -> dict[str, Any]:
     """What a start writes."""
-    check_key(key)
-    return {"key": key, "saga": saga.name, "version": saga.version, "input": values.write(input)}
+    checks.key(key)
+    return {"key": key, "saga": saga.name, "version": saga.version, "input": values.write(input, "input")}
 
 
 def check_same(words: dict[str, Any], rows: builtins.list[Row]) -> None:
@@ -91,6 +85,9 @@ class Client:
 
     def __init__(self, url: str, *, connections: int = 4) -> None:
         """`connections`: how many statements are under way at once; one more connection listens."""
+        if not isinstance(url, str):
+            raise StoreFault(f"{checks.shown(url)}: this is no URL of a database in PostgreSQL: {FORM}")
+        checks.count("connections", connections)
         self._url, self.path = url, links.named(url)
         self._asker = links.Asker(url, self.path, connections)
         self._news: news.News | None = None

@@ -112,7 +112,9 @@ class Sqlite(questions.Questions):
         for row in rows:
             lacks = drives(row.texts, self.places(row.log)) if row.open else None
             if lacks:
-                raise MissingHandler(f"{self.path}: {lacks}. Give it again, or settle them first by the older program with open(.., new=False)")
+                count = sum(row.open for row in rows)
+                told = f"open sagas: {count:,}, which `sagas store {self.path} list --phase open` lists"
+                raise MissingHandler(f"{self.path}: {lacks}. Give it again, or settle them first by the older program with open(.., new=False); {told}")
         return rows
 
     def _make(self) -> None:

@@ -14,16 +14,16 @@ import os
 import signal
 from collections.abc import Callable, Iterable
 from types import TracebackType
-from typing import Any
+from typing import TYPE_CHECKING, Any
 
-from . import auditing, databases, faults, histories, moving, program, requests, retention, starting, values
+from . import auditing, checks, databases, histories, moving, program, requests, retention, starting, values
 from .anywhere import Anywhere
 from .calling import MOST_TEXT, Outcome, failure
 from .coordinator import Coordinator
 from .database import Reader
-from .definition import Saga, Step
+from .definition import Saga, Seconds, Step
 from .elsewhere import Leased, Queue, Word
-from .errors import Closed, KeyConflict, Moved, NoSuchSaga, NotJson, NotWaiting, SagasError, StoreUnwritable
+from .errors import Closed, KeyConflict, Moved, NoSuchSaga, NotWaiting, SagasError, StoreUnwritable
 from .events import Hook, Teller, logger
 from .guessing import Guessing
 from .kinds import Kind, Shelf
@@ -32,8 +32,7 @@ from .plans import Plan
 from .records import Asked, Wanted, SagaRow
 from .runs import End, Held, LogEvent, Run, Summary
 
-MOST_KEY = 512
-Grace = float | datetime.timedelta | None
+Grace = Seconds | None
 
 
 class Store:
@@ -41,20 +40,25 @@ class Store:
 
     def __init__(
         self, path: str | os.PathLike[str], sagas: Iterable[Saga], *, concurrency: int, new: bool, children: int, threads: int | None, grace: Grace,
-        idle: float, on_event: Hook | None, clock: Callable[[], float], program: str | None, node: str | None = None, lease: float = 10.0,
-        keep_ended: float | None = None, export_ended: str | os.PathLike[str] | None = None,
+        idle: Seconds, on_event: Hook | None, clock: Callable[[], float], program: str | None, node: str | None = None, lease: Seconds = 10.0,
+        keep_ended: datetime.timedelta | None = None, export_ended: str | os.PathLike[str] | None = None,
     ) -> None:
-        for word, number in (("concurrency", concurrency), ("children", children), ("threads", threads or concurrency)):
-            if not faults.is_count(number) or number < 1:
-                raise ValueError(f"{word}={number!r}: it is a whole number from 1 on")
-        self.path = self._name = os.fspath(path)
+        threads = concurrency if threads is None else threads
+        for word, number in (("concurrency", concurrency), ("children", children), ("threads", threads)):
+            checks.count(word, number)
+        checks.calls("clock", clock, "that gives seconds since 1970, as time.time does")
+        if on_event is not None:
+            checks.calls("on_event", on_event, "that is called with each Event")
+        checks.node(node)
+        checks.keeping(keep_ended, export_ended)
+        self.path = self._name = checks.path(path)
         if databases.is_url(self._name):
             self.path = "PostgreSQL"
-        self.new, self._node, self._lease, self._most = new, node, lease, concurrency
+        self.new, self._node, self._lease, self._most = new, node, checks.time("lease", lease, none=False), concurrency
         self._keep_ended, self._export_ended = keep_ended, export_ended
         self._shelf = Shelf(sagas)
-        self._words = {"concurrency": concurrency, "threads": threads or concurrency, "children": children, "idle": idle, "clock": clock}
-        self._grace = grace.total_seconds() if isinstance(grace, datetime.timedelta) else grace
+        self._words = {"concurrency": concurrency, "threads": threads, "children": children, "idle": checks.time("idle", idle), "clock": clock}
+        self._grace = None if grace is None else checks.time("grace", grace)
         self._teller, self._program = Teller(on_event, clock), program
         self._coordinator: Coordinator | None = None
         self._finding: dict[str, asyncio.Future[None]] = {}  # keys that are about to be started
@@ -90,8 +94,15 @@ class Store:
             coordinator.listeners.append(starting.Starts(coordinator).look)
         database.watch(coordinator)
         if self._keep_ended is not None:
-            coordinator.spawn(retention.keep(coordinator, self._name, self._keep_ended, self._export_ended))
+            coordinator.spawn(retention.keep(coordinator, self._name, self._keep_ended.total_seconds(), self._export_ended))
         return self
+
+    if not TYPE_CHECKING:  # a checker says so by itself
+
+        def __enter__(self) -> Store:
+            raise TypeError(f"{self.path}: a store of sagas.open is used by `async with`; without async use `with sagas.open_sync(..)`")
+
+        def __exit__(self, *_: object) -> None: ...
 
     async def __aexit__(self, kind: type[BaseException] | None, error: BaseException | None, trace: TracebackType | None) -> None:
         await self.close()
@@ -100,11 +111,11 @@ class Store:
         """Takes nothing new; running functions end and are kept, or are cancelled after `grace` (seconds or timedelta; by default as `open` was told).
 
         Who still waits gets `Closed`. What was cancelled runs again, with its token, when the store is opened again."""
-        seconds = grace.total_seconds() if isinstance(grace, datetime.timedelta) else grace
+        seconds = self._grace if grace is None else checks.time("grace", grace)
         if hasattr(self, "_requests"):
             self._requests.stop()
         if self._coordinator:
-            await self._coordinator.close(self._grace if seconds is None else seconds)
+            await self._coordinator.close(seconds)
 
     @property
     def _inside(self) -> Coordinator:
@@ -129,15 +140,15 @@ class Store:
         """Starts a saga, or gives the one that this key has, whatever became of it. When it returns, the saga goes on whatever becomes of the program.
 
         Raises `KeyConflict` where the key has another saga or another input, `StoreUnwritable` where nothing could be begun, `TooLarge` where it fits
-        into no log, `NotJson`, `Closed`."""
+        into no log, `BadKey`, `BadInput`, `NotJson`, `Closed`."""
         inside = self._here()
-        if not isinstance(key, str) or not 0 < len(key) <= MOST_KEY or not key.isprintable():
-            raise NotJson(f"key={key!r}: a key is a text of 1 to {MOST_KEY} printable characters")
-        place, text = self._shelf.place(saga), values.write(input)
+        checks.key(key)
+        place, text = self._shelf.place(saga), values.write(input, "input")
         kind = self._shelf.kinds[place]
-        looks = inside.store.shared or not self.new or not kind.fits  # else it is looked for with others, where it is placed
+        wrong = kind.misfit(input, text)
+        looks = inside.store.shared or not self.new or not kind.fits or wrong  # else it is looked for with others, where it is placed
         live = await self._live(key)
-        guesses = live is None and self._guesses(kind)
+        guesses = live is None and wrong is None and self._guesses(kind)
         row = await self._find(key) if looks and not guesses and live is None else None
         live = inside.lives.get(key)  # another start of it may have come meanwhile
         there = (live.kind.name, live.text) if live else (row.saga, row.input) if row else None
@@ -153,6 +164,8 @@ class Store:
             raise Closed(f"{self.path}: it was opened with new=False, and takes no new sagas")
         elif not kind.fits:
             raise kind.too_large()
+        elif wrong:
+            raise wrong
         else:
             return await self._begin(inside.new_live(key, text, kind, place), guesses)
         if live and not live.committed:

@@ -3,14 +3,13 @@
 from __future__ import annotations
 
 import builtins
-import datetime
 import signal
 import threading
 from collections.abc import Callable, Coroutine
 from types import TracebackType
-from typing import Any, TypeVar
+from typing import TYPE_CHECKING, Any, TypeVar
 
-from .definition import Saga, Step
+from .definition import Saga, Seconds, Step
 from .plans import Plan
 from .runs import End, Held, LogEvent, Summary
 from .store import Store
@@ -65,10 +64,17 @@ class SyncStore:
             raise
         return self
 
+    if not TYPE_CHECKING:  # a checker says so by itself
+
+        async def __aenter__(self) -> SyncStore:
+            raise TypeError(f"{self._store.path}: a store of sagas.open_sync is used by `with`; with async use `async with sagas.open(..)`")
+
+        async def __aexit__(self, *_: object) -> None: ...
+
     def __exit__(self, kind: type[BaseException] | None, error: BaseException | None, trace: TracebackType | None) -> None:
         self.close()
 
-    def close(self, grace: float | datetime.timedelta | None = None) -> None:
+    def close(self, grace: Seconds | None = None) -> None:
         """As `Store.close`."""
         if self._loop.runs:
             try:
