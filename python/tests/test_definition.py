@@ -16,6 +16,7 @@ from typing import Any
 import pytest
 
 import sagas
+import sagas.testing
 from cases import Task, ended, run
 from driving import program
 
@@ -57,6 +58,14 @@ def test_toml(tmp_path: pathlib.Path) -> None:
     path = tmp_path / "trip.toml"
     path.write_text(text)
     assert subprocess.run([program(), "draw", str(path)], capture_output=True, check=True).stdout.startswith(b"digraph")
+
+
+def test_what_the_package_shows() -> None:
+    """Its names for users, and none of the modules inside."""
+    shown = dir(sagas)
+    assert set(sagas.__all__) < set(shown) and {"testing", "celery", "looks", "__version__"} < set(shown)
+    assert not {"coordinator", "pump", "sqlite", "definition"} & set(shown) and len(shown) == len(set(shown))
+    assert all(hasattr(sagas, name) for name in shown)
 
 
 def test_draw() -> None:
@@ -236,8 +245,40 @@ def a_step_on_a_circle(saga: sagas.Saga) -> None:
     saga.step(name="b", needs=["a"])(lambda task: None)
 
 
-def an_approval_within_a_number(saga: sagas.Saga) -> None:
-    @saga.approval(within=3600)  # type: ignore[call-overload, misc]
+def an_approval_within_a_text(saga: sagas.Saga) -> None:
+    @saga.approval(within="3600")  # type: ignore[call-overload, misc]
+    def a(task: Task) -> None: ...
+
+
+def an_approval_within_no_time(saga: sagas.Saga) -> None:
+    @saga.approval(within=0)
+    def a(task: Task) -> None: ...
+
+
+def a_decorator_as_a_need(saga: sagas.Saga) -> None:
+    pause = saga.wait(until=datetime.timedelta(1), name="pause")
+
+    @saga.step(needs=[pause])  # type: ignore[list-item]
+    def a(task: Task) -> None: ...
+
+
+def a_wait_that_is_left_alone(saga: sagas.Saga) -> None:
+    saga.step(name="a")(lambda task: None)
+    saga.wait(until=datetime.timedelta(1), name="pause")
+
+
+def an_approval_that_is_left_alone(saga: sagas.Saga) -> None:
+    saga.step(name="a")(lambda task: None)
+    saga.approval(name="review")
+
+
+def a_pause_that_is_less_than_the_first(saga: sagas.Saga) -> None:
+    @saga.step(backoff=sagas.Backoff(first=1, most=0.1))
+    def a(task: Task) -> None: ...
+
+
+def a_rate_in_a_text(saga: sagas.Saga) -> None:
+    @saga.step(rate=(100, "minute"))  # type: ignore[arg-type]
     def a(task: Task) -> None: ...
 
 
@@ -253,13 +294,13 @@ def no_name(saga: sagas.Saga) -> None:
 FAULTY: list[tuple[Callable[[sagas.Saga], None], str]] = [
     (two_of_a_name, "another step"),
     (no_argument, "one argument"),
-    (a_generator, "generator"),
+    (a_generator, "a generator, which would not be run: let it return its result"),
     (a_need_that_is_not_there, "no step is named"),
     (a_need_twice, "twice"),
     (a_circle, "a needs b needs a"),
-    (undo_without_a_compensation, "no compensation"),
+    (undo_without_a_compensation, "undo=3, and it has no compensation: give it one, by @a.compensation, or say undo=0 where there is nothing to undo"),
     (never_with_a_compensation, "never called"),
-    (two_compensations, "two compensations"),
+    (two_compensations, "two compensations: one undoes all that it did: let it call both, or drop one"),
     (a_price_below_0, "whole number"),
     (a_price_that_is_no_number, "whole number"),
     (ten_tries, "1 to 9"),
@@ -276,7 +317,13 @@ FAULTY: list[tuple[Callable[[sagas.Saga], None], str]] = [
     (a_need_that_is_misspelt, "is 'flight' meant?"),
     (a_need_that_is_no_step, "make it one by @s.step"),
     (a_step_on_a_circle, "step 'a': is in a cycle of needs: a needs b needs a"),
-    (an_approval_within_a_number, "a timedelta"),
+    (an_approval_within_a_text, "seconds or a timedelta"),
+    (an_approval_within_no_time, "of more than 0"),
+    (a_decorator_as_a_need, "needs what s.wait(..) gave"),
+    (a_wait_that_is_left_alone, "s.wait(..) declares nothing yet: it is a decorator: put it on a function"),
+    (an_approval_that_is_left_alone, "s.approval(..) declares nothing yet: it is a decorator: put it on a function"),
+    (a_pause_that_is_less_than_the_first, "give most=1 or more"),
+    (a_rate_in_a_text, "seconds or a timedelta"),
     (one_exception_by_itself, "unknown=(TimeoutError,)"),
     (no_name, "by name="),
 ]
@@ -331,6 +378,102 @@ def test_a_compensation_that_is_never_called(tmp_path: pathlib.Path, caplog: pyt
     assert [record.getMessage() for record in caplog.records if record.levelname == "WARNING"] == [warning]
 
 
+def chained(receipt: Any = ..., behind: bool = True) -> tuple[sagas.Saga, list[str]]:
+    """A charge, a receipt for it whose undoing is said or not, and something behind that fails; and what is undone of it, as it is."""
+    saga, undone = sagas.Saga("order"), list[str]()
+    charge = saga.step(name="charge")(lambda task: None)
+    charge.compensation(lambda task: undone.append(task.step))
+    said = saga.step(name="receipt", needs=[charge], **({} if receipt is ... else {"undo": receipt}))(lambda task: None)
+
+    def send(task: Task) -> None:
+        raise sagas.Fail("no such address")
+
+    if behind:
+        saga.step(name="send", needs=[said])(send)
+    return saga, undone
+
+
+def test_nothing_to_undo(place: str) -> None:
+    """A step without a compensation keeps what it needs from being undone; with `undo=0` it is undone by doing nothing."""
+    kept, gone = chained()[0], chained(0)
+    gone[0].name = "gone"
+
+    async def main() -> tuple[sagas.End, sagas.End, str, list[str | None]]:
+        async with sagas.open(place, [kept, gone[0]]) as store:
+            ends = await ended(store, kept, "kept"), await ended(store, gone[0], "gone")
+            plans = store.plan("kept"), store.plan("gone")
+            assert plans[0] and plans[1]
+            return *ends, str(plans[0]), [choice.needed_by for choice in plans[1].choices]
+
+    one, other, told, needed = run(main())
+    assert told.splitlines()[2:] == [
+        "  charge   committed         0      0  stands: receipt needs it",
+        "  receipt  committed         0  never  stands",
+        "  send     failed        never      0  is left out",
+    ]
+    assert needed == [None, None, None]
+    assert one.states == {"charge": "committed", "receipt": "committed", "send": "failed"}
+    assert other.states == {"charge": "undone", "receipt": "undone", "send": "failed"} and gone[1] == ["charge"]
+
+
+def test_a_compensation_behind_undo_0() -> None:
+    """One that is declared takes the place of doing nothing."""
+    saga, undone = chained(0)
+    saga.steps[1].compensation(lambda task: undone.append(task.step))
+    assert sagas.testing.run(saga).states["charge"] == "undone" and undone == ["receipt", "charge"]
+    assert saga.toml() == chained(0)[0].toml()
+
+
+def test_what_keeps_others_from_being_undone() -> None:
+    """A step without a compensation that does not say what is meant, behind a compensation; quiet where nothing behind or beside it may fail."""
+    saga = chained()[0]
+    (warning,) = saga.warnings()
+    assert warning == (
+        f"{saga.steps[1].where}: saga 'order', step 'receipt' has no compensation: once it is done, 'charge', which it needs, is never undone; "
+        "say undo=0 where there is nothing to undo, or undo=NEVER where that is meant"
+    )
+    assert warning.startswith(f"{__file__}:")
+    for quiet in (chained(0), chained(sagas.NEVER), chained(behind=False)):
+        assert quiet[0].warnings() == []
+
+
+def test_what_keeps_others_is_told_once() -> None:
+    """Beside the last step too; all that it keeps is named, and not what a step before it keeps already."""
+    saga = chained()[0]
+    hire = saga.step(name="hire")(lambda task: None)
+    hire.compensation(lambda task: None)
+    saga.step(name="mail", needs=["send", hire])(lambda task: None)
+    saga.step(name="beside")(lambda task: None)
+    told = [warning.split("step ", 1)[1].partition("; say")[0] for warning in saga.warnings()]
+    assert told == [
+        "'receipt' has no compensation: once it is done, 'charge', which it needs, is never undone",
+        "'mail' has no compensation: once it is done, 'hire', which it needs, is never undone",
+    ]
+    saga = sagas.Saga("two")
+    for name in ("a", "b"):
+        saga.step(name=name)(lambda task: None).compensation(lambda task: None)
+    saga.step(name="c", needs=["a", "b"])(lambda task: None)
+    saga.step(name="d")(lambda task: None)
+    (warning,) = saga.warnings()
+    assert "'a' and 'b', which it needs, are never undone" in warning
+
+
+def test_why_a_step_stands() -> None:
+    """Because another that stands, or is run, needs it; not where it costs less that it stands, or cannot go."""
+    text = '''
+        format = 2
+        name = "s"
+        step = [
+            {name = "a", keep = 1}, {name = "b", needs = ["a"], undo = 5, keep = 3}, {name = "c", needs = ["a"], skip = 9},
+            {name = "d", undo = "never", needs = ["b"]}, {name = "e", needs = ["a"]},
+        ]
+    '''
+    states = ["committed", "committed", "waiting", "committed", "failed"]
+    plan = sagas.Plan("s", "k", text, {"states": states}, {"cost": 4, "kept": [0, 1, 2, 3]})
+    assert [choice.told for choice in plan.choices] == ["stands: b needs it", "stands", "is run", "stands", "is left out"]
+    assert [choice.decided for choice in plan.choices] == ["stands", "stands", "is run", "stands", "is left out"]
+
+
 def test_hints_that_are_not_read() -> None:
     """A name that is there for the checker alone: `open` says that values are as JSON has them."""
     saga = sagas.Saga("s")
@@ -352,6 +495,38 @@ def test_decorators_with_and_without_words() -> None:
     assert (review.kind, review.name, review.within) == ("approval", "review", None)
     with pytest.raises(sagas.DefinitionError, match=r"test_definition\.py:\d+: saga 's': handler="):
         saga.step(handler=print, name="x")  # type: ignore[call-overload]
+
+
+def test_a_decorator_that_is_left_alone() -> None:
+    """A step or a compensation that was to be: told where it stands. One decorator may make several steps."""
+    saga = sagas.Saga("s")
+    both = saga.step(tries=2)
+
+    @both
+    def a(task: Task) -> None: ...
+
+    @both
+    def b(task: Task) -> None: ...
+
+    assert [step.run.tries for step in saga.steps] == [2, 2] and saga.toml()
+    a.compensation(tries=2)
+    with pytest.raises(sagas.DefinitionError, match=r"test_definition\.py:\d+: saga 's': a\.compensation\(\.\.\) declares nothing yet: it is a decorator"):
+        saga.toml()
+
+
+def test_times_are_seconds_or_a_timedelta() -> None:
+    """Of an approval and of a rate, as of `timeout`; pauses that are cut since nobody said what is the longest are a warning."""
+    saga = sagas.Saga("s")
+    minute = datetime.timedelta(minutes=1)
+    ways: tuple[tuple[str, float | datetime.timedelta], ...] = ("a", minute), ("b", 60)
+    for name, time in ways:
+        step = saga.step(name=name, rate=(100, time))(lambda task: None)
+        assert step.bounds is not None and step.bounds.rate == (100, 60)
+        assert saga.approval(name=f"{name}2", within=time)(lambda task: None).within == minute
+    assert saga.warnings() == []
+    saga.step(name="c", tries=2, backoff=sagas.Backoff(first=300))(lambda task: None)
+    (warning,) = saga.warnings()
+    assert "the pauses of its function are 60.0 s, not 300 s: say sagas.Backoff(first=300, most=300)" in warning
 
 
 # -- types ---------------------------------------------------------------------------------------------------------------

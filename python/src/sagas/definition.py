@@ -52,6 +52,11 @@ def seconds(time: Seconds) -> float:
     return time.total_seconds() if isinstance(time, datetime.timedelta) else time
 
 
+def _rate(rate: Any) -> Any:
+    """So many calls in a time, with the time in seconds."""
+    return (rate[0], seconds(rate[1])) if isinstance(rate, tuple) and len(rate) == 2 else rate
+
+
 @dataclasses.dataclass(frozen=True, slots=True)
 class Backoff:
     """How long to wait before the next try: `first` seconds, then `factor` times as long each time, `most` seconds at most."""
@@ -71,6 +76,19 @@ class Bounds:
 
     limit: int | None = None
     rate: tuple[int, float] | None = None
+
+
+class Decorator:
+    """What `saga.step(..)`, `saga.wait(..)`, `saga.approval(..)` and `step.compensation(..)` give, until it is put on a function."""
+
+    def __init__(self, saga: Saga, what: str, name: str | None, declare: Callable[[Any], Any]) -> None:
+        self.where, self.what, self.name, self._declare, self._saga = faults.caller(3), what, name, declare, saga
+        saga.decorators.append(self)
+
+    def __call__(self, function: Callable[[Any], Any]) -> Any:
+        if self in self._saga.decorators:
+            self._saga.decorators.remove(self)
+        return self._declare(function)
 
 
 class Declare(Protocol):
@@ -98,7 +116,7 @@ class Manner:
     transaction: bool = False
     """It is a transaction in the store's database, which its result is part of."""
     implied: bool = False
-    """Nobody declared it: a wait or an approval is undone by doing nothing."""
+    """Nobody declared it: a wait, an approval, or a step with `undo=0` is undone by doing nothing."""
     run_on: RunOn | None = None
     """Where it is called, if not in the program that has the store."""
 
@@ -169,7 +187,7 @@ class Step(Generic[R]):
         def declare(function: Callable[[Any], Any] | None) -> Callable[[Any], Any] | None:
             where = faults.place(function) or faults.caller(3)
             if self.has_compensation and not self.undo.implied:
-                raise faults.of_step(self, "has two compensations", where)
+                raise faults.of_step(self, "has two compensations: one undoes all that it did: let it call both, or drop one", where)
             if self._prices["undo"] is NEVER:
                 raise faults.of_step(self, "has a compensation, and undo=NEVER says that it is never called", where)
             unknowns = self.run.unknown if unknown is None else unknown
@@ -181,7 +199,9 @@ class Step(Generic[R]):
                 self.undo.run_on.declare(self, "undo", self.undo)
             return function
 
-        return declare(function) if function is not None or handler is None else declare
+        if function is not None or handler is None:
+            return declare(function)
+        return Decorator(self.saga, f"{self.name}.compensation", None, declare)
 
     def __call__(self, task: Any) -> Any:
         """Calls the function itself, for tests of it."""
@@ -202,6 +222,8 @@ class Saga:
     def __init__(self, name: str, *, version: int = 1) -> None:
         self.name, self.version, self.where = name, version, faults.caller(2)
         self.steps: list[Step[Any]] = []
+        self.decorators: list[Decorator] = []
+        """Those that were put on no function yet."""
         faults.check_name(self)
 
     @overload
@@ -221,7 +243,7 @@ class Saga:
         self, function: None = None, /, *, name: str | None = None, needs: Iterable[Step[Any] | str] = (), run: Price = 0, undo: Price | None = None, skip: Price = 0,
         keep: Price = 0, tries: int = 1, timeout: Seconds | None = None, backoff: Backoff = Backoff(), unknown: Unknowns = UNKNOWN,
         unknown_most: int | datetime.timedelta | None = None, limit: int | None = None, transaction: bool = False, run_on: RunOn | None = None,
-        fleet_limit: int | None = None, rate: tuple[int, float] | None = None,
+        fleet_limit: int | None = None, rate: tuple[int, Seconds] | None = None,
     ) -> Declare: ...
 
     def step(
@@ -229,18 +251,20 @@ class Saga:
         undo: Price | None = None, skip: Price = 0, keep: Price = 0, tries: int = 1, timeout: Seconds | None = None, backoff: Backoff = Backoff(),
         unknown: Unknowns = UNKNOWN, unknown_most: int | datetime.timedelta | None = None, limit: int | None = None,
         transaction: bool = False, handler: types.EllipsisType | None = ..., run_on: RunOn | None = None, fleet_limit: int | None = None,
-        rate: tuple[int, float] | None = None,
+        rate: tuple[int, Seconds] | None = None,
     ) -> Any:
         """Decorator: the function is a step. `@saga.step` and `@saga.step(..)` both do. Plain functions run in threads, async ones in the loop.
 
         - `needs`: the steps, or their names, on whose effects it stands. It runs once they are done, and is undone before they are.
         - `run`, `undo`, `skip`, `keep`: what it costs to run it, to undo it, to end without it, and that it stands after the saga failed.
+          Without a compensation it is never undone (`undo=NEVER`), and then neither is what it needs; with `undo=0` it is undone by doing nothing:
+          for what leaves nothing to undo.
         - `tries`: 1 to 9. `backoff`: the seconds between them.
         - `timeout`: seconds, or a timedelta; whoever takes longer has an outcome that nobody knows (see `Unknown`). A thread cannot be stopped: it is waited for.
         - `unknown`: exceptions after which nobody knows; by default timeouts and lost connections. `unknown_most`: after more than so many of them,
           or so long a time since the first, the saga waits for a person (`Store.unknown`, `Store.finish`).
         - `limit`: how many of this step may run at once in this program, over all sagas. `fleet_limit`: over all nodes of the store.
-        - `rate=(100, 60)`: in any 60 seconds 100 calls of it at most begin, tries too, over all nodes. Who is over a limit or a rate waits, and holds
+        - `rate=(100, 60)`, or with a timedelta: in any 60 seconds 100 calls of it at most begin, tries too, over all nodes. Who is over a limit or a rate waits, and holds
           back no other step; a compensation has neither.
         - `transaction=True`, over PostgreSQL: `task.connection` is a psycopg connection to the store's database, in a transaction that begins with
           its first statement. What the function writes there and its result are committed together, so that it happens exactly once; raising
@@ -256,11 +280,11 @@ class Saga:
             manner = Manner(function, tries, timeout if timeout is None else seconds(timeout), backoff, unknown, unknown_most, function is None, transaction, run_on=run_on)
             step = self._add(function, name, "step", needs, {"run": run, "undo": undo, "skip": skip, "keep": keep}, manner, limit)
             if fleet_limit is not None or rate is not None:
-                step.bounds = Bounds(fleet_limit, rate)
+                step.bounds = Bounds(fleet_limit, _rate(rate))
                 faults.check_bounds(step, step.bounds)
             return step
 
-        return declare(function) if function is not None or handler is None else declare
+        return declare(function) if function is not None or handler is None else Decorator(self, f"{self.name}.step", name, declare)
 
     def wait(
         self, *, until: Until, name: str | None = None, needs: Iterable[Step[Any] | str] = (), undo: Price | None = None, skip: Price = 0, keep: Price = 0,
@@ -279,7 +303,7 @@ class Saga:
             faults.check_until(step, until)
             return step
 
-        return declare
+        return Decorator(self, f"{self.name}.wait", name, declare)
 
     @overload
     def approval(self, function: Callable[[Any], Awaitable[R]], /) -> Step[R]: ...
@@ -290,28 +314,28 @@ class Saga:
     @overload
     def approval(
         self, function: None = None, /, *, name: str | None = None, needs: Iterable[Step[Any] | str] = (), undo: Price | None = None, skip: Price = 0,
-        within: datetime.timedelta | None = None, tries: int = MANY_TRIES, timeout: Seconds | None = None, backoff: Backoff = Backoff(),
+        within: Seconds | None = None, tries: int = MANY_TRIES, timeout: Seconds | None = None, backoff: Backoff = Backoff(),
     ) -> Declare: ...
 
     def approval(
         self, function: Callable[[Any], Any] | None = None, /, *, name: str | None = None, needs: Iterable[Step[Any] | str] = (),
-        undo: Price | None = None, skip: Price = 0, within: datetime.timedelta | None = None, tries: int = MANY_TRIES, timeout: Seconds | None = None,
+        undo: Price | None = None, skip: Price = 0, within: Seconds | None = None, tries: int = MANY_TRIES, timeout: Seconds | None = None,
         backoff: Backoff = Backoff(),
     ) -> Any:
         """Decorator: a step that a person, or another program, says done or failed by `Store.finish`. `@saga.approval` does, too.
 
-        Its function asks for that (sends the mail, say), and returns nothing. Where nobody has said anything `within` the time since, it has failed.
+        Its function asks for that (sends the mail, say), and returns nothing. Where nobody has said anything `within` the time since (seconds, or a
+        timedelta), it has failed.
         A saga that is undone meanwhile does not wait for it; that counts as one of its `tries`. Without a compensation it is undone by doing nothing;
         `undo=NEVER` says that it cannot be taken back."""
 
         def declare(function: Callable[[Any], Any]) -> Step[Any]:
             manner = Manner(function, tries, timeout if timeout is None else seconds(timeout), backoff)
             step = self._add(function, name, "approval", needs, {"run": 0, "undo": undo, "skip": skip, "keep": 0}, manner, None)
-            step.within = within
-            faults.check_within(step, within)
+            step.within = faults.within(step, within)
             return step
 
-        return declare if function is None else declare(function)
+        return Decorator(self, f"{self.name}.approval", name, declare) if function is None else declare(function)
 
     def _add(
         self, function: Callable[[Any], Any] | None, name: str | None, kind: str, needs: Iterable[Step[Any] | str], prices: dict[str, Price | None],
@@ -321,7 +345,7 @@ class Saga:
         named = name or str(getattr(function, "__name__", "?"))
         step: Step[Any] = Step(self, named, where, kind, faults.listed(needs, self, named, where), prices, manner)
         step.limit = limit
-        if kind != "step" and prices["undo"] is not NEVER:
+        if prices["undo"] is not NEVER and (kind != "step" or prices["undo"] == 0):
             step.undo = Manner(nothing, implied=True)
         faults.check_step(step)
         self.steps.append(step)
@@ -334,8 +358,8 @@ class Saga:
         faults.check_saga(self)
 
     def warnings(self) -> list[str]:
-        """What is sound and probably not meant: compensations that can never be called, type hints that cannot be read, more steps and needs
-        than a log has room for. `open` logs them."""
+        """What is sound and probably not meant: compensations that can never be called, steps without one that keep what they need from being
+        undone, type hints that cannot be read, more steps and needs than a log has room for. `open` logs them."""
         return faults.warnings(self)
 
     def toml(self) -> str:

@@ -7,7 +7,7 @@ import difflib
 import inspect
 import re
 import sys
-from collections.abc import Iterable
+from collections.abc import Iterable, Iterator
 from typing import TYPE_CHECKING, Any
 
 from . import room, values
@@ -18,8 +18,8 @@ if TYPE_CHECKING:
 
 NAME = re.compile(r"[a-z][a-z0-9_-]{0,31}\Z")
 NAMES = "a name has 1 to 32 of a-z 0-9 _ -, the first a letter"
-MOST_TOLD = 8  # steps of a cycle
-MOST_PLACES, MOST_SECONDS = 10_000, 31 * 86400
+MOST_TOLD = 8  # steps
+MOST_PLACES, MOST_SECONDS, MOST_WITHIN = 10_000, 31 * 86400, 1e11
 MOST_STEPS, MOST_NEEDS, MOST_PRICE, MOST_TRIES = 1024, 8192, 1_000_000_000, 9
 
 
@@ -83,14 +83,16 @@ def check_bounds(step: Step[Any], bounds: Bounds) -> None:
         return
     good = isinstance(bounds.rate, tuple) and len(bounds.rate) == 2 and is_count(bounds.rate[0]) and 1 <= bounds.rate[0] <= MOST_PLACES
     if not good or not isinstance(bounds.rate[1], (int, float)) or not 0 < bounds.rate[1] <= MOST_SECONDS:
-        raise of_step(step, f"rate={bounds.rate!r}: it is (calls, seconds), 1 to {MOST_PLACES:,} calls in up to {MOST_SECONDS:,} seconds")
+        raise of_step(step, f"rate={bounds.rate!r}: it is (calls, seconds or a timedelta), 1 to {MOST_PLACES:,} calls in up to {MOST_SECONDS:,} seconds")
 
 
 def _check_needs(step: Step[Any]) -> None:
-    from .definition import Step
+    from .definition import Decorator, Step
 
     seen = set()
     for need in step._needs:
+        if isinstance(need, Decorator):
+            raise of_step(step, f"needs what {need.what}(..) gave, at {need.where}: it is a decorator: put it on a function, which makes a step of that")
         if isinstance(need, Step) and need.saga is not step.saga:
             raise of_step(step, f"needs {need.name!r} of another saga, {need.saga.name!r}")
         if not isinstance(need, (Step, str)):
@@ -121,6 +123,8 @@ def check_manner(step: Step[Any], manner: Manner, what: str, where: str) -> None
         raise of_step(step, f"backoff={backoff!r} of its {what}: it is a sagas.Backoff(first=..), in seconds", where)
     if not all(isinstance(part, (int, float)) and part >= 0 for part in (backoff.first, backoff.most, backoff.factor)):
         raise of_step(step, f"{backoff!r} of its {what}: its numbers are 0 or more", where)
+    if backoff.most < backoff.first and backoff.most != Backoff().most:
+        raise of_step(step, f"{backoff!r} of its {what}: most, the longest pause, is less than first, the first one: give most={backoff.first} or more", where)
     most = manner.unknown_most
     if most is not None and not (isinstance(most, datetime.timedelta) or (is_count(most) and most >= 0)):
         raise of_step(step, f"unknown_most={most!r} of its {what}: it is a whole number or a timedelta", where)
@@ -137,7 +141,7 @@ def check_manner(step: Step[Any], manner: Manner, what: str, where: str) -> None
     except TypeError:
         raise of_step(step, f"its {what} has to take one argument, the task", where) from None
     if inspect.isgeneratorfunction(manner.function) or inspect.isasyncgenfunction(manner.function):
-        raise of_step(step, f"its {what} is a generator", where)
+        raise of_step(step, f"its {what} is a generator, which would not be run: let it return its result, and yield nothing", where)
 
 
 def check_until(step: Step[Any], until: object) -> None:
@@ -152,6 +156,9 @@ def check_saga(saga: Saga) -> None:
     """What can be seen only once all steps are there."""
     from .definition import NEVER
 
+    for left in saga.decorators:
+        named = f", step {left.name!r}" if left.name else ""
+        raise DefinitionError(f"{left.where}: saga {saga.name!r}{named}: {left.what}(..) declares nothing yet: it is a decorator: put it on a function")
     if not saga.steps:
         raise of_saga(saga, "it has no step")
     if len(saga.steps) > MOST_STEPS:
@@ -162,10 +169,11 @@ def check_saga(saga: Saga) -> None:
     for step in saga.steps:
         for need in step.needs:
             if need not in names:
-                raise of_step(step, f"needs {need!r}, which no step is named{_meant(need, names)}")
+                raise of_step(step, f"needs {need!r}, which no step is named{meant(need, names)}")
         undo = step._prices["undo"]
         if undo is not None and undo is not NEVER and not step.has_compensation:
-            raise of_step(step, f"undo={undo!r}, and it has no compensation: give it one, by @{step.name}.compensation")
+            remedy = f"give it one, by @{step.name}.compensation, or say undo=0 where there is nothing to undo"
+            raise of_step(step, f"undo={undo!r}, and it has no compensation: {remedy}")
     _check_cycles(saga)
 
 
@@ -194,44 +202,98 @@ def _cycle(steps: list[Step[Any]]) -> list[Step[Any]]:
         way.append(need)
 
 
-def _meant(name: str, names: Iterable[str]) -> str:
+def meant(name: str, names: Iterable[str]) -> str:
     """The name that is most like it, for a name that was probably misspelt."""
     near = difflib.get_close_matches(name, names, 1)
     return f": is {near[0]!r} meant?" if near else ""
 
 
-def check_within(step: Step[Any], within: object) -> None:
+def within(step: Step[Any], within: object) -> datetime.timedelta | None:
     """How long an approval waits."""
-    if within is not None and not (isinstance(within, datetime.timedelta) and within > datetime.timedelta(0)):
-        raise of_step(step, f"within={within!r}: it is a timedelta of more than 0")
+    time = datetime.timedelta(seconds=within) if isinstance(within, (int, float)) and not isinstance(within, bool) and abs(within) < MOST_WITHIN else within
+    if time is not None and not (isinstance(time, datetime.timedelta) and time > datetime.timedelta(0)):
+        raise of_step(step, f"within={within!r}: it is seconds or a timedelta, of more than 0")
+    return time
 
 
 def warnings(saga: Saga) -> list[str]:
-    """Steps that are never undone, though they have a compensation: to keep them is always allowed, and always cheaper.
-
-    And type hints that cannot be read, of names that are there for the checker alone; and that it is too large for a log."""
+    """What is sound and probably not meant, each by file and line."""
     check_saga(saga)
-    stays: dict[str, bool] = {}
-    found = []
     unfit = room.unfit(saga)
-    if unfit:
-        found.append(f"{saga.where}: {unfit}")
+    found = [f"{saga.where}: {unfit}"] if unfit else []
+    stays = _stays(saga)
+    return [*found, *_unread(saga), *_short(saga), *_never_called(saga, stays), *_holding(saga, stays)]
+
+
+def _short(saga: Saga) -> Iterator[str]:
+    """Pauses that are shorter than they are said to be, since nobody said what is the longest."""
+    for step in saga.steps:
+        for what, manner in (("function", step.run), ("compensation", step.undo)):
+            first, most = manner.backoff.first, manner.backoff.most
+            if manner.tries > 1 and first > most:
+                yield f"{step.where}: saga {saga.name!r}, step {step.name!r}: the pauses of its {what} are {most} s, not {first} s: say sagas.Backoff(first={first}, most={first})"
+
+
+def _unread(saga: Saga) -> Iterator[str]:
+    """Type hints that cannot be read, of names that are there for the checker alone."""
     for step in saga.steps:
         for function in (step.run.function, step.undo.function):
             unread = values.unread(function) if function else None
             if unread:
                 where = f"{place(function)}: saga {saga.name!r}, step {step.name!r}"
-                found.append(f"{where}: its type hints are not read, and its values are as JSON has them: {unread}")
+                yield f"{where}: its type hints are not read, and its values are as JSON has them: {unread}"
+
+
+def _in_order(saga: Saga) -> Iterator[Step[Any]]:
+    """The steps, each behind those that it needs."""
+    done: set[str] = set()
     left = list(saga.steps)
     while left:
-        for step in [step for step in left if all(need in stays for need in step.needs)]:
-            left.remove(step)
-            undo, keep = step.price("undo"), step.price("keep")
-            grounded = all(stays[need] for need in step.needs)
-            stays[step.name] = not isinstance(undo, int) or (grounded and isinstance(keep, int) and undo > keep)
-            if isinstance(undo, int) and stays[step.name]:
-                found.append(
-                    f"{step.where}: saga {saga.name!r}, step {step.name!r}: its compensation is never called: to keep it costs {keep}, to undo it {undo}. "
-                    "Give keep what its standing costs after the saga failed"
-                )
-    return found
+        ready = [step for step in left if all(need in done for need in step.needs)]
+        yield from ready
+        done.update(step.name for step in ready)
+        left = [step for step in left if step.name not in done]
+
+
+def _stays(saga: Saga) -> dict[str, bool]:
+    """Of each step whether it is never undone, once it is done: to keep it is always allowed, and always cheaper."""
+    stays: dict[str, bool] = {}
+    for step in _in_order(saga):
+        undo, keep = step.price("undo"), step.price("keep")
+        grounded = all(stays[need] for need in step.needs)
+        stays[step.name] = not isinstance(undo, int) or (grounded and isinstance(keep, int) and undo > keep)
+    return stays
+
+
+def _never_called(saga: Saga, stays: dict[str, bool]) -> Iterator[str]:
+    """Steps that are never undone, though they have a compensation."""
+    for step in _in_order(saga):
+        undo, keep = step.price("undo"), step.price("keep")
+        if isinstance(undo, int) and stays[step.name]:
+            yield (
+                f"{step.where}: saga {saga.name!r}, step {step.name!r}: its compensation is never called: to keep it costs {keep}, to undo it {undo}. "
+                "Give keep what its standing costs after the saga failed"
+            )
+
+
+def _holding(saga: Saga, stays: dict[str, bool]) -> Iterator[str]:
+    """Steps without a compensation that keep what they need from being undone, and do not say that this is meant.
+
+    None of the last step of all: once it is done, nothing is left that may fail. And none of what another step that it needs keeps so already."""
+    by_name = {step.name: step for step in saga.steps}
+    below: dict[str, set[str]] = {}
+    fixed: dict[str, set[str]] = {}  # what the steps that it needs keep so
+    for step in _in_order(saga):
+        needs = step.needs
+        below[step.name] = set(needs).union(*(below[need] for need in needs))
+        fixed[step.name] = set[str]().union(*(fixed[need] if by_name[need].has_compensation else below[need] for need in needs))
+    undone = {step.name for step in saga.steps if step.has_compensation and not step.undo.implied and not stays[step.name]}
+    for step in saga.steps:
+        held = (below[step.name] - fixed[step.name]) & undone
+        if held and not step.has_compensation and step._prices["undo"] is None and len(below[step.name]) + 1 < len(saga.steps):
+            told = [f"{other.name!r}" for other in saga.steps if other.name in held]
+            more = [f"{len(told) - MOST_TOLD} more"] if told[MOST_TOLD:] else []
+            yield (
+                f"{step.where}: saga {saga.name!r}, step {step.name!r} has no compensation: once it is done, {' and '.join(told[:MOST_TOLD] + more)}, "
+                f"which it needs, {'is' if len(told) == 1 else 'are'} never undone; say undo=0 where there is nothing to undo, or undo=NEVER where that is meant"
+            )

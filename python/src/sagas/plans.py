@@ -16,13 +16,16 @@ Cost = int | None
 
 @dataclasses.dataclass(frozen=True, slots=True)
 class Choice:
-    """A step as the plan found it (`state`), what it would cost that it stands and that it does not (None: never), and what was decided."""
+    """A step as the plan found it (`state`), what it would cost that it stands and that it does not (None: never), and what was decided.
+
+    `needed_by`: of one that would be undone otherwise, the first step that needs it and that stands or is run."""
 
     step: str
     state: str
     stand: Cost
     leave: Cost
     kept: bool
+    needed_by: str | None = None
 
     @property
     def decided(self) -> str:
@@ -30,6 +33,11 @@ class Choice:
         if self.kept:
             return "is run" if self.state == "waiting" else "stands"
         return "is undone" if self.state == "committed" else "is left out"
+
+    @property
+    def told(self) -> str:
+        """What was decided, and by which step where that is why."""
+        return f"{self.decided}: {self.needed_by} needs it" if self.needed_by else self.decided
 
 
 @dataclasses.dataclass(frozen=True, slots=True)
@@ -59,16 +67,18 @@ class Plan:
         """Each step, in the order of the definition."""
         kept = set(self.answer.get("kept", ()))
         steps = tomllib.loads(self.definition)["step"]
-        return [self._choice(step, state, place in kept) for place, (step, state) in enumerate(zip(steps, self.case["states"]))]
+        needed = {need: steps[place]["name"] for place in sorted(kept, reverse=True) for need in steps[place].get("needs", ())}
+        return [self._choice(step, state, place in kept, needed.get(step["name"])) for place, (step, state) in enumerate(zip(steps, self.case["states"]))]
 
-    def _choice(self, step: dict[str, Any], state: str, kept: bool) -> Choice:
+    def _choice(self, step: dict[str, Any], state: str, kept: bool, needed: str | None) -> Choice:
         run, undo, skip, keep = (_price(step.get(word, 0)) for word in ("run", "undo", "skip", "keep"))
         if state == "waiting":
             stand = None if self.case.get("aborted") else _sum(run, keep)
         else:
             stand = keep if state in ("committed", "fixed") else None
         leave = None if state == "fixed" else _sum(undo, skip) if state == "committed" else skip
-        return Choice(step["name"], state, stand, leave, kept)
+        goes = state == "committed" and leave is not None and (stand is None or stand >= leave)  # if nothing needs it
+        return Choice(step["name"], state, stand, leave, kept, needed if kept and goes else None)
 
     def check(self) -> str:
         """What `sagas check`, which trusts no planner, says of it: `least N` or `blocked`."""
@@ -88,7 +98,7 @@ class Plan:
         head += f"cost {self.cost}" if self.cost is not None else f"none is allowed, because of {' and '.join(self.chain)}"
         lines = [head, f"  {'step':{wide}}  found      to stand  to go  decided"]
         for choice in choices:
-            decided = choice.decided if self.cost is not None else "stuck"
+            decided = choice.told if self.cost is not None else "stuck"
             lines.append(f"  {choice.step:{wide}}  {choice.state:9}  {_told(choice.stand):>8}  {_told(choice.leave):>5}  {decided}")
         return "\n".join(lines)
 
