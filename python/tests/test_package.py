@@ -57,7 +57,7 @@ def build(drawn: list[StepDraw], failures: Failures) -> sagas.Saga:
 
 def failures_of(drawn: list[StepDraw]) -> st.SearchStrategy[Failures]:
     """Failures of some steps, for some attempts or for all."""
-    keys = [(step.name, kind) for step in drawn for kind in ("run", "undo")]
+    keys = [(step.name, kind) for step in drawn for kind in ("run", "undo") if kind == "run" or step.undo != "never"]
     return st.dictionaries(st.sampled_from(keys), st.integers(1, 3), max_size=4)
 
 

@@ -5,6 +5,7 @@ from __future__ import annotations
 import asyncio
 import datetime
 import time
+from collections.abc import Callable
 from typing import Any
 
 import pytest
@@ -77,7 +78,7 @@ def test_all_goes_well() -> None:
     trial = run(trip(), "LH400")
     assert trial.phase == "ended" and set(trial.states.values()) == {"committed"}
     assert trial.results == {"flight": "flight LH400", "car": "car for flight LH400", "hotel": 1, "tour": "tour"}
-    assert (trial.cost, trial.chain, trial.aborted, trial.seconds) == (None, None, False, 0.0)
+    assert (trial.cost, trial.chain, trial.aborted, trial.seconds) == (None, [], False, 0.0)
     assert len(trial.calls) == 4 and not trial.undone
 
 
@@ -178,10 +179,91 @@ def test_a_trial_is_as_an_end() -> None:
     assert not trial.ok and trial.errors == {"hotel": "ValueError"}
 
 
-def test_a_name_that_no_step_has() -> None:
-    """A script that names no step is a fault of the test."""
-    with pytest.raises(KeyError, match="boat"):
-        run(trip(), fail={"boat": 1})
+def test_a_trial_is_printed_as_an_end() -> None:
+    """A line, and one for each step; `of` takes names, too."""
+    trial = run(trip(), "LH400", key="order-1", fail={"hotel": sagas.Fail("full")})
+    assert str(trial).splitlines() == [
+        "trip order-1: ended, plan of cost 38", "  committed flight", "  committed car", "  failed    hotel: sagas.Fail: full", "  waiting   tour",
+    ]  # fmt: skip
+    assert trial.of("car") == "car for flight LH400"
+    with pytest.raises(KeyError, match="step 'hotel' does not stand: it is failed"):
+        trial.of("hotel")
+
+
+FORMS = r"it is so many attempts \(1\), just those of a list"
+
+
+@pytest.mark.parametrize(
+    "words, kind, text",
+    [
+        ({"fail": {"boat": 1}}, KeyError, "no step 'boat'"),
+        ({"fail": {"hotle": 1}}, KeyError, "no step 'hotle': is 'hotel' meant"),
+        ({"fail": {17: 1}}, TypeError, "17: it is a step of saga 'trip', or its name"),
+        ({"fail": {"hotel": "full"}}, TypeError, rf"fail=\{{'hotel': 'full'\}}: {FORMS}"),
+        ({"fail": {"hotel": int}}, TypeError, FORMS),
+        ({"fail": {"hotel": 1.5}}, TypeError, FORMS),
+        ({"fail": {"hotel": True}}, TypeError, FORMS),
+        ({"fail": {"hotel": 0}}, ValueError, rf"fail=\{{'hotel': 0\}}: no attempt is meant by that: leave it out"),
+        ({"fail": {"hotel": -1}}, ValueError, "leave it out"),
+        ({"fail": {"hotel": []}}, ValueError, "leave it out"),
+        ({"fail": {"hotel": [0]}}, ValueError, "counted from 1"),
+        ({"fail": ["hotel"]}, TypeError, rf"fail=\['hotel'\]: it is a dict of attempts by step: fail="),
+        ({"unknown": "hotel"}, TypeError, "unknown='hotel': it is a dict"),
+        ({"fail_undo": {"flight": 1}}, ValueError, "fail_undo: step 'flight' has no compensation, and is never undone: give it one, by @flight.compensation"),
+        ({"answers": ["hotel"]}, TypeError, "it is a dict of answers by step"),
+        ({"abort": "boat"}, KeyError, "no step 'boat'"),
+    ],
+)
+def test_a_script_that_is_none(words: dict[str, Any], kind: type[Exception], text: str) -> None:
+    """A script that means nothing is a fault of the test, by its word."""
+    with pytest.raises(kind, match=text):
+        run(trip(), "LH400", **words)
+
+
+def test_what_fails_to_be_undone_by_doing_nothing() -> None:
+    """Nothing cannot fail; and what is no saga is told as that."""
+    with pytest.raises(ValueError, match="unknown_undo: step 'wait' .* undone by doing nothing, which cannot fail"):
+        run(late(), unknown_undo={"wait": 1})
+    with pytest.raises(sagas.DefinitionError, match="'trip' is no saga"):
+        run("trip")  # type: ignore[arg-type]
+
+
+def one(function: Any, **words: Any) -> sagas.Saga:
+    """A saga of one step."""
+    saga = sagas.Saga("one")
+    saga.step(name="a", **words)(function)
+    return saga
+
+
+def test_a_result_that_is_no_json() -> None:
+    """It raises, as an answer does: a store keeps the effect and loses the result. What a compensation returns counts for nothing."""
+    with pytest.raises(sagas.Unstorable, match="'a' returned what is no JSON: object is not JSON"):
+        run(one(lambda task: object()))
+    with pytest.raises(sagas.NotJson, match=r"answers\['manager'\]: object is not JSON"):
+        run(late(approves=False), answers={"manager": object()})
+    saga = one(lambda task: {1, 2})
+    saga.steps[0].compensation(lambda task: object())
+    saga.step(name="b", needs=["a"])(lambda task: None)
+    assert run(saga, fail={"b": 1}).states == {"a": "undone", "b": "failed"}
+
+
+def test_a_transaction() -> None:
+    """There is no database here: a test hands a connection in, if a step asks for one."""
+    asks = one(lambda task: [*task.connection], transaction=True)
+    with pytest.raises(RuntimeError, match=r"sagas.testing has no database: hand one in with connection=\.\."):
+        run(asks)
+    assert run(asks, connection=[1, 2]).results == {"a": [1, 2]}
+    assert run(one(lambda task: 1, transaction=True)).ok
+
+
+@pytest.mark.parametrize("until", [5, datetime.datetime(2031, 5, 1)])
+def test_a_wait_until_something_else(until: datetime.datetime) -> None:
+    """As a store says it."""
+    saga = sagas.Saga("late")
+    told: Callable[[sagas.Task[Any]], datetime.datetime] = lambda task: until
+    saga.wait(until=told, name="wait")(lambda task: None)
+    with pytest.raises(TypeError, match="step 'wait': until gave .*: it is a timedelta, or a datetime with a time zone"):
+        run(saga)
 
 
 def test_in_a_loop() -> None:

@@ -18,23 +18,19 @@ import json
 import os
 import subprocess
 from collections import Counter
-from collections.abc import Callable, Iterable, Mapping
-from typing import Any, TypeVar, Union
+from typing import Any, TypeVar, overload
 
 from . import calling, lines, program, values
 from .calling import Outcome
 from .definition import Manner, Saga, Step, Until
-from .errors import ChildError, Fail
+from .errors import ChildError, DefinitionError, Fail
 from .kinds import Kind
+from .runs import end_text, result_of
+from .scripts import Answers, Attempts as Attempts, Rule, Script, answers_of, name_of, script
 from .task import Task
 
 Json = dict[str, Any]
 R = TypeVar("R")
-Attempts = Union[int, Iterable[int], Exception, type[Exception]]
-"""Which attempts: the first so many, just those of a list, or all of them, by this exception."""
-
-Script = Union[Mapping[str, Attempts], Mapping[Step[Any], Attempts]]
-Answers = Union[Mapping[str, Any], Mapping[Step[Any], Any]]
 MOST_CALLS = 10_000
 
 
@@ -84,12 +80,14 @@ class Trial:
     """Of the steps that stand."""
     cost: int | None
     """What the last plan cost; None where none was made, since nothing failed, and where no plan was allowed."""
-    chain: list[str] | None
+    chain: list[str]
     """Where it is stuck: steps that show that no plan is allowed."""
     aborted: bool
     calls: list[Call]
     seconds: float
     """How long it would have taken."""
+    saga: str = ""
+    key: str = "test"
 
     @property
     def ok(self) -> bool:
@@ -102,9 +100,18 @@ class Trial:
         told = {call.step: str(call.value) for call in self.calls if call.outcome in ("failed", "final")}
         return {step: text for step, text in told.items() if self.states[step] in ("failed", "fixed")}
 
-    def of(self, step: Step[R]) -> R:
-        """What a step returned that stands. Raises `KeyError` where it does not."""
-        return self.results[step.name]  # type: ignore[no-any-return]
+    @overload
+    def of(self, step: Step[R]) -> R: ...
+
+    @overload
+    def of(self, step: str) -> Any: ...
+
+    def of(self, step: Step[Any] | str) -> Any:
+        """What a step, or the one of this name, returned that stands. Raises `KeyError` where it does not."""
+        return result_of(step, self.states, self.results)
+
+    def __str__(self) -> str:
+        return end_text(self)
 
     @property
     def undone(self) -> list[Call]:
@@ -115,6 +122,7 @@ class Trial:
 def run(
     saga: Saga, input: Any = None, *, key: str = "test", fail: Script | None = None, fail_undo: Script | None = None, unknown: Script | None = None,
     unknown_undo: Script | None = None, answers: Answers | None = None, abort: str | Step[Any] | None = None, clock: Clock | None = None,
+    connection: Any = None,
 ) -> Trial:
     """Runs a whole saga, from its start to its end.
 
@@ -126,8 +134,10 @@ def run(
       nobody knows any more; an exception for "it has failed", or a function of the task that returns or raises.
     - `abort="car"`: the saga is aborted once that step is done.
     - `clock`: the time, for functions that ask for it. It goes on by itself to what is next.
+    - `connection`: what `task.connection` is of steps with `transaction=True`. It is handed on as it is: what they write there the test commits, or
+      rolls back.
 
-    Where a loop is running already, await `run_async`."""
+    A result that is no JSON raises `Unstorable`. Where a loop is running already, await `run_async`."""
     try:
         asyncio.get_running_loop()
     except RuntimeError:
@@ -136,7 +146,8 @@ def run(
         raise RuntimeError("a loop is running already: await sagas.testing.run_async(..)")
     return asyncio.run(
         run_async(
-            saga, input, key=key, fail=fail, fail_undo=fail_undo, unknown=unknown, unknown_undo=unknown_undo, answers=answers, abort=abort, clock=clock
+            saga, input, key=key, fail=fail, fail_undo=fail_undo, unknown=unknown, unknown_undo=unknown_undo, answers=answers, abort=abort, clock=clock,
+            connection=connection,
         )
     )
 
@@ -144,51 +155,25 @@ def run(
 async def run_async(
     saga: Saga, input: Any = None, *, key: str = "test", fail: Script | None = None, fail_undo: Script | None = None, unknown: Script | None = None,
     unknown_undo: Script | None = None, answers: Answers | None = None, abort: str | Step[Any] | None = None, clock: Clock | None = None,
+    connection: Any = None,
 ) -> Trial:
     """As `run`, in a loop that is running."""
+    if not isinstance(saga, Saga):
+        raise DefinitionError(f"{saga!r} is no saga: give what sagas.Saga(..) made")
+    saga.check()
     scripts = {
-        ("failed", "run"): _Script(saga, fail),
-        ("failed", "undo"): _Script(saga, fail_undo),
-        ("unknown", "run"): _Script(saga, unknown),
-        ("unknown", "undo"): _Script(saga, unknown_undo),
+        ("failed", "run"): script(saga, "fail", fail),
+        ("failed", "undo"): script(saga, "fail_undo", fail_undo),
+        ("unknown", "run"): script(saga, "unknown", unknown),
+        ("unknown", "undo"): script(saga, "unknown_undo", unknown_undo),
     }
-    said = {_name(saga, step): answer for step, answer in (answers or {}).items()}
-    player = _Player(saga, key, values.write(input), scripts, said, _name(saga, abort) if abort else None, clock or Clock())
+    said, stop = answers_of(saga, answers), name_of(saga, abort) if abort else None
+    player = _Player(saga, key, values.write(input, "input"), scripts, said, stop, clock or Clock(), connection)
+    wrong = player.kind.misfit(input, player.input)
+    if wrong:
+        raise wrong
     with _Drive(saga.toml()) as player.drive:
         return await player.play()
-
-
-def _name(saga: Saga, step: str | Step[Any]) -> str:
-    """A step's name; an unknown one is a fault of the test."""
-    name = step if isinstance(step, str) else step.name
-    if not any(step.name == name for step in saga.steps):
-        raise KeyError(f"saga {saga.name!r} has no step {name!r}")
-    return name
-
-
-class _Script:
-    """What is to happen to attempts, step by step."""
-
-    def __init__(self, saga: Saga, script: Script | None) -> None:
-        self._of: dict[str, Callable[[int], Exception | None]] = {
-            _name(saga, step): self._rule(attempts) for step, attempts in (script or {}).items()
-        }
-
-    @staticmethod
-    def _rule(attempts: Attempts) -> Callable[[int], Exception | None]:
-        if isinstance(attempts, type):
-            attempts = attempts()
-        if isinstance(attempts, Exception):
-            each = attempts
-            return lambda attempt: each
-        told = RuntimeError("the test says so")
-        chosen = range(1, attempts + 1) if isinstance(attempts, int) else frozenset(attempts)
-        return lambda attempt: told if attempt in chosen else None
-
-    def at(self, step: str, attempt: int) -> Exception | None:
-        """What this attempt meets, if anything."""
-        rule = self._of.get(step)
-        return rule(attempt) if rule else None
 
 
 class _Drive:
@@ -246,9 +231,12 @@ class _Player:
     drive: _Drive
 
     def __init__(
-        self, saga: Saga, key: str, input: str, scripts: dict[tuple[str, str], _Script], answers: dict[str, Any], abort: str | None, clock: Clock
+        self, saga: Saga, key: str, input: str, scripts: dict[tuple[str, str], dict[str, Rule]], answers: dict[str, Any], abort: str | None, clock: Clock,
+        connection: Any,
     ) -> None:
         self.saga, self.key, self.input, self.scripts, self.answers, self.abort, self.clock = saga, key, input, scripts, answers, abort, clock
+        self.connection = connection
+        self.fault: Exception | None = None  # of the test, found in a step's function
         self.kind = Kind(saga.toml(), saga)
         self.began = clock()
         self.due: list[_Due] = []
@@ -304,7 +292,11 @@ class _Player:
 
     def _time_of(self, until: Until, task: Task[Any]) -> float:
         told = until(task) if callable(until) else until
-        return self.clock() + told.total_seconds() if isinstance(told, datetime.timedelta) else told.timestamp()
+        if isinstance(told, datetime.timedelta):
+            return self.clock() + told.total_seconds()
+        if isinstance(told, datetime.datetime) and told.tzinfo:
+            return told.timestamp()
+        raise TypeError(f"step {task.step!r}: until gave {told!r}: it is a timedelta, or a datetime with a time zone")
 
     def _step(self, step: int) -> Step[Any]:
         declared = self.kind.steps[step]
@@ -340,7 +332,7 @@ class _Player:
         manner, name = declared.manner(due.kind), declared.name
         if due.asked:
             return self._answer(due, declared)
-        told = self.scripts["failed", due.kind].at(name, due.attempt)
+        told = self._said("failed", due.kind, name, due.attempt)
         if told is not None:
             return calling.raised(told, manner)
         if manner.elsewhere:
@@ -349,7 +341,7 @@ class _Player:
         if outcome.kind != "done":
             return outcome
         self.returns[due.step, due.kind] += 1
-        told = self.scripts["unknown", due.kind].at(name, self.returns[due.step, due.kind])
+        told = self._said("unknown", due.kind, name, self.returns[due.step, due.kind])
         if told is not None:
             return Outcome("unknown", str(told))
         if declared.kind == "approval" and due.kind == "run":
@@ -357,11 +349,30 @@ class _Player:
             return None
         return outcome
 
+    def _said(self, outcome: str, kind: str, step: str, attempt: int) -> Exception | None:
+        """What the test says of this attempt, if anything."""
+        rule = self.scripts[outcome, kind].get(step)
+        return rule(attempt) if rule else None
+
     async def _call(self, manner: Manner, due: _Due) -> Outcome:
-        outcome = await calling.call(manner, self._task(due.step, due.kind, due.attempt), None)
+        task = self._task(due.step, due.kind, due.attempt)
+        if manner.transaction:
+            task.enter_by(self._connection)
+        outcome = await calling.call(manner, task, None)
         if outcome is None:
             raise asyncio.CancelledError
+        if self.fault:
+            raise self.fault
+        if outcome.kind == "done" and due.kind == "run" and self._step(due.step).kind != "approval":
+            values.stored(json.loads(outcome.value), task.step)
         return outcome
+
+    def _connection(self) -> Any:
+        """What a step with `transaction=True` gets."""
+        if self.connection is None:
+            self.fault = RuntimeError("sagas.testing has no database: hand one in with connection=..")
+            raise self.fault
+        return self.connection
 
     def _ask(self, due: _Due, declared: Step[Any]) -> None:
         """An approval was asked for: somebody says something at once, or its time runs out."""
@@ -384,7 +395,7 @@ class _Player:
                 raise answer
         except Exception as error:
             return calling.failure(f"{type(error).__name__}: {error}", final=isinstance(error, Fail))
-        return calling.done(answer)
+        return Outcome("done", values.write(answer, f"answers[{declared.name!r}]"))
 
     def _doubt(self, due: _Due) -> None:
         """Nobody knows: the same attempt again, after the back-off, until a person has to say."""
@@ -455,10 +466,12 @@ class _Player:
             states=dict(zip(names, told["states"])),
             results={names[step]: values.fitting(self.results[step], self.kind.decoders.get(names[step])) for step in standing},
             cost=plan.get("cost"),
-            chain=[names[step] for step in plan["chain"]] if "chain" in plan else None,
+            chain=[names[step] for step in plan.get("chain", ())],
             aborted=told["aborted"],
             calls=self.calls,
             seconds=self._spent(),
+            saga=self.saga.name,
+            key=self.key,
         )
 
     def _spent(self) -> float:

@@ -1,0 +1,72 @@
+"""What a test says that is to happen to the attempts of a saga, and what is wrong with what it says (`sagas.testing`)."""
+
+from __future__ import annotations
+
+from collections.abc import Callable, Iterable, Mapping
+from typing import Any, Union
+
+from . import faults
+from .checks import shown
+from .definition import Saga, Step
+
+Attempts = Union[int, Iterable[int], Exception, type[Exception]]
+"""Which attempts: the first so many, just those of a list, or all of them, by this exception."""
+
+Script = Union[Mapping[str, Attempts], Mapping[Step[Any], Attempts]]
+Answers = Union[Mapping[str, Any], Mapping[Step[Any], Any]]
+Rule = Callable[[int], Exception | None]
+TOLD = "the test says so"
+FORMS = 'so many attempts (1), just those of a list ([2]), or all of them by an exception (sagas.Fail("sold out"))'
+
+
+def name_of(saga: Saga, step: object) -> str:
+    """A step's name; an unknown one is a fault of the test."""
+    name = step.name if isinstance(step, Step) else step
+    if not isinstance(name, str):
+        raise TypeError(f"{shown(step)}: it is a step of saga {saga.name!r}, or its name")
+    names = [step.name for step in saga.steps]
+    if name not in names:
+        raise KeyError(f"saga {saga.name!r} has no step {name!r}{faults.meant(name, names)}")
+    return name
+
+
+def answers_of(saga: Saga, answers: Answers | None) -> dict[str, Any]:
+    """What is answered, by step."""
+    if answers is not None and not isinstance(answers, Mapping):
+        raise TypeError(f'answers={shown(answers)}: it is a dict of answers by step: answers={{"{saga.steps[-1].name}": "yes"}}')
+    return {name_of(saga, step): answer for step, answer in (answers or {}).items()}
+
+
+def script(saga: Saga, word: str, said: Script | None) -> dict[str, Rule]:
+    """What is to happen to attempts, by step; `word` is how the test says it: `fail`, `fail_undo`, `unknown` or `unknown_undo`."""
+    if said is not None and not isinstance(said, Mapping):
+        raise TypeError(f'{word}={shown(said)}: it is a dict of attempts by step: {word}={{"{saga.steps[-1].name}": 1}}')
+    return {name_of(saga, step): _rule(saga, word, name_of(saga, step), attempts) for step, attempts in (said or {}).items()}
+
+
+def _rule(saga: Saga, word: str, name: str, attempts: Any) -> Rule:
+    if word.endswith("_undo"):
+        _check_compensation(saga, word, name)
+    if isinstance(attempts, type) and issubclass(attempts, Exception):
+        attempts = attempts()
+    if isinstance(attempts, Exception):
+        each = attempts
+        return lambda attempt: each
+    said = f"{word}={{{name!r}: {shown(attempts)}}}"
+    if isinstance(attempts, (str, bytes, type)) or not (faults.is_count(attempts) or isinstance(attempts, Iterable)):
+        raise TypeError(f"{said}: it is {FORMS}")
+    chosen = range(1, attempts + 1) if isinstance(attempts, int) else [*attempts]
+    if not chosen:
+        raise ValueError(f"{said}: no attempt is meant by that: leave it out, or say which: {FORMS}")
+    if not all(faults.is_count(attempt) and attempt > 0 for attempt in chosen):
+        raise ValueError(f"{said}: attempts are counted from 1: it is {FORMS}")
+    told = RuntimeError(TOLD)
+    return lambda attempt: told if attempt in chosen else None
+
+
+def _check_compensation(saga: Saga, word: str, name: str) -> None:
+    step = next(step for step in saga.steps if step.name == name)
+    if not step.has_compensation:
+        raise ValueError(f"{word}: step {name!r} has no compensation, and is never undone: give it one, by @{name}.compensation, or leave it out")
+    if step.undo.implied:
+        raise ValueError(f"{word}: step {name!r} has no compensation, and is undone by doing nothing, which cannot fail: leave it out")
