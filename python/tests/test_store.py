@@ -126,9 +126,9 @@ class Order:
     "given, text",
     [
         (None, "input: Order is read from an object of JSON, and this is none: None"),
-        ({}, "input: Order has 'amount', which it lacks"),
-        ({"amuont": 4}, "input: Order has 'amount', which it lacks; it has 'amuont', which Order has not"),
-        ({"amount": 4, "lines": [{"item": "a"}, {"count": 2}]}, r"input\['lines'\]\[1\]: Line has 'item', which it lacks"),
+        ({}, "input lacks 'amount', which Order needs$"),
+        ({"amuont": 4}, "input lacks 'amount', which Order needs; it has 'amuont', which Order has not"),
+        ({"amount": 4, "lines": [{"item": "a"}, {"count": 2}]}, r'input\["lines"\]\[1\] lacks .item., which Line needs$'),
     ],
 )
 def test_an_input_that_the_first_step_cannot_read(place: str, given: Any, text: str) -> None:

@@ -3,11 +3,12 @@
 from __future__ import annotations
 
 import dataclasses
+import json
 import typing
 from typing import Any
 
 from . import values
-from .checks import shown
+from .checks import MOST_SHOWN
 
 
 def why(value: Any, hint: Any, name: str) -> str | None:
@@ -35,19 +36,20 @@ def _inside(value: Any, hint: Any, name: str) -> str | None:
     if origin in (list, set, frozenset) and isinstance(value, list):
         return next((told for place, item in enumerate(value) if (told := why(item, words[0], f"{name}[{place}]"))), None)
     if origin is dict and isinstance(value, dict):
-        return next((told for key, item in value.items() if (told := why(item, words[1], f"{name}[{key!r}]"))), None)
+        return next((told for key, item in value.items() if (told := why(item, words[1], f"{name}[{json.dumps(key)}]"))), None)
     return None
 
 
 def _fields(value: dict[str, Any], hint: type, name: str) -> str | None:
     hints, fields = typing.get_type_hints(hint), [field for field in dataclasses.fields(hint) if field.init]
     for field in fields:
-        told = why(value[field.name], hints[field.name], f"{name}[{field.name!r}]") if field.name in value else None
+        told = why(value[field.name], hints[field.name], f"{name}[{json.dumps(field.name)}]") if field.name in value else None
         if told:
             return told
     needed = [field.name for field in fields if field.default is dataclasses.MISSING and field.default_factory is dataclasses.MISSING]
     lacks = [repr(word) for word in needed if word not in value]
     if not lacks:
         return None
-    odd = [repr(word) for word in value if word not in {field.name for field in fields}]
-    return f"{name}: {hint.__name__} has {' and '.join(lacks)}, which it lacks" + (f"; it has {shown(', '.join(odd))[1:-1]}, which {hint.__name__} has not" if odd else "")
+    odd = ", ".join(repr(word) for word in value if word not in {field.name for field in fields})
+    more = f"; it has {odd[:MOST_SHOWN]}{'..' if odd[MOST_SHOWN:] else ''}, which {hint.__name__} has not" if odd else ""
+    return f"{name} lacks {' and '.join(lacks)}, which {hint.__name__} needs{more}"

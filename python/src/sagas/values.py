@@ -37,7 +37,7 @@ def _default(value: Any) -> Any:
         return str(value)
     if isinstance(value, (set, frozenset)):
         return _in_order(value)
-    raise TypeError(f"{type(value).__name__} is not JSON: give dicts, lists, texts, numbers, dataclasses or pydantic models")
+    raise TypeError(f"{type(value).__name__} is not JSON: give dicts, lists, sets, texts, numbers, dataclasses or pydantic models")
 
 
 def _in_order(items: Iterable[Any]) -> list[Any]:
