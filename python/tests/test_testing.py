@@ -3,6 +3,7 @@
 from __future__ import annotations
 
 import asyncio
+import dataclasses
 import datetime
 import time
 from collections.abc import Callable
@@ -245,6 +246,25 @@ def test_a_result_that_is_no_json() -> None:
     saga.steps[0].compensation(lambda task: object())
     saga.step(name="b", needs=["a"])(lambda task: None)
     assert run(saga, fail={"b": 1}).states == {"a": "undone", "b": "failed"}
+
+
+@dataclasses.dataclass
+class Half:
+    """A type with a name that is there for the checker alone."""
+
+    other: Elsewhere  # type: ignore[name-defined]
+
+
+def test_an_input_that_does_not_fit() -> None:
+    """As a store refuses it; what cannot be told of it is left to the step."""
+
+    def reads(task: sagas.Task[dict[int, Clock]]) -> None: ...
+
+    def half(task: sagas.Task[Half]) -> None: ...
+
+    with pytest.raises(sagas.BadInput, match="saga 'one', step 'a': input: .*'a'"):
+        run(one(reads), {"a": 1})
+    assert run(one(half), {"other": 1}).ok
 
 
 def test_a_transaction() -> None:

@@ -108,7 +108,7 @@ class Broken:
         return {"mode": mode}["none"]
 
 
-@pytest.mark.parametrize("value", [math.nan, math.inf, object(), {1, object()}, {math.nan}, {"a": object()}, {(1, 2): 3}, b"bytes", Broken(), [Broken()]])
+@pytest.mark.parametrize("value", [math.nan, math.inf, object(), {1, object()}, {math.nan}, {"a": object()}, {(1, 2): 3}, b"bytes", Broken(), [Broken()], [object.__new__(Seat)]])
 def test_what_is_not_json(value: Any) -> None:
     with pytest.raises(sagas.NotJson):
         values.write(value)

@@ -109,6 +109,8 @@ class Kind:
             assert decoder and step and step.run.function
             try:
                 decoder(value)
+            except NameError:  # its hints name what is there for the checker alone: that is no fault of the input
+                continue
             except Exception as error:  # of the type's own code
                 hint = values.input_hint(step.run.function)
                 return BadInput(f"saga {self.name!r}, step {step.name!r}: {misfits.why(value, hint, 'input') or error}")

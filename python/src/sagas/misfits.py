@@ -2,6 +2,7 @@
 
 from __future__ import annotations
 
+import contextlib
 import dataclasses
 import json
 import typing
@@ -19,7 +20,10 @@ def why(value: Any, hint: Any, name: str) -> str | None:
     try:
         part(value)
     except Exception as error:  # of the type's own code
-        return _inside(value, hint, name) or f"{name}: {_said(hint, error)}"
+        told = None
+        with contextlib.suppress(Exception):
+            told = _inside(value, hint, name)
+        return told or f"{name}: {_said(hint, error)}"
     return None
 
 

@@ -8,6 +8,7 @@ import fcntl
 import functools
 import os
 import pathlib
+import shlex
 import sqlite3
 import time
 from collections.abc import Sequence
@@ -113,7 +114,7 @@ class Sqlite(questions.Questions):
             lacks = drives(row.texts, self.places(row.log)) if row.open else None
             if lacks:
                 count = sum(row.open for row in rows)
-                told = f"open sagas: {count:,}, which `sagas store {self.path} list --phase open` lists"
+                told = f"open sagas: {count:,}, which `sagas store {shlex.quote(self.path)} list --phase open` lists"
                 raise MissingHandler(f"{self.path}: {lacks}. Give it again, or settle them first by the older program with open(.., new=False); {told}")
         return rows
 

@@ -2,6 +2,7 @@
 
 from __future__ import annotations
 
+import contextlib
 import dataclasses
 import datetime
 import decimal
@@ -102,7 +103,10 @@ def write(value: Any, name: str = "") -> str:
     try:
         return "".join(_chunks(value, 0))
     except Exception as error:  # also of the value's own code
-        where = name + _where(value, MOST_DEEP) if not isinstance(error, RecursionError) else name
+        where = name
+        if not isinstance(error, RecursionError):
+            with contextlib.suppress(Exception):
+                where += _where(value, MOST_DEEP)
         raise NotJson(f"{where}: {_why(value, error)}" if where else _why(value, error)) from error
 
 
