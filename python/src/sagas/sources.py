@@ -12,7 +12,7 @@ import time
 from collections.abc import Iterator
 from typing import Any, Protocol
 
-from . import databases
+from . import databases, sqlite
 from .errors import SagasError
 from .schema import VERSION
 from .values import cleaned
@@ -70,23 +70,31 @@ class File:
 
     def __init__(self, name: str, mode: str) -> None:
         self.path = pathlib.Path(name)
-        if not self.path.is_file():
-            what = "it is a folder" if self.path.is_dir() else "there is no such file; sagas.open makes a store"
-            raise Trouble(f"{name}: {what}", CANNOT)
-        self.link = sqlite3.connect(f"{self.path.resolve().as_uri()}?mode={mode}", uri=True, timeout=5.0, isolation_level=None)
         try:
-            (version,) = self.link.execute("PRAGMA user_version").fetchone()
-            self.link.execute("SELECT 1 FROM sagas LIMIT 1").fetchone()
-            if mode == "rw":
-                self.link.execute("PRAGMA synchronous=FULL")
+            if not self.path.is_file():
+                what = "it is a folder" if self.path.is_dir() else "there is no such file; sagas.open makes a store"
+                raise Trouble(f"{name}: {what}", CANNOT)
+            self.link = sqlite3.connect(f"{self.path.resolve().as_uri()}?mode={mode}", uri=True, timeout=5.0, isolation_level=None)
+        except OSError as error:
+            raise Trouble(f"{name}: {error.strerror}: this user has to be able to look into its folder, and to write there", CANNOT) from error
+        except sqlite3.Error as error:
+            raise Trouble(f"{name}: {sqlite.told(error)}", CANNOT) from error
+        try:
+            version = self._version(mode)
         except sqlite3.Error as error:
             self.link.close()
-            if "readonly" in str(error):  # also who only reads writes into `-shm`
-                raise Trouble(f"{name}: {error}: SQLite writes beside it, so this user has to be able to write in its folder", CANNOT) from error
-            raise Trouble(f"{name} is no store: {error}", CANNOT) from error
+            told = sqlite.told(error)  # also who only reads writes into `-shm`
+            raise Trouble(f"{name}: {told}" if told != str(error) else f"{name} is no store: {error}", CANNOT) from error
         if version > VERSION:
             self.link.close()
             raise Trouble(f"{name} is of a later version ({version}) than this command ({VERSION})", CANNOT)
+
+    def _version(self, mode: str) -> int:
+        (version,) = self.link.execute("PRAGMA user_version").fetchone()
+        self.link.execute("SELECT 1 FROM sagas LIMIT 1").fetchone()
+        if mode == "rw":
+            self.link.execute("PRAGMA synchronous=FULL")
+        return int(version)
 
     def begin(self) -> None:
         self.link.execute("BEGIN")
@@ -119,9 +127,11 @@ class File:
 
     def is_driven(self) -> bool:
         try:
-            lock = os.open(f"{self.path}.lock", os.O_RDWR)
+            lock = os.open(f"{self.path}.lock", os.O_RDONLY)
         except FileNotFoundError:
             return False
+        except OSError:  # another user's: a program may have it
+            return True
         try:
             fcntl.flock(lock, fcntl.LOCK_EX | fcntl.LOCK_NB)
         except BlockingIOError:
@@ -211,6 +221,6 @@ def writing(name: str) -> Iterator[Source]:
     try:
         yield link
     except (SagasError, sqlite3.Error) as error:
-        raise Trouble(f"cannot write {name}: {error}", CANNOT) from error
+        raise Trouble(f"cannot write {name}: {sqlite.told(error) if isinstance(error, sqlite3.Error) else error}", CANNOT) from error
     finally:
         link.close()

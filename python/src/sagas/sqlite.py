@@ -8,6 +8,7 @@ import fcntl
 import functools
 import os
 import pathlib
+import pwd
 import shlex
 import sqlite3
 import time
@@ -26,6 +27,7 @@ from .values import cleaned
 
 LOOK = 0.2  # seconds: another program's commit makes no event here
 MOST_LOOK = 30.0
+RIGHTS = "SQLite writes beside it, so this user has to be able to read and write it, and to write in its folder"
 
 
 def connect(path: str, synchronous: str = "FULL") -> sqlite3.Connection:
@@ -33,6 +35,44 @@ def connect(path: str, synchronous: str = "FULL") -> sqlite3.Connection:
     db = sqlite3.connect(path, isolation_level=None, check_same_thread=False, cached_statements=256, timeout=BUSY / 1000)
     db.execute(f"PRAGMA synchronous={synchronous}")
     return db
+
+
+def told(error: sqlite3.Error) -> str:
+    """What SQLite says, and what to do about it where the file cannot be opened or written."""
+    text = str(error)
+    return f"{text}: {RIGHTS}" if "readonly" in text or "unable to open" in text else text
+
+
+def check_file(path: str) -> None:
+    """Looks at what is there, before anything is made beside it. Raises `StoreFault` where it is no store, and `StoreUnwritable` where this user may not read it.
+
+    By SQLite: to close a file that this program has open there as well would drop the locks on it."""
+    if os.path.isdir(path):
+        raise StoreFault(f"{path}: it is a folder: give a file in it")
+    if not os.path.isfile(path):
+        return
+    try:
+        uri = f"{pathlib.Path(path).absolute().as_uri()}?mode=ro&immutable=1"
+        with contextlib.closing(sqlite3.connect(uri, uri=True)) as db:
+            db.execute("PRAGMA schema_version").fetchone()
+    except sqlite3.OperationalError as error:
+        raise StoreUnwritable(f"{path}: {told(error)}") from error
+    except sqlite3.DatabaseError as error:
+        raise StoreFault(f"{path}: {error}: give a store's own path, or one where no file is yet") from error
+
+
+def owner_of(path: str) -> str | None:
+    """Whose file it is, where it is another user's."""
+    try:
+        user = os.stat(path).st_uid
+    except OSError:
+        return None
+    if user == os.geteuid():
+        return None
+    try:
+        return pwd.getpwuid(user).pw_name
+    except KeyError:
+        return f"user {user}"
 
 
 def migrate(db: sqlite3.Connection, path: str) -> None:
@@ -127,22 +167,25 @@ class Sqlite(questions.Questions):
         except sqlite3.DatabaseError as error:
             self._drop_lock()
             if isinstance(error, sqlite3.OperationalError):
-                raise StoreUnwritable(f"{self.path}: {error}") from error
+                raise StoreUnwritable(f"{self.path}: {told(error)}") from error
             raise StoreFault(f"{self.path}: {error}") from error
         except BaseException:
             self._drop_lock()
             raise
 
     def _take_lock(self) -> None:
-        if os.path.isdir(self.path):
-            raise StoreFault(f"{self.path}: it is a folder: give a file in it")
+        check_file(self.path)
         try:
             self._lock = os.open(self.path + ".lock", os.O_RDWR | os.O_CREAT | os.O_CLOEXEC, 0o644)
         except FileNotFoundError as error:
             raise StoreUnwritable(f"{os.path.dirname(self.path)}: there is no such folder: make it first") from error
+        except PermissionError as error:
+            owner = owner_of(self.path + ".lock")
+            theirs = f"it belongs to {owner}: open the store as {owner}, or have {owner} give it, and the store's files, to this user (chown)"
+            remedy = theirs if owner else f"{error.strerror}: this user has to be able to write in its folder"
+            raise StoreUnwritable(f"{self.path}.lock: {remedy}") from error
         except OSError as error:
-            remedy = ": this user has to be able to write in its folder" if isinstance(error, PermissionError) else ""
-            raise StoreUnwritable(f"{self.path}.lock: {error.strerror}{remedy}") from error
+            raise StoreUnwritable(f"{self.path}.lock: {error.strerror}") from error
         private.add(self._lock)
         try:
             fcntl.flock(self._lock, fcntl.LOCK_EX | fcntl.LOCK_NB)

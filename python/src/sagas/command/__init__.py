@@ -7,10 +7,11 @@ has it open (or the next one that opens it) takes up; `resolve` marks stuck saga
 from __future__ import annotations
 
 import argparse
+import sqlite3
 import sys
 from collections.abc import Callable
 
-from .. import nodes_command
+from .. import nodes_command, sqlite
 from ..errors import SagasError
 from ..questions import PHASES
 from ..sources import Trouble
@@ -89,6 +90,9 @@ def main(words: list[str] | None = None) -> int:
         return trouble.status
     except SagasError as error:
         print(f"sagas store: {clean(str(error))}", file=sys.stderr)
+        return CANNOT
+    except sqlite3.Error as error:  # of a file that could be opened
+        print(f"sagas store: {clean(given.path)}: {sqlite.told(error)}", file=sys.stderr)
         return CANNOT
     except BrokenPipeError:
         return CANNOT

@@ -1,0 +1,101 @@
+"""Files that this user may not read or write, and files that are no store: what is said of them, and what is left beside them."""
+
+from __future__ import annotations
+
+import contextlib
+import os
+import pathlib
+import tempfile
+from collections.abc import Iterator
+
+import pytest
+
+import sagas
+from cases import ended, run, simple
+from sagas import command
+
+NOBODY = 65534
+SAGA = simple(lambda task: 1)
+REMEDY = "SQLite writes beside it, so this user has to be able to read and write it, and to write in its folder"
+
+
+@contextlib.contextmanager
+def another() -> Iterator[None]:
+    """As a user without root's rights."""
+    if os.geteuid() != 0:
+        yield
+        return
+    os.seteuid(NOBODY)
+    try:
+        yield
+    finally:
+        os.seteuid(0)
+
+
+@pytest.fixture
+def store() -> Iterator[pathlib.Path]:
+    """A store in a folder that others may look into."""
+    with tempfile.TemporaryDirectory() as name:
+        folder = pathlib.Path(name)
+        folder.chmod(0o755)
+        run(used(folder / "x.db"))
+        yield folder / "x.db"
+
+
+async def used(path: pathlib.Path) -> None:
+    """Opens a store, and runs a saga there if it has not run."""
+    async with sagas.open(path, [SAGA]) as store:
+        assert (await ended(store, SAGA)).ok
+
+
+def test_the_command_says_what_it_may_not(store: pathlib.Path, capsys: pytest.CaptureFixture[str]) -> None:
+    """A file that cannot be read, or a folder that cannot be looked into: one line, with the remedy."""
+    store.chmod(0)
+    with another():
+        for words in (["list"], ["abort", "k"], ["audit"]):
+            assert command.main([str(store), *words]) == 4
+            assert capsys.readouterr().err == f"sagas store: {store}: unable to open database file: {REMEDY}\n"
+    store.parent.chmod(0)
+    try:
+        with another():
+            assert command.main([str(store), "list"]) == 4 and "Permission denied: this user has to be able to look into its folder" in capsys.readouterr().err
+    finally:
+        store.parent.chmod(0o755)
+
+
+def test_the_command_tells_of_what_is_spoilt(store: pathlib.Path, capsys: pytest.CaptureFixture[str]) -> None:
+    """A file that turns out to be no whole database is told of in one line as well."""
+    data = bytearray(store.read_bytes())
+    data[4096:] = b"\xff" * (len(data) - 4096)
+    store.write_bytes(data)
+    assert command.main([str(store), "list"]) == 4
+    said = capsys.readouterr().err
+    assert said.startswith(f"sagas store: {store}") and said.count("\n") == 1
+
+
+@pytest.mark.skipif(os.geteuid() != 0, reason="only root can give files to others")
+def test_open_says_whose_the_lock_is(store: pathlib.Path) -> None:
+    """The lock of another user's, and a file that cannot be written or read, with the remedy."""
+
+    def refused(match: str) -> None:
+        with another(), pytest.raises(sagas.StoreUnwritable, match=match):
+            run(used(store))
+
+    refused(r"x\.db\.lock: it belongs to root: open the store as root, or have root give it")
+    os.unlink(f"{store}.lock")
+    refused(r"x\.db\.lock: Permission denied: this user has to be able to write in its folder")
+    store.parent.chmod(0o777)
+    refused(f"x.db: attempt to write a readonly database: {REMEDY}")
+    os.unlink(f"{store}.lock")
+    store.chmod(0)
+    refused(f"x.db: unable to open database file: {REMEDY}")
+    assert not os.path.exists(f"{store}.lock")
+
+
+def test_nothing_is_left_beside_what_is_no_store(tmp_path: pathlib.Path) -> None:
+    """Whoever gives his program in place of a store's path finds it as it was, and nothing beside it."""
+    path = tmp_path / "order1.py"
+    path.write_text("print('no store')\n")
+    with pytest.raises(sagas.StoreFault, match="order1.py: file is not a database: give a store's own path"):
+        run(used(path))
+    assert [*tmp_path.iterdir()] == [path] and path.read_text() == "print('no store')\n"
