@@ -61,7 +61,7 @@ from .events import Event
 from .library import BadText, Verdict, audit, check, plan
 from .opening import open, open_sync
 from .plans import Choice, Plan
-from .runs import End, Held, LogEvent, Run, Summary
+from .runs import Begun, End, Held, LogEvent, Run, Summary
 from .store import Store
 from .sync import SyncRun, SyncStore
 from .task import Task
@@ -102,6 +102,7 @@ __all__ = [
     "BadInput",
     "BadKey",
     "BadText",
+    "Begun",
     "ChildError",
     "Choice",
     "Client",

@@ -9,6 +9,7 @@ from typing import Any
 
 from . import program
 from .errors import ChildError
+from .spoken import state_of
 
 Cost = int | None
 """A price; None is never."""
@@ -94,12 +95,14 @@ class Plan:
     def __str__(self) -> str:
         choices = self.choices
         wide = max(4, *(len(choice.step) for choice in choices))
+        states = [state_of(choice.state) for choice in choices]
+        found = max(9, *map(len, states))
         head = f"plan of {self.saga} {self.key}: "
         head += f"cost {self.cost}" if self.cost is not None else f"none is allowed, because of {' and '.join(self.chain)}"
-        lines = [head, f"  {'step':{wide}}  found      to stand  to go  decided"]
-        for choice in choices:
+        lines = [head, f"  {'step':{wide}}  {'found':{found}}  to stand  to go  decided"]
+        for choice, state in zip(choices, states):
             decided = choice.told if self.cost is not None else "stuck"
-            lines.append(f"  {choice.step:{wide}}  {choice.state:9}  {_told(choice.stand):>8}  {_told(choice.leave):>5}  {decided}")
+            lines.append(f"  {choice.step:{wide}}  {state:{found}}  {_told(choice.stand):>8}  {_told(choice.leave):>5}  {decided}")
         return "\n".join(lines)
 
 

@@ -6,6 +6,7 @@ import dataclasses
 from typing import TYPE_CHECKING, Any, Protocol, TypeVar, overload
 
 from . import values
+from .spoken import state_of
 
 if TYPE_CHECKING:
     from .plans import Plan
@@ -51,7 +52,9 @@ def end_text(end: Ended) -> str:
     chain = f", because of {' and '.join(end.chain)}" if end.chain else ""
     said = {step: f": {error.strip().splitlines()[0][:MOST_SAID]}" for step, error in end.errors.items() if error.strip()}
     head = f"{end.saga} {end.key}: {end.phase}{' (aborted)' if end.aborted else ''}{cost}{chain}"
-    return "\n".join([head, *(f"  {state:9} {step}{said.get(step, '')}" for step, state in end.states.items())])
+    states = {step: state_of(state) for step, state in end.states.items()}
+    wide = max(9, *map(len, states.values()))
+    return "\n".join([head, *(f"  {state:{wide}} {step}{said.get(step, '')}" for step, state in states.items())])
 
 
 @dataclasses.dataclass(frozen=True, slots=True)
@@ -59,7 +62,7 @@ class End:
     """How a saga ended.
 
     - `phase`: `ended`, or `stuck` where no allowed plan was left; then `chain` names the steps that show it, and a person has to look.
-    - `states`: a word by step: waiting, committed, failed, undone, fixed (its compensation failed for good, and it stands).
+    - `states`: a word by step: waiting, committed, failed, undone, fixed (its compensation failed for good, and it stands; printed as `undo failed`).
     - `results`: what the steps returned that stand.
     - `cost`: of the last plan; None where all went well. `kept`: the steps that the plan keeps.
     - `aborted`: whether it was aborted. `note`: of a stuck one that somebody resolved.
@@ -100,7 +103,7 @@ class End:
 class Summary:
     """A saga in a list. `phase`: `open`, `ended`, `stuck` or `resolved`; `id`: its place, to go on behind; times in seconds.
 
-    `planned`: whether it has ended by a plan, since a step had failed or it was aborted."""
+    `planned`: whether it has ended by a plan, since a step had failed or it was aborted; `undo_failed`: whether a compensation failed for good, too."""
 
     id: int
     key: str
@@ -110,6 +113,7 @@ class Summary:
     ended: float | None
     note: str | None
     planned: bool = False
+    undo_failed: bool = False
 
 
 @dataclasses.dataclass(frozen=True, slots=True)
@@ -132,6 +136,20 @@ class Held:
     @property
     def asked(self) -> bool:
         return self.until is None
+
+
+@dataclasses.dataclass(frozen=True, slots=True)
+class Begun:
+    """An attempt that has begun, as the program has it that drives its saga. `waits`: for what it waits; empty where its function is called now.
+
+    `limit`, `fleet_limit` or `rate` of its step; `place` (of `concurrency`); `backoff`; `worker` (it is done elsewhere, and nobody has it), `elsewhere` (a
+    worker has it); `wait` (for its time), `approval`, `unknown`. `until`: when that is over, in seconds of wall time, or None."""
+
+    step: str
+    undo: bool
+    attempt: int
+    waits: str
+    until: float | None
 
 
 @dataclasses.dataclass(frozen=True, slots=True)

@@ -16,7 +16,7 @@ from collections.abc import Callable, Iterable
 from types import TracebackType
 from typing import TYPE_CHECKING, Any
 
-from . import auditing, checks, databases, histories, moving, program, requests, retention, starting, values
+from . import auditing, checks, databases, histories, moving, program, requests, retention, starting, under_way, values
 from .anywhere import Anywhere
 from .calling import MOST_TEXT, Outcome, failure
 from .coordinator import Coordinator
@@ -30,7 +30,8 @@ from .kinds import Kind, Shelf
 from .live import Attempt, Live
 from .plans import Plan
 from .records import Asked, Wanted, SagaRow
-from .runs import End, Held, LogEvent, Run, Summary
+from .runs import Begun, End, Held, LogEvent, Run, Summary
+from .spoken import meant
 
 Grace = Seconds | None
 
@@ -466,6 +467,10 @@ class Store:
     def unknown(self) -> builtins.list[Held]:
         """The attempts of which nobody knows what they did, those first that a person has to say (`finish`)."""
         return histories.unknown(self._inside)
+
+    def begun(self, key: str) -> builtins.list[Begun]:
+        """What has begun of a saga that this program drives, and for what each attempt waits; none where it is over, or another program drives it."""
+        return under_way.begun(self._inside, key)
 
     def log(self, key: str) -> builtins.list[LogEvent]:
         """A saga's events so far, with times. Raises `NoSuchSaga`."""

@@ -11,7 +11,7 @@ from typing import TYPE_CHECKING, Any, TypeVar
 
 from .definition import Saga, Seconds, Step
 from .plans import Plan
-from .runs import End, Held, LogEvent, Summary
+from .runs import Begun, End, Held, LogEvent, Summary
 from .store import Store
 from .threads import Loop
 
@@ -146,6 +146,10 @@ class SyncStore:
     def unknown(self) -> builtins.list[Held]:
         """As `Store.unknown`."""
         return self._ask(self._store.unknown)
+
+    def begun(self, key: str) -> builtins.list[Begun]:
+        """As `Store.begun`."""
+        return self._ask(lambda: self._store.begun(key))
 
     def log(self, key: str) -> builtins.list[LogEvent]:
         """As `Store.log`."""
