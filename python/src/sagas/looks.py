@@ -13,13 +13,13 @@ from collections.abc import Callable, Sequence
 from typing import Any
 
 from .database import Reader
-from .histories import AFTER, STANDS
+from .histories import AFTER, FAILED, MISSES, STANDS
 from .plans import Plan
 from .questions import ENDED_BY_PLAN, PHASE, SAGA
 from .questions import PHASES as WHERE
 from .records import SagaRow
 from .runs import LogEvent, Summary
-from .schema import PLANNED, ROOM
+from .schema import PLANNED, ROOM, UNDO_FAILED
 
 Json = dict[str, Any]
 PHASES = ("open", "ended", "stuck", "resolved")
@@ -32,7 +32,7 @@ PERSON = "(why = 'approval' OR (why = 'unknown' AND until IS NULL))"
 class Waits:
     """An attempt that is held. `why`: `unknown`, `approval`, `wait`, or `elsewhere` (a worker has it).
 
-    `until`: when that is over, in seconds of wall time, or None; `said`: what was raised last, or the worker's name."""
+    `until`: when that is over, in seconds of wall time, or None; `said`: what was raised last, or the worker's name; `count`: how often nobody knew."""
 
     id: int
     key: str
@@ -77,7 +77,9 @@ class Attempted:
 
 @dataclasses.dataclass(frozen=True, slots=True)
 class StepView:
-    """A step as it stands: its state, its needs, how often its action began, its last result or error, and when it began and ended."""
+    """A step as it stands: its state, its needs, how often its action began, its last result or error, and when it began and ended.
+
+    `raised`: what it raised last, where it failed, or its compensation did."""
 
     name: str
     needs: list[str]
@@ -86,6 +88,7 @@ class StepView:
     said: Any
     began: float | None
     ended: float | None
+    raised: str | None = None
 
 
 @dataclasses.dataclass(frozen=True, slots=True)
@@ -102,7 +105,9 @@ class Stretch:
 
 @dataclasses.dataclass(frozen=True, slots=True)
 class SagaView:
-    """All of a saga, of one moment. `phase`: open, ended, stuck or resolved; `plan` is the last one; `token`: of its log's name and its number there."""
+    """All of a saga, of one moment. `phase`: open, ended, stuck or resolved; `plan` is the last one; `token`: of its log's name and its number there.
+
+    `running`: steps, and whether their compensations, of which somebody knows that they are called now; of others that have begun the store alone does not tell."""
 
     id: int
     key: str
@@ -122,6 +127,7 @@ class SagaView:
     notes: list[Note]
     definition: str
     token: str
+    running: frozenset[tuple[str, bool]] = frozenset()
 
     def effect_token(self, step: str, undo: bool) -> str:
         """The token that a step's action, or its compensation, hands to other services."""
@@ -158,9 +164,13 @@ class Looks:
         """How many have ended by a plan: they are among those that `counts` has as ended."""
         return int(self._rows(f"SELECT count(*) FROM sagas WHERE {PLANNED}")[0][0])
 
+    def undo_failed(self) -> int:
+        """Of how many of these a compensation failed for good."""
+        return int(self._rows(f"SELECT count(*) FROM sagas WHERE {UNDO_FAILED}")[0][0])
+
     def page(self, *, phase: str | None = None, saga: str | None = None, search: str | None = None, before: int | None = None, after: int | None = None, most: int = 50) -> list[Summary]:
         """A page of the list, newest first: those `before` an id; or oldest first, those `after` one. `search`: what the key contains;
-        `phase`: also `planned`, those of `ended` that ended by a plan."""
+        `phase`: also `planned`, those of `ended` that ended by a plan, and `undo-failed`, those of these of which a compensation failed for good."""
         wheres, words = ["1 = 1"], []
         if phase is not None:
             wheres.append(WHERE[phase])
@@ -176,7 +186,7 @@ class Looks:
                 words.append(id)  # type: ignore[arg-type]
         order = "DESC" if after is None else "ASC"
         rows = self._rows(f"SELECT {SHORT}, {ENDED_BY_PLAN} FROM sagas WHERE {' AND '.join(wheres)} ORDER BY id {order} LIMIT ?", *words, most)
-        return [Summary(id, key, name, phase_of(phase, note), at, ended, note, bool(planned)) for id, key, name, phase, at, ended, note, planned in rows]
+        return [Summary(id, key, name, phase_of(phase, note), at, ended, note, planned > 0, planned > 1) for id, key, name, phase, at, ended, note, planned in rows]
 
     def waits(self, most: int = 100, *, person: bool = True, why: str | None = None) -> list[Waits]:
         """What is held, the oldest first; by default what a person has to say something about."""
@@ -187,7 +197,7 @@ class Looks:
         query = f"SELECT h.id, s.key, s.saga, h.step, h.kind, h.attempt, h.why, h.count, h.since, h.until, h.error FROM held h JOIN sagas s ON s.id = h.id WHERE {where} ORDER BY h.since LIMIT ?"
         found = []
         for id, key, saga, step, kind, attempt, why, count, since, until, error in self._rows(query, *words, most):
-            said = json.loads(error).get("worker") if why == "elsewhere" and error else error
+            said, count = worker_of(error) if why == "elsewhere" else (error, count)
             found.append(Waits(id, key, saga, self._names_of(id)[step], kind == "undo", attempt, why, count, since, until, said))
         return found
 
@@ -259,6 +269,12 @@ class Looks:
         )  # fmt: skip
 
 
+def worker_of(told: str | None) -> tuple[str | None, int]:
+    """Who has a task, and how often nobody knew what it did before, by the row of its lease."""
+    words = json.loads(told) if told else {}
+    return words.get("worker"), words.get("unknown", 0)
+
+
 def phase_of(phase: str | None, note: str | None) -> str:
     """The word for a phase and a note."""
     return "resolved" if phase == "stuck" and note is not None else phase or "open"
@@ -300,7 +316,19 @@ def steps_of(definition: str, names: Sequence[str], states: Sequence[str], lines
     done = {one.step: one.value for one in attempts if one.outcome == "commit"}
     said = [(done if state in STANDS else last).get(name) for name, state in zip(names, states)]
     needs = [list(step.get("needs", ())) for step in tomllib.loads(definition)["step"]]
-    return [StepView(*told) for told in zip(names, needs, states, tries, said, map(began.get, range(len(names))), map(ended.get, range(len(names))))]
+    errors = raised(attempts)
+    told = [errors.get(name) if state in FAILED else None for name, state in zip(names, states)]
+    return [StepView(*one) for one in zip(names, needs, states, tries, said, map(began.get, range(len(names))), map(ended.get, range(len(names))), told)]
+
+
+def raised(attempts: Sequence[Attempted]) -> dict[str, str]:
+    """What each step raised last, before what is said of a try that was given up without a call."""
+    found: dict[str, str] = {}
+    for one in attempts:
+        value = one.value if isinstance(one.value, dict) else {}
+        if one.outcome in MISSES and (one.step not in found or value.get("called", True)):
+            found[one.step] = str(value.get("error", ""))
+    return found
 
 
 def events_of(lines: Sequence[tuple[float, Json]], names: Sequence[str], attempts: Sequence[Attempted]) -> list[LogEvent]:

@@ -9,7 +9,7 @@ from typing import Any
 
 from .errors import NoSuchSaga
 from .records import HeldRow, Loaded, LogRow, Result, SagaRow
-from .schema import PLANNED, ROOM
+from .schema import PLANNED, ROOM, UNDO_FAILED
 
 SAGA = 'id, key, saga, def, input, at, phase, "end", ended, note'
 RESULT = "r.id, r.step, r.kind, r.attempt, r.outcome, r.value, r.at"
@@ -29,12 +29,15 @@ FIND_MANY = {count: f"SELECT {SAGA} FROM sagas WHERE key IN ({', '.join('?' * co
 """By how many keys: few numbers, so that their statements are kept."""
 FOUND, MOST_FOUND = [*FIND_MANY], max(FIND_MANY)
 PHASES = {
-    "open": "phase IS NULL", "ended": "phase = 'ended'", "planned": PLANNED,
+    "open": "phase IS NULL", "ended": "phase = 'ended'", "planned": PLANNED, "undo-failed": UNDO_FAILED,
     "stuck": "phase = 'stuck' AND note IS NULL", "resolved": "phase = 'stuck' AND note IS NOT NULL",
 }  # fmt: skip
-"""What a list may be asked for. `planned`: those of `ended` that ended by a plan, since a step had failed or they were aborted."""
+"""What a list may be asked for. `planned`: those of `ended` that ended by a plan, since a step had failed or they were aborted; `undo-failed`: those of these
+of which a compensation failed for good."""
 PHASE = "CASE WHEN phase IS NULL THEN 'open' WHEN phase = 'stuck' AND note IS NOT NULL THEN 'resolved' ELSE phase END"
-ENDED_BY_PLAN = f"CASE WHEN {PLANNED} THEN 1 ELSE 0 END"
+ENDED_BY_PLAN = f"CASE WHEN {UNDO_FAILED} THEN 2 WHEN {PLANNED} THEN 1 ELSE 0 END"
+"""1 of a saga that ended by a plan, 2 where a compensation failed for good, too."""
+DEFINITION = f"SELECT texts, def FROM sagas JOIN logs ON log = id / {ROOM} JOIN shelves USING (shelf) WHERE id = ?"
 REQUESTS = "SELECT id, key, what, value FROM requests WHERE answer IS NULL ORDER BY id"
 
 
@@ -95,7 +98,7 @@ class Questions:
 
     def definition(self, id: int) -> str:
         """The text of a saga's definition. Raises `NoSuchSaga` where it was let go."""
-        rows = self.rows(f"SELECT texts, def FROM sagas JOIN logs ON log = id / {ROOM} JOIN shelves USING (shelf) WHERE id = ?", id)
+        rows = self.rows(DEFINITION, id)
         if not rows:
             raise NoSuchSaga(f"the saga {id} is not kept any more")
         ((texts, place),) = rows

@@ -8,6 +8,9 @@ ROOM = 1000
 PLANNED = """phase = 'ended' AND "end" <> replace("end", '"kind":"plan"', '')"""
 """The sagas that have ended by a plan, since a step had failed or they were aborted: in words that both databases know, for queries and for their index."""
 
+UNDO_FAILED = PLANNED + """ AND "end" <> replace("end", '"fixed"', '')"""
+"""Those of them of which a compensation failed for good: the index of those that ended by a plan leads to them."""
+
 FIRST = """
 -- the definitions of a log: a JSON list of TOML texts, sorted by name; `shelf` is their digest
 CREATE TABLE IF NOT EXISTS shelves(

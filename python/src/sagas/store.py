@@ -451,7 +451,7 @@ class Store:
 
     def list(self, *, phase: str | None = None, saga: Saga | str | None = None, after: int | None = None, most: int = 100) -> builtins.list[Summary]:
         """Sagas in the order of their logs, `most` at once; `after` is the `id` of the last of the page before. `phase`: open, ended, stuck or
-        resolved; or planned: those of ended that ended by a plan."""
+        resolved; or planned: those of ended that ended by a plan; or undo-failed: those of these of which a compensation failed for good."""
         return histories.listed(self._inside, phase, saga.name if isinstance(saga, Saga) else saga, after, most)
 
     def stuck(self) -> builtins.list[End]:
