@@ -30,10 +30,16 @@ def finish_of(step: str, kind: str, outcome: Outcome) -> dict[str, Any]:
 def told(answer: Any) -> Any:
     """The answer to a request; raises the error that it names."""
     if isinstance(answer, dict) and "error" in answer:
-        name, _, text = str(answer["error"]).partition(": ")
+        name = str(answer["error"]).partition(": ")[0]
         kind = getattr(errors, name, SagasError)
-        raise kind(text or name)
+        raise kind(reason(answer))
     return answer
+
+
+def reason(answer: dict[str, Any]) -> str:
+    """Why a request was refused, without the error's name."""
+    name, _, text = str(answer["error"]).partition(": ")
+    return text or name
 
 
 class Requests:

@@ -359,10 +359,10 @@ class Store:
 
     def _begun(self, live: Live, step: str, kind: str) -> Attempt:
         if step not in live.kind.names:
-            raise NotWaiting(f"saga {live.key!r} has no step {step!r}")
+            raise NotWaiting(f"saga {live.key!r} has no step {step!r}{meant(step, live.kind.names)}")
         attempt = live.busy.get((live.kind.names.index(step), kind))
         if attempt is None:
-            raise NotWaiting(f"saga {live.key!r}, step {step!r}: it is over, or has not begun: then say it again in a while")
+            raise NotWaiting(f"saga {live.key!r}, step {step!r}: {histories.why_not(self._inside, live, step, kind)}")
         return attempt
 
     async def serve(self) -> None:
