@@ -3,6 +3,7 @@
 from __future__ import annotations
 
 import asyncio
+import json
 import os
 from typing import Any
 
@@ -106,6 +107,51 @@ def test_a_start_waits_for_a_node(url: str, capsys: pytest.CaptureFixture[str]) 
                     assert (await started.wait()).ok
 
     run(main())
+
+
+def test_a_start_that_no_node_has_taken_is_withdrawn(url: str, capsys: pytest.CaptureFixture[str]) -> None:
+    """`waiting` lists it, and `abort` takes it back. One that a node has just taken is aborted by that, once it has begun."""
+    kind, other = sagas.Saga("signed"), shop()
+
+    @kind.approval
+    def sign(task: Task) -> None: ...
+
+    async def asked(*words: str) -> str:
+        assert await asyncio.to_thread(command.main, [url, *words]) == 0
+        return capsys.readouterr().out
+
+    async def main() -> None:
+        async with sagas.open(url, [other]), sagas.Client(url) as client:
+            started = await client.start(kind, "t1")
+            (one,) = json.loads(await asked("waiting", "--json"))
+            assert (one["key"], one["kind"], one["why"], one["saga"], one["version"], one["step"]) == ("t1", "start", "node", "signed", 1, None)
+            assert "a node with signed version 1" in await asked("waiting")
+            assert await asked("abort", "t1") == "t1: its start is withdrawn: no node had taken it, and nothing of it has begun\n"
+            assert inbox(url) == 0 and json.loads(await asked("waiting", "--json")) == []
+            with pytest.raises(sagas.NoSuchSaga):
+                await started.wait()
+            assert await asyncio.to_thread(command.main, [url, "abort", "t1"]) == 1 and "no saga has the key t1" in capsys.readouterr().err
+            await client.start(kind, "t2")
+            with psycopg.connect(url, autocommit=True) as link:  # a node is about to open it
+                link.execute("UPDATE sagas.inbox SET node = (SELECT node FROM sagas.nodes)")
+            assert json.loads(await asked("waiting", "--json")) == []
+            abort = asyncio.create_task(asked("abort", "t2", "--patience", "60"))
+            await until(lambda: requests(url))
+            assert not abort.done() and inbox(url) == 1
+            async with sagas.open(url, [kind]) as store:
+                with psycopg.connect(url, autocommit=True) as link:
+                    link.execute("UPDATE sagas.inbox SET node = NULL")
+                assert await abort == "t2: aborted\n" and (await store.wait("t2")).aborted
+
+    run(main())
+
+
+def requests(url: str) -> int:
+    """How many requests nobody has answered."""
+    with psycopg.connect(url) as link:
+        row = link.execute("SELECT count(*) FROM sagas.requests WHERE answer IS NULL").fetchone()
+        assert row
+        return int(row[0])
 
 
 def test_a_start_is_in_the_inbox_or_in_a_log(url: str) -> None:

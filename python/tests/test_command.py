@@ -4,6 +4,7 @@ from __future__ import annotations
 
 import asyncio
 import contextlib
+import functools
 import io
 import json
 import pathlib
@@ -16,6 +17,7 @@ import pytest
 import sagas
 from cases import Task, run, until
 from sagas import command, sources
+from sagas.looks import Looks
 
 Json = dict[str, Any]
 
@@ -125,6 +127,8 @@ def test_list(shell: Shell) -> None:
     assert [row["key"] for row in shell.json("list")] == ["good", "bad", "odd", "letter-1", "letter-2"]
     assert [row["key"] for row in shell.json("list", "--phase", "open", "--saga", "signed")] == ["letter-1", "letter-2"]
     assert [row["key"] for row in shell.json("list", "--after", "bad", "--most", "1")] == ["odd"]
+    assert [row["key"] for row in shell.json("list", "--newest", "--most", "2")] == ["letter-2", "letter-1"]
+    assert [row["key"] for row in shell.json("list", "--newest", "--after", "odd")] == ["bad", "good"]
 
 
 def test_show(shell: Shell) -> None:
@@ -138,12 +142,30 @@ def test_show(shell: Shell) -> None:
     ]
     assert "an approval" in shell("show", "letter-1")
     assert [step["attempts"] for step in shell.json("show", "bad")["steps"]] == [1, 2]
+    assert re.search(r"^STEP +STATE +TRIES +BEGAN +ENDED +SAID$", text, re.M)
+    assert len(re.findall(r" \d{4}-\d\d-\d\d \d\d:\d\d:\d\dZ", text)) == 2 + 2 * 2  # of the saga, and of its steps
+    reserve, charge = told["steps"]
+    assert told["at"] <= reserve["began"] <= reserve["ended"] <= charge["began"] <= charge["ended"] <= told["ended"]
+
+
+def test_log_and_plan(shell: Shell) -> None:
+    """As the store has them: the events with their times and what came of them, and the last plan with its certificate."""
+    events = shell.json("log", "bad")
+    assert [(one["event"], one["step"]) for one in events[:3]] == [("open", None), ("start_run", "reserve"), ("commit", "reserve")]
+    assert events[2]["value"] == {"place": 17} and all(a["at"] <= b["at"] for a, b in zip(events, events[1:]))
+    text = shell("log", "bad")
+    assert text.splitlines()[0].split() == ["TIME", "EVENT", "STEP", "SAID"] and re.search(r"Z  fail +charge +.*the card is refused", text)
+    assert "none is allowed, because of charge" in shell("plan", "bad")
+    assert set(shell.json("plan", "bad")) == {"definition", "case", "answer"} and shell.json("plan", "good") is None
+    assert shell("plan", "good", status=1) == ""
 
 
 def test_counts_stuck_and_waiting(shell: Shell) -> None:
     """How many there are, which are stuck and why, and what waits for a person."""
     assert shell.json("counts") == {
         "sagas": {"shop": {"open": 1, "ended": 1, "stuck": 1, "resolved": 0}, "signed": {"open": 2, "ended": 0, "stuck": 0, "resolved": 0}},
+        "ended by plan": 0,
+        "undo failed": 0,
         "wait for a person": 3,
     }
     assert "3 wait for a person" in shell("counts")
@@ -151,7 +173,8 @@ def test_counts_stuck_and_waiting(shell: Shell) -> None:
     assert {(one["key"], one["step"], one["why"]) for one in shell.json("waiting")} == {
         ("odd", "charge", "unknown"), ("letter-1", "sign", "approval"), ("letter-2", "sign", "approval"),
     }
-    assert "a person: nobody knows" in shell("waiting")
+    assert "a person: nobody knows what came of it (2 times)" in shell("waiting")
+    assert [one["count"] for one in shell.json("waiting") if one["key"] == "odd"] == [2]
 
 
 def test_audit_and_export(shell: Shell, path: str, tmp_path: pathlib.Path, capsys: pytest.CaptureFixture[str]) -> None:
@@ -224,8 +247,44 @@ def test_show_says_why(tmp_path: pathlib.Path, capsys: pytest.CaptureFixture[str
 
     run(main())
     told = Shell(path, capsys)("show", "k")
-    assert re.search(r'take  fixed +1  \{"called": false\}; its compensation: \{"error": "sagas.Fail: it is gone"', told), told
-    assert re.search(r'send  failed +3  \{"error": "sagas.Fail: no address"', told), told
+    assert re.search(r'take  undo failed +1  .*Z  .*Z  \{"called": false\}; its compensation: \{"error": "sagas.Fail: it is gone"', told), told
+    assert re.search(r'send  failed +3  .*Z  .*Z  \{"error": "sagas.Fail: no address"', told), told
+    assert [step["state"] for step in Shell(path, capsys).json("show", "k")["steps"]] == ["fixed", "failed"]
+
+
+def test_a_compensation_that_failed_is_seen(place: str, capsys: pytest.CaptureFixture[str]) -> None:
+    """Those that ended with it are listed and counted, and told of as `undo failed`, with what was raised; programs get the word of the rules."""
+    row = sagas.Saga("row")
+
+    @row.step(keep=5)
+    def take(task: Task) -> int:
+        return 1
+
+    @take.compensation
+    def give(task: Task) -> None:
+        if task.input == "gone":
+            raise sagas.Fail("it is gone")
+
+    @row.step(needs=[take])
+    def send(task: Task) -> None:
+        raise sagas.Fail("no address")
+
+    async def main() -> None:
+        async with sagas.open(place, [row]) as store:
+            end = await (await store.start(row, "bad", "gone")).wait()
+            assert end.states["take"] == "fixed" and "\n  undo failed take: sagas.Fail: it is gone\n  failed      send:" in str(end)
+            assert re.search(r"take  undo failed +5  never  stands", str(store.plan("bad")))
+            await (await store.start(row, "undone")).wait()
+            assert [(one.key, one.planned, one.undo_failed) for one in store.list()] == [("bad", True, True), ("undone", True, False)]
+            assert [one.key for one in store.list(phase="undo-failed")] == ["bad"]
+
+    run(main())
+    shell = Shell(place, capsys)
+    assert [(one["key"], one["undo_failed"]) for one in shell.json("list", "--phase", "undo-failed")] == [("bad", True)]
+    assert "ended, undo failed" in shell("list") and "ended by plan" in shell("list")
+    told = shell.json("counts")
+    assert (told["ended by plan"], told["undo failed"]) == (2, 1) and "list --phase undo-failed" in shell("counts")
+    assert "phase    ended, undo failed\n" in shell("show", "bad") and "phase    ended by plan\n" in shell("show", "undone")
 
 
 def test_beside_the_running_program(place: str, capsys: pytest.CaptureFixture[str]) -> None:
@@ -240,9 +299,12 @@ def test_beside_the_running_program(place: str, capsys: pytest.CaptureFixture[st
             async def beside(*words: str, status: int = 0) -> str:
                 return await asyncio.to_thread(shell, *words, status=status)
 
-            assert "aborted" in await beside("abort", "letter-1")
+            assert "aborted" in await beside("abort", "letter-1", "--note", "written twice")
             end = await store.wait("letter-1")
             assert end.aborted and end.states["write"] == "undone"
+            assert "phase    ended by plan, aborted" in await beside("show", "letter-1")
+            with contextlib.closing(Looks(store.reader())) as looks:
+                assert [(note.what, note.told, note.answer) for note in looks.notes("letter-1")] == [("abort", {"note": "written twice"}, True)]
             assert await beside("abort", "letter-1", status=1) == ""  # it is over, and nobody is asked
             assert "finished" in await beside("finish", "letter-2", "sign", "--result", '"signed"')
             assert (await store.wait("letter-2")).results["sign"] == "signed"
@@ -252,6 +314,35 @@ def test_beside_the_running_program(place: str, capsys: pytest.CaptureFixture[st
             assert await beside("stuck") == "KEY  SAGA  STUCK SINCE  BECAUSE\n" or "bad" not in await beside("stuck")
 
     run(main())
+
+
+def test_finish_says_what_is_wrong(place: str, capsys: pytest.CaptureFixture[str]) -> None:
+    """On standard error, without an error's name: a step that has not begun, one that is over, a name that is misspelt, a text that is no JSON."""
+    path, kinds = place, [shop(), signed()]
+
+    def finish(*words: str, status: int = 1) -> str:
+        assert command.main([path, "finish", *words]) == status
+        told = capsys.readouterr()
+        assert told.out == ""
+        return told.err
+
+    async def main() -> None:
+        async with sagas.open(path, kinds) as store:
+            await filled(path, store, kinds)
+            asked = functools.partial(asyncio.to_thread, finish)
+            assert await asked("letter-1", "write") == "sagas store: saga 'letter-1', step 'write': it is over: it is done\n"
+            assert await asked("letter-1", "write", "--undo") == "sagas store: saga 'letter-1', step 'write': it has not begun: say it again once it has\n"
+            with pytest.raises(sagas.NotWaiting, match="saga 'letter-1' has no step 'sing': is 'sign' meant"):
+                await store.finish("letter-1", "sing")
+
+    run(main())
+    assert finish("letter-1", "sing") == "sagas store: saga 'letter-1' has no step 'sing': is 'sign' meant?\n"  # also while no program runs
+    assert "no JSON" in finish("letter-1", "sign", "--result", "yes", status=2)
+    command.main([path, "finish", "letter-1", "sign", "--result", "yes"])
+    assert """a text is written '"yes"'""" in capsys.readouterr().err
+    with pytest.raises(SystemExit):
+        command.main([path, "finish", "--help"])
+    assert "an approval is approved" in capsys.readouterr().out
 
 
 def test_many_stuck_sagas_are_resolved_at_once(place: str, capsys: pytest.CaptureFixture[str]) -> None:

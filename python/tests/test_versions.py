@@ -239,6 +239,12 @@ def test_nodes_are_shown(url: str, tmp_path: pathlib.Path, capsys: pytest.Captur
             assert await asyncio.to_thread(command.main, [url, "nodes"]) == 0
             said = capsys.readouterr().out
             assert "second" in said and "No node drives:" in said and "simple (version 1)" in said
+        async with sagas.open(url, [old], node="first") as store:
+            gate.set()
+            assert (await store.wait("k")).ok
+        async with sagas.open(url, [new], node="second"):
+            assert await asyncio.to_thread(command.main, [url, "nodes"]) == 0
+            assert "No node drives:" not in capsys.readouterr().out  # that log has no open saga any more
 
     run(main())
     assert command.main([str(tmp_path / "x.db"), "nodes"]) == 2

@@ -21,8 +21,9 @@ LEFT = """
 SELECT l.log, l.name, t.texts, count(s.id) FROM logs l JOIN shelves t USING (shelf)
   LEFT JOIN sagas s ON s.id >= l.log * 1000 AND s.id < (l.log + 1) * 1000 AND s.phase IS NULL
 WHERE l.closed = 0 AND NOT EXISTS (SELECT 1 FROM nodes n WHERE n.node = l.owner AND n.lease > now())
-GROUP BY l.log, l.name, t.texts ORDER BY l.log
+GROUP BY l.log, l.name, t.texts HAVING count(s.id) > 0 ORDER BY l.log
 """
+"""What has no open saga needs no node: whoever comes closes it."""
 STARTS = """
 SELECT saga, version, count(*), extract(epoch FROM now()) - min(at) FROM inbox i
 WHERE NOT EXISTS (SELECT 1 FROM nodes n WHERE n.node = i.node AND n.lease > now()) GROUP BY saga, version ORDER BY saga, version

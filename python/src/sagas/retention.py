@@ -21,6 +21,7 @@ from . import archives, sources
 from .errors import SagasError
 from .schema import ROOM
 from .sources import Source
+from .spoken import number
 
 if TYPE_CHECKING:
     from .coordinator import Coordinator
@@ -106,7 +107,7 @@ async def keep(owner: Coordinator, name: str, seconds: float, export: str | os.P
         try:
             gone = await asyncio.shield(work)
             if gone.logs:
-                owner.teller.tell("logs_gone", detail=f"{len(gone.logs)} logs, {gone.sagas} sagas")
+                owner.teller.tell("logs_gone", detail=f"{number(len(gone.logs), 'log')}, {number(gone.sagas, 'saga')}")
             pause = SOON if gone.more else HOUR
         except asyncio.CancelledError:  # the store is closed behind the log that this is at
             stop.set()

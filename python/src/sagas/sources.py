@@ -21,6 +21,9 @@ Row = tuple[Any, ...]
 CANNOT = 4
 ALONE = 5_777_002
 """The advisory lock of who lets ended sagas go."""
+STARTS = "SELECT key, saga, version, at FROM inbox i WHERE NOT EXISTS (SELECT 1 FROM nodes n WHERE n.node = i.node AND n.lease > now()) ORDER BY id"
+WITHDRAW = "DELETE FROM inbox WHERE key = ? AND node IS NULL RETURNING id"
+"""Of one that a node has taken the saga may be in a log in the next moment, though the node is not heard of any more: that is aborted as a saga."""
 
 
 class Trouble(Exception):
@@ -60,6 +63,15 @@ class Source(Protocol):
 
     def absent(self, key: str) -> Trouble:
         """What is said where no saga has the key."""
+
+    def starts(self) -> list[Row]:
+        """What clients started and no node has taken: key, saga, version, and since when."""
+
+    def withdraw(self, key: str) -> bool:
+        """Takes a start of a client back. False where there is none, or a node has taken it."""
+
+    def is_started(self, key: str) -> bool:
+        """Whether a client's start has the key, and no log yet."""
 
     def close(self) -> None:
         """Ends the connection."""
@@ -143,6 +155,15 @@ class File:
     def absent(self, key: str) -> Trouble:
         return Trouble(f"no saga has the key {key}")
 
+    def starts(self) -> list[Row]:
+        return []
+
+    def withdraw(self, key: str) -> bool:
+        return False
+
+    def is_started(self, key: str) -> bool:
+        return False
+
     def close(self) -> None:
         self.link.close()
 
@@ -201,6 +222,15 @@ class Base:
         for saga, version in self.ask("SELECT saga, version FROM inbox WHERE key = ?", key) if self.version > 1 else []:
             return Trouble(f"{key} has not begun: its start waits for a node that has {saga} (version {version}): sagas store URL nodes")
         return Trouble(f"no saga has the key {key}")
+
+    def starts(self) -> list[Row]:
+        return self.ask(STARTS) if self.version > 1 else []
+
+    def withdraw(self, key: str) -> bool:
+        return self.version > 1 and bool(self.ask(WITHDRAW, key))
+
+    def is_started(self, key: str) -> bool:
+        return self.version > 1 and bool(self.ask("SELECT 1 FROM inbox WHERE key = ?", key))
 
     def close(self) -> None:
         self.link.close()

@@ -18,17 +18,19 @@ from ..sources import Trouble
 from ..values import clean
 from .asks import abort, finish, resolve
 from .audits import audit
-from .looks import counts, draw, export, list_sagas, show, stuck, waiting
+from .looks import counts, draw, export, list_sagas, log, plan, show, stuck, waiting
 from .pruning import prune, words_of_prune
 from .tables import CANNOT
 from .tending import init, migrate, nodes
 
 Command = Callable[[str, argparse.Namespace], int]
+Add = Callable[..., argparse.ArgumentParser]
 
 
 def parser() -> argparse.ArgumentParser:
     """The words of the command."""
-    top = argparse.ArgumentParser(prog="sagas store", description="Looks after the sagas of a store, also while a program has it open.")
+    told = "Looks after the sagas of a store, also while a program has it open. Times are in UTC."
+    top = argparse.ArgumentParser(prog="sagas store", description=told)
     top.add_argument("path", metavar="STORE", help="the store's file, or the URL of its database")
     parts = top.add_subparsers(dest="command", required=True, metavar="COMMAND")
 
@@ -41,30 +43,8 @@ def parser() -> argparse.ArgumentParser:
             part.add_argument("key", metavar="KEY", help="the saga's key")
         return part
 
-    part = add("list", list_sagas)
-    part.add_argument("--phase", choices=[*PHASES], help="planned: those of ended that ended by a plan")
-    part.add_argument("--saga", metavar="NAME", help="sagas of this name alone")
-    part.add_argument("--after", metavar="KEY", help="go on behind this key")
-    part.add_argument("--most", type=int, default=100, metavar="N", help="so many at most (100; 0 for all)")
-    add("show", show, key=True)
-    add("draw", draw, key=True)
-    add("counts", counts)
-    add("stuck", stuck)
-    add("waiting", waiting)
-    part = add("abort", abort, key=True)
-    add_patience(part)
-    part = add("finish", finish, key=True)
-    part.add_argument("step", metavar="STEP", help="the step's name")
-    outcome = part.add_mutually_exclusive_group()
-    outcome.add_argument("--result", default="null", metavar="JSON", help="it is done, with this result (null)")
-    outcome.add_argument("--failed", metavar="WHY", help="it had no effect")
-    part.add_argument("--undo", action="store_true", help="the step's compensation is meant")
-    add_patience(part)
-    part = add("resolve", resolve)
-    part.add_argument("key", metavar="KEY", nargs="*", help="the sagas' keys")
-    part.add_argument("--all", action="store_true", help="each stuck saga that nobody has resolved, in place of KEYs")
-    part.add_argument("--saga", metavar="NAME", help="with --all: sagas of this name alone")
-    part.add_argument("--note", required=True, metavar="TEXT", help="what was done about it")
+    add_looks(add)
+    add_asks(add)
     add("audit", audit)
     add("nodes", nodes)
     add("migrate", migrate)
@@ -72,6 +52,48 @@ def parser() -> argparse.ArgumentParser:
     add("export", export, key=True)
     words_of_prune(add("prune", prune))
     return top
+
+
+def add_looks(add: Add) -> None:
+    """What only looks."""
+    part = add("list", list_sagas)
+    part.add_argument("--phase", choices=[*PHASES], help="planned: those of ended that ended by a plan; undo-failed: those of these of which a compensation failed for good")
+    part.add_argument("--saga", metavar="NAME", help="sagas of this name alone")
+    part.add_argument("--after", metavar="KEY", help="go on behind this key")
+    part.add_argument("--newest", action="store_true", help="the newest first")
+    part.add_argument("--most", type=int, default=100, metavar="N", help="so many at most (100; 0 for all)")
+    add("show", show, key=True).epilog = "A step that is `begun` is called now, or waits for its turn: that the program knows that has the saga."
+    add("log", log, key=True)
+    add("plan", plan, key=True)
+    add("draw", draw, key=True)
+    add("counts", counts)
+    add("stuck", stuck)
+    add("waiting", waiting)
+
+
+def add_asks(add: Add) -> None:
+    """What changes something."""
+    part = add("abort", abort, key=True)
+    add_note(part)
+    add_patience(part)
+    part = add("finish", finish, key=True)
+    part.add_argument("step", metavar="STEP", help="the step's name")
+    outcome = part.add_mutually_exclusive_group()
+    outcome.add_argument("--result", default="null", metavar="JSON", help="it is done, or approved, with this result (null); a text is written '\"yes\"'")
+    outcome.add_argument("--failed", metavar="WHY", help="it had no effect, or is refused")
+    part.add_argument("--undo", action="store_true", help="the step's compensation is meant")
+    add_note(part)
+    add_patience(part)
+    part = add("resolve", resolve)
+    part.add_argument("key", metavar="KEY", nargs="*", help="the sagas' keys")
+    part.add_argument("--all", action="store_true", help="each stuck saga that nobody has resolved, in place of KEYs")
+    part.add_argument("--saga", metavar="NAME", help="with --all: sagas of this name alone")
+    part.add_argument("--note", required=True, metavar="TEXT", help="what was done about it")
+
+
+def add_note(part: argparse.ArgumentParser) -> None:
+    """The option why."""
+    part.add_argument("--note", metavar="TEXT", help="why; it is kept with the time")
 
 
 def add_patience(part: argparse.ArgumentParser) -> None:

@@ -4,23 +4,27 @@ from __future__ import annotations
 
 import argparse
 import json
+import sys
 import time
 from typing import Any
 
 from .. import databases, sources
+from ..questions import DEFINITION
+from ..requests import reason
 from ..sources import Trouble
+from ..spoken import meant
 from .tables import GOOD, NO, show_json
-from .view import Json, View, parsed
+from .view import Json, View, parsed, step_names
+
+WITHDRAWN = "withdrawn"
+"""The answer to an abort of a start that no node had taken."""
 
 
 def ask(path: str, key: str, what: str, value: Any, patience: float) -> tuple[Any, bool]:
     """Leaves a request in the store; gives the answer of the program that has the saga, or None where none has come yet, and whether a program has the store."""
     with sources.writing(path) as link:
-        found = link.ask("SELECT phase FROM sagas WHERE key = ?", key)
-        if not found:
-            raise link.absent(key)
-        if found[0][0] is not None:
-            raise Trouble(f"{key} is over: it is {found[0][0]}, and nothing is left to {what}")
+        if not is_there(link, key, what, value):
+            return WITHDRAWN, True
         row = (key, what, json.dumps(value), time.time())
         ((number,),) = link.ask("INSERT INTO requests(key, what, value, at) VALUES(?, ?, ?, ?) RETURNING id", *row)
         link.tell("requests")
@@ -36,37 +40,70 @@ def ask(path: str, key: str, what: str, value: Any, patience: float) -> tuple[An
             time.sleep(0.02)  # SQLite tells another process of a commit only when it looks
 
 
+def is_there(link: sources.Source, key: str, what: str, value: Any) -> bool:
+    """Whether there is a saga to ask about. False: it was a client's start, which no node had taken, and is withdrawn. Raises `Trouble` where nothing can be asked."""
+    asked = "SELECT id, phase FROM sagas WHERE key = ?"
+    found = link.ask(asked, key)
+    if not found and what == "abort":
+        if link.withdraw(key):
+            return False
+        found = link.ask(asked, key)
+        if not found and link.is_started(key):  # a node has just taken it, and does what it is asked once it has begun
+            return True
+    if not found:
+        raise link.absent(key)
+    ((id, phase),) = found
+    if phase is not None:
+        raise Trouble(f"{key} is over: it is {phase}, and nothing is left to {what}")
+    if what == "finish":
+        check_step(link, key, id, value["step"])
+    return True
+
+
+def check_step(link: sources.Source, key: str, id: int, step: str) -> None:
+    """Raises `Trouble` where the saga's definition has no such step: no program would take it."""
+    ((texts, place),) = link.ask(DEFINITION, id)
+    names = step_names(json.loads(texts)[place])
+    if step not in names:
+        raise Trouble(f"saga {key!r} has no step {step!r}{meant(step, names)}")
+
+
 def request(path: str, words: argparse.Namespace, what: str, value: Any, done: str, refused: str) -> int:
     """Asks the program for something, and says what came of it."""
     answer, driven = ask(path, words.key, what, value, words.patience)
+    good = answer is None or answer is True or answer == WITHDRAWN
     if words.json:
         show_json({"key": words.key, "asked": what, "answer": answer})
     elif answer is None:
         none = "a node has its log: sagas store URL nodes" if databases.is_url(path) else "the program comes to it"
         print(f"{words.key}: asked; it is done once {none if driven else 'a program has the store open'}")
-    elif answer is True:
+    elif answer == WITHDRAWN:
+        print(f"{words.key}: its start is withdrawn: no node had taken it, and nothing of it has begun")
+    elif good:
         print(f"{words.key}: {done}")
     else:
-        reason = answer["error"] if isinstance(answer, dict) else refused
-        print(f"{words.key}: {reason}")
-    return GOOD if answer is None or answer is True else NO
+        print(f"sagas store: {reason(answer) if isinstance(answer, dict) else f'{words.key}: {refused}'}", file=sys.stderr)
+    return GOOD if good else NO
 
 
 def abort(path: str, words: argparse.Namespace) -> int:
-    """Aborts a saga: nothing more begins, and what costs least is undone."""
-    return request(path, words, "abort", None, "aborted", "not aborted: it is over, or was aborted before")
+    """Aborts a saga: nothing more begins, and what costs least is undone. A client's start that no node has taken is withdrawn."""
+    value = {"note": words.note} if words.note else None
+    return request(path, words, "abort", value, "aborted", "not aborted: it is over, or was aborted before")
 
 
 def finish(path: str, words: argparse.Namespace) -> int:
-    """Says of a step that waits for a person that it is done, or has failed."""
+    """Says of a step that waits for a person, or is done elsewhere, that it is done, or has failed. Without --failed an approval is approved."""
     value: Json = {"step": words.step, "kind": "undo" if words.undo else "run"}
+    if words.note:
+        value["note"] = words.note
     if words.failed is not None:
         value["failed"] = words.failed
     else:
         try:
             value["result"] = json.loads(words.result)
         except ValueError as error:
-            raise Trouble(f"--result is no JSON: {error}", 2) from error
+            raise Trouble(f"--result {words.result!r} is no JSON ({error}): a text is written '{json.dumps(words.result, ensure_ascii=False)}'", 2) from error
     return request(path, words, "finish", value, f"{words.step} is finished", "not finished")
 
 

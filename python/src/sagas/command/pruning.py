@@ -8,6 +8,7 @@ import sys
 
 from .. import retention
 from ..sources import Trouble
+from ..spoken import number
 from .tables import CANNOT, GOOD, show_json
 
 UNITS = {"s": 1, "m": 60, "h": 3600, "d": 86400, "w": 7 * 86400}
@@ -38,7 +39,9 @@ def prune(path: str, words: argparse.Namespace) -> int:
     if words.json:
         show_json({"logs": gone.logs, "sagas": gone.sagas, "more": gone.more})
         return GOOD
-    print(f"{gone.sagas} sagas in {len(gone.logs)} logs are gone{f', and are in {words.export}' if words.export and gone.logs else ''}")
+    is_are = "is" if gone.sagas == 1 else "are"
+    where = f", and {is_are} in {words.export}" if words.export and gone.logs else ""
+    print(f"{number(gone.sagas, 'saga')} in {number(len(gone.logs), 'log')} {is_are} gone{where}")
     if gone.more:
         print("there are more: run it again", file=sys.stderr)
     return GOOD

@@ -13,8 +13,8 @@ GOOD, NO, CANNOT = 0, 1, 4
 
 
 def moment(at: float | None) -> str:
-    """A time as a person reads it."""
-    return "" if at is None else datetime.datetime.fromtimestamp(at).strftime("%Y-%m-%d %H:%M:%S")
+    """A time as a person reads it: in UTC, as the page and the service's log have it."""
+    return "" if at is None else datetime.datetime.fromtimestamp(at, datetime.timezone.utc).strftime("%Y-%m-%d %H:%M:%SZ")
 
 
 def short(value: Any, most: int = 60) -> str:

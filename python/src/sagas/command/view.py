@@ -7,10 +7,12 @@ import tomllib
 from typing import Any, NamedTuple
 
 from .. import sources
-from ..histories import AFTER, MISSES
+from ..histories import AFTER, MISSES, STANDS
+from ..looks import worker_of
 from ..plans import Plan
-from ..questions import ENDED_BY_PLAN, PHASE
+from ..questions import DEFINITION, ENDED_BY_PLAN, PHASE
 from ..schema import ROOM
+from ..spoken import known
 
 Row = tuple[Any, ...]
 Json = dict[str, Any]
@@ -29,14 +31,17 @@ class SagaRow(NamedTuple):
     ended: float | None
     note: str | None
     planned: bool
+    undo_failed: bool
 
 
 class StepRow(NamedTuple):
-    """A step of a saga: its state, and what its last outcome said."""
+    """A step of a saga: its state, how often it was begun, when that was first and when it was over, and what its last outcome said."""
 
     step: str
     state: str
     attempts: int
+    began: float | None
+    ended: float | None
     said: Any
 
 
@@ -60,10 +65,10 @@ class View:
         """The rows of a question."""
         return self.link.ask(text, *words)
 
-    def sagas(self, where: str = "TRUE", *words: Any, most: int = ALL) -> list[SagaRow]:
-        """The sagas for which a condition holds, in the order in which they were started."""
-        rows = self.ask(f"SELECT {COLUMNS} FROM sagas WHERE {where} ORDER BY id LIMIT ?", *words, most)
-        return [SagaRow._make((*row[:-1], bool(row[-1]))) for row in rows]
+    def sagas(self, where: str = "TRUE", *words: Any, most: int = ALL, newest: bool = False) -> list[SagaRow]:
+        """The sagas for which a condition holds, in the order in which they were started, or the newest first."""
+        rows = self.ask(f"SELECT {COLUMNS} FROM sagas WHERE {where} ORDER BY id{' DESC' if newest else ''} LIMIT ?", *words, most)
+        return [SagaRow._make((*row[:-1], row[-1] > 0, row[-1] > 1)) for row in rows]
 
     def saga(self, key: str) -> SagaRow:
         """The saga of a key."""
@@ -80,8 +85,7 @@ class View:
 
     def definition(self, id: int) -> str:
         """The text of a saga's definition."""
-        asked = f"SELECT texts, def FROM sagas JOIN logs ON log = id / {ROOM} JOIN shelves USING (shelf) WHERE id = ?"
-        texts, place = self.ask(asked, id)[0]
+        texts, place = self.ask(DEFINITION, id)[0]
         return str(json.loads(texts)[place])
 
     def end(self, id: int) -> tuple[Any, Json | None]:
@@ -99,22 +103,22 @@ class View:
         ]
 
     def held(self, where: str = "TRUE", *words: Any) -> list[Json]:
-        """What is held: waits, approvals, and outcomes that nobody knows."""
+        """What is held: waits, approvals, outcomes that nobody knows (`count`: how often nobody knew), and what workers have."""
         columns = "key, held.id, step, kind, attempt, why, count, since, until, error"
-        rows = self.ask(f"SELECT {columns} FROM held JOIN sagas USING (id) WHERE {where} ORDER BY since", *words)
+        found = []
+        for key, id, step, kind, attempt, why, count, since, until, error in self.ask(f"SELECT {columns} FROM held JOIN sagas USING (id) WHERE {where} ORDER BY since", *words):
+            worker = None
+            if why == "elsewhere":
+                (worker, count), error = worker_of(error), None
+            told = {"key": key, "step": step_names(self.definition(id))[step], "kind": kind, "attempt": attempt, "why": why, "count": count}
+            found.append(told | {"since": since, "until": until, "error": error, "worker": worker})
+        return found
+
+    def starts(self) -> list[Json]:
+        """What clients started and no node has taken."""
         return [
-            {
-                "key": key,
-                "step": step_names(self.definition(id))[step],
-                "kind": kind,
-                "attempt": attempt,
-                "why": why,
-                "count": count,
-                "since": since,
-                "until": until,
-                "error": error,
-            }
-            for key, id, step, kind, attempt, why, count, since, until, error in rows
+            {"key": key, "step": None, "kind": "start", "attempt": None, "why": "node", "count": 0, "since": at, "until": None, "error": None, "worker": None, "saga": saga, "version": version}
+            for key, saga, version, at in self.link.starts()
         ]
 
 
@@ -144,6 +148,24 @@ def plan_of(view: View, row: SagaRow) -> Plan | None:
     return plan
 
 
+def was_aborted(view: View, id: int) -> bool:
+    """Whether somebody aborted a saga."""
+    return any(event["event"] == "abort" for _, event in view.events(id))
+
+
+def log_of(view: View, id: int) -> list[Json]:
+    """The events of a saga, each with what came of it, as `Store.log` has them."""
+    names, told = step_names(view.definition(id)), dict[tuple[str, str], list[Any]]()
+    for result in view.results(id):
+        told.setdefault((result["step"], result["outcome"]), []).append(result["value"])
+    found = []
+    for at, event in view.events(id):
+        step = names[event["step"]] if "step" in event else None
+        values = told.get((step, event["event"])) if step is not None else None
+        found.append({"event": event["event"], "at": at, "step": step, "value": values.pop(0) if values else event.get("answer")})
+    return found
+
+
 def was_called(result: Json) -> bool:
     """Whether an attempt was made; one that was given up says nothing of its own."""
     return result["outcome"] not in MISSES or bool((result["value"] or {}).get("called", True))
@@ -153,18 +175,29 @@ def steps_of(view: View, id: int) -> list[StepRow]:
     """The steps of a saga by its events, with what their last outcomes said."""
     names = step_names(view.definition(id))
     states, attempts = ["waiting"] * len(names), [0] * len(names)
-    for _, event in view.events(id):
+    began, ended = dict[int, float](), dict[int, float]()
+    for at, event in view.events(id):
         word = event["event"]
         if word in AFTER:
-            states[event["step"]] = AFTER[word]
-            attempts[event["step"]] += word == "start_run"
+            step = event["step"]
+            states[step] = AFTER[word]
+            attempts[step] += word == "start_run"
+            if word.startswith("start"):
+                began.setdefault(step, at)
+                ended.pop(step, None)
+            else:
+                ended[step] = at
+    said = last_said(view.results(id))
+    return [
+        StepRow(name, known(state), tried, began.get(place), ended.get(place), said["commit" if state in STANDS else ""].get(name))
+        for place, (name, state, tried) in enumerate(zip(names, states, attempts))
+    ]
+
+
+def last_said(results: list[Json]) -> dict[str, Json]:
+    """What each step said last, and under `commit` what its action gave."""
     said: Json = {}
-    results = view.results(id)
     for result in results:
         if result["step"] not in said or was_called(result):
             said[result["step"]] = result["value"]
-    actions = {result["step"]: result["value"] for result in results if result["outcome"] == "commit"}
-    return [
-        StepRow(name, state, tried, (actions if state in ("committed", "fixed") else said).get(name))
-        for name, state, tried in zip(names, states, attempts)
-    ]
+    return {"": said, "commit": {result["step"]: result["value"] for result in results if result["outcome"] == "commit"}}
