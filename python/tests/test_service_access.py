@@ -146,6 +146,7 @@ def test_a_token_that_is_taken_away(tmp_path: pathlib.Path) -> None:
             while "tokens.toml: it cannot be read" not in service.told():
                 assert second.get("/sagas").status_code == 200 and time.monotonic() < deadline
                 time.sleep(0.1)
+            assert "the tokens of before stay valid until it is mended" in service.told()
 
 
 def test_texts_are_no_markup(guarded: Guarded) -> None:

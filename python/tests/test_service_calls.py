@@ -76,7 +76,7 @@ def test_a_saga_through_workers(client: httpx.Client) -> None:
     report(client, undo)
     end = get(client, "/sagas/t%2F1%20%C3%BC/wait?seconds=60")
     assert (end["phase"], end["states"]) == ("ended", {"flight": "committed", "car": "undone", "tour": "failed"})
-    assert end["results"] == {"flight": {"seat": 1}} and end["plan"]["cost"] == 15
+    assert end["results"] == {"flight": {"seat": 1}} and end["plan"]["cost"] == 15 and end["errors"] == {"tour": "full"}
     assert [step["decided"] for step in end["plan"]["steps"]] == ["stands", "is undone", "is left out"]
     text = client.get("/sagas/t%2F1%20%C3%BC/certificate?form=text").text
     assert subprocess.run([program()], input=text, capture_output=True, text=True).stdout == "least 15\n"
@@ -108,6 +108,46 @@ def test_leases(client: httpx.Client) -> None:
     assert report(client, {**new, "token": "x"}).json()["error"] == "NoSuchTask"
     client.post("/sagas/leases/abort", json={"note": "it was a try"})
     assert get(client, "/sagas/leases/wait?seconds=60")["aborted"] is True
+
+
+def test_what_has_begun(client: httpx.Client) -> None:
+    """Until a worker takes it, it has begun and waits for one; then it runs, at that worker; and when the lease has run out it waits again."""
+
+    def flight() -> tuple[str, list[tuple[str, str | None]]]:
+        told = get(client, "/sagas/begun")
+        return told["states"]["flight"], [(one["why"], one["said"]) for one in told["waits"]]
+
+    def comes(wanted: tuple[str, list[tuple[str, str | None]]]) -> None:
+        deadline = time.monotonic() + LONG
+        while flight() != wanted:
+            assert time.monotonic() < deadline, flight()
+            time.sleep(0.02)
+
+    start(client, "trip", "begun")
+    comes(("begun", [("worker", None)]))
+    take(client, "trip/flight", lease=0.5)
+    comes(("begun", [("worker", "the lease of local/w ran out")]))
+    (task,) = take(client, "trip/flight")
+    comes(("running", [("elsewhere", "local/w")]))
+    report(client, task, "failed", error="no seat", final=True)
+    told = get(client, "/sagas/begun/wait?seconds=60")
+    assert (told["states"]["flight"], told["errors"], told["waits"]) == ("failed", {"flight": "no seat"}, [])
+
+
+def test_a_compensation_that_failed(client: httpx.Client) -> None:
+    """The list has such sagas by a phase of their own; each tells what was raised."""
+    start(client, "trip", "undo-failed")
+    all_done(client, "trip/flight", "trip/car")
+    for _ in range(2):
+        (tour,) = take(client, "trip/tour")
+        report(client, tour, "failed", error="full")
+    all_done(client, "trip/car/undo", failing=["trip/car/undo"])
+    told = get(client, "/sagas/undo-failed/wait?seconds=60")
+    assert (told["phase"], told["states"]["car"], told["errors"]) == ("ended", "fixed", {"car": "no", "tour": "full"})
+    assert [(one["key"], one["undo_failed"]) for one in get(client, "/sagas?phase=undo-failed")["sagas"]] == [("undo-failed", True)]
+    page = client.get("/ui/sagas/undo-failed").text
+    assert "Undoing <b>car</b> failed for good: “no”" in page and "Undo failed" in client.get("/ui/sagas?phase=undo-failed").text
+    assert "car: undo failed, kept for 30" in client.get("/sagas/undo-failed/picture.svg").text
 
 
 def test_a_beaten_lease_holds(client: httpx.Client) -> None:
@@ -424,8 +464,9 @@ def test_what_cannot_be_served(tmp_path: pathlib.Path, files: dict[str, str], wo
 def test_a_module_s_steps_run_here(tmp_path: pathlib.Path) -> None:
     """`--app module:store`: functions in the service, and steps of the same saga by workers."""
     (tmp_path / "shop.py").write_text(
-        'import sagas\nshop = sagas.Saga("shop")\n\n@shop.step\ndef price(task):\n    return task.input * 2\n\n'
-        'send = shop.step(handler=None, name="send", needs=[price])\nstore = sagas.open("unused.db", [shop])\n'
+        'import sagas, threading\nshop = sagas.Saga("shop")\n\n@shop.step\ndef price(task):\n    return task.input * 2\n\n'
+        'send = shop.step(handler=None, name="send", needs=[price])\nlong = sagas.Saga("long")\n\n'
+        '@long.step(limit=1)\ndef once(task):\n    threading.Event().wait()\n\nstore = sagas.open("unused.db", [shop, long])\n'
     )
     with served(tmp_path, {"order.toml": ORDER_OF_ONE}, "--app", "shop:store") as service, service.client() as client:
         start(client, "shop", "s", 21)
@@ -433,6 +474,14 @@ def test_a_module_s_steps_run_here(tmp_path: pathlib.Path) -> None:
         assert task["results"] == {"price": 42}
         report(client, task)
         assert get(client, "/sagas/s/wait?seconds=60")["phase"] == "ended"
+        for key in ("long-1", "long-2"):  # the second waits until the first is over
+            start(client, "long", key)
+            assert get(client, f"/sagas/{key}/wait?seconds=0.2")["over"] is False
+        first, second = (get(client, f"/sagas/{key}") for key in ("long-1", "long-2"))
+        assert (first["states"], first["waits"]) == ({"once": "running"}, [])
+        assert (second["states"], [one["why"] for one in second["waits"]]) == ({"once": "begun"}, ["limit"])
+        assert "once: running, attempt 1" in client.get("/sagas/long-1/picture.svg").text
+        assert "once: waits, for a place of its limit" in client.get("/sagas/long-2/picture.svg").text
 
 
 ORDER_OF_ONE = 'format = 2\nname = "one"\n[[step]]\nname = "a"\n'

@@ -85,6 +85,19 @@ def test_a_task_goes_through_both(both: Pair) -> None:
         assert "both" in client.get("/ui/sagas/both").text
 
 
+def test_what_has_begun_at_the_other(both: Pair) -> None:
+    """Each tells for what a step waits, whichever of them has the saga."""
+    start(both.one, "trip", "begun")
+    for client in (both.one, both.two):
+        deadline = time.monotonic() + LONG
+        while not (waits := client.get("/sagas/begun").json()["waits"]):
+            assert time.monotonic() < deadline
+        assert [(one["step"], one["why"]) for one in waits] == [("flight", "worker")]
+        assert "waits for a worker" in client.get("/ui/sagas/begun").text
+    assert both.two.post("/sagas/begun/abort", json={}).json()["aborted"] is True
+    assert both.one.get("/sagas/begun/wait?seconds=60").json()["aborted"] is True
+
+
 def test_a_long_take_hears_of_the_other_s_task(both: Pair) -> None:
     """Whoever waits at one gets what comes at the other; one who has gone gets none."""
     with pytest.raises(httpx.ReadTimeout), both.services[1].client() as gone:

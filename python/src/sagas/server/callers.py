@@ -20,7 +20,7 @@ from .who import Who
 router = APIRouter(default_response_class=Json)
 CALLER = Depends(allow("caller"))
 LONGEST = 60.0  # seconds that a wait may take
-Phase = Literal["open", "ended", "planned", "stuck", "resolved"]
+Phase = Literal["open", "ended", "planned", "undo-failed", "stuck", "resolved"]
 
 
 class Strict(BaseModel):
@@ -77,7 +77,8 @@ async def listed(
     after: Optional[str] = Query(None, max_length=20, regex="^[0-9]+$", description="the page before's `next`"), most: int = Query(100, ge=1, le=1000),
     who: Who = CALLER,
 ) -> Response:  # fmt: skip
-    """A page; `next` is null where there is no further one. `search`: what the key contains; `phase=planned`: those of `ended` that ended by a plan."""
+    """A page; `next` is null where there is no further one. `search`: what the key contains; `phase=planned`: those of `ended` that ended by a plan;
+    `phase=undo-failed`: those of these of which a compensation failed for good."""
     before = min(int(after), 2**62) if after else None
     found = await service_of(request).look(lambda looks: looks.page(phase=phase, saga=definition, search=search, before=before, most=most))
     return Json({"sagas": [shown.summary(one) for one in found], "next": str(found[-1].id) if len(found) == most else None})
@@ -85,7 +86,9 @@ async def listed(
 
 @router.get("/sagas/{key}", summary="How a saga stands")
 async def get(request: Request, key: str, who: Who = CALLER) -> Response:
-    """Its phase, the states and results of its steps, what they wait for, and its plan with the cost, or the chain because of which it is stuck."""
+    """Its phase, the states, results and errors of its steps, what they wait for, and its plan with the cost, or the chain because of which it is stuck.
+
+    A step is `running` where it is called now or a worker has it; `begun` where it waits for something, or the service does not know."""
     return Json(shown.saga(await view_of(request, key)))
 
 
@@ -129,7 +132,7 @@ async def log(request: Request, key: str, who: Who = CALLER) -> Response:
 async def picture(request: Request, key: str, who: Who = CALLER) -> Response:
     """Its steps with their states, and what the plan keeps and why."""
     view = await view_of(request, key)
-    text = pictures.document(view, await service_of(request).untaken(view))
+    text = pictures.document(view)
     return Response(rendering.sent(text), media_type="image/svg+xml", headers={"Content-Security-Policy": "default-src 'none'; style-src 'unsafe-inline'"})
 
 

@@ -22,10 +22,17 @@ class Lines(logging.Formatter):
         return json.dumps(told, default=str)
 
 
+class Text(logging.Formatter):
+    """A line for people; its time is in UTC."""
+
+    converter = time.gmtime
+    default_msec_format = "%s.%03dZ"
+
+
 def begin(form: str, level: str, stream: TextIO) -> None:
     """Sends all that is logged to a stream."""
     handler = logging.StreamHandler(stream)
-    handler.setFormatter(Lines() if form == "json" else logging.Formatter("%(asctime)s %(levelname)s %(name)s: %(message)s"))
+    handler.setFormatter(Lines() if form == "json" else Text("%(asctime)s %(levelname)s %(name)s: %(message)s"))
     root = logging.getLogger()
     root.handlers[:] = [handler]
     root.setLevel(level.upper())

@@ -172,7 +172,7 @@ async def overview(request: Request) -> Response:
         return answer
     service = service_of(request)
     since = service.hub.now
-    counts, asked = await service.counts()
+    counts, asked, _ = await service.counts()
 
     def questions(looks: Looks) -> tuple[Any, list[Waits], Any]:
         return looks.stuck(STUCK), looks.waits(SHOWN), looks.page(most=12)
@@ -200,13 +200,13 @@ async def listed(
         return answer
     service = service_of(request)
     phase, search, definition = phase if phase in words.PHASES else None, search or None, definition or None
-    counts, _ = await service.counts()
+    counts, _, ended = await service.counts()
 
-    def question(looks: Looks) -> tuple[Any, int]:
+    def question(looks: Looks) -> Any:
         last = None if before is None else int(before)
-        return looks.page(phase=phase, saga=definition, search=search, before=last, after=None if after is None else int(after), most=LISTED + 1), looks.planned()
+        return looks.page(phase=phase, saga=definition, search=search, before=last, after=None if after is None else int(after), most=LISTED + 1)
 
-    found, planned = await service.look(question)
+    found = await service.look(question)
     more, found = len(found) > LISTED, found[:LISTED]
     if after is not None:
         found.reverse()
@@ -219,8 +219,8 @@ async def listed(
         return f"/ui/sagas?{urlencode(words)}" if words else "/ui/sagas"
 
     total = {name: sum(of[name] for of in counts.values()) for name in PHASES}
-    shown_of = {**total, "planned": planned}
-    tabs = [(None, "All", sum(total.values())), *((name, words.PHASES[name], shown_of[name]) for name in ("open", "stuck", "ended", "planned", "resolved"))]
+    shown_of = {**total, **ended}
+    tabs = [(None, "All", sum(total.values())), *((name, words.PHASES[name], shown_of[name]) for name in ("open", "stuck", "ended", "planned", "undo-failed", "resolved"))]
     return shows(
         request, "list.html", here="sagas", tabs=tabs, phase=phase, search=search, definition=definition, counts=counts, sagas=found, newer=newer, older=older, url=url,
     )  # fmt: skip
@@ -236,11 +236,11 @@ async def saga(request: Request, key: str) -> Response:
     view = await service.saga(unslashed(key))
     if view is None:
         return shows(request, "fault.html", 404, title="There is no such saga", text=f"No saga has the key {unslashed(key)}.", back="/ui/sagas")
-    return shows(request, "saga.html", since=since, **told_of(view, await service.untaken(view)))
+    return shows(request, "saga.html", since=since, **told_of(view))
 
 
-def told_of(view: SagaView, untaken: set[str]) -> dict[str, Any]:
-    """What the template of a saga asks for. `untaken`: steps of which tasks wait for a worker."""
+def told_of(view: SagaView) -> dict[str, Any]:
+    """What the template of a saga asks for."""
     drawn = len(view.steps) <= MOST_DRAWN
     return {
         "here": "sagas",
@@ -249,12 +249,12 @@ def told_of(view: SagaView, untaken: set[str]) -> dict[str, Any]:
         "base": address_of(view.key),
         "asks": [one for one in view.held if one.asks],
         "helds": {one.step: one for one in view.held},
-        "untaken": untaken,
         "choices": {choice.step: choice for choice in view.plan.choices} if view.plan else {},
         "failures": failures_of(view),
-        "tolds": pictures.told_of(view, untaken),
-        "picture": pictures.svg(view, untaken) if drawn else "",
-        "timeline": pictures.timeline(view, untaken) if drawn else "",
+        "tolds": pictures.told_of(view),
+        "picture": pictures.svg(view) if drawn else "",
+        "timeline": pictures.timeline(view) if drawn else "",
+        "undo_failed": [step for step in view.steps if step.state == "fixed"],
         "icons": pictures.ICONS,
         "done": sum(step.state in ("committed", "fixed") for step in view.steps),
         "events": view.events[:MOST_EVENTS],

@@ -3,13 +3,13 @@
 from __future__ import annotations
 
 import time
-from collections.abc import Collection
 from html import escape
 from typing import NamedTuple
 
 from ..looks import SagaView, Stretch, Waits
 from ..plans import Choice, Plan
 from . import words
+from .doing import state_of
 from .layout import GAP_X, HEIGHT, WIDTH, Placed, Point, place
 
 MARGIN = 6
@@ -52,8 +52,8 @@ def named(text: str, most: int) -> str:
     return text if len(text) <= most else f"{text[: most // 2]}…{text[len(text) - (most - most // 2 - 1) :]}"
 
 
-def told_of(view: SagaView, untaken: Collection[str] = ()) -> list[Told]:
-    """What the boxes say, by step. `untaken`: steps whose tasks no worker has."""
+def told_of(view: SagaView) -> list[Told]:
+    """What the boxes say, by step."""
     choices = {choice.step: choice for choice in view.plan.choices} if view.plan and view.plan.cost is not None else {}
     chain = set(view.plan.chain) if view.plan and view.plan.cost is None else set()
     held = {one.step: one for one in view.held}
@@ -63,23 +63,36 @@ def told_of(view: SagaView, untaken: Collection[str] = ()) -> list[Told]:
         over = view.phase != "open"
         why = waiting(waits) if waits else "why it is stuck" if step.name in chain else decided(choice, over) if choice else tried(step.attempts, step.state)
         left = step.state == "waiting" and (over or bool(choice and not choice.kept))
-        state = "not run" if left else "to do" if step.state == "waiting" else words.STATES[step.state]
+        state = "not run" if left else "to do" if step.state == "waiting" else words.STATES[state_of(view, step)]
         tone = icon = step.state
         if waits and waits.asks:
             state, tone = "to approve" if waits.why == "approval" else "unknown", "person"
-        elif step.name in untaken:
-            state, icon, why = "waits for a worker", "waiting", why if step.attempts > 1 else ""
+        elif waits and waits.why == "worker":
+            state, icon, why = "waits for a worker", "waiting", why or (tried(step.attempts, "") if step.state == "running" else "")
+        elif waits and waits.why != "elsewhere":
+            state, icon = "waits", "waiting"
         found.append(Told(state, why, left, tone, icon))
     return found
+
+
+TURNS = {
+    "limit": "for a place of its limit", "fleet_limit": "for a place of its limit", "rate": "for its rate", "place": "for a place to run",
+    "unknown": "unknown; again soon", "approval": "waits for a person",
+}  # fmt: skip
+"""What a held attempt waits for, in a few words."""
 
 
 def waiting(held: Waits) -> str:
     """What a held attempt waits for, in a few words."""
     if held.why == "elsewhere":
         return f"at {held.said}" if held.said else "a worker has it"
-    if held.why == "unknown":
-        return "nobody knows: say it" if held.asks else "unknown; again soon"
-    return "waits for a person" if held.why == "approval" else f"until {words.clock(held.until)}"
+    if held.why == "worker":
+        return held.said or ""
+    if held.asks and held.why == "unknown":
+        return "nobody knows: say it"
+    if held.why == "backoff":
+        return f"tried again at {words.clock(held.until)[11:]}"
+    return TURNS.get(held.why) or f"until {words.clock(held.until)}"
 
 
 def decided(choice: Choice, over: bool) -> str:
@@ -118,7 +131,7 @@ def boxes(view: SagaView, tolds: list[Told], placed: Placed) -> list[str]:
             f'<rect class="box" width="{WIDTH}" height="{HEIGHT}" rx="9"/><rect class="bar" x="0" y="12" width="4" height="{HEIGHT - 24}" rx="2"/>'
             f'<text class="name{" long" if len(step.name) > 20 else ""}" x="15" y="24">{escape(named(step.name, 22 if len(step.name) > 20 else 20))}</text>'
             f'<g class="icon" transform="translate(21 41) scale(.95)">{ICONS[told.icon]}</g><text class="state" x="33" y="45">{escape(told.state)}</text>'
-            f'<text class="why" x="15" y="62">{escape(cut(told.why, 25))}</text></g>'
+            f'<text class="why" x="15" y="62">{escape(cut(told.why, 26))}</text></g>'
         )
     return found
 
@@ -129,9 +142,9 @@ def spoken(view: SagaView, tolds: list[Told]) -> str:
     return f"{view.saga} {view.key}, {view.phase}: {steps}"
 
 
-def svg(view: SagaView, untaken: Collection[str] = (), style: str = "") -> str:
+def svg(view: SagaView, style: str = "") -> str:
     """The picture; without a style it is for the page, whose style sheet has the same classes."""
-    tolds = told_of(view, untaken)
+    tolds = told_of(view)
     number = {step.name: place for place, step in enumerate(view.steps)}
     placed = place([[number[need] for need in step.needs] for step in view.steps])
     needs = [f'<path class="need" marker-end="url(#to)" d="{line(points)}"/>' for points in placed.lines.values()]
@@ -142,9 +155,9 @@ def svg(view: SagaView, untaken: Collection[str] = (), style: str = "") -> str:
     return f'{head} aria-label="{escape(cut(spoken(view, tolds), 2000))}">{inside}{arrow}{"".join(needs)}{"".join(boxes(view, tolds, placed))}</svg>'
 
 
-def document(view: SagaView, untaken: Collection[str]) -> str:
+def document(view: SagaView) -> str:
     """The picture as a file of its own."""
-    return svg(view, untaken, STYLE)
+    return svg(view, STYLE)
 
 
 # -- when what ran
@@ -161,7 +174,7 @@ def ticks(first: float, last: float) -> list[float]:
     return [count * step for count in range(int(span / step) + 1)]
 
 
-def timeline(view: SagaView, untaken: Collection[str] = ()) -> str:
+def timeline(view: SagaView) -> str:
     """A bar for each attempt, over the time since the saga was started."""
     rows = [step.name for step in view.steps if any(one.step == step.name for one in view.stretches)]
     if not rows:
@@ -176,17 +189,31 @@ def timeline(view: SagaView, untaken: Collection[str] = ()) -> str:
         f'<text class="at" x="{NAMES + at * scale:.1f}" y="14">{words.span(at)}</text>'
         for at in ticks(first, last)
     )
-    asked = {one.step for one in view.held if one.asks}
     names = "".join(f'<text class="row" x="0" y="{TOP + ROW * row + 16}">{escape(named(name, 20))}</text>' for row, name in enumerate(rows))
-    bars = "".join(bar(one, "person" if one.step in asked else "waiting" if one.step in untaken else "running", NAMES + (one.began - first) * scale, ((one.ended or now) - one.began) * scale, TOP + ROW * rows.index(one.step)) for one in view.stretches)
+    bars = "".join(
+        bar(one, does(view, one), NAMES + (one.began - first) * scale, ((one.ended or now) - one.began) * scale, TOP + ROW * rows.index(one.step))
+        for one in view.stretches
+    )
     label = f"when the attempts ran: {len(view.stretches)} bars over {words.span(last - first)}; the table of events has the same in words"
     return f'<svg class="timeline" role="img" aria-label="{label}" width="{NAMES + LONG + 30}" height="{high}" viewBox="0 0 {NAMES + LONG + 30} {high}">{marks}{names}{bars}</svg>'
 
 
+DOES = {"running": "runs", "worker": "waits for a worker", "person": "waits for a person", "waiting": "waits", "begun": "has begun"}
+
+
+def does(view: SagaView, one: Stretch) -> str:
+    """What an attempt does that is not over."""
+    held = next((held for held in view.held if (held.step, held.undo) == (one.step, one.undo)), None)
+    if held is None or held.why == "elsewhere":
+        return "running" if (one.step, one.undo) in view.running else "begun"
+    return "person" if held.asks else "worker" if held.why == "worker" else "waiting"
+
+
 def bar(one: Stretch, now: str, x: float, wide: float, y: float) -> str:
-    """An attempt; `now`: what it does where it is not over, running, waiting (for a worker) or person (it waits for one)."""
+    """An attempt; `now`: what it does where it is not over."""
     what = "compensation" if one.undo else "action"
-    said = words.EVENTS[one.outcome] if one.outcome else {"running": "runs", "waiting": "waits for a worker", "person": "waits for a person"}[now]
+    said = words.EVENTS[one.outcome] if one.outcome else DOES[now]
+    now = {"begun": "running", "worker": "waiting"}.get(now, now)
     took = "" if one.ended is None else f" after {words.span(one.ended - one.began)}"
     tone = {"commit": "committed", "undone": "undone", "fail": "failed", "undo_fail": "fixed", None: now}.get(one.outcome, "missed")
     return (

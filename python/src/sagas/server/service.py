@@ -12,12 +12,15 @@ from concurrent.futures import ThreadPoolExecutor
 from typing import TYPE_CHECKING, Any, TypeVar
 
 from .. import opening
+from ..anywhere import ASKING
 from ..definition import Saga
 from ..elsewhere import Queue
-from ..errors import DefinitionError, NotHere
+from ..errors import DefinitionError, NotHere, SagasError
 from ..events import Event
 from ..looks import Looks, SagaView
+from ..runs import Begun
 from ..store import Store
+from . import doing
 from .hub import Hub
 from .metrics import Metrics
 from .settings import Settings
@@ -34,6 +37,8 @@ SHARED = 200
 """Workers that one service tells another of."""
 MOST_DETAIL = 500
 """Characters of an event's detail that other services are told."""
+Figures = tuple[dict[str, dict[str, int]], dict[str, int], dict[str, int]]
+"""How many sagas there are by name and phase, what waits for a person, and how many ended by a plan, and with a compensation that failed for good."""
 
 
 @dataclasses.dataclass(slots=True)
@@ -49,7 +54,7 @@ class Seen:
 class Counted:
     """Figures, until when they hold (of `time.monotonic`), and how many events the hub had had before them."""
 
-    found: tuple[dict[str, dict[str, int]], dict[str, int]]
+    found: Figures
     until: float
     seen: int
 
@@ -109,12 +114,16 @@ class Service:
         if self._between:
             self._between.hear, self._between.missed = self._heard, self.hub.missed
             self._between.answers["workers"] = self._workers, None
+            self._between.answers["begun"] = self._begun, None
 
     def _heard(self, told: Any) -> None:
         self.hub.publish(Event(**told))
 
     async def _workers(self, told: None) -> list[Any]:
         return [[one.name, one.at, one.steps] for one in list(self.workers.values())[-SHARED:]]
+
+    async def _begun(self, key: str) -> list[Any]:
+        return [dataclasses.astuple(one) for one in self.store.begun(key)]
 
     def _event(self, event: Event) -> None:
         if event.name == "commit_failed":
@@ -155,11 +164,25 @@ class Service:
             self._lookers.put_nowait(looks)
 
     async def saga(self, key: str) -> SagaView | None:
-        """A saga with all that is kept of it."""
-        return await self.look(lambda looks: looks.saga(key))
+        """A saga with all that is kept of it, and of what has begun with what the node knows that drives it."""
+        view = await self.look(lambda looks: looks.saga(key))
+        if view is None or not any(step.state in doing.BEGUN for step in view.steps):
+            return view
+        return doing.known(view, self.store.begun(key) or await self._begun_there(view), self.store.now())
 
-    async def counts(self) -> tuple[dict[str, dict[str, int]], dict[str, int]]:
-        """Sagas by name and phase, and what waits for a person. They are counted again at most each second, and less often where that takes long."""
+    async def _begun_there(self, view: SagaView) -> list[Begun]:
+        """What has begun of a saga at the node that drives it; none where it does not say."""
+        if self._between is None:
+            return []
+        try:
+            node = await self._between.owner(view.token.rpartition("-")[0])
+            told = await self._between.call(node, "begun", view.key, ASKING) if node and node != self._between.node else []
+            return [Begun(*one) for one in told]
+        except SagasError:
+            return []
+
+    async def counts(self) -> Figures:
+        """Sagas by name and phase, what waits for a person, and how sagas ended. They are counted again at most each second, and less often where that takes long."""
         if self._counts is None or time.monotonic() > self._counts.until:
             if self._counting is None:
                 self._counting = asyncio.get_running_loop().create_task(self._count())
@@ -170,7 +193,7 @@ class Service:
 
     async def _count(self) -> None:
         began, seen = time.monotonic(), self.hub.count
-        found = await self.look(lambda looks: (looks.counts(), looks.asked()))
+        found = await self.look(lambda looks: (looks.counts(), looks.asked(), {"planned": looks.planned(), "undo-failed": looks.undo_failed()}))
         now = time.monotonic()
         self._counts = Counted(found, now + max(1.0, 20 * (now - began)), seen)
 
@@ -190,13 +213,6 @@ class Service:
     async def queues(self) -> list[Queue]:
         """What waits for workers, at any node."""
         return await self.store.all_queues()
-
-    async def untaken(self, view: SagaView) -> set[str]:
-        """Steps of a saga whose tasks wait for a worker."""
-        if view.phase != "open":
-            return set()
-        ready = {queue.step for queue in await self.queues() if queue.saga == view.saga and queue.ready}
-        return {step.name for step in view.steps if step.state in ("running", "undoing") and step.name in ready} - {one.step for one in view.held}
 
     async def seen(self) -> list[Seen]:
         """The workers that asked lately, at any node, the latest first."""

@@ -8,11 +8,12 @@ from typing import Any
 from ..looks import SagaView, Waits
 from ..plans import Plan
 from ..runs import Summary
+from .doing import state_of
 
 
 def summary(one: Summary) -> dict[str, Any]:
     """A saga in a list."""
-    return {"key": one.key, "definition": one.saga, "phase": one.phase, "started": one.started, "ended": one.ended, "planned": one.planned, "note": one.note}
+    return {"key": one.key, "definition": one.saga, "phase": one.phase, "started": one.started, "ended": one.ended, "planned": one.planned, "undo_failed": one.undo_failed, "note": one.note}
 
 
 def plan(one: Plan | None) -> dict[str, Any] | None:
@@ -43,8 +44,9 @@ def saga(view: SagaView) -> dict[str, Any]:
         "aborted": view.aborted,
         "note": view.note,
         "input": view.input,
-        "states": {step.name: step.state for step in view.steps},
+        "states": {step.name: state_of(view, step) for step in view.steps},
         "results": view.results,
+        "errors": {step.name: step.raised for step in view.steps if step.raised is not None},
         "plan": plan(view.plan),
         "waits": [held(one) for one in view.held],
     }

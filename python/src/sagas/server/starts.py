@@ -32,7 +32,7 @@ async def start(request: Request) -> Response:
     _, form = await sent(request)
     service, key = service_of(request), form.get("key", "").strip()
     if not 0 < len(key) <= 512 or key in (".", ".."):
-        return asked(request, form, "Give it a key of at most 512 characters: its name for ever, an order's number say.", 422)
+        return asked(request, form, "Give it a key of at most 512 characters: its name as long as it is kept, an order's number say.", 422)
     try:
         given = json.loads(form.get("input") or "null")
     except (ValueError, RecursionError) as error:

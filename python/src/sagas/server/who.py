@@ -107,7 +107,7 @@ class Tokens:
         try:
             self._there = read(self.path)
         except TokenFault as fault:
-            self._complain(str(fault))
+            self._complain(f"{fault}; the tokens of before stay valid until it is mended")
         self._stamp = stamp
 
 

@@ -7,12 +7,13 @@ import json
 from typing import Any
 
 STATES = {
-    "waiting": "waiting", "running": "running", "committed": "done", "failed": "failed", "undoing": "being undone", "undone": "undone", "fixed": "cannot be undone",
+    "waiting": "waiting", "begun": "begun", "running": "running", "committed": "done", "failed": "failed", "undoing": "being undone", "undone": "undone",
+    "fixed": "undo failed",
 }  # fmt: skip
-PHASES = {"open": "Open", "ended": "Ended", "planned": "Ended by plan", "stuck": "Stuck", "resolved": "Resolved"}
+PHASES = {"open": "Open", "ended": "Ended", "planned": "Ended by plan", "undo-failed": "Undo failed", "stuck": "Stuck", "resolved": "Resolved"}
 EVENTS = {
     "open": "started", "start_run": "begins", "commit": "is done", "missed": "failed, and is tried again", "fail": "failed for good", "start_undo": "is being undone",
-    "undone": "is undone", "undo_missed": "could not be undone, and is tried again", "undo_fail": "cannot be undone", "start_plan": "planning begins", "drop_plan": "plan dropped",
+    "undone": "is undone", "undo_missed": "could not be undone, and is tried again", "undo_fail": "undo failed for good", "start_plan": "planning begins", "drop_plan": "plan dropped",
     "adopt": "plan adopted", "abort": "aborted",
 }  # fmt: skip
 TONES = {"commit": "good", "fail": "ill", "undo_fail": "ill", "missed": "warn", "undo_missed": "warn", "undone": "undo", "abort": "warn", "adopt": "plan"}
@@ -20,8 +21,8 @@ ACTS = {"abort": "aborted the saga", "finish": "said how a step ended", "resolve
 
 
 def clock(at: float | None) -> str:
-    """A moment of wall time, in UTC."""
-    return "" if at is None else moment(at).strftime("%Y-%m-%d %H:%M:%S")
+    """A moment of wall time, in UTC, as the command has it."""
+    return "" if at is None else moment(at).strftime("%Y-%m-%d %H:%M:%SZ")
 
 
 def iso(at: float | None) -> str:
