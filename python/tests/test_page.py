@@ -62,7 +62,7 @@ def test_the_page(folder: pathlib.Path) -> None:
     for command, output in told[1:]:
         said = shell(folder, command)
         said = re.sub(r'File "/.*/trip.py"', 'File "trip.py"', said)
-        kept = [line for line in said.splitlines() if line and "Killed" not in line]  # what the shell itself says of it
+        kept = [line.rstrip() for line in said.splitlines() if line and "Killed" not in line]  # what the shell itself says of it
         assert _sorted(kept) == _sorted([line for line in output.splitlines() if line]), command
 
 
