@@ -58,6 +58,9 @@ def test_what_has_begun_says_for_what_it_waits(place: str, capsys: pytest.Captur
             ((backoff,),) = [store.begun("backoff-2")]
             assert (backoff.step, backoff.undo, backoff.attempt) == ("a", False, 2) and backoff.until is not None and backoff.until > store.now() + 3000
             assert store.begun("nobody") == []
+            for key, says in (("limit-1", "it is called now"), ("limit-2", "it waits for a place of its limit"), ("backoff-2", "it waits for its next try")):
+                with pytest.raises(sagas.NotWaiting, match=f"nobody has to say how it ended: {says}"):
+                    await store.finish(key, "a")
             gate.set()
             assert (await store.wait("limit-2")).ok and store.begun("limit-2") == []
 

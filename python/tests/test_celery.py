@@ -286,6 +286,7 @@ def test_a_program_that_comes_back_finds_the_report(either: Shop, tmp_path: path
             await until(lambda: store.log("k"), 60)
             either.queue.send = held  # type: ignore[method-assign]
             await until(lambda: orders, 60)
+            assert [one.waits for one in store.begun("k")] == ["ordered"]
 
     async def held(order: Order) -> None:
         orders.append(order)

@@ -13,6 +13,7 @@ from typing import TYPE_CHECKING, Any, Generic, Literal, Protocol, TypeVar, Unio
 
 from . import faults
 from .errors import DefinitionError
+from .spoken import number
 from .task import Task
 
 if TYPE_CHECKING:
@@ -390,7 +391,7 @@ class Saga:
         return program.draw(self.toml())
 
     def __repr__(self) -> str:
-        return f"<saga {self.name}, version {self.version}, {len(self.steps)} steps>"
+        return f"<saga {self.name}, version {self.version}, {number(len(self.steps), 'step')}>"
 
 
 if sys.version_info < (3, 11):  # pragma: no cover

@@ -30,7 +30,7 @@ PERSON = "(why = 'approval' OR (why = 'unknown' AND until IS NULL))"
 
 @dataclasses.dataclass(frozen=True, slots=True)
 class Waits:
-    """An attempt that is held. `why`: `unknown`, `approval`, `wait`, or `elsewhere` (a worker has it).
+    """An attempt that is held. `why`: `unknown`, `approval`, `wait`, or `elsewhere` (a worker has it); a service adds what its memory has (`sagas.Begun`).
 
     `until`: when that is over, in seconds of wall time, or None; `said`: what was raised last, or the worker's name; `count`: how often nobody knew."""
 

@@ -143,7 +143,8 @@ class Begun:
     """An attempt that has begun, as the program has it that drives its saga. `waits`: for what it waits; empty where its function is called now.
 
     `limit`, `fleet_limit` or `rate` of its step; `place` (of `concurrency`); `backoff`; `worker` (it is done elsewhere, and nobody has it), `elsewhere` (a
-    worker has it); `wait` (for its time), `approval`, `unknown`. `until`: when that is over, in seconds of wall time, or None."""
+    worker has it), `ordered` (of its Celery queue: a worker has it, or will); `wait` (for its time), `approval`, `unknown`. `until`: when that is over, in
+    seconds of wall time, or None."""
 
     step: str
     undo: bool

@@ -350,7 +350,7 @@ class Store:
             if inside.lives.get(key) is not attempt.live:
                 raise Moved(f"saga {key!r}")
             if not inside.doing.will_be_asked(attempt):
-                raise NotWaiting(f"saga {key!r}, step {step!r}: nobody has to say how it ended: it is {attempt.why or attempt.state}")
+                raise NotWaiting(f"saga {key!r}, step {step!r}: nobody has to say how it ended: {under_way.said(inside, attempt)}")
             await attempt.change()
             self._inside  # raises, where it was closed meanwhile
         attempt.request, attempt.told = request, inside.loop.create_future()

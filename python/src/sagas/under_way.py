@@ -10,6 +10,11 @@ if TYPE_CHECKING:
     from .coordinator import Coordinator
     from .live import Attempt
 
+SAID = {
+    "": "it is called now", "ordered": "it is ordered of its queue", "place": "it waits for a place of the program's concurrency", "limit": "it waits for a place of its limit",
+    "fleet_limit": "it waits for a place of its fleet_limit", "rate": "it waits for its rate", "backoff": "it waits for its next try",
+}  # fmt: skip
+"""The same in words."""
 TIMED = ("backoff", "unknown", "wait", "approval")
 """Why an attempt is held until a time."""
 
@@ -31,7 +36,7 @@ def _told(owner: Coordinator, attempt: Attempt) -> Begun:
 def waits_for(owner: Coordinator, attempt: Attempt) -> str:
     """For what it waits; empty where its function is called now."""
     if attempt.state == "running":
-        return ""
+        return "ordered" if attempt.is_remote else ""
     if attempt.state != "held":
         return "place"
     if attempt.why == "elsewhere":
@@ -40,3 +45,11 @@ def waits_for(owner: Coordinator, attempt: Attempt) -> str:
         step = attempt.live.kind.steps[attempt.step]
         return "fleet_limit" if step and step.bounds and step.bounds.limit else "rate"
     return attempt.why
+
+
+def said(owner: Coordinator, attempt: Attempt) -> str:
+    """What an attempt does that has begun, in words."""
+    if attempt.state == "done":
+        return "it is over"
+    waits = waits_for(owner, attempt)
+    return SAID.get(waits) or f"it waits: {waits}"

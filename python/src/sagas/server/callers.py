@@ -53,8 +53,17 @@ class Why(Strict):
 
 
 async def view_of(request: Request, key: str) -> SagaView:
-    """A saga with all that is kept of it. Raises `NoSuchSaga`."""
-    view = await service_of(request).saga(unslashed(key))
+    """A saga with all that is kept of it, and what is known of what has begun. Raises `NoSuchSaga`."""
+    return there(await service_of(request).saga(unslashed(key)), key)
+
+
+async def kept_of(request: Request, key: str) -> SagaView:
+    """As `view_of`, with what is kept alone."""
+    return there(await service_of(request).kept(unslashed(key)), key)
+
+
+def there(view: SagaView | None, key: str) -> SagaView:
+    """Raises `NoSuchSaga` where there is none."""
     if view is None:
         raise NoSuchSaga(f"no saga has the key {unslashed(key)!r}")
     return view
@@ -125,7 +134,7 @@ async def abort(request: Request, key: str, body: Why, who: Who = CALLER) -> Res
 @router.get("/sagas/{key}/log", summary="A saga's events")
 async def log(request: Request, key: str, who: Who = CALLER) -> Response:
     """Each event with its time and what came of it, and what people did."""
-    return Json({"events": shown.log(await view_of(request, key))})
+    return Json({"events": shown.log(await kept_of(request, key))})
 
 
 @router.get("/sagas/{key}/picture.svg", summary="A saga as a picture")
@@ -139,7 +148,7 @@ async def picture(request: Request, key: str, who: Who = CALLER) -> Response:
 @router.get("/sagas/{key}/certificate", summary="What `sagas check` needs to judge the plan")
 async def certificate(request: Request, key: str, form: Literal["json", "text"] = "json", who: Who = CALLER) -> Response:
     """Definition, case and answer; as text for the standard input of `sagas check`. 404 where all went well, so that there is no plan."""
-    view = await view_of(request, key)
+    view = await kept_of(request, key)
     if view.plan is None:
         raise Refused(404, "NoPlan", f"saga {view.key!r} has no plan: nothing of it has failed")
     return PlainTextResponse(shown.certificate_text(view.plan)) if form == "text" else Json(shown.certificate(view.plan))

@@ -15,7 +15,7 @@ from ..errors import NoSuchSaga, SagasError
 from ..looks import PHASES, Looks, SagaView, StepView, Waits
 from . import pictures, rendering, shown, words
 from .access import Refused, address, limited, service_of, unslashed
-from .callers import stream, view_of
+from .callers import kept_of, stream
 from .who import LOCAL, Session, Who
 
 router = APIRouter(include_in_schema=False, default_response_class=HTMLResponse)
@@ -277,7 +277,7 @@ async def certificate(request: Request, key: str) -> Response:
     """The plan's certificate, as `sagas check` reads it."""
     if answer := closed(request):
         return answer
-    view = await view_of(request, key)
+    view = await kept_of(request, key)
     if view.plan is None:
         raise NoSuchSaga(f"saga {view.key!r} has no plan")
     return Response(shown.certificate_text(view.plan), media_type="text/plain; charset=utf-8")
@@ -329,7 +329,7 @@ def asked(request: Request, key: str, words: dict[str, Any], status: int = 200, 
 
 async def is_approval(request: Request, key: str, step: str, undo: bool) -> bool:
     """Whether a step waits to be approved."""
-    view = await service_of(request).saga(unslashed(key))
+    view = await service_of(request).kept(unslashed(key))
     return view is not None and any((one.step, one.undo, one.why) == (step, undo, "approval") for one in view.held)
 
 

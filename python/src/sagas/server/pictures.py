@@ -9,7 +9,7 @@ from typing import NamedTuple
 from ..looks import SagaView, Stretch, Waits
 from ..plans import Choice, Plan
 from . import words
-from .doing import state_of
+from .begun import state_of
 from .layout import GAP_X, HEIGHT, WIDTH, Placed, Point, place
 
 MARGIN = 6
@@ -69,14 +69,14 @@ def told_of(view: SagaView) -> list[Told]:
             state, tone = "to approve" if waits.why == "approval" else "unknown", "person"
         elif waits and waits.why == "worker":
             state, icon, why = "waits for a worker", "waiting", why or (tried(step.attempts, "") if step.state == "running" else "")
-        elif waits and waits.why != "elsewhere":
+        elif waits and waits.why not in ("elsewhere", "ordered"):
             state, icon = "waits", "waiting"
         found.append(Told(state, why, left, tone, icon))
     return found
 
 
 TURNS = {
-    "limit": "for a place of its limit", "fleet_limit": "for a place of its limit", "rate": "for its rate", "place": "for a place to run",
+    "limit": "for a place of its limit", "fleet_limit": "for a place of its limit", "rate": "for its rate", "place": "for a place to run", "ordered": "ordered of its queue",
     "unknown": "unknown; again soon", "approval": "waits for a person",
 }  # fmt: skip
 """What a held attempt waits for, in a few words."""
@@ -204,7 +204,7 @@ DOES = {"running": "runs", "worker": "waits for a worker", "person": "waits for 
 def does(view: SagaView, one: Stretch) -> str:
     """What an attempt does that is not over."""
     held = next((held for held in view.held if (held.step, held.undo) == (one.step, one.undo)), None)
-    if held is None or held.why == "elsewhere":
+    if held is None or held.why in ("elsewhere", "ordered"):
         return "running" if (one.step, one.undo) in view.running else "begun"
     return "person" if held.asks else "worker" if held.why == "worker" else "waiting"
 

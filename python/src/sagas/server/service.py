@@ -20,7 +20,7 @@ from ..events import Event
 from ..looks import Looks, SagaView
 from ..runs import Begun
 from ..store import Store
-from . import doing
+from . import begun
 from .hub import Hub
 from .metrics import Metrics
 from .settings import Settings
@@ -163,12 +163,16 @@ class Service:
         finally:
             self._lookers.put_nowait(looks)
 
+    async def kept(self, key: str) -> SagaView | None:
+        """A saga with all that is kept of it."""
+        return await self.look(lambda looks: looks.saga(key))
+
     async def saga(self, key: str) -> SagaView | None:
-        """A saga with all that is kept of it, and of what has begun with what the node knows that drives it."""
-        view = await self.look(lambda looks: looks.saga(key))
-        if view is None or not any(step.state in doing.BEGUN for step in view.steps):
+        """The same, and of what has begun what the node knows that drives it."""
+        view = await self.kept(key)
+        if view is None or not any(step.state in begun.BEGUN for step in view.steps):
             return view
-        return doing.known(view, self.store.begun(key) or await self._begun_there(view), self.store.now())
+        return begun.known(view, self.store.begun(key) or await self._begun_there(view), self.store.now())
 
     async def _begun_there(self, view: SagaView) -> list[Begun]:
         """What has begun of a saga at the node that drives it; none where it does not say."""

@@ -8,7 +8,7 @@ from typing import Any
 from ..looks import SagaView, Waits
 from ..plans import Plan
 from ..runs import Summary
-from .doing import state_of
+from .begun import state_of
 
 
 def summary(one: Summary) -> dict[str, Any]:

@@ -11,8 +11,6 @@ from ..spoken import known as word_of
 
 BEGUN = ("running", "undoing")
 """The states of a step of which an attempt has begun."""
-TURN = ("limit", "fleet_limit", "rate", "place")
-"""What is a wait for a turn."""
 
 
 def known(view: SagaView, told: Iterable[Begun], now: float) -> SagaView:
