@@ -3,6 +3,8 @@
 from __future__ import annotations
 
 import asyncio
+import contextlib
+import datetime
 import json
 from typing import Any
 
@@ -11,6 +13,8 @@ import pytest
 import sagas
 from cases import HOUR, Task, run, until
 from sagas import command
+from sagas.looks import Looks, SagaView, Stretch, Waits
+from sagas.server.begun import known
 
 BOUNDS: dict[str, dict[str, Any]] = {"limit": {"limit": 1}, "fleet_limit": {"fleet_limit": 1}, "rate": {"rate": (1, 3600)}}
 
@@ -30,6 +34,51 @@ def kinds(gate: asyncio.Event) -> dict[str, sagas.Saga]:
     found["backoff"].step(name="a", tries=2, backoff=HOUR)(fail)
     found["worker"].step(name="a", handler=None)
     return found
+
+
+def test_what_waited_for_its_time_is_called(place: str) -> None:
+    """Once that has come, nothing says any more that it is waited for."""
+    gate, late = asyncio.Event(), sagas.Saga("late")
+
+    @late.wait(until=datetime.timedelta(seconds=0.05))
+    async def then(task: Task) -> None:
+        await gate.wait()
+
+    async def main() -> None:
+        async with sagas.open(place, [late], grace=0.0) as store:
+            with contextlib.closing(Looks(store.reader())) as looks:
+                await store.start(late, "k")
+                await until(lambda: [one.waits for one in store.begun("k")] == [""])
+                view = looks.saga("k")
+                assert view and view.held == [] and looks.waits(person=False) == []
+                told = known(view, store.begun("k"), store.now())
+                assert told.running == {("then", False)} and told.held == []
+
+    run(main())
+
+
+def test_the_store_and_its_program_together() -> None:
+    """A lease that has run out is none; what the program says goes before an older row, and is left out where it is of another attempt."""
+
+    def held(why: str, until: float | None, said: str | None = None, attempt: int = 1) -> Waits:
+        return Waits(1, "k", "s", "a", False, attempt, why, 2, 5.0, until, said)
+
+    def told(rows: list[Waits], *begun: sagas.Begun) -> tuple[list[tuple[str, str | None]], bool]:
+        view = SagaView(1, "k", "s", "open", 0.0, None, None, False, None, {}, [], None, rows, [], [Stretch("a", False, 1, 3.0, None, None)], [], "", "x-1")
+        found = known(view, begun, 100.0)
+        return [(one.why, one.said) for one in found.held], ("a", False) in found.running
+
+    def begun(waits: str, attempt: int = 1) -> sagas.Begun:
+        return sagas.Begun("a", False, attempt, waits, None)
+
+    assert told([]) == ([], False) and told([], begun("")) == ([], True) and told([], begun("", 2)) == ([], False)
+    assert told([], begun("limit")) == ([("limit", None)], False)
+    assert told([held("elsewhere", 101.0, "w")]) == ([("elsewhere", "w")], True)
+    lapsed = [("worker", "the lease of w ran out")], False
+    assert told([held("elsewhere", 99.0, "w")]) == told([held("elsewhere", 99.0, "w")], begun("worker")) == lapsed
+    assert told([held("unknown", 99.0, "odd")], begun("")) == ([], True)
+    assert told([held("unknown", 99.0, "odd")], begun("limit")) == ([("limit", None)], False)
+    assert told([held("unknown", None, "odd")], begun("unknown")) == ([("unknown", "odd")], False)
 
 
 def test_what_has_begun_says_for_what_it_waits(place: str, capsys: pytest.CaptureFixture[str]) -> None:

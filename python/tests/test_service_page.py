@@ -136,6 +136,9 @@ def seed(client: httpx.Client) -> None:
         report(client, tour, "failed", error="the tour is full")
     all_done(client, "trip/car/undo")
     assert client.get("/sagas/failed-1/wait?seconds=60").json()["over"]
+    start(client, "trip", "fixed-1")
+    all_done(client, "trip/flight", "trip/car", "trip/tour", "trip/car/undo", failing=["trip/tour", "trip/car/undo"])
+    assert client.get("/sagas/fixed-1/wait?seconds=60").json()["over"]
     stuck(client, "stuck-1")
     stuck(client, "stuck-2")
     start(client, "trip", "hazy-1")
@@ -297,14 +300,19 @@ def test_those_that_ended_by_plan(browser: Browser) -> None:
     browser.click(".tabs a", "Ended by plan")
     browser.has("failed-1")
     found = {row.text for row in browser.driver.find_elements(By.CSS_SELECTOR, "tbody td .badge")}
-    assert found == {"Ended by plan"}
+    assert found == {"Ended by plan", "Undo failed"}
+    browser.click(".tabs a", "Undo failed")
+    browser.wait(lambda: [row.text for row in browser.driver.find_elements(By.CSS_SELECTOR, "tbody td .badge")] == ["Undo failed"])
+    browser.click("a.key", "fixed-1")
+    browser.has("Undoing car failed for good: “no”. The plan went on with it.")
+    browser.shot("undo-failed")
     with browser.service.client() as client:
         listed = client.get("/sagas?phase=planned").json()["sagas"]
         assert "failed-1" in [one["key"] for one in listed] and all(one["planned"] and one["phase"] == "ended" for one in listed)
     browser.is_quiet()
 
 
-PATHS = ("/ui", "/ui/sagas", "/ui/start", "/ui/sagas/failed-1", "/ui/sagas/stuck-2", "/ui/sagas/work-1", "/ui/workers", "/ui/sagas/work-1/abort", "/ui/sagas/nobody")
+PATHS = ("/ui", "/ui/sagas", "/ui/start", "/ui/sagas/failed-1", "/ui/sagas/fixed-1", "/ui/sagas/stuck-2", "/ui/sagas/work-1", "/ui/workers", "/ui/sagas/work-1/abort", "/ui/sagas/nobody")
 
 
 @pytest.mark.parametrize("width, dark", [(1280, False), (1280, True), (360, False), (360, True)])

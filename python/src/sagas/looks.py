@@ -26,6 +26,8 @@ PHASES = ("open", "ended", "stuck", "resolved")
 SHORT = "id, key, saga, phase, at, ended, note"
 STUCK = WHERE["stuck"]
 PERSON = "(why = 'approval' OR (why = 'unknown' AND until IS NULL))"
+WAITS = "NOT (why = 'wait' AND until = 0)"
+"""The row of a wait stays behind its time, so that nobody waits once more."""
 
 
 @dataclasses.dataclass(frozen=True, slots=True)
@@ -194,7 +196,7 @@ class Looks:
         return self._waits(" AND ".join(wheres), *([why] if why else []), most=most)
 
     def _waits(self, where: str, *words: Any, most: int) -> list[Waits]:
-        query = f"SELECT h.id, s.key, s.saga, h.step, h.kind, h.attempt, h.why, h.count, h.since, h.until, h.error FROM held h JOIN sagas s ON s.id = h.id WHERE {where} ORDER BY h.since LIMIT ?"
+        query = f"SELECT h.id, s.key, s.saga, h.step, h.kind, h.attempt, h.why, h.count, h.since, h.until, h.error FROM held h JOIN sagas s ON s.id = h.id WHERE {where} AND {WAITS} ORDER BY h.since LIMIT ?"
         found = []
         for id, key, saga, step, kind, attempt, why, count, since, until, error in self._rows(query, *words, most):
             said, count = worker_of(error) if why == "elsewhere" else (error, count)

@@ -8,7 +8,7 @@ from typing import Any, NamedTuple
 
 from .. import sources
 from ..histories import AFTER, MISSES, STANDS
-from ..looks import worker_of
+from ..looks import WAITS, worker_of
 from ..plans import Plan
 from ..questions import DEFINITION, ENDED_BY_PLAN, PHASE
 from ..schema import ROOM
@@ -106,7 +106,8 @@ class View:
         """What is held: waits, approvals, outcomes that nobody knows (`count`: how often nobody knew), and what workers have."""
         columns = "key, held.id, step, kind, attempt, why, count, since, until, error"
         found = []
-        for key, id, step, kind, attempt, why, count, since, until, error in self.ask(f"SELECT {columns} FROM held JOIN sagas USING (id) WHERE {where} ORDER BY since", *words):
+        rows = self.ask(f"SELECT {columns} FROM held JOIN sagas USING (id) WHERE {where} AND {WAITS} ORDER BY since", *words)
+        for key, id, step, kind, attempt, why, count, since, until, error in rows:
             worker = None
             if why == "elsewhere":
                 (worker, count), error = worker_of(error), None

@@ -26,7 +26,8 @@ def known(view: SagaView, told: Iterable[Begun], now: float) -> SagaView:
             continue
         if not one.waits:
             running.add(at)
-        elif at not in found and one.waits != "elsewhere":
+            found.pop(at, None)  # for what it waited before
+        elif one.waits != "elsewhere" and (at not in found or found[at].why != one.waits):
             found[at] = _waits(view, one, stretch.began, gone.pop(at, None))
     for at, lease in gone.items():
         found[at] = dataclasses.replace(lease, why="worker", until=None, said=_lease_of(lease))
@@ -34,9 +35,10 @@ def known(view: SagaView, told: Iterable[Begun], now: float) -> SagaView:
     return dataclasses.replace(view, held=held, running=frozenset(running))
 
 
-def _waits(view: SagaView, one: Begun, since: float, held: Waits | None) -> Waits:
+def _waits(view: SagaView, one: Begun, since: float, lease: Waits | None) -> Waits:
     """An attempt that waits, of which the store has no row, or the row of a lease that has run out."""
-    return Waits(view.id, view.key, view.saga, one.step, one.undo, one.attempt, one.waits, held.count if held else 0, since, one.until, _lease_of(held) if held else None)
+    said, count = (_lease_of(lease), lease.count) if lease else (None, 0)
+    return Waits(view.id, view.key, view.saga, one.step, one.undo, one.attempt, one.waits, count, since, one.until, said)
 
 
 def _lease_of(held: Waits) -> str:
