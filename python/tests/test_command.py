@@ -7,6 +7,7 @@ import contextlib
 import functools
 import io
 import json
+import logging
 import pathlib
 import re
 import sqlite3
@@ -16,8 +17,10 @@ import pytest
 
 import sagas
 from cases import Task, run, until
-from sagas import command, sources
+from sagas import command, sources, spoken
+from sagas.command import tables
 from sagas.looks import Looks
+from sagas.server import logs, words
 
 Json = dict[str, Any]
 
@@ -388,3 +391,13 @@ def test_without_a_program(place: str, capsys: pytest.CaptureFixture[str]) -> No
     assert "once a program has the store open" in shell("finish", "letter-2", "sign")
     run(second())
     assert shell.json("counts")["sagas"]["signed"]["ended"] == 2
+
+
+def test_words_for_people() -> None:
+    """Times are in UTC, by the same form in the command, on the page and in the service's log; one of a thing is one."""
+    record = logging.LogRecord("sagas", logging.INFO, "", 0, "said", None, None)
+    record.created, record.msecs = 86400.0, 7
+    assert tables.moment(86400.0) == words.clock(86400.0) == "1970-01-02 00:00:00Z"
+    assert logs.Text("%(asctime)s %(message)s").format(record) == "1970-01-02 00:00:00.007Z said"
+    assert [spoken.number(count, "saga") for count in (0, 1, 2)] == ["0 sagas", "1 saga", "2 sagas"]
+    assert repr(sagas.Saga("none")) == "<saga none, version 1, 0 steps>" and repr(signed()) == "<saga signed, version 1, 2 steps>"
