@@ -6,6 +6,7 @@ import asyncio
 import contextlib
 import datetime
 import json
+import pathlib
 from typing import Any
 
 import pytest
@@ -34,6 +35,16 @@ def kinds(gate: asyncio.Event) -> dict[str, sagas.Saga]:
     found["backoff"].step(name="a", tries=2, backoff=HOUR)(fail)
     found["worker"].step(name="a", handler=None)
     return found
+
+
+def test_without_async(tmp_path: pathlib.Path) -> None:
+    """The same."""
+    saga = sagas.Saga("one")
+    saga.step(name="a", handler=None)
+    with sagas.open_sync(tmp_path / "x.db", [saga]) as store:
+        store.start(saga, "k")
+        run(until(lambda: [one.waits for one in store.begun("k")] == ["worker"]))
+        store.finish("k", "a")
 
 
 def test_what_waited_for_its_time_is_called(place: str) -> None:

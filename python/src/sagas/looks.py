@@ -241,9 +241,7 @@ class Looks:
     def lines(self, row: SagaRow) -> list[tuple[float, Json]]:
         """A saga's own lines, with the times of their commits."""
         log, number = divmod(row.id, ROOM)
-        own = re.compile(rf'^.*"saga":{number}[,}}].*$', re.M)
-        chunks = self._rows("SELECT at, text FROM lines WHERE log = ? ORDER BY first", log)
-        return [(at, told) for at, text in chunks for line in own.findall(text) if (told := json.loads(line))["saga"] == number]
+        return lines_of(self._rows("SELECT at, text FROM lines WHERE log = ? ORDER BY first", log), number)
 
     def attempts(self, row: SagaRow, names: Sequence[str]) -> list[Attempted]:
         """How each attempt of a saga ended, in the order of time."""
@@ -269,6 +267,12 @@ class Looks:
             steps_of(definition, names, states, lines, attempts), plan, self._waits("h.id = ?", row.id, most=10_000), events_of(lines, names, attempts),
             stretches_of(lines, names), self.notes(key), definition, self._token(row.id),
         )  # fmt: skip
+
+
+def lines_of(chunks: Sequence[tuple[Any, ...]], number: int) -> list[tuple[float, Json]]:
+    """The lines of the saga with this number in its log, with the times of their commits."""
+    own = re.compile(rf'^.*"saga":{number}[,}}].*$', re.M)
+    return [(at, told) for at, text in chunks for line in own.findall(text) if (told := json.loads(line))["saga"] == number]
 
 
 def worker_of(told: str | None) -> tuple[str | None, int]:

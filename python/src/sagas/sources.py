@@ -220,7 +220,8 @@ class Base:
 
     def absent(self, key: str) -> Trouble:
         for saga, version in self.ask("SELECT saga, version FROM inbox WHERE key = ?", key) if self.version > 1 else []:
-            return Trouble(f"{key} has not begun: its start waits for a node that has {saga} (version {version}): sagas store URL nodes")
+            waits = f"{key} has not begun: its start waits for a node that has {saga} (version {version})"
+            return Trouble(f"{waits}: sagas store URL nodes shows which there are, sagas store URL abort {key} withdraws it")
         return Trouble(f"no saga has the key {key}")
 
     def starts(self) -> list[Row]:

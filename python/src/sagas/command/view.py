@@ -8,7 +8,7 @@ from typing import Any, NamedTuple
 
 from .. import sources
 from ..histories import AFTER, MISSES, STANDS
-from ..looks import WAITS, worker_of
+from ..looks import WAITS, lines_of, worker_of
 from ..plans import Plan
 from ..questions import DEFINITION, ENDED_BY_PLAN, PHASE
 from ..schema import ROOM
@@ -53,6 +53,7 @@ class View:
 
     def __init__(self, path: str) -> None:
         self.link = sources.connect(path)
+        self._events: dict[int, list[tuple[float, Json]]] = {}
 
     def __enter__(self) -> View:
         self.link.begin()  # all that is looked at is of one moment
@@ -79,9 +80,10 @@ class View:
 
     def events(self, id: int) -> list[tuple[float, Json]]:
         """What happened in a saga, with the time of its commit."""
-        chunks = self.ask("SELECT at, text FROM lines WHERE log = ? ORDER BY first", id // ROOM)
-        events = ((at, json.loads(line)) for at, text in chunks for line in text.splitlines())
-        return [(at, event) for at, event in events if event["saga"] == id % ROOM]
+        if id not in self._events:
+            chunks = self.ask("SELECT at, text FROM lines WHERE log = ? ORDER BY first", id // ROOM)
+            self._events[id] = lines_of(chunks, id % ROOM)
+        return self._events[id]
 
     def definition(self, id: int) -> str:
         """The text of a saga's definition."""
