@@ -51,14 +51,15 @@ def check_file(path: str) -> None:
         raise StoreFault(f"{path}: it is a folder: give a file in it")
     if not os.path.isfile(path):
         return
+    if not os.access(path, os.R_OK, effective_ids=True):
+        raise StoreUnwritable(f"{path}: unable to open database file: {RIGHTS}")
     try:
         uri = f"{pathlib.Path(path).absolute().as_uri()}?mode=ro&immutable=1"
         with contextlib.closing(sqlite3.connect(uri, uri=True)) as db:
             db.execute("PRAGMA schema_version").fetchone()
-    except sqlite3.OperationalError as error:
-        raise StoreUnwritable(f"{path}: {told(error)}") from error
-    except sqlite3.DatabaseError as error:
-        raise StoreFault(f"{path}: {error}: give a store's own path, or one where no file is yet") from error
+    except sqlite3.Error as error:  # of anything else, as a page that another program writes just now, the opening itself tells
+        if getattr(error, "sqlite_errorcode", None) == sqlite3.SQLITE_NOTADB:
+            raise StoreFault(f"{path}: {error}: give a store's own path, or one where no file is yet") from error
 
 
 def owner_of(path: str) -> str | None:

@@ -182,7 +182,7 @@ class Service:
             node = await self._between.owner(view.token.rpartition("-")[0])
             told = await self._between.call(node, "begun", view.key, ASKING) if node and node != self._between.node else []
             return [Begun(*one) for one in told]
-        except SagasError:
+        except (SagasError, TypeError):  # it does not answer, or is of another release
             return []
 
     async def counts(self) -> Figures:
