@@ -287,6 +287,7 @@ def test_a_compensation_that_failed_is_seen(place: str, capsys: pytest.CaptureFi
     assert "ended, undo failed" in shell("list") and "ended by plan" in shell("list")
     told = shell.json("counts")
     assert (told["ended by plan"], told["undo failed"]) == (2, 1) and "list --phase undo-failed" in shell("counts")
+    assert shell.json("stuck") == [] and "1 ended with a compensation that failed for good" in shell("stuck")
     assert "phase    ended, undo failed\n" in shell("show", "bad") and "phase    ended by plan\n" in shell("show", "undone")
 
 

@@ -180,12 +180,15 @@ def stuck(path: str, words: argparse.Namespace) -> int:
             names = step_names(view.definition(row.id))
             answer = (end or {}).get("answer") or {}
             told.append({"key": row.key, "saga": row.saga, "ended": row.ended, "chain": [names[step] for step in answer.get("chain", ())]})
+        ((undo_failed,),) = view.ask(f"SELECT count(*) FROM sagas WHERE {UNDO_FAILED}")
     if words.json:
         show_json(told)
-    else:
-        print(table(["KEY", "SAGA", "STUCK SINCE", "BECAUSE"], [
-            (one["key"], one["saga"], moment(one["ended"]), " needs ".join(one["chain"])) for one in told
-        ]))
+        return GOOD
+    print(table(["KEY", "SAGA", "STUCK SINCE", "BECAUSE"], [
+        (one["key"], one["saga"], moment(one["ended"]), " needs ".join(one["chain"])) for one in told
+    ]))
+    if undo_failed:
+        print(f"\n{undo_failed} ended with a compensation that failed for good: sagas store {path} list --phase undo-failed")
     return GOOD
 
 
