@@ -1,9 +1,6 @@
-"""Words for people: the states of steps, numbers of things, and what was probably meant."""
+"""Words for people: the states of steps, and numbers of things."""
 
 from __future__ import annotations
-
-import difflib
-from collections.abc import Iterable
 
 
 def known(state: str) -> str:
@@ -19,9 +16,3 @@ def state_of(state: str) -> str:
 def number(count: int, word: str) -> str:
     """So many of something: `1 saga`, `2 sagas`."""
     return f"{count} {word}{'' if count == 1 else 's'}"
-
-
-def meant(name: str, names: Iterable[str]) -> str:
-    """The name that is most like it, for a name that was probably misspelt."""
-    near = difflib.get_close_matches(name, names, 1)
-    return f": is {near[0]!r} meant?" if near else ""

@@ -25,13 +25,13 @@ from .definition import Saga, Seconds, Step
 from .elsewhere import Leased, Queue, Word
 from .errors import Closed, KeyConflict, Moved, NoSuchSaga, NotWaiting, SagasError, StoreUnwritable
 from .events import Hook, Teller, logger
+from .faults import meant
 from .guessing import Guessing
 from .kinds import Kind, Shelf
 from .live import Attempt, Live
 from .plans import Plan
 from .records import Asked, Wanted, SagaRow
 from .runs import Begun, End, Held, LogEvent, Run, Summary
-from .spoken import meant
 
 Grace = Seconds | None
 

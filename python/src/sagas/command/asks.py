@@ -9,10 +9,10 @@ import time
 from typing import Any
 
 from .. import databases, sources
+from ..faults import meant
 from ..questions import DEFINITION
 from ..requests import reason
 from ..sources import Trouble
-from ..spoken import meant
 from .tables import GOOD, NO, show_json
 from .view import Json, View, parsed, step_names
 
