@@ -139,6 +139,7 @@ def test_show(shell: Shell) -> None:
     text = shell("show", "bad")
     assert "phase    stuck" in text and "none is allowed, because of charge" in text and "the card is refused" in text
     assert shell("draw", "bad").startswith("digraph") and shell("draw", "good").startswith("digraph")
+    assert shell("draw", "bad", "--svg").startswith("<svg") and shell.json("draw", "bad", "--svg")["svg"].endswith("</svg>")
     told = shell.json("show", "good")
     assert [(step["step"], step["state"], step["said"]) for step in told["steps"]] == [
         ("reserve", "committed", {"place": 17}), ("charge", "committed", "charged"),

@@ -66,6 +66,12 @@ def test_the_page(folder: pathlib.Path) -> None:
         assert _sorted(kept) == _sorted([line for line in output.splitlines() if line]), command
 
 
+    drawn = "sagas store trips.db draw order-2 --svg > order-2.svg"
+    assert drawn in PAGE and "](pictures/order-2.svg)" in PAGE
+    assert shell(folder, drawn) == ""
+    assert (folder / "order-2.svg").read_text() == (PACKAGE / "pictures/order-2.svg").read_text()
+
+
 def _sorted(lines: list[str]) -> list[str]:
     """Car and hotel are booked side by side, in either order."""
     side = [line for line in lines if line.startswith(("car", "hotel"))]

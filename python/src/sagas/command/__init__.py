@@ -65,7 +65,7 @@ def add_looks(add: Add) -> None:
     add("show", show, key=True).epilog = "A step that is `begun` is called now, or waits for its turn: that the program knows that has the saga."
     add("log", log, key=True)
     add("plan", plan, key=True)
-    add("draw", draw, key=True)
+    add("draw", draw, key=True).add_argument("--svg", action="store_true", help="how the saga stands, as the service's page shows it: an SVG file")
     add("counts", counts)
     add("stuck", stuck)
     add("waiting", waiting)

@@ -9,10 +9,11 @@ from collections.abc import Sequence
 
 from .. import program
 from ..histories import MISSES
-from ..looks import PERSON
+from ..looks import PERSON, Looks
 from ..looks import PHASES as COUNTED
 from ..questions import PHASE, PHASES
 from ..schema import PLANNED, UNDO_FAILED
+from ..server import pictures
 from ..sources import Trouble
 from ..spoken import number, state_of
 from .tables import GOOD, moment, short, show_json, table
@@ -113,16 +114,26 @@ def plan(path: str, words: argparse.Namespace) -> int:
 
 
 def draw(path: str, words: argparse.Namespace) -> int:
-    """Prints the picture of a saga's last plan, or of its definition, for Graphviz."""
+    """Prints the picture of a saga's last plan, or of its definition, for Graphviz. With --svg how the saga stands, as a picture that a browser shows."""
     with View(path) as view:
         row = view.saga(words.key)
-        plan = plan_of(view, row)
-        text = plan.draw() if plan else program.draw(view.definition(row.id))
+        if words.svg:
+            text = picture_of(view, row.key)
+        else:
+            plan = plan_of(view, row)
+            text = plan.draw() if plan else program.draw(view.definition(row.id))
     if words.json:
-        show_json({"key": words.key, "dot": text})
+        show_json({"key": words.key, "svg" if words.svg else "dot": text})
     else:
-        print(text, end="")
+        print(text.rstrip("\n"))
     return GOOD
+
+
+def picture_of(view: View, key: str) -> str:
+    """The picture of the service's page."""
+    saga = Looks(view).saga(key)
+    assert saga
+    return pictures.document(saga)
 
 
 def show_held(held: Sequence[Json]) -> None:

@@ -49,7 +49,7 @@ COLUMNS = f"id, key, saga, {PHASE}, at, ended, note, {ENDED_BY_PLAN}"
 
 
 class View:
-    """A store, looked at."""
+    """A store, looked at; a `Reader`, too."""
 
     def __init__(self, path: str) -> None:
         self.link = sources.connect(path)
@@ -60,11 +60,17 @@ class View:
         return self
 
     def __exit__(self, *_: object) -> None:
-        self.link.close()
+        self.close()
 
     def ask(self, text: str, *words: Any) -> list[Row]:
         """The rows of a question."""
         return self.link.ask(text, *words)
+
+    rows = ask
+
+    def close(self) -> None:
+        """Ends the look."""
+        self.link.close()
 
     def sagas(self, where: str = "TRUE", *words: Any, most: int = ALL, newest: bool = False) -> list[SagaRow]:
         """The sagas for which a condition holds, in the order in which they were started, or the newest first."""
