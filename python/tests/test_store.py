@@ -336,6 +336,73 @@ def test_wait(place: str, how: str) -> None:
     run(main())
 
 
+def test_a_wait_that_cannot_say_its_time(place: str) -> None:
+    """Each try asks for it again, also in the next program; its function is not called before its time, and after its tries it has failed."""
+    asked: list[tuple[str, int]] = []
+    times: list[float] = []
+    called: list[float] = []
+    saga = sagas.Saga("late")
+
+    def when(task: Task) -> Any:
+        asked.append((task.key, task.attempt))
+        if task.key == "never" or task.attempt == 1:
+            return task.input
+        times.append(time.time())
+        return datetime.timedelta(seconds=0.2)
+
+    @saga.wait(until=when, tries=3, backoff=sagas.Backoff(first=0.1, most=0.1))
+    def wait(task: Task) -> None:
+        called.append(time.time())
+
+    async def first() -> None:
+        async with sagas.open(place, [saga]) as store:
+            await store.start(saga, "never", "2030-01-01T00:00:00+00:00")
+            await store.start(saga, "later")
+            await until(lambda: {("never", 1), ("later", 1)} <= {*asked})
+
+    async def second() -> None:
+        async with sagas.open(place, [saga]) as store:
+            end = await store.wait("never")
+            assert end.states == {"wait": "failed"} and "datetime.fromisoformat" in end.errors["wait"]
+            assert (await store.wait("later")).ok
+
+    run(first())
+    run(second())
+    assert [attempt for key, attempt in asked if key == "never"] == [1, 2, 3]
+    assert len(called) == 1 and called[0] >= times[0] + 0.19
+
+
+def test_a_wait_whose_time_is_over_waits_no_more(place: str) -> None:
+    """Nobody knew what its function did, then it failed, and then another program took it up: it is called, and does not wait anew."""
+    asked: list[int] = []
+    calls: list[int] = []
+    saga = sagas.Saga("late")
+
+    def when(task: Task) -> datetime.timedelta:
+        asked.append(task.attempt)
+        return datetime.timedelta(seconds=0.05 if len(asked) == 1 else 3600)
+
+    @saga.wait(until=when, backoff=sagas.Backoff(first=0.2, most=0.2))
+    def wait(task: Task) -> int:
+        calls.append(task.attempt)
+        if len(calls) < 3:
+            raise sagas.Unknown("?") if len(calls) == 1 else ValueError("no")
+        return 1
+
+    async def first() -> None:
+        async with sagas.open(place, [saga]) as store:
+            await store.start(saga, "k")
+            await until(lambda: len(calls) == 2)
+
+    async def second() -> None:
+        async with sagas.open(place, [saga]) as store:
+            assert (await store.wait("k")).ok
+
+    run(first())
+    run(second())
+    assert asked == [1] and calls == [1, 1, 2]
+
+
 @pytest.mark.parametrize("answer", ["yes", "no", "nothing"])
 def test_approval(place: str, answer: str) -> None:
     """A person, or another program, says done or failed; where nobody says anything in time it has failed. It outlives the program."""

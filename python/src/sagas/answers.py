@@ -127,9 +127,11 @@ class Answers:
         acts.append((self._reported, attempts))
 
     def _settle_rows(self, batch: Batch, attempt: Attempt) -> None:
-        """What else the store has of an attempt that was reported."""
-        if attempt.has_row and not (attempt.why == "wait" and attempt.event == "missed"):
+        """What else the store has of an attempt that was reported. Of a wait that was missed it keeps that its time is over, for the next try."""
+        if attempt.has_row and not (attempt.is_wait and attempt.event == "missed"):
             batch.freed.append(attempt.row)
+        elif attempt.has_row and attempt.why == "unknown":
+            batch.held.append((*attempt.row, "wait", 0, attempt.since, 0.0, None))
         if attempt.request is not None:
             batch.answer(attempt.request, "true")
         if attempt.is_remote:

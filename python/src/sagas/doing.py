@@ -18,7 +18,7 @@ from . import calling, remote
 from .callers import Callers
 from .calling import Outcome
 from .definition import Manner, Step
-from .errors import Lost
+from .errors import Fail, Lost
 from .fleet import Fleet, Gate
 from .forks import private
 from .live import Attempt, Live
@@ -47,7 +47,8 @@ def due_time(step: Step[Any], attempt: Attempt, now: float) -> float:
         return now + until.total_seconds()
     if isinstance(until, datetime.datetime) and until.tzinfo:
         return until.timestamp()
-    raise TypeError(f"until gave {until!r}: it is a timedelta, or a datetime with a time zone")
+    remedy = ": make one of the text, by datetime.datetime.fromisoformat" if isinstance(until, str) else ""
+    raise TypeError(f"until gave {until!r}: it is a timedelta, or a datetime with a time zone{remedy}")
 
 
 class Doing:
@@ -172,21 +173,26 @@ class Doing:
         elif attempt.why == "wait":
             attempt.live.rare.due[attempt.word] = 0.0
             self._put_row(attempt, "wait", 0.0, then=lambda: self._enter(attempt))
+        elif attempt.why == "backoff":
+            self._first(attempt)
         else:
             self._go(attempt)
 
     def _wait(self, attempt: Attempt, step: Step[Any]) -> None:
-        """It waits for its time, counted from its first try."""
+        """It waits for its time, counted from the first try that could say it. A try that cannot has failed, and its function is not called."""
         due = attempt.live.rare.due.get(attempt.word)
         if due is None:
             try:
                 due = due_time(step, attempt, self.owner.clock())
             except Exception as error:
-                self.outcome(attempt, calling.failure(f"{type(error).__name__}: {error}"))
+                failure = calling.failure(f"{type(error).__name__}: {error}", final=isinstance(error, Fail))
+                self.outcome(attempt, failure._replace(error=error))
                 return
         until = attempt.live.rare.due[attempt.word] = max(due, 1.0)
-        attempt.since = self.owner.clock()
+        attempt.since, attempt.fresh = self.owner.clock(), True
         self._put_row(attempt, "wait", until, then=lambda: self._hold(attempt, "wait", until))
+        if attempt.live.draining:
+            self.drain(attempt.live)
 
     def _put_row(self, attempt: Attempt, why: str, until: float | None, then: Callable[[], object] | None = None, error: str | None = None) -> None:
         """What keeps it from going on is in the store, so that another program knows it; then it goes on."""
@@ -486,7 +492,7 @@ class Doing:
                 self._give_up(attempt, "not called: the saga is being undone")
             elif attempt.state == "held" and attempt.why == "backoff" and attempt.kind == "run":
                 attempt.drop_timer()
-                self._go(attempt)  # its last try: to give it up would be a failure that was none
+                self._first(attempt)  # its last try: to give it up would be a failure that was none
 
     def _may_leave(self, attempt: Attempt) -> bool:
         if not attempt.fresh or attempt.kind == "undo":

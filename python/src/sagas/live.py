@@ -192,6 +192,12 @@ class Attempt:
         return step.manner(self.kind)
 
     @property
+    def is_wait(self) -> bool:
+        """Whether its function is called when a time has come."""
+        step = self.live.kind.steps[self.step]
+        return step is not None and step.kind == "wait" and self.kind == "run"
+
+    @property
     def is_remote(self) -> bool:
         """Whether its function is called elsewhere."""
         if not self.live.kind.has_remote:

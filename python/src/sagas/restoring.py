@@ -162,8 +162,9 @@ def _rows(pump: Pump, loaded: Loaded) -> Old:
     for id, step, kind, _, outcome, value, at in loaded.results:
         _result(pump.live[id % ROOM], step, kind, outcome, value or "null", at)
     for id, step, kind, _, why, _, _, until, _ in loaded.held:
-        if why == "wait" and until is not None:
-            pump.live[id % ROOM].rare.due[step, kind] = until
+        if why == "unknown" or (why == "wait" and until is not None):  # of which nobody knows what it did was called: its time is over
+            due = pump.live[id % ROOM].rare.due
+            due[step, kind] = 0.0 if why == "unknown" or until is None else min(until, due.get((step, kind), until))
     return old
 
 
