@@ -44,6 +44,62 @@ def test_returns_what_is_no_json(place: str, caplog: pytest.LogCaptureFixture) -
     assert "result_unstorable key=k saga=simple step=a" in caplog.text
 
 
+HOWS = {"alone": {}, "in time": {"timeout": 60}, "in turn": {"limit": 1}}
+
+
+@pytest.mark.parametrize("how", HOWS)
+@pytest.mark.parametrize("waits", [False, True])
+def test_a_forgotten_await(tmp_path: pathlib.Path, how: str, waits: bool) -> None:
+    """What a function returns is awaited where it can be, as if the function had done it: its effect is there, what it raises counts, and its time too."""
+    told: list[int] = []
+
+    async def book(task: Task) -> Any:
+        if waits:
+            await asyncio.sleep(0)
+        told.append(task.attempt)
+        if task.input == "fails":
+            raise ValueError("no")
+        return {"id": 7}
+
+    async def charge(task: Task) -> Any:
+        if waits:
+            await asyncio.sleep(0)
+        return asyncio.ensure_future(book(task)) if task.input == "task" else book(task)
+
+    saga = simple(charge, tries=2, **HOWS[how])
+
+    async def main() -> None:
+        async with sagas.open(tmp_path / "store.db", [saga]) as store:
+            ends = [await ended(store, saga, f"{given}{number}", given) for given in ("well", "task") for number in range(3)]
+            assert all(end.ok and end.results == {"a": {"id": 7}} for end in ends) and told == 6 * [1]
+            end = await ended(store, saga, "bad", "fails")
+            assert end.states == {"a": "failed"} and end.errors == {"a": "ValueError: no"} and told[6:] == [1, 2]
+
+    run(main())
+
+
+@pytest.mark.parametrize("plain", [False, True])
+def test_a_forgotten_await_has_its_time(tmp_path: pathlib.Path, plain: bool) -> None:
+    """Whoever takes longer has an outcome that nobody knows, also where another awaits it."""
+
+    async def slow(task: Task) -> None:
+        await asyncio.sleep(60)
+
+    async def charge(task: Task) -> Any:
+        return slow(task)
+
+    saga = simple((lambda task: slow(task)) if plain else charge, timeout=0.05, unknown_most=0)
+
+    async def main() -> None:
+        async with sagas.open(tmp_path / "store.db", [saga]) as store:
+            await store.start(saga, "k")
+            (held,) = await until(store.unknown)
+            assert held.error == "took longer than 0.05 s"
+            await store.finish("k", "a")
+
+    run(main())
+
+
 @dataclasses.dataclass
 class Seat:
     """The type of a result."""

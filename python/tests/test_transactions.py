@@ -156,6 +156,32 @@ def test_a_step_of_a_lost_log_is_rolled_back(url: str) -> None:
     assert booked(url) == {("k", "book"): 1}
 
 
+@pytest.mark.parametrize("in_thread", [False, True])
+def test_a_forgotten_await_in_a_transaction(url: str, in_thread: bool) -> None:
+    """What an async function returns is awaited within its transaction. A plain one that returns something to await has failed: it cannot be awaited there."""
+    prepare(url)
+    kind = sagas.Saga("one")
+
+    async def book(task: Task) -> str:
+        await task.connection.execute("INSERT INTO book(key, step, token) VALUES(%s, 'book', '')", (task.key,))
+        return "booked"
+
+    async def charge(task: Task) -> Any:
+        return book(task)
+
+    kind.step(name="charge", transaction=True)((lambda task: book(task)) if in_thread else charge)
+
+    async def main() -> sagas.End:
+        async with sagas.open(url, [kind]) as store:
+            return await ended(store, kind, "k")
+
+    end = run(main())
+    if in_thread:
+        assert end.states == {"charge": "failed"} and "make it async def" in end.errors["charge"] and booked(url) == {}
+    else:
+        assert end.results == {"charge": "booked"} and booked(url) == {("k", "book"): 1}
+
+
 KILLED = """
     import asyncio, os, sagas
     from sagas.doing import Doing

@@ -118,7 +118,12 @@ class Callers:
         try:
             task = attempt.task()
             work = self._within(attempt, function, task) if self._within else function(task)
-            outcome: Outcome | None = calling.done(await work, task)
+            while True:
+                try:
+                    outcome: Outcome | None = calling.done(await work, task)
+                    break
+                except calling.Unawaited as forgot:
+                    work = forgot.value
         except BaseException as error:
             outcome = calling.interrupted(error, attempt.manner)
         self._ended(attempt, began, outcome)
@@ -134,7 +139,11 @@ class Callers:
                 work = _awaited(work)
             waits_for = context.run(work.send, None)
         except StopIteration as end:
-            attempt.took, attempt.outcome = time.monotonic() - began, calling.done(end.value, task)
+            try:
+                attempt.took, attempt.outcome = time.monotonic() - began, calling.done(end.value, task)
+            except calling.Unawaited as forgot:
+                self._waiters[function] = AGAIN
+                return self._wait(attempt, began, task, _Rest(calling.whole(forgot.value), None, context))
             self._over.append(attempt)
             if len(self._over) >= LOT:
                 self._tell()
@@ -151,7 +160,12 @@ class Callers:
 
     async def _wait(self, attempt: Attempt, began: float, task: Task[Any], rest: _Rest) -> None:
         try:
-            outcome: Outcome | None = calling.done(await rest, task)
+            while True:
+                try:
+                    outcome: Outcome | None = calling.done(await rest, task)
+                    break
+                except calling.Unawaited as forgot:
+                    rest = _Rest(calling.whole(forgot.value), None, rest.context)
         except BaseException as error:
             outcome = calling.interrupted(error, attempt.manner)
         self._ended(attempt, began, outcome)
@@ -162,10 +176,10 @@ async def _awaited(work: Awaitable[Any]) -> Any:
 
 
 class _Rest:
-    """What is left of a function that waits for something, each part of it in its context; gives what it returns."""
+    """What is left of a function that waits for something (None: the loop's next turn), each part of it in its context; gives what it returns."""
 
     def __init__(self, work: Coroutine[Any, Any, Any], waits_for: Any, context: contextvars.Context) -> None:
-        self._work, self._waits_for, self._context = work, waits_for, context
+        self._work, self._waits_for, self.context = work, waits_for, context
 
     def __await__(self) -> Generator[Any, Any, Any]:
         waits_for = self._waits_for
@@ -175,6 +189,6 @@ class _Rest:
             except BaseException as error:
                 go_on, told = self._work.throw, error
             try:
-                waits_for = self._context.run(go_on, told)
+                waits_for = self.context.run(go_on, told)
             except StopIteration as end:
                 return end.value

@@ -9,7 +9,7 @@ import json
 import logging
 import os
 import traceback
-from collections.abc import Callable
+from collections.abc import Awaitable, Callable
 from concurrent.futures import Executor
 from typing import Any, NamedTuple, cast
 
@@ -47,11 +47,39 @@ def failure(text: str, final: bool = False, called: bool = True) -> Outcome:
     return Outcome("final" if final else "failed", json.dumps(told), called)
 
 
+class Unawaited(Exception):
+    """A function returned something that is to be awaited: an `await` was forgotten, say. Then it is not over."""
+
+    def __init__(self, value: Any) -> None:
+        super().__init__(value)
+        self.value = value
+
+
+async def whole(value: Any) -> Any:
+    """What a function's result comes to: whatever can be awaited (a coroutine, a task, a future) is awaited, as if the function had done it."""
+    while inspect.isawaitable(value):
+        value = await value
+    return value
+
+
+def whole_now(value: Any) -> Any:
+    """The result of a plain function in a transaction, which is over before anything could be awaited. Raises `TypeError` where it is to be awaited."""
+    if not hasattr(value, "__await__"):
+        return value
+    if inspect.iscoroutine(value):
+        value.close()
+    raise TypeError(f"a plain function with transaction=True returned {type(value).__name__}, to be awaited: make it async def, and await it there")
+
+
 def done(value: Any, task: Task[Any] | None = None) -> Outcome:
-    """The function returned. A result that is not JSON is kept as `{"unstorable": ..}`: the effect is there, and is not to be lost."""
+    """The function returned. A result that is not JSON is kept as `{"unstorable": ..}`: the effect is there, and is not to be lost.
+
+    Raises `Unawaited` where the result is to be awaited: then `done` of its `whole` says how it ended."""
     try:
         return _outcome(("done", values.write(value), True, None))
     except NotJson as error:
+        if inspect.isawaitable(value):
+            raise Unawaited(value) from None
         whose = f" key={task.key} saga={task.saga} step={task.step}" if task else ""
         logger.warning("result_unstorable%s detail=%s", whose, error)
         return Outcome("done", json.dumps({"unstorable": str(error)[:MOST_TEXT]}))
@@ -74,6 +102,7 @@ async def call(
     manner: Manner, task: Task[Any], executor: Executor | None, late: Callable[[], object] | None = None, function: Callable[[Task[Any]], Any] | None = None
 ) -> Outcome | None:
     """Calls the function, async ones here, plain ones in the executor. None: it was cancelled from outside, and nobody knows what it did.
+    What it returns is awaited here, where that can be: a coroutine, say.
 
     `late` is called where a thread takes longer than its time: it is waited for, since it cannot be stopped. `function`: one in place of the manner's."""
     function = function or manner.function
@@ -81,9 +110,14 @@ async def call(
     try:
         if not is_async(function):
             return await _in_thread(function, manner, task, executor, late)
-        if manner.timeout is None:
-            return done(await function(task), task)
-        return await _in_time(function, manner.timeout, task, manner)
+        if manner.timeout is not None:
+            return await _in_time(function(task), manner.timeout, task, manner)
+        work = function(task)
+        while True:
+            try:
+                return done(await work, task)
+            except Unawaited as forgot:
+                work = forgot.value
     except BaseException as error:
         return interrupted(error, manner)
 
@@ -102,14 +136,18 @@ async def call_alone(about: object, manner: Manner, task: Task[Any], executor: E
     return await call(manner, task, executor, late)
 
 
-async def _in_time(function: Callable[[Task[Any]], Any], timeout: float, task: Task[Any], manner: Manner) -> Outcome:
-    scope = asyncio.timeout(timeout)
+async def _in_time(work: Awaitable[Any], left: float, task: Task[Any], manner: Manner) -> Outcome:
+    """What a function gave is awaited in what is left of its time."""
+    scope = asyncio.timeout(left)
     try:
         async with scope:
-            value = await function(task)
+            while True:
+                try:
+                    return done(await work, task)
+                except Unawaited as forgot:
+                    work = forgot.value
     except TimeoutError as error:
-        return Outcome("unknown", f"took longer than {timeout} s") if scope.expired() else raised(error, manner)
-    return done(value, task)
+        return Outcome("unknown", f"took longer than {manner.timeout} s") if scope.expired() else raised(error, manner)
 
 
 def _guarded(function: Callable[[Task[Any]], Any], task: Task[Any]) -> tuple[Any, BaseException | None]:
@@ -141,8 +179,10 @@ async def _in_thread(
     finally:
         if timer:
             timer.cancel()
+    if error is None and timer and inspect.isawaitable(value):
+        return await _in_time(value, timer.when() - loop.time(), task, manner)
     if error is None:
-        return done(await value if inspect.isawaitable(value) else value, task)
+        return done(await whole(value) if inspect.isawaitable(value) else value, task)
     if overdue and not isinstance(error, Fail):
         return Outcome("unknown", f"took longer than {manner.timeout} s, then raised {type(error).__name__}: {error}"[:MOST_TEXT])
     return raised(error, manner)

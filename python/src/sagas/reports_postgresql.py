@@ -177,7 +177,7 @@ class PostgreSQLDesk:
                     self._own = psycopg.Connection.connect(links.address(self.url))
                 with self._own.transaction():
                     task.enter(self._own)
-                    value = function(task)
+                    value = calling.whole_now(function(task))
                     if not self._own.execute(RECORD, words(value)).fetchall():
                         raise Settled(order.token)
             except BaseException as error:  # it may be anywhere in its transaction
@@ -192,7 +192,7 @@ class PostgreSQLDesk:
             try:
                 async with await psycopg.AsyncConnection.connect(links.address(self.url)) as link, link.transaction():
                     task.enter(link)
-                    value = await function(task)
+                    value = await calling.whole(await function(task))
                     if not await (await link.execute(RECORD, words(value))).fetchall():
                         raise Settled(order.token)
             except psycopg.OperationalError as error:

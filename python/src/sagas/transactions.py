@@ -128,6 +128,8 @@ class Transactions:
             task.enter_by(self._taken)
             try:
                 value = await function(task)
+                if hasattr(value, "__await__"):
+                    value = await calling.whole(value)
                 link = task.leave()
                 if link is not None and link.begun:
                     await link.end(*record.words(value))
@@ -161,7 +163,7 @@ class Transactions:
             task.enter(link)
             link.begun = False
             try:
-                value = function(task)
+                value = calling.whole_now(function(task))
                 if link.begun:
                     link.end(*record.words(value))
                     record.done = True

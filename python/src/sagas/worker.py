@@ -31,7 +31,7 @@ from collections import deque
 from collections.abc import Callable, Sequence
 from typing import Any
 
-from . import values
+from . import calling, values
 from .definition import UNKNOWN, Unknowns
 from .errors import Fail, NotJson, SagasError, Unknown
 from .task import Task
@@ -362,7 +362,7 @@ def outcome(manner: _Manner, task: Task[Any]) -> tuple[str, dict[str, Any]]:
     try:
         result = manner.function(task)
         if inspect.isawaitable(result):
-            result = asyncio.run(_awaited(result))
+            result = asyncio.run(calling.whole(result))
     except Fail as error:
         return "failed", {"error": said(error), "final": True}
     except Exception as error:
@@ -374,10 +374,6 @@ def outcome(manner: _Manner, task: Task[Any]) -> tuple[str, dict[str, Any]]:
     except NotJson as error:
         logger.warning("a result is kept as unstorable: %s", error)
         return "done", {"result": {"unstorable": str(error)[:MOST_TEXT]}}
-
-
-async def _awaited(result: Any) -> Any:
-    return await result
 
 
 def said(error: BaseException) -> str:

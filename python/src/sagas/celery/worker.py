@@ -85,15 +85,11 @@ def _surely(queue: Queue, ask: Callable[[], T]) -> T:
             pause = min(MOST_PAUSE, 2 * pause)
 
 
-async def _waited(value: Any) -> Any:
-    return await value
-
-
 def _call(function: Function, manner: Manner, task: Task[Any]) -> Outcome:
     """Calls the function, also an async one, and says what that was. Raises `Settled`."""
     try:
         value = function(task)
-        return calling.done(asyncio.run(_waited(value)) if inspect.isawaitable(value) else value, task)
+        return calling.done(asyncio.run(calling.whole(value)) if inspect.isawaitable(value) else value, task)
     except Settled:
         raise
     except SoftTimeLimitExceeded as error:
