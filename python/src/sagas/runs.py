@@ -8,6 +8,8 @@ from typing import TYPE_CHECKING, Any, Protocol, TypeVar, overload
 from . import values
 from .spoken import state_of
 
+from . import waiting
+
 if TYPE_CHECKING:
     from .plans import Plan
     from .definition import Step
@@ -171,9 +173,11 @@ class Run:
     def __init__(self, store: Store, key: str, new: bool = False) -> None:
         self._store, self.key, self.new = store, key, new
 
-    async def wait(self) -> End:
-        """Waits for its end. Raises `Closed` where the store is closed before."""
-        return await self._store.wait(self.key)
+    async def wait(self, timeout: float | None = None) -> End:
+        """Waits for its end, at most `timeout` seconds; then `TimeoutError`, which says what it waits for. Raises `Closed` where the store is closed before."""
+        if timeout is None:
+            return await self._store.wait(self.key)
+        return await waiting.in_time(self.key, self._store.wait(self.key), timeout, lambda: self._store.waits_for(self.key))
 
     async def abort(self) -> bool:
         """No step of it begins any more, and the plan says what is undone. False where it is over, or was aborted before."""

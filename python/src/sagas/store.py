@@ -16,7 +16,7 @@ from collections.abc import Callable, Iterable
 from types import TracebackType
 from typing import TYPE_CHECKING, Any
 
-from . import auditing, checks, databases, histories, moving, program, requests, retention, starting, under_way, values
+from . import auditing, checks, databases, histories, moving, program, requests, retention, starting, under_way, values, waiting
 from .anywhere import Anywhere
 from .calling import MOST_TEXT, Outcome, failure
 from .coordinator import Coordinator
@@ -238,6 +238,10 @@ class Store:
             return histories.end_of_live(over)
         row = over
         return await moving.surely(lambda: self._end(row))
+
+    async def waits_for(self, key: str) -> builtins.list[str]:
+        """What a saga waits for that is driven here, in words; of others nothing."""
+        return waiting.of_live(self._inside.lives.get(key))
 
     async def over(self, key: str) -> Live | SagaRow:
         """As `wait`, for who reads the end by himself: a saga that was driven here, or its row."""

@@ -97,8 +97,8 @@ class SyncStore:
         return SyncRun(self, key, run.new)
 
     def wait(self, key: str, timeout: float | None = None) -> End:
-        """As `Store.wait`, at most `timeout` seconds; then `TimeoutError`."""
-        return self._do(self._store.wait(key), timeout)
+        """As `Store.wait`, at most `timeout` seconds; then `TimeoutError`, which says what the saga waits for."""
+        return self._loop.in_time(key, self._store.wait(key), timeout, lambda: self._store.waits_for(key))
 
     def abort(self, key: str, *, by: str | None = None, note: str | None = None) -> bool:
         """As `Store.abort`."""
@@ -113,7 +113,10 @@ class SyncStore:
 
     def settled(self, timeout: float | None = None) -> None:
         """As `Store.settled`, at most `timeout` seconds; then `TimeoutError`."""
-        self._do(self._store.settled(), timeout)
+        try:
+            self._do(self._store.settled(), timeout)
+        except TimeoutError as error:
+            raise error if timeout is None else TimeoutError(f"sagas are still open after {timeout:g} s: list(phase='open') has them") from None
 
     def get(self, key: str) -> SyncRun | None:
         """As `Store.get`."""

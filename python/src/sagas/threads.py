@@ -3,13 +3,16 @@
 from __future__ import annotations
 
 import asyncio
+import contextlib
 import threading
-from collections.abc import Coroutine
+from collections.abc import Callable, Coroutine
 from typing import Any, TypeVar
 
+from . import waiting
 from .errors import Closed
 
 T = TypeVar("T")
+SOON = 2.0  # seconds that a loop has to say what a saga waits for
 
 
 class Loop:
@@ -49,3 +52,15 @@ class Loop:
         except BaseException:
             future.cancel()
             raise
+
+    def in_time(self, key: str, work: Coroutine[Any, Any, T], timeout: float | None, waits: Callable[[], Coroutine[Any, Any, list[str]]]) -> T:
+        """As `do`, for who waits for a saga: the `TimeoutError` says what the saga `waits` for."""
+        try:
+            return self.do(work, timeout)
+        except TimeoutError:
+            if timeout is None:
+                raise
+        found: list[str] = []
+        with contextlib.suppress(Exception):  # the loop may be held up
+            found = self.do(waits(), SOON)
+        raise waiting.still_open(key, timeout, found)
