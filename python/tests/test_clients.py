@@ -298,6 +298,24 @@ def test_a_client_without_async(url: str) -> None:
         client.wait("k")
 
 
+def test_a_connection_of_the_other_kind(url: str) -> None:
+    """It is refused by name, and nothing is written."""
+    kind = shop()
+    made(url, kind)
+
+    async def main() -> None:
+        async with sagas.Client(url) as client:
+            with psycopg.connect(url) as link, pytest.raises(TypeError, match="sagas.Client needs a psycopg.AsyncConnection"):
+                await client.start(kind, "k", connection=link)  # type: ignore[arg-type]
+        with sagas.SyncClient(url) as plain:
+            async with await psycopg.AsyncConnection.connect(url) as other:
+                with pytest.raises(TypeError, match="sagas.SyncClient needs a psycopg.Connection"):
+                    plain.start(kind, "k", connection=other)  # type: ignore[arg-type]
+
+    run(main())
+    assert inbox(url) == 0
+
+
 def test_a_start_that_loses_its_race_with_a_node(url: str) -> None:
     """A node begins a key while a client's start of it, with another input, is not yet committed: the node's stands, and the client hears of it."""
     kind = shop()

@@ -58,6 +58,13 @@ def check_start(words: dict[str, Any], rows: builtins.list[Row], unfit: TooLarge
     check_same(words, rows)
 
 
+def check_connection(connection: object, plain: bool) -> None:
+    """Raises `TypeError` where it is none for this client: before anything is written."""
+    if not isinstance(connection, psycopg.Connection if plain else psycopg.AsyncConnection):
+        wants = ("SyncClient", "psycopg.Connection", "Client", "AsyncConnection") if plain else ("Client", "psycopg.AsyncConnection", "SyncClient", "plain one")
+        raise TypeError(f"nothing was written: sagas.{wants[0]} needs a {wants[1]}, not {type(connection).__name__}; sagas.{wants[2]} takes a {wants[3]}")
+
+
 class ClientRun:
     """A saga that a client started, or found by its key."""
 
@@ -133,8 +140,10 @@ class Client:
 
         With `connection`, a psycopg connection to the same database, it is written in the transaction that is open there: the saga is there
         exactly if that commits. A second start of the key waits until it has. Raises `KeyConflict`, `TooLarge`, `NotJson`, `StoreUnwritable`,
-        `Closed`."""
+        `Closed`; `TypeError` where it is no `psycopg.AsyncConnection`."""
         self._heard
+        if connection is not None:
+            check_connection(connection, plain=False)
         words, unfit = start_words(saga, key, input), room.unfit(saga)
         self._sagas[saga.name, saga.version] = saga
         with links.faults(self.path):

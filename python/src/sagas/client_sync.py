@@ -64,9 +64,10 @@ class SyncClient:
                 self._loop.end()
 
     def start(self, saga: Saga, key: str, input: Any = None, *, connection: psycopg.Connection[Any] | None = None) -> SyncClientRun:
-        """As `Client.start`; `connection` is a plain one, and is used in this thread."""
+        """As `Client.start`; `connection` is a plain one, a `psycopg.Connection`, and is used in this thread."""
         if connection is None:
             return SyncClientRun(self, self._loop.do(self._client.start(saga, key, input)))
+        client.check_connection(connection, plain=True)
         words = client.start_words(saga, key, input)
         with links.faults(self._client.path):
             client.start_now(connection, words, room.unfit(saga))
