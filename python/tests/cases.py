@@ -3,6 +3,7 @@
 from __future__ import annotations
 
 import asyncio
+import time
 from collections.abc import Callable, Coroutine
 from typing import Any, TypeVar
 
@@ -37,3 +38,14 @@ async def until(found: Callable[[], Any], seconds: float = 120) -> Any:
         while not (value := found()):
             await asyncio.sleep(0.005)
     return value
+
+
+def hears(wait: Callable[[], object], text: str, seconds: float = 120) -> None:
+    """Waits for something again and again, which takes too long each time, until the error says this."""
+    end, said = time.monotonic() + seconds, ""
+    while said != text and time.monotonic() < end:
+        try:
+            wait()
+        except TimeoutError as error:
+            said = str(error)
+    assert said == text

@@ -12,7 +12,7 @@ import pytest
 
 import records
 import sagas
-from cases import Task, run, until
+from cases import Task, hears, run, until
 from kills import children
 from sagas import command
 
@@ -314,6 +314,46 @@ def test_a_connection_of_the_other_kind(url: str) -> None:
 
     run(main())
     assert inbox(url) == 0
+
+
+def test_what_a_clients_run_tells(url: str) -> None:
+    """Whether this start began it, its events and its plan, as at a node; before a node has it there are none."""
+    kind = shop()
+    made(url, kind)
+
+    async def main() -> None:
+        async with sagas.Client(url) as client:
+            run = await client.start(kind, "bad", "fails")
+            again, found = await client.start(kind, "bad", "fails"), await client.get("bad")
+            assert run.new and not again.new and found and not found.new
+            assert await run.log() == [] and await run.plan() is None
+            with pytest.raises(TimeoutError, match="'bad' is still open after 0.01 s: no node has begun it yet"):
+                await run.wait(timeout=0.01)
+            async with sagas.open(url, [kind]) as store:
+                assert (await run.wait(timeout=60)).states == {"reserve": "undone", "charge": "failed"}
+                assert await run.log() == store.log("bad") and await run.plan() == store.plan("bad") is not None
+                with pytest.raises(sagas.NoSuchSaga):
+                    await client.log("none")
+
+    run(main())
+    with sagas.open_sync(url, [kind]) as store, sagas.SyncClient(url) as plain:
+        again = plain.start(kind, "bad", "fails")
+        assert not again.new and again.log() == store.log("bad") and again.plan() == store.plan("bad")
+        assert plain.start(kind, "well").new and plain.plan("bad") is not None
+
+
+def test_a_client_waits_too_long(url: str) -> None:
+    """It hears what the saga waits for."""
+    saga = sagas.Saga("signed")
+
+    @saga.approval()
+    def sign(task: Task) -> None: ...
+
+    with sagas.open_sync(url, [saga]), sagas.SyncClient(url) as client:
+        started = client.start(saga, "k")
+        hears(lambda: started.wait(0.01), "'k' is still open after 0.01 s: sign waits for an approval")
+        client.finish("k", sign)
+        assert client.wait("k", timeout=60).ok
 
 
 def test_a_start_that_loses_its_race_with_a_node(url: str) -> None:

@@ -25,7 +25,7 @@ import pytest
 import records
 import sagas
 import sagas.testing
-from cases import HOUR, Task, ended, run, simple, until
+from cases import HOUR, Task, ended, hears, run, simple, until
 from kills import children
 from sagas import child, lines, program, pump, sqlite_writer
 
@@ -1085,6 +1085,39 @@ def test_without_async(place: str) -> None:
         assert all(said.startswith("yes") for said in store.audit().values())
     with pytest.raises(sagas.Closed):
         store.start(saga, key="late")
+
+
+def test_who_waits_too_long(place: str) -> None:
+    """The error says what the saga waits for, as far as this program knows."""
+    saga, gate = sagas.Saga("signed"), threading.Event()
+
+    @saga.step
+    def send(task: Task) -> None:
+        gate.wait(60)
+
+    @saga.approval(needs=[send])
+    def sign(task: Task) -> None: ...
+
+    with sagas.open_sync(place, [saga]) as store:
+        run = store.start(saga, "k")
+        hears(lambda: run.wait(0.01), "'k' is still open after 0.01 s: send runs")
+        gate.set()
+        hears(lambda: store.wait("k", timeout=0.01), "'k' is still open after 0.01 s: sign waits for an approval")
+        with pytest.raises(TimeoutError, match="still open after 0.01 s"):
+            store.settled(0.01)
+        run.finish(sign)
+        assert run.wait(60).ok
+
+    async def main() -> None:
+        async with sagas.open(place, [saga]) as store:
+            one = await store.start(saga, "two")
+            with pytest.raises(TimeoutError, match="'two' is still open after 0.01 s"):
+                await one.wait(timeout=0.01)
+            await until(lambda: store._inside.lives["two"].busy)
+            await one.finish(sign)
+            assert (await one.wait(timeout=60)).ok
+
+    asyncio.run(main())
 
 
 def test_another_loop(tmp_path: pathlib.Path) -> None:

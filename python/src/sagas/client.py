@@ -9,14 +9,15 @@ from typing import TYPE_CHECKING, Any
 
 import psycopg
 
-from . import checks, histories, links, moving, news, postgresql, postgresql_schema, requests, room, values
+from . import checks, histories, links, moving, news, postgresql, postgresql_schema, requests, room, values, waiting
 from .calling import Outcome, failure
 from .databases import FORM
 from .definition import Saga, Step
 from .errors import Closed, NoSuchSaga, NotWaiting, StoreFault, TooLarge
 from .kinds import Kind, version_of
+from .plans import Plan
 from .records import SagaRow
-from .runs import End, Summary
+from .runs import End, LogEvent, Summary
 from .schema import ROOM
 
 if TYPE_CHECKING:
@@ -66,14 +67,17 @@ def check_connection(connection: object, plain: bool) -> None:
 
 
 class ClientRun:
-    """A saga that a client started, or found by its key."""
+    """A saga that a client started, or found by its key. `new`: whether this very start wrote it down: its key was free. Where a node began the key in the
+    same moment, or the caller's transaction does not commit, it was not begun by this start all the same."""
 
-    def __init__(self, client: Client, key: str, words: dict[str, Any] | None = None) -> None:
-        self._client, self.key, self._words = client, key, words
+    def __init__(self, client: Client, key: str, words: dict[str, Any] | None = None, new: bool = False) -> None:
+        self._client, self.key, self._words, self.new = client, key, words, new
 
-    async def wait(self) -> End:
-        """Waits for its end. Raises `KeyConflict` where a node had begun the key with another input in the very moment of the start."""
-        return await self._client._wait(self.key, self._words)
+    async def wait(self, timeout: float | None = None) -> End:
+        """Waits for its end, at most `timeout` seconds; then `TimeoutError`, which says what it waits for. Raises `KeyConflict` where a node had begun the
+        key with another input in the very moment of the start."""
+        work = self._client._wait(self.key, self._words)
+        return await work if timeout is None else await waiting.in_time(self.key, work, timeout, lambda: self._client.waits_for(self.key))
 
     async def abort(self) -> bool:
         """As `Client.abort`."""
@@ -82,6 +86,14 @@ class ClientRun:
     async def finish(self, step: Step[Any] | str, result: Any = None, *, failed: str | None = None, undo: bool = False) -> None:
         """As `Client.finish`."""
         await self._client.finish(self.key, step, result, failed=failed, undo=undo)
+
+    async def plan(self) -> Plan | None:
+        """As `Client.plan`."""
+        return await self._client.plan(self.key)
+
+    async def log(self) -> list[LogEvent]:
+        """As `Client.log`."""
+        return await self._client.log(self.key)
 
     def __repr__(self) -> str:
         return f"<run {self.key!r}>"
@@ -148,11 +160,11 @@ class Client:
         self._sagas[saga.name, saga.version] = saga
         with links.faults(self.path):
             if connection is not None:
-                await _start(connection, words, unfit)
+                new = await _start(connection, words, unfit)
             else:
                 async with self._asker.pool.connection() as link, link.transaction():
-                    await _start(link, words, unfit)
-        return ClientRun(self, key, words)
+                    new = await _start(link, words, unfit)
+        return ClientRun(self, key, words, new)
 
     async def wait(self, key: str) -> End:
         """Waits for a saga's end. Raises `NoSuchSaga`, `Closed`."""
@@ -197,6 +209,30 @@ class Client:
             query = query.replace("?", f"%({name})s", 1)
         return [histories.summary(SagaRow(*row)) for row in await self._ask(query, **words)]
 
+    async def plan(self, key: str) -> Plan | None:
+        """As `Store.plan`: the last plan that the saga goes by. None where all went well, and of one that no log has taken yet. Raises `NoSuchSaga`."""
+        row = await self._row(key)
+        if row.id < 0:
+            return None
+        kind = await self._kind(row)
+        return histories.plan_of(row, kind.text, kind.count, await self._lines(row))
+
+    async def log(self, key: str) -> builtins.list[LogEvent]:
+        """As `Store.log`: the saga's events so far, with times; of one that no log has taken yet none. Raises `NoSuchSaga`."""
+        row = await self._row(key)
+        if row.id < 0:
+            return []
+        kind, lines = await self._kind(row), await self._lines(row)
+        return histories.log_of(kind.names, lines, await self._results(row))
+
+    async def waits_for(self, key: str) -> builtins.list[str]:
+        """What a saga waits for, in words, as far as the database knows: who runs is not in it. Raises `NoSuchSaga`."""
+        row = await self._row(key)
+        if row.id < 0:
+            return ["no node has begun it yet (sagas store URL nodes says which have its saga)"]
+        rows = await self._ask("SELECT step, kind, why, until FROM held WHERE id = %(id)s ORDER BY since", id=row.id)
+        return waiting.of_rows((await self._kind(row)).names, rows) if rows else []
+
     async def _ask(self, query: str, **words: Any) -> builtins.list[Row]:
         self._heard
         return await self._asker.read(query, **words)
@@ -211,30 +247,43 @@ class Client:
             raise NoSuchSaga(f"no saga has the key {key!r}")
         return row
 
-    async def _end(self, row: SagaRow) -> End:
+    async def _kind(self, row: SagaRow) -> Kind:
         asked = f"SELECT texts, def FROM sagas JOIN logs ON log = id / {ROOM} JOIN shelves USING (shelf) WHERE id = %(id)s"
-        ((texts, place),) = await self._ask(asked, id=row.id)
+        found = await self._ask(asked, id=row.id)
+        if not found:  # it was pruned meanwhile
+            raise NoSuchSaga(f"no saga has the key {row.key!r} any more")
+        ((texts, place),) = found
         text = json.loads(texts)[place]
-        kind = self._kinds.get(text) or Kind(text, self._sagas.get((row.saga, version_of(text))))
-        self._kinds[text] = kind
-        results = await self._ask("SELECT step, kind, attempt, outcome, value, at FROM results WHERE id = %(id)s ORDER BY at", id=row.id)
-        return histories.end_of(kind, row, results)
+        kind = self._kinds[text] = self._kinds.get(text) or Kind(text, self._sagas.get((row.saga, version_of(text))))
+        return kind
+
+    async def _results(self, row: SagaRow) -> builtins.list[Row]:
+        return await self._ask("SELECT step, kind, attempt, outcome, value, at FROM results WHERE id = %(id)s ORDER BY at", id=row.id)
+
+    async def _lines(self, row: SagaRow) -> builtins.list[histories.Line]:
+        return histories.lines_of(row, await self._ask(histories.CHUNKS.replace("?", "%(log)s"), log=row.id // ROOM))
+
+    async def _end(self, row: SagaRow) -> End:
+        return histories.end_of(await self._kind(row), row, await self._results(row))
 
 
-async def _start(link: Connection, words: dict[str, Any], unfit: TooLarge | None) -> None:
-    """A row, and then a look whether another has the key: in this order, so that no start of the same key can pass unseen. What fits into no log gets none."""
+async def _start(link: Connection, words: dict[str, Any], unfit: TooLarge | None) -> bool:
+    """A row, and then a look whether another has the key: in this order, so that no start of the same key can pass unseen. What fits into no log gets none.
+    Whether the row is there."""
     own = [] if unfit else await (await link.execute(START, words)).fetchall()
     rows = await (await link.execute(THERE, {"key": words["key"], "own": [id for (id,) in own]})).fetchall()
     if rows and own:
         await link.execute(BACK, {"own": [id for (id,) in own]})
     check_start(words, rows, unfit)
+    return bool(own) and not rows
 
 
-def start_now(link: psycopg.Connection[Any], words: dict[str, Any], unfit: TooLarge | None) -> None:
+def start_now(link: psycopg.Connection[Any], words: dict[str, Any], unfit: TooLarge | None) -> bool:
     """As `_start`, where it stands."""
     own = [] if unfit else link.execute(START, words).fetchall()
     rows = link.execute(THERE, {"key": words["key"], "own": [id for (id,) in own]}).fetchall()
     if rows and own:
         link.execute(BACK, {"own": [id for (id,) in own]})
     check_start(words, rows, unfit)
+    return bool(own) and not rows
 

@@ -3,6 +3,7 @@
 from __future__ import annotations
 
 import builtins
+from collections.abc import Coroutine
 from types import TracebackType
 from typing import Any
 
@@ -10,19 +11,20 @@ import psycopg
 
 from . import client, links, room
 from .definition import Saga, Step
-from .runs import End, Summary
+from .plans import Plan
+from .runs import End, LogEvent, Summary
 from .threads import Loop
 
 
 class SyncClientRun:
-    """A saga that a client started, or found by its key."""
+    """A saga that a client started, or found by its key. `new`: as of a `ClientRun`."""
 
     def __init__(self, owner: SyncClient, run: client.ClientRun) -> None:
-        self._owner, self._run, self.key = owner, run, run.key
+        self._owner, self._run, self.key, self.new = owner, run, run.key, run.new
 
     def wait(self, timeout: float | None = None) -> End:
-        """Waits for its end, at most `timeout` seconds. Raises `TimeoutError`, `KeyConflict`, `Closed`."""
-        return self._owner._loop.do(self._run.wait(), timeout)
+        """Waits for its end, at most `timeout` seconds. Raises `TimeoutError`, which says what it waits for, `KeyConflict`, `Closed`."""
+        return self._owner._in_time(self.key, self._run.wait(), timeout)
 
     def abort(self) -> bool:
         """As `Client.abort`."""
@@ -31,6 +33,14 @@ class SyncClientRun:
     def finish(self, step: Step[Any] | str, result: Any = None, *, failed: str | None = None, undo: bool = False) -> None:
         """As `Client.finish`."""
         self._owner._loop.do(self._run.finish(step, result, failed=failed, undo=undo))
+
+    def plan(self) -> Plan | None:
+        """As `Client.plan`."""
+        return self._owner.plan(self.key)
+
+    def log(self) -> builtins.list[LogEvent]:
+        """As `Client.log`."""
+        return self._owner.log(self.key)
 
     def __repr__(self) -> str:
         return f"<run {self.key!r}>"
@@ -70,12 +80,23 @@ class SyncClient:
         client.check_connection(connection, plain=True)
         words = client.start_words(saga, key, input)
         with links.faults(self._client.path):
-            client.start_now(connection, words, room.unfit(saga))
-        return SyncClientRun(self, client.ClientRun(self._client, key, words))
+            new = client.start_now(connection, words, room.unfit(saga))
+        return SyncClientRun(self, client.ClientRun(self._client, key, words, new))
 
     def wait(self, key: str, timeout: float | None = None) -> End:
-        """As `Client.wait`, at most `timeout` seconds; then `TimeoutError`."""
-        return self._loop.do(self._client.wait(key), timeout)
+        """As `Client.wait`, at most `timeout` seconds; then `TimeoutError`, which says what the saga waits for."""
+        return self._in_time(key, self._client.wait(key), timeout)
+
+    def _in_time(self, key: str, work: Coroutine[Any, Any, End], timeout: float | None) -> End:
+        return self._loop.in_time(key, work, timeout, lambda: self._client.waits_for(key))
+
+    def plan(self, key: str) -> Plan | None:
+        """As `Client.plan`."""
+        return self._loop.do(self._client.plan(key))
+
+    def log(self, key: str) -> builtins.list[LogEvent]:
+        """As `Client.log`."""
+        return self._loop.do(self._client.log(key))
 
     def abort(self, key: str) -> bool:
         """As `Client.abort`."""
