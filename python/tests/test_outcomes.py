@@ -250,8 +250,9 @@ def test_raises_fail(place: str) -> None:
 
 @pytest.mark.parametrize("error", [sagas.Unknown("?"), TimeoutError("?"), ConnectionResetError("?"), KeyError("?")])
 def test_raises_unknown(place: str, error: Exception) -> None:
-    """Nobody knows: the same attempt again, with the same token, and nothing is reported; by default for timeouts and lost connections."""
+    """Nobody knows: the same attempt again, with the same token, and nothing is reported; by default for timeouts and lost connections. The log says how often."""
     tokens: list[str] = []
+    told: list[str] = []
 
     def lost(task: Task) -> int:
         tokens.append(task.token)
@@ -262,10 +263,11 @@ def test_raises_unknown(place: str, error: Exception) -> None:
     async def main() -> sagas.End:
         words = {"unknown": (KeyError,)} if isinstance(error, KeyError) else {}
         saga = simple(lost, **words)
-        async with sagas.open(place, [saga]) as store:
+        async with sagas.open(place, [saga], on_event=lambda event: told.append(event.detail or "") if event.name == "step_unknown" else None) as store:
             return await ended(store, saga)
 
     assert run(main()).ok and len(tokens) == 3 and len(set(tokens)) == 1
+    assert len(told) == 2 and told[1] == f"{told[0]}; 2 times by now"
     assert len(records.read(place).results) == 1
 
 

@@ -1068,6 +1068,60 @@ def test_events_and_logging(place: str, caplog: pytest.LogCaptureFixture) -> Non
     assert kept and getattr(kept[0], "sagas")["key"] == "k"
 
 
+@pytest.mark.parametrize("how", ["refused", "late", "for good"])
+def test_a_final_failure_is_told_once(place: str, how: str) -> None:
+    """As `step_failed`, though the step had tries left; of these nothing is told."""
+    told: list[tuple[str, str | None]] = []
+    saga = sagas.Saga("signed")
+
+    if how == "for good":
+
+        @saga.step(tries=9)
+        def sign(task: Task) -> None:
+            raise sagas.Fail("too dear")
+
+    else:
+
+        @saga.approval(within=datetime.timedelta(seconds=0.01) if how == "late" else None)
+        def sign(task: Task) -> None: ...
+
+    def hook(event: sagas.Event) -> None:
+        if event.name in ("step_missed", "step_failed", "step_done"):
+            told.append((event.name, event.detail))
+
+    async def main() -> None:
+        async with sagas.open(place, [saga], on_event=hook) as store:
+            run = await store.start(saga, "k")
+            if how == "refused":
+                while not await store.waits_for("k"):
+                    await asyncio.sleep(0.005)
+                await run.finish(sign, failed="too dear")
+            assert (await run.wait()).states == {"sign": "failed"}
+
+    run(main())
+    assert told == [("step_failed", {"refused": "too dear", "late": "nobody approved it in time", "for good": "sagas.Fail: too dear"}[how])]
+
+
+def test_a_log_line_is_one_line(place: str, caplog: pytest.LogCaptureFixture) -> None:
+    """Keys and details are quoted where they are not one plain word; what it has of lines is written with their ends."""
+
+    def fails(task: Task) -> None:
+        raise ValueError('a "b"\nc\x85=ü')
+
+    saga = simple(fails)
+
+    async def main() -> None:
+        async with sagas.open(place, [saga]) as store:
+            await ended(store, saga, "order/2026 ü")
+            await ended(store, saga, "order-1")
+
+    run(main())
+    detail = r'"ValueError: a \"b\"\nc\u0085=ü"'
+    assert [record.getMessage() for record in caplog.records if record.name == "sagas"] == [
+        f"step_failed key={key} saga=simple step=a attempt=1 detail={detail}" for key in ('"order/2026 ü"', "order-1")
+    ]
+
+
 def test_without_async(place: str) -> None:
     """`open_sync`: a thread has the loop."""
     saga = row()
@@ -1113,7 +1167,8 @@ def test_who_waits_too_long(place: str) -> None:
             one = await store.start(saga, "two")
             with pytest.raises(TimeoutError, match="'two' is still open after 0.01 s"):
                 await one.wait(timeout=0.01)
-            await until(lambda: store._inside.lives["two"].busy)
+            while not any("approval" in one for one in await store.waits_for("two")):
+                await asyncio.sleep(0.005)
             await one.finish(sign)
             assert (await one.wait(timeout=60)).ok
 

@@ -16,6 +16,7 @@ from typing import Any, NamedTuple, cast
 from . import values
 from .definition import Manner
 from .errors import Fail, NotJson, Unknown
+from .events import quoted
 from .task import Task
 
 logger = logging.getLogger("sagas")
@@ -80,8 +81,8 @@ def done(value: Any, task: Task[Any] | None = None) -> Outcome:
     except NotJson as error:
         if inspect.isawaitable(value):
             raise Unawaited(value) from None
-        whose = f" key={task.key} saga={task.saga} step={task.step}" if task else ""
-        logger.warning("result_unstorable%s detail=%s", whose, error)
+        whose = f" key={quoted(task.key)} saga={task.saga} step={task.step}" if task else ""
+        logger.warning("result_unstorable%s detail=%s", whose, quoted(error))
         return Outcome("done", json.dumps({"unstorable": str(error)[:MOST_TEXT]}))
 
 

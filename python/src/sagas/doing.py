@@ -397,7 +397,8 @@ class Doing:
         most = manner.unknown_most
         over = now - attempt.since >= most.total_seconds() if isinstance(most, datetime.timedelta) else most is not None and attempt.count > most
         until = None if over else now + max(LEAST_PAUSE, manner.backoff.after(attempt.count))
-        self._tell(attempt, "step_unknown", f"{outcome.value}; a person has to say" if over else outcome.value)
+        times = f"; {attempt.count} times by now" if attempt.count > 1 else ""
+        self._tell(attempt, "step_unknown", f"{outcome.value}{times}{'; a person has to say' if over else ''}")
         self._put_row(attempt, "unknown", until, error=outcome.value)
         self._hold(attempt, "unknown", until)
         if manner.run_on:
@@ -454,15 +455,19 @@ class Doing:
             event = attempt.event
             if attempt.told and not attempt.told.done():
                 attempt.told.set_result(True)
-            if tells or event not in DONE:
-                self._tell_end(attempt, "step_done" if event in DONE else MISSED.get(event, "step_failed"))
+            if event not in DONE:
+                self._tell_failure(attempt)
+            elif tells:
+                self._tell(attempt, "step_done")
 
-    def _tell_end(self, attempt: Attempt, name: str) -> None:
-        """A step's end; of a failure what was raised, with its traceback where that was the last try."""
+    def _tell_failure(self, attempt: Attempt) -> None:
+        """What was raised; with its traceback where no further try is made. Of tries that are given up behind a failure for good nothing is told."""
         outcome = attempt.outcome
-        if outcome is None or name == "step_done":
-            self._tell(attempt, name)
+        assert outcome
+        final = outcome.kind == "final"
+        if final and not outcome.called:
             return
+        name = "step_failed" if final else MISSED.get(attempt.event, "step_failed")
         level = None if outcome.called else logging.INFO
         self._tell(attempt, name, str(json.loads(outcome.value).get("error")), level, outcome.error if name == "step_failed" else None)
 

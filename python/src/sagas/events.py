@@ -3,19 +3,22 @@
 from __future__ import annotations
 
 import dataclasses
+import json
 import logging
 import os
+import re
 from collections.abc import Callable
 from types import TracebackType
 from typing import Any
 
 logger = logging.getLogger("sagas")
+PLAIN = re.compile(r'[^\s"=\\]+\Z')
 HERE = os.path.dirname(os.path.abspath(__file__)) + os.sep
 
 
 @dataclasses.dataclass(frozen=True, slots=True)
 class Event:
-    """Something that happened, told after it was committed.
+    """Something that happened, told after it was committed. `step_missed`: it may be tried again; `step_failed`: it is not.
 
     `name` is one of `saga_started`, `step_begun`, `step_done`, `step_missed`, `step_failed`, `step_unknown`, `step_waits`, `step_late`, `saga_planned`,
     `saga_aborted`, `saga_ended`, `saga_stuck`, `log_closed`, `logs_gone`, `audit_failed`, `child_died`, `commit_failed`, and over PostgreSQL `log_taken`,
@@ -52,6 +55,14 @@ LEVELS = {
 }
 
 
+def quoted(value: object) -> str:
+    """A field of a log line: as it is where it is one plain word, else in quotes, so that an event is one line and each field is told from the next."""
+    text = str(value)
+    if PLAIN.match(text) and text.isprintable():
+        return text
+    return "".join(one if one.isprintable() else json.dumps(one)[1:-1] for one in json.dumps(text, ensure_ascii=False))
+
+
 def traced(error: BaseException) -> tuple[type[BaseException], BaseException, TracebackType | None]:
     """What a function raised, for a log: its traceback begins in the function."""
     trace = error.__traceback__
@@ -79,7 +90,7 @@ class Teller:
         level = LEVELS.get(name, logging.DEBUG) if level is None else level
         if logger.isEnabledFor(level):
             told = {field: value for field, value in dataclasses.asdict(event).items() if value is not None}
-            words = " ".join(f"{field}={told[field]}" for field in ("key", "saga", "step", "undo", "attempt", "detail") if told.get(field))
+            words = " ".join(f"{field}={quoted(told[field])}" for field in ("key", "saga", "step", "undo", "attempt", "detail") if told.get(field))
             logger.log(level, "%s %s", name, words, extra={"sagas": told}, exc_info=traced(error) if error else None)
         if self._hook is not None:
             try:
