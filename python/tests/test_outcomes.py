@@ -8,6 +8,7 @@ import datetime
 import logging
 import pathlib
 import threading
+import time
 from typing import Any
 
 import pytest
@@ -269,6 +270,44 @@ def test_raises_unknown(place: str, error: Exception) -> None:
     assert run(main()).ok and len(tokens) == 3 and len(set(tokens)) == 1
     assert len(told) == 2 and told[1] == f"{told[0]}; 2 times by now"
     assert len(records.read(place).results) == 1
+
+
+def test_a_function_that_holds_the_loop(tmp_path: pathlib.Path, caplog: pytest.LogCaptureFixture, monkeypatch: pytest.MonkeyPatch) -> None:
+    """It is named in the log, once: it returned, raised or waited behind that. One in a thread holds nobody up, nor does one that waits."""
+    monkeypatch.setattr("sagas.callers.LONG", 0.1)
+    saga = sagas.Saga("shop")
+
+    @saga.step
+    async def returns(task: Task) -> None:
+        time.sleep(0.12)
+
+    @saga.step(needs=[returns])
+    async def waits(task: Task) -> None:
+        time.sleep(task.input)
+        await asyncio.sleep(0)
+
+    @saga.step(needs=[waits])
+    async def sleeps(task: Task) -> None:
+        await asyncio.sleep(task.input)
+
+    @saga.step(needs=[sleeps])
+    def threaded(task: Task) -> None:
+        time.sleep(task.input)
+
+    @saga.step(needs=[threaded])
+    async def raises(task: Task) -> None:
+        time.sleep(task.input)
+        raise sagas.Fail("no")
+
+    async def main() -> None:
+        async with sagas.open(tmp_path / "store.db", [saga]) as store:
+            await ended(store, saga, "one", 0.12)
+            await ended(store, saga, "two", 0)
+
+    run(main())
+    told = [record.getMessage().split(" held the event loop for ") for record in caplog.records if "held the event loop" in record.getMessage()]
+    assert [whose for whose, _ in told] == ["saga 'shop': step 'returns'", "saga 'shop': step 'waits'", "saga 'shop': step 'raises'"]
+    assert all(rest.endswith(" s: make it a plain function (def), which runs in a thread") for _, rest in told)
 
 
 def test_unknown_waits_for_its_back_off(place: str) -> None:

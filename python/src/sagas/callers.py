@@ -20,9 +20,12 @@ LOT = 256
 """So many that ended well are told at once: they go to the child while others are called."""
 AGAIN = 100
 """Calls of a function that waited, after which it is looked at whether it still does."""
+LONG = 1.0
+"""Seconds that a function may hold the loop before that is told."""
 Begins = Callable[[Attempt], bool]
 Ended = Callable[[Attempt, float, "Outcome | None"], None]
 Done = Callable[[list[Attempt]], None]
+Held = Callable[[Attempt, float], None]
 Within = Callable[[Attempt, Function, Task[Any]], Awaitable[Any]]
 """How a function is called that is not called alone."""
 
@@ -31,12 +34,14 @@ class Callers:
     """Tasks that call the functions of attempts, in the order in which they come. What a function sets of its context no other one sees.
 
     `begins` is asked before each call, and `ended` is told when it began, by the monotonic clock, and what came of it; `done` is told instead of all that
-    ended well without waiting, several at once: they have their outcomes."""
+    ended well without waiting, several at once: they have their outcomes. `held` is told of one that held the loop for long, up to its end or to where it
+    first waits, and for how many seconds."""
 
-    def __init__(self, begins: Begins, ended: Ended, done: Done, within: Within | None = None) -> None:
+    def __init__(self, begins: Begins, ended: Ended, done: Done, held: Held, within: Within | None = None) -> None:
         self._loop = asyncio.get_running_loop()
         self._context = contextvars.copy_context()
-        self._begins, self._ended, self._done, self._within = begins, ended, done, within
+        self._begins, self._ended, self._done, self._held, self._within = begins, ended, done, held, within
+        self._told = time.monotonic()
         self._ready: deque[Attempt] = deque()
         self._next: asyncio.Task[None] | None = None  # the task that calls those
         self._waiters: dict[Function, int] = {}  # functions that waited the last time, and how many calls have their own task at once
@@ -109,7 +114,15 @@ class Callers:
     def _tell(self) -> None:
         """Tells of those that ended well."""
         over, self._over = self._over, []
+        told, self._told = self._told, time.monotonic()
+        if self._told - told > LONG:  # else none of them took so long
+            for attempt in over:
+                self._look(attempt, attempt.took or 0.0)
         self._done(over)
+
+    def _look(self, attempt: Attempt, seconds: float) -> None:
+        if seconds > LONG:
+            self._held(attempt, seconds)
 
     async def _alone(self, attempt: Attempt, function: Function) -> None:
         if not self._begins(attempt):
@@ -143,6 +156,7 @@ class Callers:
                 attempt.took, attempt.outcome = time.monotonic() - began, calling.done(end.value, task)
             except calling.Unawaited as forgot:
                 self._waiters[function] = AGAIN
+                self._look(attempt, time.monotonic() - began)
                 return self._wait(attempt, began, task, _Rest(calling.whole(forgot.value), None, context))
             self._over.append(attempt)
             if len(self._over) >= LOT:
@@ -150,8 +164,10 @@ class Callers:
             return None
         except BaseException as error:
             outcome: Outcome | None = calling.interrupted(error, attempt.manner)
+            self._look(attempt, time.monotonic() - began)
         else:
             self._waiters[function] = AGAIN
+            self._look(attempt, time.monotonic() - began)
             return self._wait(attempt, began, task, _Rest(work, waits_for, context))
         if self._over:
             self._tell()

@@ -58,8 +58,9 @@ class Doing:
         self.owner, self.executor = owner, executor
         self.slots = Slots(concurrency, self._run, owner.feed)
         self.fleet = Fleet(owner, self.slots.enter)
-        self.callers = Callers(self._begins, self._called, self._done)
-        self.inside = Callers(self._begins, self._called_inside, self._done_inside, owner.store.within)
+        self.callers = Callers(self._begins, self._called, self._done, self._held_loop)
+        self.inside = Callers(self._begins, self._called_inside, self._done_inside, self._held_loop, owner.store.within)
+        self._holders: set[tuple[str, str, str]] = set()  # functions of which was told that they hold the loop
         self.running: set[Attempt] = set()
         self.closing = False
 
@@ -263,6 +264,14 @@ class Doing:
         self._leave(attempt)
         if attempt.state == "ready" and not self.closing:
             gate.hold(attempt, first=True)
+
+    def _held_loop(self, attempt: Attempt, seconds: float) -> None:
+        """Its function held up everything else: that is told once of each."""
+        word = attempt.live.kind.name, attempt.name, attempt.kind
+        if word not in self._holders:
+            self._holders.add(word)
+            whose = "the compensation of step" if attempt.kind == "undo" else "step"
+            logger.warning("saga %r: %s %r held the event loop for %.1f s: make it a plain function (def), which runs in a thread", word[0], whose, attempt.name, seconds)
 
     def _leave(self, attempt: Attempt) -> None:
         """Slot and place are for the next."""
