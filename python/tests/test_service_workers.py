@@ -59,8 +59,22 @@ def working(worker: sagas.Worker) -> Iterator[None]:
         thread.join(LONG)
 
 
-def test_a_worker(tmp_path: pathlib.Path) -> None:
-    """What its functions do means what it means in a store; a long one keeps its lease by beats."""
+def test_a_step_is_declared_twice() -> None:
+    """That is refused by name, and says where each is."""
+    worker = sagas.Worker("http://127.0.0.1:1")
+
+    @worker.step("trip", "car")
+    def car(task: sagas.Task[Any]) -> None: ...
+
+    worker.compensation("trip", "car")(car)
+    with pytest.raises(sagas.DefinitionError, match=r"trip/car is declared twice, at .*test_service_workers.py:\d+, and before at .*test_service_workers.py:\d+"):
+
+        @worker.step("trip", "car")
+        def another(task: sagas.Task[Any]) -> None: ...
+
+
+def test_a_worker(tmp_path: pathlib.Path, caplog: pytest.LogCaptureFixture) -> None:
+    """What its functions do means what it means in a store; a long one keeps its lease by beats. A step that no definition has is told in its log, once."""
     calls: list[tuple[str, bool, str]] = []
     with served(tmp_path, {"steps.toml": STEPS, "steps.service.toml": SERVICE}) as service, service.client() as client:
         worker = sagas.Worker(service.url, lease=3.0, wait=1.0, concurrency=2)
@@ -101,6 +115,7 @@ def test_a_worker(tmp_path: pathlib.Path) -> None:
         def undo(task: sagas.Task[int]) -> None:
             calls.append((task.step, task.undo, task.action_token))
 
+        worker.step("steps", "tree")(last)
         start(client, "steps", "s", 41)
         with working(worker):
             end = client.get("/sagas/s/wait?seconds=60").json()
@@ -112,6 +127,7 @@ def test_a_worker(tmp_path: pathlib.Path) -> None:
     assert first["value"] == {"error": "sagas.Fail: never", "final": True}
     assert [step for step, undone, _ in calls][:6] == ["flaky"] * 3 + ["hazy"] * 2 + ["slow"]
     assert len({effect for _, _, effect in calls}) == 3 and "/beat 200" in service.told()
+    assert caplog.text.count("no definition of the service has the step steps/tree") == 1
 
 
 def test_a_worker_that_is_interrupted(tmp_path: pathlib.Path) -> None:

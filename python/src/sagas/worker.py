@@ -31,9 +31,9 @@ from collections import deque
 from collections.abc import Callable, Sequence
 from typing import Any
 
-from . import calling, values
+from . import calling, faults, values
 from .definition import UNKNOWN, Unknowns
-from .errors import Fail, NotJson, SagasError, Unknown
+from .errors import DefinitionError, Fail, NotJson, SagasError, Unknown
 from .task import Task
 
 logger = logging.getLogger("sagas.worker")
@@ -97,6 +97,8 @@ class Worker:
         self._busy = self._asking = self._moves = 0
         self._mean = AHEAD  # seconds that a function took lately; that nothing is known makes one task at a time
         self._lacks = False
+        self._heard = False  # a service has answered
+        self._strange: set[str] = set()  # steps of which was told that the service does not have them
         self._links = threading.local()  # each thread's connection
         self._stop = threading.Event()
         self._fault: ServiceRefused | None = None
@@ -115,7 +117,9 @@ class Worker:
     # -- what it can do
 
     def step(self, saga: str, step: str, *, unknown: Unknowns = UNKNOWN) -> Callable[[Function], Function]:
-        """Decorator: the function does this step. `unknown`: exceptions after which nobody knows whether it had its effect."""
+        """Decorator: the function does this step. `unknown`: exceptions after which nobody knows whether it had its effect.
+
+        Raises `DefinitionError` where another function does it already. A step that no definition of the service has is told in the log `sagas.worker`."""
         return self._declare(f"{saga}/{step}", unknown)
 
     def compensation(self, saga: str, step: str, *, unknown: Unknowns = UNKNOWN) -> Callable[[Function], Function]:
@@ -124,6 +128,10 @@ class Worker:
 
     def _declare(self, word: str, unknown: Unknowns) -> Callable[[Function], Function]:
         def declare(function: Function) -> Function:
+            there = self._steps.get(word)
+            if there is not None:
+                where = f"{faults.place(function) or '?'}, and before at {faults.place(there.function) or '?'}"
+                raise DefinitionError(f"{word} is declared twice, at {where}: a worker does a step by one function: take one of them away, or name its step")
             self._steps[word] = _Manner(function, unknown)
             return function
 
@@ -192,7 +200,8 @@ class Worker:
                 if self._stop.is_set():
                     self._give_back()
                     return None
-                told = self._until_told("/tasks/take", {**self._wanted(), "wait": self.wait}, giving_up=True)
+                wait = self.wait if self._heard else 0.0  # the first answer comes at once: it says which steps are unknown there
+                told = self._until_told("/tasks/take", {**self._wanted(), "wait": wait}, giving_up=True)
             finally:
                 with self._rests:
                     self._asking -= 1
@@ -322,8 +331,18 @@ class Worker:
         if status >= 300:
             raise ServiceRefused(status, text[:10_000].decode(errors="replace"))
         found: dict[str, Any] = json.loads(text)
-        self._lacks = False
+        self._lacks, self._heard = False, True
+        for step in found.get("strange", ()):
+            self._say_strange(url, step)
         return found
+
+    def _say_strange(self, url: str, step: str) -> None:
+        """No task of such a step will ever come: said once of each."""
+        with self._lock:
+            new = step not in self._strange
+            self._strange.add(step)
+        if new:
+            logger.warning("%s: no definition of the service has the step %s: its name, or its saga's, is misspelt here, or the service lacks that definition", url, step)
 
     def _link(self, url: str, seconds: float) -> tuple[http.client.HTTPConnection, str]:
         """This thread's connection to the service, and the path of its address."""

@@ -4,6 +4,7 @@ from __future__ import annotations
 
 import asyncio
 import dataclasses
+import functools
 import logging
 import time
 from collections import OrderedDict
@@ -239,6 +240,10 @@ class Service:
 
     def words(self) -> set[str]:
         """The steps, and compensations, that workers may ask for, as they ask for them."""
+        return self._words
+
+    @functools.cached_property
+    def _words(self) -> set[str]:
         found = set()
         for saga in self.settings.sagas:
             for step in saga.steps:

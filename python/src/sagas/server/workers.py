@@ -114,10 +114,12 @@ async def taken(request: Request, who: Who, body: Take) -> list[dict[str, Any]]:
 
 @router.post("/take", summary="Take tasks")
 async def take(request: Request, body: Take, who: Who = WORKER) -> Response:
-    """Those that have waited longest; an empty list where none came in time. The leases are kept before they are answered."""
+    """Those that have waited longest; an empty list where none came in time. The leases are kept before they are answered. `strange`: which of `steps` no
+    definition here has, where there are such."""
     if service_of(request).stopping.done():
         raise Refused(503, "Stopping", "the service is about to stop: ask again in a while")
-    return Json({"tasks": await taken(request, who, body)})
+    strange = sorted(set(body.steps) - service_of(request).words())
+    return Json({"tasks": await taken(request, who, body)} | ({"strange": strange} if strange else {}))
 
 
 @router.post("/{token}/beat", summary="Keep a lease")
