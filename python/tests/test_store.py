@@ -25,7 +25,7 @@ import pytest
 import records
 import sagas
 import sagas.testing
-from cases import HOUR, Task, ended, hears, run, simple, until
+from cases import HOUR, QUICK, Task, ended, hears, run, simple, until
 from kills import children
 from sagas import child, lines, program, pump, sqlite_writer
 
@@ -365,6 +365,7 @@ def test_a_wait_that_cannot_say_its_time(place: str) -> None:
             end = await store.wait("never")
             assert end.states == {"wait": "failed"} and "datetime.fromisoformat" in end.errors["wait"]
             assert (await store.wait("later")).ok
+            assert store._inside.store.rows("SELECT count(*) FROM held") == [(0,)]
 
     run(first())
     run(second())
@@ -397,10 +398,33 @@ def test_a_wait_whose_time_is_over_waits_no_more(place: str) -> None:
     async def second() -> None:
         async with sagas.open(place, [saga]) as store:
             assert (await store.wait("k")).ok
+            assert store._inside.store.rows("SELECT count(*) FROM held") == [(0,)]
 
     run(first())
     run(second())
     assert asked == [1] and calls == [1, 1, 2]
+
+
+@pytest.mark.parametrize("how", ["undone", "for good"])
+def test_a_saga_that_is_over_waits_for_nothing(place: str, how: str) -> None:
+    """What the store had of its wait is gone: its saga was undone meanwhile, or its function failed, and the tries that were left were given up."""
+    saga = sagas.Saga("late")
+
+    @saga.wait(until=datetime.timedelta(seconds=0 if how == "for good" else 3600))
+    def wait(task: Task) -> None:
+        raise sagas.Fail("no")
+
+    @saga.step(tries=2, backoff=QUICK)
+    def fails(task: Task) -> None:
+        if how == "undone":
+            raise ValueError("no")
+
+    async def main() -> None:
+        async with sagas.open(place, [saga]) as store:
+            assert (await ended(store, saga)).states["wait"] == ("failed" if how == "for good" else "waiting")
+            assert store._inside.store.rows("SELECT count(*) FROM held") == [(0,)]
+
+    run(main())
 
 
 @pytest.mark.parametrize("answer", ["yes", "no", "nothing"])

@@ -127,8 +127,9 @@ class Answers:
         acts.append((self._reported, attempts))
 
     def _settle_rows(self, batch: Batch, attempt: Attempt) -> None:
-        """What else the store has of an attempt that was reported. Of a wait that was missed it keeps that its time is over, for the next try."""
-        if attempt.has_row and not (attempt.is_wait and attempt.event == "missed"):
+        """What else the store has of an attempt that was reported. Of a wait that is tried again it keeps until when, or that its time is over."""
+        keeps = attempt.event == "missed" and attempt.is_wait and not attempt.live.draining
+        if attempt.has_row and not keeps:
             batch.freed.append(attempt.row)
         elif attempt.has_row and attempt.why == "unknown":
             batch.held.append((*attempt.row, "wait", 0, attempt.since, 0.0, None))

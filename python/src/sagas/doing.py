@@ -132,7 +132,7 @@ class Doing:
         step = self._step(attempt)
         if step.manner(attempt.kind).elsewhere:
             self._go(attempt)
-        elif attempt.kind == "run" and step.kind == "wait" and attempt.live.rare.due.get(attempt.word) != 0:
+        elif attempt.kind == "run" and step.kind == "wait":
             self._wait(attempt, step)
         else:
             self._enter(attempt)
@@ -182,6 +182,10 @@ class Doing:
     def _wait(self, attempt: Attempt, step: Step[Any]) -> None:
         """It waits for its time, counted from the first try that could say it. A try that cannot has failed, and its function is not called."""
         due = attempt.live.rare.due.get(attempt.word)
+        if due == 0:
+            attempt.has_row = True  # an earlier try's
+            self._enter(attempt)
+            return
         if due is None:
             try:
                 due = due_time(step, attempt, self.owner.clock())
@@ -492,6 +496,7 @@ class Doing:
         self.owner.teller.tell("saga_planned", key=live.key, saga=live.kind.name, detail=detail)
 
     def _give_up(self, attempt: Attempt, why: str, final: bool = False) -> None:
+        attempt.has_row = attempt.has_row or attempt.is_wait  # an earlier try's
         self.outcome(attempt, calling.failure(why, final, called=False))
 
     # -- a saga that drains
