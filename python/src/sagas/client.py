@@ -215,7 +215,7 @@ class Client:
         if row.id < 0:
             return None
         kind = await self._kind(row)
-        return histories.plan_of(row, kind.text, kind.count, await self._lines(row))
+        return histories.follow(row.saga, row.key, kind.text, kind.count, await self._lines(row))[2]
 
     async def log(self, key: str) -> builtins.list[LogEvent]:
         """As `Store.log`: the saga's events so far, with times; of one that no log has taken yet none. Raises `NoSuchSaga`."""
@@ -261,7 +261,7 @@ class Client:
         return await self._ask("SELECT step, kind, attempt, outcome, value, at FROM results WHERE id = %(id)s ORDER BY at", id=row.id)
 
     async def _lines(self, row: SagaRow) -> builtins.list[histories.Line]:
-        return histories.lines_of(row, await self._ask(histories.CHUNKS.replace("?", "%(log)s"), log=row.id // ROOM))
+        return histories.lines_of(await self._ask(histories.CHUNKS.replace("?", "%(log)s"), log=row.id // ROOM), row.id % ROOM)
 
     async def _end(self, row: SagaRow) -> End:
         return histories.end_of(await self._kind(row), row, await self._results(row))

@@ -13,7 +13,7 @@ from collections.abc import Callable, Sequence
 from typing import Any
 
 from .database import Reader
-from .histories import AFTER, FAILED, MISSES, STANDS
+from .histories import AFTER, CHUNKS, FAILED, MISSES, STANDS, follow, lines_of
 from .plans import Plan
 from .questions import ENDED_BY_PLAN, PHASE, SAGA
 from .questions import PHASES as WHERE
@@ -241,7 +241,7 @@ class Looks:
     def lines(self, row: SagaRow) -> list[tuple[float, Json]]:
         """A saga's own lines, with the times of their commits."""
         log, number = divmod(row.id, ROOM)
-        return lines_of(self._rows("SELECT at, text FROM lines WHERE log = ? ORDER BY first", log), number)
+        return lines_of(self._rows(CHUNKS, log), number)
 
     def attempts(self, row: SagaRow, names: Sequence[str]) -> list[Attempted]:
         """How each attempt of a saga ended, in the order of time."""
@@ -261,18 +261,12 @@ class Looks:
         definition = self.definition(row.id)
         names = self._names_in(definition)
         lines, attempts = self.lines(row), self.attempts(row, names)
-        states, aborted, plan = follow(row, definition, names, lines)
+        states, aborted, plan = follow(row.saga, key, definition, len(names), lines)
         return SagaView(
             row.id, key, row.saga, phase_of(row.phase, row.note), row.at, row.ended, row.note, aborted, json.loads(row.input), standing(states, names, attempts),
             steps_of(definition, names, states, lines, attempts), plan, self._waits("h.id = ?", row.id, most=10_000), events_of(lines, names, attempts),
             stretches_of(lines, names), self.notes(key), definition, self._token(row.id),
         )  # fmt: skip
-
-
-def lines_of(chunks: Sequence[tuple[Any, ...]], number: int) -> list[tuple[float, Json]]:
-    """The lines of the saga with this number in its log, with the times of their commits."""
-    own = re.compile(rf'^.*"saga":{number}[,}}].*$', re.M)
-    return [(at, told) for at, text in chunks for line in own.findall(text) if (told := json.loads(line))["saga"] == number]
 
 
 def worker_of(told: str | None) -> tuple[str | None, int]:
@@ -284,20 +278,6 @@ def worker_of(told: str | None) -> tuple[str | None, int]:
 def phase_of(phase: str | None, note: str | None) -> str:
     """The word for a phase and a note."""
     return "resolved" if phase == "stuck" and note is not None else phase or "open"
-
-
-def follow(row: SagaRow, definition: str, names: Sequence[str], lines: Sequence[tuple[float, Json]]) -> tuple[list[str], bool, Plan | None]:
-    """The states of the steps, whether it was aborted, and the last plan, behind these lines."""
-    states, aborted, plan = ["waiting"] * len(names), False, None
-    for _, line in lines:
-        event = line["event"]
-        if event in AFTER:
-            states[line["step"]] = AFTER[event]
-        elif event == "abort":
-            aborted = True
-        elif event == "adopt":
-            plan = Plan(row.saga, row.key, definition, {"states": [*states]} | ({"aborted": True} if aborted else {}), line["answer"])
-    return states, aborted, plan
 
 
 def standing(states: Sequence[str], names: Sequence[str], attempts: Sequence[Attempted]) -> Json:

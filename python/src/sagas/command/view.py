@@ -2,13 +2,14 @@
 
 from __future__ import annotations
 
+import dataclasses
 import json
 import tomllib
 from typing import Any, NamedTuple
 
-from .. import sources
-from ..histories import AFTER, MISSES, STANDS
-from ..looks import WAITS, lines_of, worker_of
+from .. import histories, sources
+from ..histories import AFTER, CHUNKS, MISSES, STANDS, follow, lines_of
+from ..looks import WAITS, worker_of
 from ..plans import Plan
 from ..questions import DEFINITION, ENDED_BY_PLAN, PHASE
 from ..schema import ROOM
@@ -18,6 +19,7 @@ Row = tuple[Any, ...]
 Json = dict[str, Any]
 
 ALL = 1 << 60
+RESULTS = "SELECT step, kind, attempt, outcome, value, at FROM results WHERE id = ? ORDER BY at, step, kind, attempt"
 
 
 class SagaRow(NamedTuple):
@@ -87,8 +89,7 @@ class View:
     def events(self, id: int) -> list[tuple[float, Json]]:
         """What happened in a saga, with the time of its commit."""
         if id not in self._events:
-            chunks = self.ask("SELECT at, text FROM lines WHERE log = ? ORDER BY first", id // ROOM)
-            self._events[id] = lines_of(chunks, id % ROOM)
+            self._events[id] = lines_of(self.ask(CHUNKS, id // ROOM), id % ROOM)
         return self._events[id]
 
     def definition(self, id: int) -> str:
@@ -103,11 +104,10 @@ class View:
 
     def results(self, id: int) -> list[Json]:
         """How each attempt of a saga ended, in the order of time."""
-        asked = "SELECT step, kind, attempt, outcome, value, at FROM results WHERE id = ? ORDER BY at, step, kind, attempt"
         names = step_names(self.definition(id))
         return [
             {"step": names[step], "kind": kind, "attempt": attempt, "outcome": outcome, "value": parsed(value), "at": at}
-            for step, kind, attempt, outcome, value, at in self.ask(asked, id)
+            for step, kind, attempt, outcome, value, at in self.ask(RESULTS, id)
         ]
 
     def held(self, where: str = "TRUE", *words: Any) -> list[Json]:
@@ -144,17 +144,7 @@ def step_names(definition: str) -> list[str]:
 def plan_of(view: View, row: SagaRow) -> Plan | None:
     """The last plan that a saga adopted, with what it found."""
     definition = view.definition(row.id)
-    states, aborted, plan = ["waiting"] * len(step_names(definition)), False, None
-    for _, event in view.events(row.id):
-        word = event["event"]
-        if word in AFTER:
-            states[event["step"]] = AFTER[word]
-        elif word == "abort":
-            aborted = True
-        elif word == "adopt":
-            case = {"states": list(states)} | ({"aborted": True} if aborted else {})
-            plan = Plan(row.saga, row.key, definition, case, event["answer"])
-    return plan
+    return follow(row.saga, row.key, definition, len(step_names(definition)), view.events(row.id))[2]
 
 
 def was_aborted(view: View, id: int) -> bool:
@@ -164,15 +154,8 @@ def was_aborted(view: View, id: int) -> bool:
 
 def log_of(view: View, id: int) -> list[Json]:
     """The events of a saga, each with what came of it, as `Store.log` has them."""
-    names, told = step_names(view.definition(id)), dict[tuple[str, str], list[Any]]()
-    for result in view.results(id):
-        told.setdefault((result["step"], result["outcome"]), []).append(result["value"])
-    found = []
-    for at, event in view.events(id):
-        step = names[event["step"]] if "step" in event else None
-        values = told.get((step, event["event"])) if step is not None else None
-        found.append({"event": event["event"], "at": at, "step": step, "value": values.pop(0) if values else event.get("answer")})
-    return found
+    found = histories.log_of(step_names(view.definition(id)), view.events(id), view.ask(RESULTS, id))
+    return [dataclasses.asdict(one) for one in found]
 
 
 def was_called(result: Json) -> bool:
