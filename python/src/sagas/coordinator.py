@@ -32,6 +32,11 @@ AGAIN = 1.0
 """Seconds after which starts of clients that failed are taken again."""
 
 
+def rows_of(batches: Sequence[Batch]) -> int:
+    """How many sagas they open and results they have."""
+    return sum(len(batch.results) + len(batch.opened) for batch in batches)
+
+
 class Coordinator:
     """The inside of an open store; everything here happens in its loop."""
 
@@ -190,7 +195,7 @@ class Coordinator:
             batches = [*batches, *(batch for batch in self._queue if batch.log in logs)]
             self._queue = [batch for batch in self._queue if batch.log not in logs]
         takes = self.store.takes
-        if fault is None and self._queue and not (takes and self.holding.is_soon(sum(len(batch.results) + len(batch.opened) for batch in batches), takes)):
+        if fault is None and self._queue and not (takes and self.holding.is_soon(rows_of(batches), rows_of(self._queue), takes)):
             self._write()
         for batch in batches:
             assert batch.then
@@ -209,7 +214,7 @@ class Coordinator:
         if not takes:
             return False
         coming = self.doing.about_to_call() + sum(pump.asked() for pump in self.children.up()) + self.store.sought + len(self.placing)
-        return self.holding.is_worth(coming, takes, self._write)
+        return self.holding.is_worth(coming, rows_of(self._queue), takes, self._write)
 
     # -- sagas
 

@@ -1,4 +1,4 @@
-"""When a commit waits for what is about to come to it: two that follow each other closely take the database twice the time of one."""
+"""When a commit waits for what is about to come to it: two that follow each other closely take the database twice the time of one, and this program as well."""
 
 from __future__ import annotations
 
@@ -8,8 +8,11 @@ from collections.abc import Callable
 
 MOST = 0.005
 """Seconds that a commit waits, at most."""
-SHARE = 0.5
-"""Of the time that a commit takes: it waits for what comes in less."""
+SHARE, FEW_SHARE = 0.5, 4.0
+"""Of the time that a commit takes: it waits for what comes in less, and one of few rows for what comes in the longer time, since each commit also costs
+this program a question to the child and some turns of the loop, which are more than few rows."""
+FEW = 64
+"""Rows."""
 FADE = 8
 """How many of the last ones count, about."""
 
@@ -33,19 +36,19 @@ class Holding:
             took, self._since = time.monotonic() - self._since, None
             self._each += (min(took / self._count, MOST) - self._each) / FADE
 
-    def is_soon(self, coming: int, takes: float) -> bool:
-        """Whether so many calls come to a commit in less than what is worth to wait, where one takes so long."""
-        return 0 < coming * self._each < takes * SHARE
+    def is_soon(self, coming: int, rows: int, takes: float) -> bool:
+        """Whether so many calls come to a commit of so many rows in less than what is worth to wait, where one takes so long."""
+        return 0 < coming * self._each < takes * (FEW_SHARE if rows < FEW else SHARE)
 
-    def is_worth(self, coming: int, takes: float, write: Callable[[], None]) -> bool:
-        """Whether what is to be written waits for so many that are on their way; `write` is called in case they do not come."""
+    def is_worth(self, coming: int, rows: int, takes: float, write: Callable[[], None]) -> bool:
+        """Whether so many rows that are to be written wait for so many that are on their way; `write` is called in case they do not come."""
         if self._timer:
             if coming and not self._timer.cancelled() and self._timer.when() > asyncio.get_running_loop().time():
                 return True
             self._timer.cancel()
             self._timer = None
             return False
-        if not self.is_soon(coming, takes):
+        if not self.is_soon(coming, rows, takes):
             return False
         self._timer = asyncio.get_running_loop().call_later(min(2 * coming * self._each, MOST), write)
         return True
