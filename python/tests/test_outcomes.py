@@ -109,7 +109,7 @@ class Seat:
 
 
 def test_a_result_that_could_not_be_stored(place: str) -> None:
-    """It is never taken for one that could: who asks for it hears of it by a name, a later step, a compensation and the caller."""
+    """It is never taken for one that could: a later step and the caller hear of it by a name; a compensation, which has to go on, sees what is kept."""
     saga, told = sagas.Saga("odd"), list[str]()
 
     @saga.step
@@ -118,8 +118,7 @@ def test_a_result_that_could_not_be_stored(place: str) -> None:
 
     @send.compensation
     def unsend(task: Task) -> None:
-        with pytest.raises(sagas.Unstorable, match="'send' returned what is no JSON"):
-            task.result
+        assert set(task.result) == {"unstorable"}
 
     @saga.step(needs=[send])
     def look(task: Task) -> None:

@@ -911,6 +911,64 @@ def test_the_child_says_otherwise_than_was_expected(tmp_path: pathlib.Path, monk
     run(main())
 
 
+@dataclasses.dataclass
+class Popped:
+    """A type that changes what it is made of."""
+
+    data: dict[str, Any]
+
+    def __post_init__(self) -> None:
+        self.kind = self.data.pop("kind")
+
+
+def test_each_type_is_tried_with_an_input_of_its_own(place: str) -> None:
+    """Two first steps read the same type, which changes what it gets: neither hears of the other."""
+    saga = sagas.Saga("two")
+
+    @saga.step
+    async def a(task: sagas.Task[Popped]) -> str:
+        return str(task.input.kind)
+
+    @saga.step
+    async def b(task: sagas.Task[Popped]) -> str:
+        return str(task.input.kind)
+
+    @saga.step
+    async def c(task: sagas.Task[dict[str, Any]]) -> int:
+        return len(task.input)
+
+    async def main() -> None:
+        async with sagas.open(place, [saga]) as store:
+            assert (await ended(store, saga, given={"data": {"kind": "x"}})).results == {"a": "x", "b": "x", "c": 1}
+
+    run(main())
+
+
+def test_an_interrupt_takes_early_rows_back(tmp_path: pathlib.Path, monkeypatch: pytest.MonkeyPatch) -> None:
+    """Nothing stays locked, and nothing is read that is not kept."""
+    path, saga, put = str(tmp_path / "store.db"), row(), sqlite_writer.Writer._put_usual
+
+    def interrupted(self: sqlite_writer.Writer, *rows: Any) -> None:
+        put(self, *rows)
+        raise KeyboardInterrupt
+
+    async def main() -> None:
+        async with sagas.open(path, [saga]) as store:
+            assert (await ended(store, saga)).ok and store._coordinator
+            (log,) = store._coordinator.pumps.values()
+            writer: Any = store._coordinator.store._writer  # type: ignore[attr-defined]
+            monkeypatch.setattr(sqlite_writer.Writer, "_put_usual", interrupted)
+            with pytest.raises(KeyboardInterrupt):
+                assert log.child
+                log._wait(log.child, log.batch(), [], [store._coordinator.new_live("never", "null", log.kinds[0], 0)])
+            monkeypatch.setattr(sqlite_writer.Writer, "_put_usual", put)
+            assert not writer._db.in_transaction and store.get("never") is None
+            del store._coordinator.lives["never"]
+            assert (await ended(store, saga, "more")).ok
+
+    run(main())
+
+
 def test_nobody_waits_for_rows_of_an_answer_that_is_late(tmp_path: pathlib.Path) -> None:
     """A child that stands still: meanwhile other programs write the file."""
     path, saga = str(tmp_path / "store.db"), row()

@@ -157,6 +157,12 @@ def test_types(value: Any, hint: Any) -> None:
     assert there_and_back(value, hint) == value
 
 
+def test_a_key_that_is_not_of_its_hint() -> None:
+    """It stays the text that it is: what is kept may be older than the hint."""
+    decoder = values.decoder(dict[int, datetime.date])
+    assert decoder and decoder({"7": "2026-01-02", "seven": "2026-01-03"}) == {7: datetime.date(2026, 1, 2), "seven": datetime.date(2026, 1, 3)}
+
+
 def test_models() -> None:
     assert values.write(Model("a")) == '{"mode":"json","word":"a"}'
     assert there_and_back(Model("a"), Model).word == "a"

@@ -80,6 +80,11 @@ class Child:
         self._out += ("\n".join(requests) + "\n").encode()
         self._write()
 
+    @property
+    def is_prompt(self) -> bool:
+        """Whether its answers are waited for."""
+        return not self._late
+
     def wait(self) -> None:
         """Waits here for the answer, as long as answers come within `WAIT`: that takes less than a turn of the loop."""
         if self._late:

@@ -79,7 +79,7 @@ class Kind:
         self.undo_inputs = [values.hints(step.undo.function)[0] if step and step.undo.function else None for step in self.steps]
         self.all_done = json.dumps({"aborted": False, "answer": None, "kept": list(range(self.count)), "states": ["committed"] * self.count}, separators=(",", ":"))
         self.actions = {"run": self._actions("run", self.inputs), "undo": self._actions("undo", self.undo_inputs)}
-        self.firsts = [number for number, step in enumerate(listed) if not step.get("needs") and self.inputs[number]]
+        self.firsts = self._firsts([number for number, step in enumerate(listed) if not step.get("needs") and self.inputs[number]])
         self.has_bounds = any(step and step.bounds for step in self.steps)
         self.has_remote = any(step and (step.run.run_on or step.undo.run_on) for step in self.steps)
         self.decoders = {name: decoder for name, (_, decoder) in zip(self.names, told_hints) if decoder}
@@ -99,21 +99,33 @@ class Kind:
                 found[step] = set(needs[step]).union(*(found[need] for need in needs[step]))
         return [sorted(found[step]) for step in range(len(needs))]
 
+    def _firsts(self, numbers: list[int]) -> list[int]:
+        """Of the steps that begin, one for each type as which they read the input."""
+        found: list[int] = []
+        hints: list[Any] = []
+        for number in numbers:
+            step = self.steps[number]
+            assert step and step.run.function
+            hint = values.input_hint(step.run.function)
+            if hint not in hints:
+                hints.append(hint)
+                found.append(number)
+        return found
+
     def misfit(self, given: Any, text: str) -> BadInput | None:
         """Why the first steps cannot read an input, where they cannot. One that is no plain JSON is not looked at: it is of a type already."""
         if not self.firsts or type(given) not in PLAIN:
             return None
-        value = values.read(text)
         for number in self.firsts:
             step, decoder = self.steps[number], self.inputs[number]
             assert decoder and step and step.run.function
             try:
-                decoder(value)
+                decoder(values.read(text))
             except NameError:  # its hints name what is there for the checker alone: that is no fault of the input
                 continue
             except Exception as error:  # of the type's own code
                 hint = values.input_hint(step.run.function)
-                return BadInput(f"saga {self.name!r}, step {step.name!r}: {misfits.why(value, hint, 'input') or error}")
+                return BadInput(f"saga {self.name!r}, step {step.name!r}: {misfits.why(values.read(text), hint, 'input') or error}")
         return None
 
     def too_large(self) -> TooLarge:

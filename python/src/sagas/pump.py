@@ -58,6 +58,7 @@ class Pump(Answers):
         self._ended: list[Live] = []  # sagas that it ends
         self._over_odd: dict[int, None] = {}  # sagas that this answer ends otherwise than all well
         self._passed = False  # this answer passed a saga over that was to be opened
+        self._waits = False  # its child's answer is waited for
         self.hungry: bool = False  # there may be tasks
         self._scheduled = False
         self.used: float = 0.0
@@ -185,13 +186,15 @@ class Pump(Answers):
             self.offer()
 
     def _wait(self, child: Child, batch: Batch, reports: Sequence[Attempt], opens: Sequence[Live]) -> None:
-        """Nothing else goes on: the rows that are written where the child agrees are put while it thinks."""
-        store = self.owner.store
-        if not self.owner.is_writing:
-            store.expect(*self._expected(batch, reports, opens))
+        """Nothing else goes on: the rows that are written where the child agrees are put while it thinks. Behind a failure a plan may be made, which calls
+        what the user wrote, so nothing is put."""
+        store, self._waits = self.owner.store, True
         try:
+            if child.is_prompt and not self.owner.is_writing and all(one.outcome and one.outcome.kind == "done" for one in reports):
+                store.expect(*self._expected(batch, reports, opens))
             child.wait()
         finally:
+            self._waits = False
             store.forget()
 
     def _ask_reports(self, requests: list[str]) -> list[Attempt]:
@@ -246,6 +249,8 @@ class Pump(Answers):
     def _answered(self, batch: Batch, asked: list[Asked], replies: list[Reply], text: str) -> None:
         acts: list[Act] = []
         batch.first = self.events
+        if not self._waits:
+            batch.at = self.owner.clock()
         self._text, self._begun, self._ended, self._over_odd, self._passed = text, [], [], {}, False
         place = 0
         try:
@@ -363,6 +368,7 @@ class Pump(Answers):
 
     def _died(self, child: Child, last: str) -> None:
         if child is self.child and self.state == "up":
+            self.owner.store.forget()
             self.owner.teller.tell("child_died", detail=f"log {self.name}: {last}")
             self.fail(None)
 

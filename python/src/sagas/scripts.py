@@ -56,8 +56,6 @@ def _rule(saga: Saga, word: str, name: str, attempts: Any) -> Rule:
     if isinstance(attempts, (str, bytes, type)) or not (faults.is_count(attempts) or isinstance(attempts, Iterable)):
         raise TypeError(f"{said}: it is {FORMS}")
     chosen = range(1, attempts + 1) if isinstance(attempts, int) else [*attempts]
-    if not chosen:
-        raise ValueError(f"{said}: no attempt is meant by that: leave it out, or say which: {FORMS}")
     if not all(faults.is_count(attempt) and attempt > 0 for attempt in chosen):
         raise ValueError(f"{said}: attempts are counted from 1: it is {FORMS}")
     told = RuntimeError(TOLD)

@@ -219,7 +219,9 @@ class Base:
         return bool(self.ask("SELECT 1 FROM nodes WHERE lease > now() LIMIT 1"))
 
     def absent(self, key: str) -> Trouble:
-        for saga, version in self.ask("SELECT saga, version FROM inbox WHERE key = ?", key) if self.version > 1 else []:
+        for saga, version, node in self.ask("SELECT saga, version, node FROM inbox WHERE key = ?", key) if self.version > 1 else []:
+            if node is not None:
+                return Trouble(f"{key} has not begun: node {node} has taken its start, and opens it, or another one does once that one is gone")
             waits = f"{key} has not begun: its start waits for a node that has {saga} (version {version})"
             return Trouble(f"{waits}: sagas store URL nodes shows which there are, sagas store URL abort {key} withdraws it")
         return Trouble(f"no saga has the key {key}")

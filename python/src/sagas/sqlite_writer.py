@@ -122,8 +122,8 @@ class Writer:
             self._roll_back()
 
     def forget(self) -> None:
-        """As `Database.forget`."""
-        if self._early:
+        """As `Database.forget`; also where putting them was interrupted."""
+        if not self._lent:
             self._early = None
             self._roll_back()
 

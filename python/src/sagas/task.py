@@ -91,8 +91,8 @@ class Task(Generic[I]):
 
     @property
     def result(self) -> Any:
-        """In a compensation: what the step returned. In an action: None. Raises `Unstorable` where that could not be stored."""
-        return None if self._result is None else values.returned(self._result, self._decoders.get(self.step), self.step)
+        """In a compensation: what the step returned; `{"unstorable": why}` where that could not be stored. In an action: None."""
+        return None if self._result is None else values.kept(self._result, self._decoders.get(self.step))
 
     @property
     def plain(self) -> dict[str, Any]:

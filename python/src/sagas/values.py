@@ -304,8 +304,20 @@ def _enum_key(hint: type[enum.Enum]) -> Decoder:
 def _of_dict(key: Decoder | None, inner: Decoder | None) -> Decoder | None:
     if key is None and inner is None:
         return None
-    name, part = key or _same, inner or _same
+    name, part = _named(key) if key else _same, inner or _same
     return lambda value: {name(word): part(item) for word, item in value.items()}
+
+
+def _named(key: Decoder) -> Decoder:
+    """A key as its hint says; one that cannot be made so stays the text that it is."""
+
+    def make(word: Any) -> Any:
+        try:
+            return key(word)
+        except (TypeError, ValueError, KeyError):
+            return word
+
+    return make
 
 
 def _of_union(words: tuple[Any, ...]) -> Decoder | None:

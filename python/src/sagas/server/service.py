@@ -33,7 +33,7 @@ if TYPE_CHECKING:
 T = TypeVar("T")
 logger, http = logging.getLogger("sagas.server"), logging.getLogger("sagas.http")
 LOOKERS = 2
-MOST_WORKERS = 1000
+MOST_WORKERS = MOST_THERE = 1000
 SHARED = 200
 """Workers that one service tells another of."""
 MOST_DETAIL = 500
@@ -76,6 +76,7 @@ class Service:
         )
         self.store.leased = True
         self._between: Between | None = None
+        self._there: dict[str, tuple[float, list[Begun]]] = {}  # what other nodes said of sagas, and until when that is told again
         self.workers: OrderedDict[str, Seen] = OrderedDict()
         self.unwritten: float | None = None
         self._counts: Counted | None = None
@@ -179,12 +180,19 @@ class Service:
         """What has begun of a saga at the node that drives it; none where it does not say."""
         if self._between is None:
             return []
+        until, found = self._there.get(view.key, (0.0, list[Begun]()))
+        if until > time.monotonic():  # callers ask again and again
+            return found
         try:
             node = await self._between.owner(view.token.rpartition("-")[0])
             told = await self._between.call(node, "begun", view.key, ASKING) if node and node != self._between.node else []
-            return [Begun(*one) for one in told]
+            found = [Begun(*one) for one in told]
         except (SagasError, TypeError):  # it does not answer, or is of another release
-            return []
+            found = []
+        if len(self._there) >= MOST_THERE:
+            self._there.clear()
+        self._there[view.key] = time.monotonic() + ASKING, found
+        return found
 
     async def counts(self) -> Figures:
         """Sagas by name and phase, what waits for a person, and how sagas ended. They are counted again at most each second, and less often where that takes long."""
