@@ -9,6 +9,8 @@ import pytest
 
 from kills import KINDS, play
 
+AGAIN = 5
+"""Stores, until one of them is struck: a quick program may be done before its first moment."""
 ROUNDS = 8
 """Stores a kind. A store meets up to twelve strikes, and each is at a moment of its own."""
 
@@ -17,6 +19,9 @@ ROUNDS = 8
 @pytest.mark.parametrize("kind", KINDS)
 def test_nothing_is_lost_and_nothing_is_done_twice(kind: str, number: int) -> None:
     """The program or its child is killed, it is asked to close, its disk is full: witness, database and logs agree in the end."""
-    one = play(kind, 1000 * number + KINDS.index(kind), 40)
-    assert not one.found, f"{one.folder}: {one.found[:5]}"
+    for again in range(AGAIN):
+        one = play(kind, 1000 * number + 100 * again + KINDS.index(kind), 40)
+        assert not one.found, f"{one.folder}: {one.found[:5]}"
+        if one.kills:
+            break
     assert sum(one.kills.values()) > 0
