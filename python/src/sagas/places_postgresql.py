@@ -14,14 +14,17 @@ INSERT INTO places(name, kind, place)
 SELECT %(name)s, 'limit', n FROM generate_series(1, %(limit)s) n UNION ALL SELECT %(name)s, 'rate', n FROM generate_series(1, %(calls)s) n
 ON CONFLICT DO NOTHING
 """
+SLACK = 1
+"""Seconds: a place that is taken for longer than the rate says was taken before the clock was set back, unless by a statement that saw the clock a moment
+later than this one, and was done before."""
 TAKE = f"""
-WITH clock AS MATERIALIZED (SELECT extract(epoch FROM now())::double precision AS now),
+WITH clock AS MATERIALIZED (SELECT extract(epoch FROM clock_timestamp())::double precision AS now),
 back AS (UPDATE places SET node = NULL WHERE name = %(name)s AND kind = 'limit' AND node = %(node)s AND place <> ALL(%(have)s::integer[]) RETURNING place),
 told AS MATERIALIZED (SELECT pg_notify('sagas', 'places') FROM (SELECT 1 FROM back LIMIT 1) one),
 room AS MATERIALIZED (SELECT place FROM places p WHERE name = %(name)s AND kind = 'limit' AND place <= %(limit)s
   AND (node IS NULL OR NOT {LIVE.format('p.node')}) ORDER BY place LIMIT %(want)s FOR UPDATE SKIP LOCKED),
 times AS MATERIALIZED (SELECT place FROM places, clock WHERE name = %(name)s AND kind = 'rate' AND place <= %(calls)s
-  AND (until IS NULL OR until <= now OR until > now + %(seconds)s::double precision) ORDER BY place LIMIT %(want)s FOR UPDATE OF places SKIP LOCKED),
+  AND (until IS NULL OR until <= now OR until > now + %(seconds)s::double precision + {SLACK}) ORDER BY place LIMIT %(want)s FOR UPDATE OF places SKIP LOCKED),
 most AS MATERIALIZED (SELECT least(%(want)s::bigint, CASE WHEN %(limit)s > 0 THEN (SELECT count(*) FROM room) END, CASE WHEN %(calls)s > 0 THEN (SELECT count(*) FROM times) END) AS most),
 mine AS (UPDATE places p SET node = %(node)s FROM (SELECT place FROM room ORDER BY place LIMIT (SELECT most FROM most)) r
   WHERE p.name = %(name)s AND p.kind = 'limit' AND p.place = r.place RETURNING p.place),
