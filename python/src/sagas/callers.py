@@ -131,12 +131,7 @@ class Callers:
         try:
             task = attempt.task()
             work = self._within(attempt, function, task) if self._within else function(task)
-            while True:
-                try:
-                    outcome: Outcome | None = calling.done(await work, task)
-                    break
-                except calling.Unawaited as forgot:
-                    work = forgot.value
+            outcome: Outcome | None = await calling.ended(work, task)
         except BaseException as error:
             outcome = calling.interrupted(error, attempt.manner)
         self._ended(attempt, began, outcome)

@@ -86,6 +86,15 @@ def done(value: Any, task: Task[Any] | None = None) -> Outcome:
         return Outcome("done", json.dumps({"unstorable": str(error)[:MOST_TEXT]}))
 
 
+async def ended(work: Awaitable[Any], task: Task[Any]) -> Outcome:
+    """As `done`, of what a function gave that is to be awaited, and of what comes of that."""
+    while True:
+        try:
+            return done(await work, task)
+        except Unawaited as forgot:
+            work = forgot.value
+
+
 def raised(error: BaseException, manner: Manner) -> Outcome:
     """The function raised: it had no effect, or nobody knows."""
     text = "".join(traceback.format_exception_only(type(error), error)).strip()
@@ -113,12 +122,7 @@ async def call(
             return await _in_thread(function, manner, task, executor, late)
         if manner.timeout is not None:
             return await _in_time(function(task), manner.timeout, task, manner)
-        work = function(task)
-        while True:
-            try:
-                return done(await work, task)
-            except Unawaited as forgot:
-                work = forgot.value
+        return await ended(function(task), task)
     except BaseException as error:
         return interrupted(error, manner)
 
@@ -142,11 +146,7 @@ async def _in_time(work: Awaitable[Any], left: float, task: Task[Any], manner: M
     scope = asyncio.timeout(left)
     try:
         async with scope:
-            while True:
-                try:
-                    return done(await work, task)
-                except Unawaited as forgot:
-                    work = forgot.value
+            return await ended(work, task)
     except TimeoutError as error:
         return Outcome("unknown", f"took longer than {manner.timeout} s") if scope.expired() else raised(error, manner)
 

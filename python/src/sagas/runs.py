@@ -5,10 +5,8 @@ from __future__ import annotations
 import dataclasses
 from typing import TYPE_CHECKING, Any, Protocol, TypeVar, overload
 
-from . import values
+from . import values, waiting
 from .spoken import state_of
-
-from . import waiting
 
 if TYPE_CHECKING:
     from .plans import Plan
@@ -17,14 +15,6 @@ if TYPE_CHECKING:
 
 R = TypeVar("R")
 MOST_SAID = 120
-
-
-def result_of(step: Step[Any] | str, states: dict[str, str], results: dict[str, Any]) -> Any:
-    """What a step returned that stands, of these. Raises `KeyError`, `Unstorable`."""
-    name = step if isinstance(step, str) else step.name
-    if name not in results:
-        raise KeyError(f"step {name!r} does not stand: it is {states[name]}" if name in states else f"there is no step {name!r}, but {', '.join(states)}")
-    return values.stored(results[name], name)
 
 
 class Ended(Protocol):
@@ -39,6 +29,8 @@ class Ended(Protocol):
     @property
     def states(self) -> dict[str, str]: ...
     @property
+    def results(self) -> dict[str, Any]: ...
+    @property
     def cost(self) -> int | None: ...
     @property
     def chain(self) -> list[str]: ...
@@ -48,19 +40,43 @@ class Ended(Protocol):
     def errors(self) -> dict[str, str]: ...
 
 
-def end_text(end: Ended) -> str:
-    """It as a text: a line, and one for each step, with the first line of what that raised."""
-    cost = "" if end.cost is None else f", plan of cost {end.cost}"
-    chain = f", because of {' and '.join(end.chain)}" if end.chain else ""
-    said = {step: f": {error.strip().splitlines()[0][:MOST_SAID]}" for step, error in end.errors.items() if error.strip()}
-    head = f"{end.saga} {end.key}: {end.phase}{' (aborted)' if end.aborted else ''}{cost}{chain}"
-    states = {step: state_of(state) for step, state in end.states.items()}
-    wide = max(9, *map(len, states.values()))
-    return "\n".join([head, *(f"  {state:{wide}} {step}{said.get(step, '')}" for step, state in states.items())])
+class Answering:
+    """What is asked of either."""
+
+    __slots__ = ()
+
+    @property
+    def ok(self: Ended) -> bool:
+        """Whether each step is done and stands."""
+        return self.phase == "ended" and all(state == "committed" for state in self.states.values())
+
+    @overload
+    def of(self: Ended, step: Step[R]) -> R: ...
+
+    @overload
+    def of(self: Ended, step: str) -> Any: ...
+
+    def of(self: Ended, step: Step[Any] | str) -> Any:
+        """What a step, or the one of this name, returned that stands. Raises `KeyError` where it does not, and `Unstorable` where that could not be stored."""
+        name = step if isinstance(step, str) else step.name
+        if name not in self.results:
+            there = name in self.states
+            raise KeyError(f"step {name!r} does not stand: it is {self.states[name]}" if there else f"there is no step {name!r}, but {', '.join(self.states)}")
+        return values.stored(self.results[name], name)
+
+    def __str__(self: Ended) -> str:
+        """A line, and one for each step, with the first line of what that raised."""
+        cost = "" if self.cost is None else f", plan of cost {self.cost}"
+        chain = f", because of {' and '.join(self.chain)}" if self.chain else ""
+        said = {step: f": {error.strip().splitlines()[0][:MOST_SAID]}" for step, error in self.errors.items() if error.strip()}
+        head = f"{self.saga} {self.key}: {self.phase}{' (aborted)' if self.aborted else ''}{cost}{chain}"
+        states = {step: state_of(state) for step, state in self.states.items()}
+        wide = max(9, *map(len, states.values()))
+        return "\n".join([head, *(f"  {state:{wide}} {step}{said.get(step, '')}" for step, state in states.items())])
 
 
 @dataclasses.dataclass(frozen=True, slots=True)
-class End:
+class End(Answering):
     """How a saga ended.
 
     - `phase`: `ended`, or `stuck` where no allowed plan was left; then `chain` names the steps that show it, and a person has to look.
@@ -81,24 +97,6 @@ class End:
     aborted: bool
     note: str | None = None
     errors: dict[str, str] = dataclasses.field(default_factory=dict)
-
-    @property
-    def ok(self) -> bool:
-        """Whether each step is done and stands."""
-        return self.phase == "ended" and all(state == "committed" for state in self.states.values())
-
-    @overload
-    def of(self, step: Step[R]) -> R: ...
-
-    @overload
-    def of(self, step: str) -> Any: ...
-
-    def of(self, step: Step[Any] | str) -> Any:
-        """What a step, or the one of this name, returned that stands. Raises `KeyError` where it does not, and `Unstorable` where that could not be stored."""
-        return result_of(step, self.states, self.results)
-
-    def __str__(self) -> str:
-        return end_text(self)
 
 
 @dataclasses.dataclass(frozen=True, slots=True)

@@ -18,19 +18,18 @@ import json
 import os
 import subprocess
 from collections import Counter
-from typing import Any, TypeVar, overload
+from typing import Any
 
 from . import calling, lines, program, values
 from .calling import Outcome
 from .definition import Manner, Saga, Step, Until
 from .errors import ChildError, DefinitionError, Fail
 from .kinds import Kind
-from .runs import end_text, result_of
+from .runs import Answering
 from .scripts import Answers, Attempts as Attempts, Rule, Script, answers_of, name_of, script
 from .task import Task
 
 Json = dict[str, Any]
-R = TypeVar("R")
 MOST_CALLS = 10_000
 
 
@@ -70,7 +69,7 @@ class Call:
 
 
 @dataclasses.dataclass(frozen=True, slots=True)
-class Trial:
+class Trial(Answering):
     """How a saga went."""
 
     phase: str
@@ -90,28 +89,10 @@ class Trial:
     key: str = "test"
 
     @property
-    def ok(self) -> bool:
-        """Whether each step is done and stands."""
-        return self.phase == "ended" and all(state == "committed" for state in self.states.values())
-
-    @property
     def errors(self) -> dict[str, str]:
         """What the steps raised last that are failed or fixed."""
         told = {call.step: str(call.value) for call in self.calls if call.outcome in ("failed", "final")}
         return {step: text for step, text in told.items() if self.states[step] in ("failed", "fixed")}
-
-    @overload
-    def of(self, step: Step[R]) -> R: ...
-
-    @overload
-    def of(self, step: str) -> Any: ...
-
-    def of(self, step: Step[Any] | str) -> Any:
-        """What a step, or the one of this name, returned that stands. Raises `KeyError` where it does not."""
-        return result_of(step, self.states, self.results)
-
-    def __str__(self) -> str:
-        return end_text(self)
 
     @property
     def undone(self) -> list[Call]:
