@@ -23,6 +23,7 @@ import random
 import resource
 import shutil
 import signal
+import struct
 import subprocess
 import sys
 import tempfile
@@ -166,20 +167,25 @@ class Striker:
                 self._wait(process, self.draw.uniform(0, 0.05))
                 self._kill(process, "while it closes")
 
+    def _written(self) -> int:
+        """Where the next commit is written in the WAL, which is longer: SQLite's index of it says how many pages stand there (its wal-index header, `mxFrame`)."""
+        with open(self.folder / "store.db-shm", "rb") as index:
+            (pages,) = struct.unpack("=I", index.read(20)[16:])
+        return 32 + pages * (4096 + 24)
+
     def _disk(self, process: subprocess.Popen[bytes]) -> None:
         if not self._wait(process, self.draw.uniform(0, 0.2)):
             return
         try:
             hard = resource.prlimit(process.pid, resource.RLIMIT_FSIZE)[1]
-            sizes = [path.stat().st_size for path in self.folder.glob("store.db*")]
-            resource.prlimit(process.pid, resource.RLIMIT_FSIZE, (max(sizes) + self.draw.randrange(20_000), hard))
+            resource.prlimit(process.pid, resource.RLIMIT_FSIZE, (self._written() + self.draw.randrange(20_000), hard))
             self.kills["its disk full"] += 1
             self._wait(process, self.draw.uniform(0.05, 0.6))
             if self.draw.random() < 0.6:
                 self._kill(process, "while its disk is full")
             else:
                 resource.prlimit(process.pid, resource.RLIMIT_FSIZE, (hard, hard))
-        except (ProcessLookupError, FileNotFoundError):
+        except (ProcessLookupError, FileNotFoundError, struct.error):
             pass
 
 

@@ -22,7 +22,7 @@ import pytest
 
 import records
 import sagas
-from sagas import coordinator, lines, restoring
+from sagas import coordinator, lines, restoring, sqlite
 from cases import QUICK, Task, ended, run, simple, until
 from driving import program
 from kills import children
@@ -578,10 +578,10 @@ def test_a_wait_is_over_while_nothing_runs(place: str) -> None:
 
 
 @contextlib.contextmanager
-def full() -> Iterator[None]:
-    """No file of this program grows."""
+def full(size: int = 1) -> Iterator[None]:
+    """No file of this program is written behind so many bytes."""
     least, most = resource.getrlimit(resource.RLIMIT_FSIZE)
-    resource.setrlimit(resource.RLIMIT_FSIZE, (1, most))
+    resource.setrlimit(resource.RLIMIT_FSIZE, (size, most))
     try:
         yield
     finally:
@@ -610,6 +610,29 @@ def test_the_disk_is_full(tmp_path: pathlib.Path) -> None:
             assert {end.phase for end in ends} == {"ended"}
             assert (await ended(store, saga, "more")).phase == "ended"
         assert set(calls.values()) == {1} and len(calls) == 21
+
+    run(main())
+
+
+@pytest.mark.parametrize("size", [None, 1 << 20])
+def test_the_wal_is_as_long_as_it_becomes(tmp_path: pathlib.Path, size: int | None) -> None:
+    """From the opening on, so that no commit has to lengthen it; where there is no room for that, it grows with what is written. A store that is opened
+    again behind a kill finds what was written before the zeros."""
+    saga, wal = simple(lambda task: 1), tmp_path / "store.db-wal"
+
+    async def main() -> None:
+        with full(size) if size else contextlib.nullcontext():
+            async with sagas.open(tmp_path / "store.db", [saga]) as store:
+                assert (await ended(store, saga, "k")).ok
+                length = wal.stat().st_size
+                assert length < 1 << 19 if size else length == sqlite.LENGTH * (4096 + sqlite.FRAME)
+                for number in range(20):
+                    assert (await ended(store, saga, f"k{number}")).ok
+                assert size or wal.stat().st_size == length
+                (tmp_path / "copy").mkdir()
+                subprocess.run(["cp", tmp_path / "store.db", wal, tmp_path / "copy"], check=True)  # as a machine that fails leaves them
+        async with sagas.open(tmp_path / "copy" / "store.db", [saga]) as store:
+            assert len(store.list(phase="ended")) == 21 and not (await store.start(saga, "k7")).new
 
     run(main())
 

@@ -1,9 +1,10 @@
-"""Starts over PostgreSQL that begin without a look for their key: a key that is taken is answered as if it had been looked for."""
+"""Starts over PostgreSQL that begin without a look for their keys: a key that is taken is answered as if it had been looked for."""
 
 from __future__ import annotations
 
 import asyncio
 import contextlib
+from collections import Counter
 from typing import Any
 
 import psycopg
@@ -53,25 +54,50 @@ def count(url: str) -> int:
 
 
 def test_a_new_key_is_not_looked_for(url: str, looks: list[str]) -> None:
-    """Lone starts of new keys; where another saga is open, a key is looked for."""
-    gate = asyncio.Event()
-    kind = step(gate)
+    """A lone start's, and those of many at once."""
+    kind = step()
 
     async def main() -> None:
         async with sagas.open(url, [kind]) as store:
-            gate.set()
             for number in range(5):
                 assert (await ended(store, kind, f"k{number}", number)).results == {"a": number}
+            ends = await asyncio.gather(*(ended(store, kind, f"more-{number}", number) for number in range(200)))
+            assert [end.results["a"] for end in ends] == list(range(200))
             assert looks == []
-            gate.clear()
-            runs = [await store.start(kind, "open"), await store.start(kind, "behind")]
-            assert looks == ["behind"] and all(run.new for run in runs)
-            gate.set()
-            for one in runs:
-                await one.wait()
 
     run(main())
-    assert count(url) == 7
+    assert count(url) == 205
+
+
+@pytest.mark.parametrize("old", [1, 20])
+def test_keys_that_are_there_among_new_ones(url: str, looks: list[str], old: int) -> None:
+    """They are given their sagas; the others are begun, and what was open beside them goes on: nothing is called twice, and no key is refused."""
+    gate, calls = asyncio.Event(), Counter[str]()
+
+    async def a(task: Task) -> Any:
+        calls[task.token] += 1
+        if task.input == "waits":
+            await gate.wait()
+        return task.input
+
+    kind = simple(a)
+
+    async def main() -> None:
+        async with sagas.open(url, [kind]) as store:
+            await asyncio.gather(*(ended(store, kind, f"old-{number}", number) for number in range(old)))
+        async with sagas.open(url, [kind]) as store:
+            waiting = [await store.start(kind, f"open-{number}", "waits") for number in range(10)]
+            keys = [f"new-{number}" for number in range(30)] + [f"old-{number}" for number in range(old)]
+            given: list[Any] = [*range(30), *range(old)]
+            runs = await asyncio.gather(*(store.start(kind, key, value) for key, value in zip(keys, given)))
+            assert [run.new for run in runs] == [True] * 30 + [False] * old
+            gate.set()
+            assert [(await run.wait()).results["a"] for run in runs] == given
+            assert [(await run.wait()).results["a"] for run in waiting] == ["waits"] * 10
+            assert all(said.startswith("yes") for said in (await store.audit()).values())
+
+    run(main())
+    assert count(url) == old + 40 and len(calls) == old + 40 and set(calls.values()) == {1}
 
 
 def test_a_key_that_is_over(url: str, looks: list[str], monkeypatch: pytest.MonkeyPatch) -> None:

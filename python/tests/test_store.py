@@ -27,7 +27,7 @@ import sagas
 import sagas.testing
 from cases import HOUR, QUICK, Task, ended, hears, run, simple, until
 from kills import children
-from sagas import child, lines, program, pump, sqlite_writer
+from sagas import child, holding, lines, program, pump, sqlite_writer
 
 
 def row(gate: asyncio.Event | None = None) -> sagas.Saga:
@@ -1026,6 +1026,17 @@ def test_tasks_of_a_reply() -> None:
     assert lines.tasks_in(f'{{"settled":false,"tasks":[{two}]}}') == told[1:]
     for other in (f'{{"tasks":[{one},{plan}]}}', f'{{"tasks":[{plan}]}}', '{"settled":true,"tasks":[]}'):
         assert lines.tasks_in(other) is None
+
+
+def test_what_is_under_way_goes_in_halves() -> None:
+    """A commit to a server waits for more than it has, if that comes soon; and of many calls half are told first, where the server has nothing to do."""
+    hold = holding.Holding()
+    hold.committed(8)
+    hold.came()
+    each = hold._each
+    assert hold.is_soon(9, 8, each * 9) and not hold.is_soon(8, 8, each * 9) and not hold.is_soon(0, 0, each * 9)
+    assert not hold.is_soon(9, 8, each)
+    assert [holding.half(ready) for ready in (0, 1, 7, 8, 16, 17, 1000)] == [0, 1, 7, 4, 8, 9, 500]
 
 
 def test_a_commit_in_the_loop_waits_for_nobody(tmp_path: pathlib.Path, monkeypatch: pytest.MonkeyPatch) -> None:

@@ -28,6 +28,8 @@ Done = Callable[[list[Attempt]], None]
 Held = Callable[[Attempt, float], None]
 Within = Callable[[Attempt, Function, Task[Any]], Awaitable[Any]]
 """How a function is called that is not called alone."""
+Lot = Callable[[int], int]
+"""How many of so many that are called now are told of at once."""
 
 
 class Callers:
@@ -37,10 +39,11 @@ class Callers:
     ended well without waiting, several at once: they have their outcomes. `held` is told of one that held the loop for long, up to its end or to where it
     first waits, and for how many seconds."""
 
-    def __init__(self, begins: Begins, ended: Ended, done: Done, held: Held, within: Within | None = None) -> None:
+    def __init__(self, begins: Begins, ended: Ended, done: Done, held: Held, lot: Lot, within: Within | None = None) -> None:
         self._loop = asyncio.get_running_loop()
         self._context = contextvars.copy_context()
         self._begins, self._ended, self._done, self._held, self._within = begins, ended, done, held, within
+        self._lot, self._most = lot, LOT
         self._told = time.monotonic()
         self._ready: deque[Attempt] = deque()
         self._next: asyncio.Task[None] | None = None  # the task that calls those
@@ -96,6 +99,7 @@ class Callers:
     def _row(self, job: asyncio.Task[None]) -> Coroutine[Any, Any, None] | None:
         """Calls those that are ready now, up to one that waits: then what is left of it."""
         ready = self._ready
+        self._most = min(LOT, self._lot(len(ready)))
         try:
             for _ in range(len(ready)):
                 attempt = ready.popleft()
@@ -154,7 +158,7 @@ class Callers:
                 self._look(attempt, time.monotonic() - began)
                 return self._wait(attempt, began, task, _Rest(calling.whole(forgot.value), None, context))
             self._over.append(attempt)
-            if len(self._over) >= LOT:
+            if len(self._over) >= self._most:
                 self._tell()
             return None
         except BaseException as error:

@@ -18,7 +18,7 @@ from .elsewhere import Elsewhere
 from .errors import ChildError, Closed, Lost, SagasError
 from .events import Teller
 from .forks import private
-from .holding import Holding
+from .holding import Holding, half
 from .kinds import Kind, Shelf
 from .live import Live
 from .pump import Pump
@@ -207,6 +207,10 @@ class Coordinator:
             self.holding.committed(self.doing.about_to_call())
         if self._queue:
             self._write()
+
+    def lot(self, ready: int) -> int:
+        """How many of so many functions that are called now are told of at once: half, where the server would have nothing to do until all were over."""
+        return half(ready) if self.store.takes and not self.is_writing else ready
 
     def _holds_back(self) -> bool:
         """Whether what waits to be written waits for what is on its way to it."""

@@ -1,11 +1,11 @@
 """Whether a start begins without a look for its key: then its commit finds out whether the key is taken.
 
-Where nobody else has the store's attention, that saves a lone saga a trip to the server. A key that turns out to be taken costs its log a new child,
-so nothing is begun so while other sagas are open, or where keys that were there have come of late."""
+That saves a trip to the server, and the node what it costs. A key that turns out to be taken costs its log a new child, which all its sagas wait
+for, so keys are looked for for a while where one came that was there."""
 
 from __future__ import annotations
 
-AGAIN = 100
+AGAIN = 1000
 """Starts of new keys in a row, behind one of a key that was there, until one begins without a look."""
 
 

@@ -1,4 +1,5 @@
-"""When a commit waits for what is about to come to it: two that follow each other closely take the database twice the time of one, and this program as well."""
+"""When a commit waits for what is about to come to it: two that follow each other closely take the database twice the time of one, and this program as well.
+But it does not wait for fewer than it has: what is under way goes in two halves at least, one of which is written while the functions of the other are called."""
 
 from __future__ import annotations
 
@@ -13,8 +14,15 @@ SHARE, FEW_SHARE = 0.5, 4.0
 this program a question to the child and some turns of the loop, which are more than few rows."""
 FEW = 64
 """Rows."""
+WHOLE = 8
+"""So many calls are not told of in two halves: a question to the child and a commit cost more than they."""
 FADE = 8
 """How many of the last ones count, about."""
+
+
+def half(ready: int) -> int:
+    """How many of so many calls are told of at once, where nothing is written meanwhile: from then on the two halves take turns."""
+    return ready if ready < WHOLE else (ready + 1) // 2
 
 
 class Holding:
@@ -37,8 +45,8 @@ class Holding:
             self._each += (min(took / self._count, MOST) - self._each) / FADE
 
     def is_soon(self, coming: int, rows: int, takes: float) -> bool:
-        """Whether so many calls come to a commit of so many rows in less than what is worth to wait, where one takes so long."""
-        return 0 < coming * self._each < takes * (FEW_SHARE if rows < FEW else SHARE)
+        """Whether so many calls, more than the rows of a commit, come to it in less than what is worth to wait, where one takes so long."""
+        return rows < coming and 0 < coming * self._each < takes * (FEW_SHARE if rows < FEW else SHARE)
 
     def is_worth(self, coming: int, rows: int, takes: float, write: Callable[[], None]) -> bool:
         """Whether so many rows that are to be written wait for so many that are on their way; `write` is called in case they do not come."""

@@ -71,8 +71,8 @@ ALONE = "log = $3::bigint AND owner = $2 AND epoch = $4::bigint"
 LISTED = "log = ANY($3::bigint[]) AND owner = $2 AND epoch = ($4::bigint[])[array_position($3, log)]"
 """Whether a log is this node's still: the only one of a commit, or one of several."""
 BORN = "INSERT INTO logs(log, name, shelf, owner, epoch) SELECT v.log, v.name, v.shelf, $2, 1 FROM {rows}{free} ON CONFLICT DO NOTHING RETURNING log"
-TAKEN = "SELECT v.log FROM {rows} WHERE EXISTS (SELECT 1 FROM sagas s WHERE s.key = v.key) OR EXISTS (SELECT 1 FROM inbox i WHERE i.key = v.key)"
-"""The logs whose guess was wrong: a saga has the key, or a client's start that no log has yet."""
+TAKEN = "SELECT v.log FROM {rows} JOIN sagas s ON s.key = v.key UNION ALL SELECT v.log FROM {rows} JOIN inbox i ON i.key = v.key"
+"""The logs whose guess was wrong: a saga has the key, or a client's start that no log has yet. (`EXISTS .. OR EXISTS ..` may be planned as a look at all sagas.)"""
 MOST = 100 << 20
 """Bytes of rows that PostgreSQL takes apart at once: more than some 200 MiB it does only piece by piece, which takes longer."""
 dumps = json.JSONEncoder(separators=(",", ":"), check_circular=False).encode

@@ -22,9 +22,11 @@ from .errors import MissingHandler, StoreFault, StoreLocked, StoreNewer, StoreUn
 from .forks import private
 from .records import Batch, Grant, Loaded, LogRow, Opened, Request, Result, SagaRow, Start
 from .schema import MIGRATIONS, VERSION
-from .sqlite_writer import BUSY, Writer
+from .sqlite_writer import BUSY, CHECKPOINT, Writer
 from .values import cleaned
 
+FRAME = 24  # bytes before each page of a WAL
+LENGTH = CHECKPOINT + CHECKPOINT // 2  # pages: commits go on in the loop for some time before one in the thread moves the WAL
 LOOK = 0.2  # seconds: another program's commit makes no event here
 MOST_LOOK = 30.0
 RIGHTS = "SQLite writes beside it, so this user has to be able to read and write it, and to write in its folder"
@@ -90,6 +92,24 @@ def migrate(db: sqlite3.Connection, path: str) -> None:
     db.execute("COMMIT")
 
 
+def lengthen(db: sqlite3.Connection) -> None:
+    """Makes the WAL as long as it becomes before it is moved into the file: a commit that lengthens its file takes the disk about twice as long.
+
+    What is filled in is no commit to SQLite, and stands under a writer's lock, so that nobody else writes there. Where there is no room, it is left."""
+    db.execute("BEGIN IMMEDIATE")
+    try:
+        path = db.execute("PRAGMA database_list").fetchone()[2]
+        page = db.execute("PRAGMA page_size").fetchone()[0]
+        with contextlib.suppress(OSError), open(f"{path}-wal", "r+b", buffering=0) as wal:  # to close it drops no lock: SQLite has none on this file
+            size = wal.seek(0, os.SEEK_END)
+            zeros = bytes(max(0, LENGTH * (page + FRAME) - size))
+            if wal.write(zeros) < len(zeros):
+                wal.truncate(size)
+            os.fdatasync(wal.fileno())
+    finally:
+        db.execute("ROLLBACK")
+
+
 def migrate_file(path: str) -> str:
     """Migrates a file that no program has open; says from which version. Raises `StoreLocked`, `StoreNewer`, `StoreFault`, `StoreUnwritable`."""
     if not os.path.isfile(path):
@@ -148,6 +168,7 @@ class Sqlite(questions.Questions):
         """Takes the lock and makes the tables. Raises `StoreLocked`, `StoreUnwritable`, `StoreFault` or `MissingHandler`."""
         self._take_lock()
         self._make()
+        lengthen(self._db)
         self._writer = Writer(self._db)
         self._next_log = int(self.rows("SELECT coalesce(max(log) + 1, 0) FROM logs")[0][0])
         rows = self.open_logs()

@@ -20,7 +20,7 @@ from .records import Batch, Ended, Opened, Result
 from .values import clean, cleaned
 
 BUSY = 5000  # ms: an operator's command may be writing
-CHECKPOINT = 1000
+CHECKPOINT = 750
 """Pages: a WAL of so many is moved into the file, which takes longer than a commit, and happens in the thread."""
 ROWS = (*range(1, 17), 20, 24, 28, 32, 40, 48, 56, 64, 80, 96, 112, 128, 160, 192, 224, 256, 320, 384, 448, 512)
 """Of a statement: few numbers, so that their statements are kept, and close, so that few statements make any number."""
@@ -28,9 +28,10 @@ FEW_ROWS = 1000
 """So many results and sagas are put in the loop: a thread waits at each statement for the interpreter's lock, and gets it when the loop has nothing to
 do, which is later than the rows take."""
 AT_ONCE = 0.002
-"""Seconds: where the disk took longer for a commit of the loop's, those behind it are made in the thread. That cannot tell how long the disk takes, since
-it also waits for the interpreter's lock: so after some of them the loop tries again."""
-FORGET = 0.97  # of what the disk took, a commit
+"""Seconds: where the disk took longer for the last commits of the loop's, those behind them are made in the thread. That cannot tell how long the disk
+takes, since it also waits for the interpreter's lock: so after some of them the loop tries again."""
+LAST = 0.125  # a commit's part in how long the last ones took: a single slow one is no slow disk
+FORGET = 0.97  # of what the disk took, a commit of the thread's
 NONE: frozenset[int] = frozenset()
 Events = dict[int, int]
 """How many events each log has."""
@@ -56,7 +57,7 @@ class Writer:
         self.events: dict[int, int] = {}
         self._loop = asyncio.get_running_loop()
         self._jobs: queue.SimpleQueue[tuple[Sequence[Batch], Then, Events | None] | None] = queue.SimpleQueue()
-        self._took = AT_ONCE  # seconds, by the slowest of the last commits
+        self._took = AT_ONCE  # seconds, by the last commits of the loop's
         self._patient: bool | None = None  # waits for other programs, as the connection is set
         self._moves: bool | None = None  # moves the WAL into the file, as the connection is set
         self._lent = False  # the thread has the connection
@@ -107,7 +108,10 @@ class Writer:
         if self._took >= AT_ONCE or self._pages >= CHECKPOINT:
             return False
         self._pages += 6 + rows // 8
-        self._took = max(self._sync(events, patient=False), FORGET * self._took)
+        took = self._sync(events, patient=False)
+        self._took += LAST * (took - self._took)
+        if self._took >= AT_ONCE:
+            self._took = max(took, self._took)
         return True
 
     def expect(self, opened: Sequence[Opened], results: Sequence[Result]) -> None:

@@ -198,7 +198,7 @@ class Store:
     def _guesses(self, kind: Kind) -> bool:
         """Whether a start begins without a look for its key, which takes a while."""
         inside = self._inside
-        return inside.store.shared and self.new and kind.fits and not inside.lives and not self._finding and self._guessing.is_worth()
+        return inside.store.shared and self.new and kind.fits and self._guessing.is_worth()
 
     async def _live(self, key: str) -> Live | None:
         """The saga with this key, as far as it is driven here and the key is known to be its own."""
