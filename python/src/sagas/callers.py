@@ -7,7 +7,7 @@ import contextvars
 import time
 import types
 from collections import deque
-from collections.abc import Awaitable, Callable, Coroutine, Generator
+from collections.abc import Awaitable, Callable, Coroutine, Generator, Sequence
 from typing import Any
 
 from . import calling
@@ -50,12 +50,10 @@ class Callers:
         self._waiters: dict[Function, int] = {}  # functions that waited the last time, and how many calls have their own task at once
         self._over: list[Attempt] = []  # ended well, and not told
 
-    def call(self, attempt: Attempt) -> None:
-        """Calls its simple function soon."""
-        if self._waiters and self._waits(attempt):
-            return
-        self._ready.append(attempt)
-        if self._next is None or self._next.done():  # somebody may have cancelled it
+    def call(self, attempts: Sequence[Attempt]) -> None:
+        """Calls their simple functions soon."""
+        self._ready.extend([one for one in attempts if not self._waits(one)] if self._waiters else attempts)
+        if self._ready and (self._next is None or self._next.done()):  # somebody may have cancelled it
             self._next = self.start(self._work())
 
     def _waits(self, attempt: Attempt) -> bool:

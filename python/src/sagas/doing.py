@@ -73,12 +73,18 @@ class Doing:
     def begin_all(self, attempts: Sequence[Attempt]) -> None:
         """They are in the store as begun. Most are called at once."""
         slots = self.slots
+        alone: list[Attempt] = []
+        inside: list[Attempt] = []
         for attempt in attempts:
             if self._is_simple(attempt) and slots.running < slots.most and not self.closing:
                 slots.running += 1
-                self._call_simple(attempt)
+                (inside if attempt.action.inside else alone).append(attempt)
             else:
                 self.begin(attempt)
+        if alone:
+            self._call_simple(self.callers, alone)
+        if inside:
+            self._call_simple(self.inside, inside)
 
     def _is_simple(self, attempt: Attempt) -> bool:
         """Whether its function is called at once, and nothing is to be thought of."""
@@ -242,7 +248,7 @@ class Doing:
 
     def _run(self, attempt: Attempt) -> None:
         if attempt.action.simple:
-            self._call_simple(attempt)
+            self._call_simple(self.inside if attempt.action.inside else self.callers, [attempt])
             return
         self.running.add(attempt)
         gate = self.fleet.gate(attempt) if attempt.live.kind.has_bounds else None
@@ -252,10 +258,11 @@ class Doing:
         attempt.state, attempt.fresh = "running", False
         attempt.job = self.callers.start(self._call(attempt))
 
-    def _call_simple(self, attempt: Attempt) -> None:
-        self.running.add(attempt)
-        attempt.state, attempt.fresh = "running", False
-        (self.inside if attempt.action.inside else self.callers).call(attempt)
+    def _call_simple(self, callers: Callers, attempts: Sequence[Attempt]) -> None:
+        self.running.update(attempts)
+        for attempt in attempts:
+            attempt.state, attempt.fresh = "running", False
+        callers.call(attempts)
 
     async def _pass(self, attempt: Attempt, gate: Gate) -> None:
         """It has a slot, and is called if it gets a place of its step; else it waits without either."""
@@ -288,9 +295,10 @@ class Doing:
         """Whether it is called now: it was not forgotten meanwhile, and its log is this program's."""
         if private.forks != self.owner.forks:  # a function forked, and its child came back here
             os._exit(70)
-        live, teller = attempt.live, self.owner.teller
         if attempt.state == "running" and self.owner.store.holds():
+            teller = self.owner.teller
             if teller.listens:
+                live = attempt.live
                 teller.tell("step_begun", key=live.key, saga=live.kind.name, step=attempt.name, undo=attempt.kind == "undo", attempt=attempt.attempt)
             return True
         if attempt.state == "running":  # its log may be another's: it is looked at, and then this begins again

@@ -15,6 +15,7 @@ SETTLED = '{"settled":'
 TASKS = '"tasks":[{'
 PLAN = '"task":"plan"'
 UNDO = '"task":"undo"'
+FIRST = '"attempt":1'
 
 
 def open_line(place: int, number: int) -> str:
@@ -61,7 +62,7 @@ def tasks_in(reply: str) -> list[tuple[int, int, str, int]] | None:
     found = []
     for task in told[:-3].split("},{"):
         attempt, _, saga, step, word = task.split(",")  # a step's name has letters, digits, _ and - alone
-        found.append((int(saga[7:]), int(step[7:]), "undo" if word == UNDO else "run", int(attempt[10:])))
+        found.append((int(saga[7:]), int(step[7:]), "undo" if word == UNDO else "run", 1 if attempt == FIRST else int(attempt[10:])))
     return found
 
 

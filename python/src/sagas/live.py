@@ -74,6 +74,11 @@ class Live:
         assert self.pump
         return self.pump.log * ROOM + self.number
 
+    @property
+    def is_doubtful(self) -> bool:
+        """Whether its key may be another saga's."""
+        return self.guessed and not self.committed
+
     def raised(self, step: int, value: str, called: bool) -> None:
         """An attempt failed: what it raised is kept, before what is said of one that was given up without a call."""
         errors = self.rare.errors

@@ -148,7 +148,9 @@ class Store:
         kind = self._shelf.kinds[place]
         wrong = kind.misfit(input, text)
         looks = inside.store.shared or not self.new or not kind.fits or wrong  # else it is looked for with others, where it is placed
-        live = await self._live(key)
+        live = inside.lives.get(key)
+        if live is not None:
+            live = await self._live(key)
         guesses = live is None and wrong is None and self._guesses(kind)
         row = await self._find(key) if looks and not guesses and live is None else None
         live = inside.lives.get(key)  # another start of it may have come meanwhile
@@ -202,12 +204,10 @@ class Store:
 
     async def _live(self, key: str) -> Live | None:
         """The saga with this key, as far as it is driven here and the key is known to be its own."""
-        while True:
-            live = self._inside.lives.get(key)
-            if live is None or not live.guessed or live.committed:
-                return live
+        while (live := self._inside.lives.get(key)) and live.is_doubtful:
             with contextlib.suppress(SagasError):  # its start hears of it
                 await live.started(self._inside.loop)
+        return live
 
     async def _find(self, key: str) -> SagaRow | None:
         """Looks whether a key that is to be started is there, where that takes a while."""
@@ -226,7 +226,9 @@ class Store:
     async def wait(self, key: str) -> End:
         """Waits for a saga's end. Raises `NoSuchSaga`, `Closed`."""
         inside = self._here()
-        live = await self._live(key)
+        live = inside.lives.get(key)
+        if live is not None and live.is_doubtful:
+            live = await self._live(key)
         if live is not None:  # as most are: it is driven here
             try:
                 await live.ended(inside.loop)

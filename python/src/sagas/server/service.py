@@ -36,6 +36,8 @@ LOOKERS = 2
 MOST_WORKERS = MOST_THERE = 1000
 SHARED = 200
 """Workers that one service tells another of."""
+FAILED = 5.0
+"""Seconds for which a commit that failed says that none can be made, unless one is made: behind that requests have to come again to tell."""
 MOST_DETAIL = 500
 """Characters of an event's detail that other services are told."""
 Figures = tuple[dict[str, dict[str, int]], dict[str, int], dict[str, int]]
@@ -129,7 +131,7 @@ class Service:
 
     def _event(self, event: Event) -> None:
         if event.name == "commit_failed":
-            self.unwritten = event.at
+            self.unwritten = time.monotonic()
         elif event.name in ("saga_started", "step_done", "saga_ended"):
             self.unwritten = None
         self.metrics.event(event)
@@ -141,7 +143,7 @@ class Service:
         """None where it takes requests; else why not."""
         if self.stopping.done():
             return "it is about to stop"
-        if self.unwritten is not None:
+        if self.unwritten is not None and time.monotonic() < self.unwritten + FAILED:
             return "the store could not be written"
         if not self.store.holds():
             return "the store cannot be reached"
