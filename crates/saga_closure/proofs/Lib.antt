@@ -8,6 +8,8 @@ pub mod NetLemmas
 pub mod SearchLemmas
 pub mod NeighbourLemmas
 pub mod VisitLemmas
+pub mod BitLemmas
+pub mod RowLemmas
 pub mod PathLemmas
 pub mod RoundLemmas
 pub mod ReachLemmas

@@ -13,7 +13,7 @@ use Rattle.saga_def.specs.declared.steps.Need.{Need}
 use Rattle.saga_flow.specs.Residual.{IsOpen}
 use Rattle.saga_closure.specs.Capacities.{terms_by}
 use Rattle.saga_closure.specs.CaseNet.{network_of}
-use Rattle.saga_closure.specs.Links.{need_over, arc_over, LetsThrough, AreLinks, AreLinkedUpTo, IsUpTo}
+use Rattle.saga_closure.specs.Links.{need_over, arc_over, LetsThrough, AreLinks}
 use Rattle.saga_closure.proofs.ArcCases.{no_need, opens_link, opens_unlink}
 
 -- a need is what is read at its place
@@ -79,9 +79,3 @@ opens_over d caps on k v w false at (inr some) =
 pub need_turned : (forward : Bool) (v w : ℕ) → need_over (not forward) v w ≡ need_over forward w v
 need_turned true v w = refl
 need_turned false v w = refl
-
--- what was seen in the lists
-pub links_seen : (t : Terms) (on level : List ℕ) (forward : Bool) (v most : ℕ) (steps places : List ℕ) → AreLinks t.needs t.count forward v steps places → IsUpTo t on level forward steps places most (length steps) → AreLinkedUpTo t on level forward v most
-links_seen t on level forward v most steps places links seen k w at pass =
-    let (e, lt, is, place) = links.all k w at in
-    rw is at (seen e lt (rw place pass))

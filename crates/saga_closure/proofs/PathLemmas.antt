@@ -1,8 +1,14 @@
 -- Paths of a search: its levels, and steps one level up.
 use Rattle.std.proofs.Common.{ℕ, ◌≡◌, ◌<◌, ◌≤◌, ◌+◌, ◌*◌, ◌-◌, ◌∙◌, ◌⊎◌, ◌++◌, [], ◌∷◌, Bool, true, false, cond, min, List, length, get_or, ap, sym, subst, refl, arith, inl, inr, reverse, Some}
 use Rattle.std.specs.Prelude.{slice_get}
-use Rattle.std.proofs.lemmas.Bool.{cases_lt, ne_eqb}
-use Rattle.std.proofs.lemmas.List.{reverse-append, get_or_default}
+use Rattle.std.proofs.lemmas.Bool.{cases_eq, cases_lt, ne_eqb}
+use Rattle.std.proofs.lemmas.Option.{slice_get-get_or}
+use Rattle.saga_def.specs.Neighbours.{a_need}
+use Rattle.saga_closure.specs.declared.nets.Residual.{Residual}
+use Rattle.saga_closure.specs.Nets.{terms_in}
+use Rattle.saga_closure.specs.Links.{IsAlive, NoneBefore}
+use Rattle.saga_closure.proofs.NetLemmas.{own_capacities}
+use Rattle.std.proofs.lemmas.List.{reverse-append}
 use Rattle.saga_def.specs.Rules.{AreKnown}
 use Rattle.saga_case.specs.Terms.{Terms}
 use Rattle.saga_flow.specs.declared.residual_arcs.ResidualArc.{ResidualArc}
@@ -15,18 +21,18 @@ use Rattle.saga_flow.proofs.LevelLemmas.{rising_climbs}
 use Rattle.saga_flow.proofs.PathLemmas.{climbing_rises}
 use Rattle.saga_closure.specs.declared.searching.Found.{Found}
 use Rattle.saga_closure.specs.declared.searching.Goal.{Goal}
-use Rattle.saga_closure.specs.Layers.{GoesIn, GoesOut, Goes, CameBy, IsSearch, IsAtGoal, node_level, no_step}
+use Rattle.saga_closure.specs.Layers.{GoesIn, GoesOut, Goes, CameBy, IsSearch, IsAtGoal, node_level}
 use Rattle.saga_closure.specs.Paths.{tail_of, head_of}
 use Rattle.saga_closure.proofs.ArcCases.{need_at, no_need, each_at, each_open, opens_leave, opens_stand, opens_link, opens_unlink}
 use Rattle.saga_closure.proofs.SearchLemmas.{order_few, depth_few}
-use Rattle.saga_closure.proofs.VisitLemmas.{goes_in}
+use Rattle.saga_closure.proofs.VisitLemmas.{goes_in, goes_by, GoesBy, room_from_in}
 
 pub level_at : (depth : ℕ) (level : List ℕ) (v : ℕ) → node_level depth level (2 + v) ≡ min (get_or level v 0) (depth + 1) + 1
 level_at depth level v =
     let e : 2 + v - 2 ≡ v = omega arith in
     rw (ne_eqb (2 + v) 0 (λ q. omega (arith, q)), ne_eqb (2 + v) 1 (λ q. omega (arith, q)), e) refl
 
-module _ (t : Terms) (on level : List ℕ) (by : List ResidualArc) (order : List ℕ) (first end next depth : ℕ) (known : AreKnown t.needs t.count) (search : IsSearch t on level by order first end next depth depth) where
+module _ (t : Terms) (on level labelled order : List ℕ) (first end next depth : ℕ) (known : AreKnown t.needs t.count) (search : IsSearch t on level labelled order first end next depth depth) where
   lv : ℕ → ℕ
   lv = node_level depth level
 
@@ -59,7 +65,7 @@ module _ (t : Terms) (on level : List ℕ) (by : List ResidualArc) (order : List
   levelled = record { source = refl; near = near }
 
   pub low : node_level depth level 1 ≤ (network_of t).nodes
-  low = omega (arith, search.deep, search.bounds, order_few t on level by order first end next depth depth search)
+  low = omega (arith, search.deep, search.bounds, order_few t on level labelled order first end next depth depth search)
 
 -- a step that is one level up climbs
 pub climbs : (t : Terms) (on level : List ℕ) (depth u v : ℕ) (s : ResidualArc) → IsOpen (network_of t).arcs on s (2 + u) (2 + v) → get_or level v 0 ≡ get_or level u 0 + 1 → get_or level v 0 ≤ depth → Climbs (network_of t).arcs on (node_level depth level) s (2 + u) (2 + v)
@@ -70,6 +76,23 @@ climbs_in t on level depth v s step zero_level = (step, omega (arith, level_at d
 
 pub climbs_out : (t : Terms) (on level : List ℕ) (depth v : ℕ) (s : ResidualArc) → IsOpen (network_of t).arcs on s (2 + v) 1 → get_or level v 0 ≡ depth → Climbs (network_of t).arcs on (node_level depth level) s (2 + v) 1
 climbs_out t on level depth v s step at = (step, omega (arith, level_at depth level v))
+
+-- where each step has the lowest level, a path over one step climbs
+pub flat : (t : Terms) (on : List ℕ) → IsLevelled (network_of t).arcs on (node_level 0 [])
+flat t on = record {
+  source = refl;
+  near = each_open t on (λ a b. node_level 0 [] b ≤ node_level 0 [] a + 1)
+      (λ v lt room. omega (arith, level_at 0 [] v))
+      (λ v lt. omega arith)
+      (λ v lt room. omega (arith, level_at 0 [] v))
+      (λ v lt. omega (arith, level_at 0 [] v))
+      (λ k lt. omega (arith, level_at 0 [] (need_at t k).step, level_at 0 [] (need_at t k).on))
+      (λ k lt some. omega (arith, level_at 0 [] (need_at t k).step, level_at 0 [] (need_at t k).on));
+}
+
+pub straight : (t : Terms) (on : List ℕ) (v : ℕ) → IsOpen (network_of t).arcs on (record { arc = v; forward = true }) 0 (2 + v) → IsOpen (network_of t).arcs on (record { arc = t.count + v; forward = true }) (2 + v) 1 → IsTrail (Climbs (network_of t).arcs on (node_level 0 [])) 0 (record { arc = v; forward = true } ∷ record { arc = t.count + v; forward = true } ∷ []) 1
+straight t on v into out =
+    (2 + v, climbs_in t on [] 0 v (record { arc = v; forward = true }) into refl, (1, climbs_out t on [] 0 v (record { arc = t.count + v; forward = true }) out refl, refl))
 
 -- a trail that is put together from its end
 pub trail_one : (R : ResidualArc → ℕ → ℕ → Type 0) (path : List ResidualArc) (s : ResidualArc) (from to : ℕ) → path ≡ [] → R s from to → IsTrail R from (reverse (path ++ s ∷ [])) to
@@ -118,41 +141,44 @@ link_head t s x y (a, at, joins) far =
     let two = (joins_link t s.arc a at s.forward x y joins).1 far in
     (two.0, two.2)
 
--- how a step above the lowest level came from one a level lower
-pub record IsFrom (t : Terms) (on level : List ℕ) (v : ℕ) (s : ResidualArc) : Type 0 where
-  pub inside : tail_of t s < t.count
-  pub opened : IsOpen (network_of t).arcs on s (2 + tail_of t s) (2 + v)
-  pub rise : get_or level v 0 ≡ get_or level (tail_of t s) 0 + 1
-  pub far : 2 * t.count ≤ s.arc
-  pub within : s.arc < t.count + (t.count + length t.needs)
-
 module _ (t : Terms) (on : List ℕ) (found : Found) (goal : Goal) (v : ℕ) (at : IsAtGoal t on found goal) (lt : v < t.count) where
-  pub came_from : (s : ResidualArc) → 0 < get_or found.level.items v 0 → get_or found.level.items v 0 ≤ goal.depth → s ≡ get_or found.by.items v s → IsFrom t on found.level.items v s
-  came_from s some few read = from (at.search.back v lt (omega (arith, few, depth_few t on found.level.items found.by.items found.order.items goal.first (length found.order.items) goal.first goal.depth goal.depth at.search)))
+  -- a step above the lowest level came from one a level lower
+  pub came_from : 0 < get_or found.level.items v 0 → get_or found.level.items v 0 ≤ goal.depth → (u : ℕ) × (u < t.count) × Goes t on u v × (get_or found.level.items v 0 ≡ get_or found.level.items u 0 + 1)
+  came_from some few = from (at.search.back v lt (omega (arith, few, depth_few t on found.level.items found.labelled.items found.order.items goal.first (length found.order.items) goal.first goal.depth goal.depth at.search)))
     where
-      same : s ≡ get_or found.by.items v no_step
-      same = read ∙ get_or_default found.by.items v s no_step (omega (arith, at.search.by_sized))
-
-      from : CameBy t on found.level.items found.by.items v → IsFrom t on found.level.items v s
+      from : CameBy t on found.level.items v → (u : ℕ) × (u < t.count) × Goes t on u v × (get_or found.level.items v 0 ≡ get_or found.level.items u 0 + 1)
       from (inl (zero_level, goes)) = absurd (omega arith)
-      from (inr (u, u_lt, step, up)) =
-          let step' = rw (← same) at step in
-          let link = is_link t s u v step'.0 in
-          record {
-            inside = rw link.2 at u_lt;
-            opened = subst (λ x. IsOpen (network_of t).arcs on s (2 + x) (2 + v)) link.2 step';
-            rise = up ∙ ap (λ x. get_or found.level.items x 0 + 1) link.2;
-            far = link.0;
-            within = link.1;
-          }
+      from (inr came) = came
 
   -- one of the lowest level can get more from the source
   pub came_in : get_or found.level.items v 0 ≡ 0 → IsOpen (network_of t).arcs on (record { arc = v; forward = true }) 0 (2 + v)
   came_in is = from (at.search.back v lt (omega arith))
     where
-      from : CameBy t on found.level.items found.by.items v → IsOpen (network_of t).arcs on (record { arc = v; forward = true }) 0 (2 + v)
+      from : CameBy t on found.level.items v → IsOpen (network_of t).arcs on (record { arc = v; forward = true }) 0 (2 + v)
       from (inl (zero_level, goes)) = opens_leave t on v lt (goes_in t on v 0 goes).1
       from (inr (u, u_lt, step, up)) = absurd (omega arith)
+
+-- so a step from which nothing alive is a level lower is of the lowest level
+pub none_lowest : (r : Residual) (found : Found) (goal : Goal) (left : List ℕ) (v : ℕ) → IsAtGoal (terms_in r.net.now) r.on.now found goal → ((x : ℕ) → x < (terms_in r.net.now).count → 0 < get_or left x 0) → v < (terms_in r.net.now).count → 0 < get_or found.level.items v 0 → get_or found.level.items v 0 ≤ goal.depth → ((forward : Bool) → NoneBefore r found.level.items left forward v) → ⊥
+none_lowest r found goal left v at all lt some few none_before =
+    let came = came_from (terms_in r.net.now) r.on.now found goal v at lt some few in
+    from came.0 came.1 came.3 (goes_by (terms_in r.net.now) r.on.now came.0 v came.2)
+  where
+    t : Terms
+    t = terms_in r.net.now
+
+    needed : (k b a : ℕ) → k < length (terms_in r.net.now).needs → (need_at (terms_in r.net.now) k).step ≡ b → (need_at (terms_in r.net.now) k).on ≡ a → slice_get (terms_in r.net.now).needs k ≡ Some (a_need b a)
+    needed k b a lt from to = slice_get-get_or (terms_in r.net.now).needs k no_need lt ∙ ap Some (rw (← from, ← to) refl)
+
+    alive : (u : ℕ) → u < (terms_in r.net.now).count → get_or found.level.items v 0 ≡ get_or found.level.items u 0 + 1 → IsAlive r found.level.items left u
+    alive u u_lt up = elim (cases_eq (get_or found.level.items u 0) 0) [
+      | inl e ↦ inl (e, room_from_in (terms_in r.net.now) r.net.now.caps.now r.on.now u (own_capacities r.net.now.definition.now r.net.now.caps.now r.net.now.sized r.net.now.small) (record { arc = u; forward = true }, came_in (terms_in r.net.now) r.on.now found goal u at u_lt e))
+      | inr ne ↦ inr (omega (arith, ne), all u u_lt)
+    ]
+
+    from : (u : ℕ) → u < (terms_in r.net.now).count → get_or found.level.items v 0 ≡ get_or found.level.items u 0 + 1 → GoesBy (terms_in r.net.now) r.on.now u v → ⊥
+    from u u_lt up (inl (k, k_lt, a, b)) = none_before true k u (needed k u v k_lt a b) (inl refl) up (alive u u_lt up)
+    from u u_lt up (inr (k, k_lt, a, b, some)) = none_before false k u (needed k v u k_lt b a) (inr some) up (alive u u_lt up)
 
 -- where a climbing trail begins is below its end
 pub trail_low : (t : Terms) (on level : List ℕ) (depth h : ℕ) (steps : List ResidualArc) → IsTrail (Climbs (network_of t).arcs on (node_level depth level)) (2 + h) steps 1 → get_or level h 0 ≤ depth

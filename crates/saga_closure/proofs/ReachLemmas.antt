@@ -51,7 +51,7 @@ module _ (t : Terms) (on : List ℕ) (found : Found) (known : AreKnown t.needs t
   side_of v lt = side_step found.level.items v ∙ lt-ltb (get_or found.level.items v 0) none lt
 
   small_depth : end.depth ≤ 1024
-  small_depth = omega (arith, end.search.deep, depth_few t on found.level.items found.by.items found.order.items (length found.order.items) (length found.order.items) (length found.order.items) end.depth end.depth end.search)
+  small_depth = omega (arith, end.search.deep, depth_few t on found.level.items found.labelled.items found.order.items (length found.order.items) (length found.order.items) (length found.order.items) end.depth end.depth end.search)
 
   from_step : (v w : ℕ) → v < t.count → w < t.count → Goes t on v w → side found.level.items (2 + v) ≡ true → side found.level.items (2 + w) ≡ true
   from_step v w v_lt w_lt goes is =
@@ -71,14 +71,14 @@ module _ (t : Terms) (on : List ℕ) (found : Found) (known : AreKnown t.needs t
   reached : (n v : ℕ) → v < t.count → get_or found.level.items v 0 ≡ n → n < none → Reaches (IsResidual (network_of t).arcs on) 0 (2 + v)
   reached zero v lt at less = from (end.search.back v lt (omega arith))
     where
-      from : CameBy t on found.level.items found.by.items v → Reaches (IsResidual (network_of t).arcs on) 0 (2 + v)
+      from : CameBy t on found.level.items v → Reaches (IsResidual (network_of t).arcs on) 0 (2 + v)
       from (inl (is, goes)) = next here goes
       from (inr (u, u_lt, step, up)) = absurd (omega arith)
   reached (suc n) v lt at less = from (end.search.back v lt (omega arith)) (λ u u_lt is. reached n u u_lt is (omega arith))
     where
-      from : CameBy t on found.level.items found.by.items v → ((u : ℕ) → u < t.count → get_or found.level.items u 0 ≡ n → Reaches (IsResidual (network_of t).arcs on) 0 (2 + u)) → Reaches (IsResidual (network_of t).arcs on) 0 (2 + v)
+      from : CameBy t on found.level.items v → ((u : ℕ) → u < t.count → get_or found.level.items u 0 ≡ n → Reaches (IsResidual (network_of t).arcs on) 0 (2 + u)) → Reaches (IsResidual (network_of t).arcs on) 0 (2 + v)
       from (inl (is, goes)) before = absurd (omega arith)
-      from (inr (u, u_lt, step, up)) before = next (before u u_lt (omega arith)) (_, step)
+      from (inr (u, u_lt, step, up)) before = next (before u u_lt (omega arith)) step
 
   mark_is : (v : ℕ) → v < t.count → get_or (map is_level found.level.items) v false ≡ is_level (get_or found.level.items v 0)
   mark_is v lt = get_or-map is_level found.level.items v 0 false (omega (arith, end.search.sized))

@@ -11,11 +11,9 @@ use Rattle.saga_flow.specs.Residual.{IsOpen}
 use Rattle.saga_closure.specs.CaseNet.{network_of, cap_of}
 use Rattle.saga_closure.specs.Capacities.{AreCapacities, room_at}
 use Rattle.saga_closure.specs.declared.searching.Found.{Found}
-use Rattle.saga_closure.specs.Layers.{none, GoesIn, GoesOut, Goes, IsSearch, IsStart, IsVisit, IsLabelled}
-use Rattle.saga_closure.specs.Links.{arc_over, LetsThrough, AreLinkedUpTo, IsUpTo}
+use Rattle.saga_closure.specs.Layers.{none, GoesIn, GoesOut, Goes, IsSearch, IsStart}
 use Rattle.saga_closure.proofs.ArcCases.{no_need, need_at, each_open, opens_leave, opens_stand}
 use Rattle.saga_closure.proofs.RoomLemmas.{leave_room, stand_room}
-use Rattle.saga_closure.proofs.SearchLemmas.{label_more, label_lower, label_here, label_place, next_more}
 
 module _ (t : Terms) (on : List ℕ) (v w : ℕ) where
   pub goes_in : GoesIn t on v → (v < t.count) × IsWithin (get_or on v 0 + 1) (cap_of (t.leave v))
@@ -68,62 +66,11 @@ out_from_room t caps on v capacities lt some = opens_stand t on v lt ((stand_roo
 pub room_from_out : (t : Terms) (caps on : List ℕ) (v : ℕ) → AreCapacities t caps → GoesOut t on v → 0 < room_at caps on (t.count + v)
 room_from_out t caps on v capacities goes = let is = goes_out t on v 0 goes in (stand_room t caps on v capacities is.0).shut is.1
 
--- what a label does to a visit
-pub record IsVisitMore (t : Terms) (on : List ℕ) (old new : Found) (first end next depth v w : ℕ) : Type 0 where
-  pub visit : IsVisit t on new.level.items new.by.items new.order.items first end next depth v
-  pub lower : (x : ℕ) → get_or new.level.items x 0 ≤ get_or old.level.items x 0
-  pub here : get_or new.level.items w 0 ≡ depth + 1
-
-pub visit_at : (t : Terms) (on level : List ℕ) (by : List ResidualArc) (order : List ℕ) (first end next depth v : ℕ) → IsVisit t on level by order first end next depth v → (v < t.count) × (get_or level v 0 ≡ depth) × (next < length order)
-visit_at t on level by order first end next depth v visit = (
-  rw visit.at at (visit.search.inside next (omega (arith, visit.less, visit.search.bounds))),
-  rw visit.at at (visit.search.here next (omega (arith, visit.search.bounds)) visit.less),
-  omega (arith, visit.less, visit.search.bounds),
-)
-
-pub visit_labelled : (t : Terms) (on : List ℕ) (old new : Found) (first end next depth v w : ℕ) (s : ResidualArc) → IsVisit t on old.level.items old.by.items old.order.items first end next depth v → w < t.count → get_or old.level.items w 0 ≡ none → IsOpen (network_of t).arcs on s (2 + v) (2 + w) → IsLabelled old new w (depth + 1) s → IsVisitMore t on old new first end next depth v w
-visit_labelled t on old new first end next depth v w s visit lt fresh step labelled =
-    let at = visit_at t on old.level.items old.by.items old.order.items first end next depth v visit in
-    record {
-      visit = rw (labelled.level, labelled.by, labelled.order) (record {
-        search = label_more t on old.level.items old.by.items old.order.items first end next depth (depth + 1) visit.search v w s lt fresh at.0 at.1 step;
-        less = visit.less;
-        at = label_place t on old.level.items old.by.items old.order.items first end next depth (depth + 1) visit.search v w s lt fresh at.0 at.1 step next at.2 ∙ visit.at;
-      });
-      lower = rw labelled.level (label_lower t on old.level.items old.by.items old.order.items first end next depth (depth + 1) visit.search v w s lt fresh at.0 at.1 step);
-      here = rw labelled.level (label_here t on old.level.items old.by.items old.order.items first end next depth (depth + 1) visit.search v w s lt fresh at.0 at.1 step);
-    }
-
-pub visit_levels : (t : Terms) (on level : List ℕ) (by : List ResidualArc) (order : List ℕ) (first end next depth v w : ℕ) → IsVisit t on level by order first end next depth v → w < t.count → (get_or level w 0 ≡ none → ⊥) → get_or level w 0 ≤ depth + 1
-visit_levels t on level by order first end next depth v w visit lt old = elim (visit.search.levels w lt) [ inl few ↦ few | inr is ↦ absurd (old is) ]
-
--- one entry more is looked at
-pub seen_more : (t : Terms) (on old new : List ℕ) (forward : Bool) (steps places : List ℕ) (most e : ℕ) → IsUpTo t on old forward steps places most e → ((x : ℕ) → get_or new x 0 ≤ get_or old x 0) → (LetsThrough on (arc_over t.count forward (get_or places e 0)) → get_or new (get_or steps e 0) 0 ≤ most) → IsUpTo t on new forward steps places most (e + 1)
-seen_more t on old new forward steps places most e seen lower now k lt pass = elim (cases_eq k e) [
-  | inl same ↦ rw same (now (rw same at pass))
-  | inr ne ↦ omega (arith, lower (get_or steps k 0), seen k (omega arith) pass)
-]
-
-pub links_lower : (t : Terms) (on old new : List ℕ) (forward : Bool) (v most : ℕ) → AreLinkedUpTo t on old forward v most → ((x : ℕ) → get_or new x 0 ≤ get_or old x 0) → AreLinkedUpTo t on new forward v most
-links_lower t on old new forward v most seen lower k w at pass = omega (arith, lower w, seen k w at pass)
-
--- the whole visit
-pub visit_end : (t : Terms) (on level : List ℕ) (by : List ResidualArc) (order : List ℕ) (first end next depth v : ℕ) → IsVisit t on level by order first end next depth v → AreLinkedUpTo t on level true v (depth + 1) → AreLinkedUpTo t on level false v (depth + 1) → IsSearch t on level by order first end (next + 1) depth (depth + 1)
-visit_end t on level by order first end next depth v visit along back =
-    next_more t on level by order first end next depth (depth + 1) visit.search visit.less (λ w lt goes. each w (goes_by t on (get_or order next 0) w goes))
-  where
-    needed : (k b a : ℕ) → k < length t.needs → (need_at t k).step ≡ b → (need_at t k).on ≡ a → slice_get t.needs k ≡ Some (a_need b a)
-    needed k b a lt from to = slice_get-get_or t.needs k no_need lt ∙ ap Some (rw (← from, ← to) refl)
-
-    each : (w : ℕ) → GoesBy t on (get_or order next 0) w → get_or level w 0 ≤ depth + 1
-    each w (inl (k, lt, from, to)) = along k w (needed k v w lt (from ∙ visit.at) to) (inl refl)
-    each w (inr (k, lt, from, to, some)) = back k w (needed k w v lt to (from ∙ visit.at)) (inr some)
-
 -- the search begins
-pub search_start : (t : Terms) (caps on level : List ℕ) (by : List ResidualArc) (order : List ℕ) → AreCapacities t caps → t.count ≤ 1024 → IsStart (λ v. room_at caps on v) t.count level by order t.count → IsSearch t on level by order 0 (length order) 0 0 0
-search_start t caps on level by order capacities few start = record {
+pub search_start : (t : Terms) (caps on level labelled order : List ℕ) → AreCapacities t caps → t.count ≤ 1024 → IsStart (λ v. room_at caps on v) t.count level labelled order t.count → IsSearch t on level labelled order 0 (length order) 0 0 0
+search_start t caps on level labelled order capacities few start = record {
   sized = start.sized;
-  by_sized = start.by_sized;
+  wide = start.wide;
   few_steps = few;
   bounds = (omega arith, omega arith, omega arith);
   dries = omega arith;
@@ -140,6 +87,7 @@ search_start t caps on level by order capacities few start = record {
   done_here = λ j w le lt w_lt goes. absurd (omega arith);
   dry = λ v lt less goes. absurd (omega arith);
   back = λ v lt less. elim (start.either v lt) [ inl w ↦ inl (w.0, in_from_room t caps on v capacities lt w.1) | inr w ↦ absurd (omega (arith, w.0)) ];
+  marked = start.marked;
 }
 
 pub opened_in : (t : Terms) (caps on : List ℕ) (v : ℕ) → AreCapacities t caps → v < t.count → 0 < room_at caps on v → IsOpen (network_of t).arcs on (record { arc = v; forward = true }) 0 (2 + v)

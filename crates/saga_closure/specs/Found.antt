@@ -1,14 +1,13 @@
 -- What a search knows, and the paths that it gives, over a residual network.
-use Rattle.std.specs.Prelude.{ℕ, List, ◌+◌}
+use Rattle.std.specs.Prelude.{ℕ, List}
 use Rattle.saga_flow.specs.declared.residual_arcs.ResidualArc.{ResidualArc}
 use Rattle.saga_flow.specs.Levels.{Climbs}
 use Rattle.saga_flow.specs.Rounds.{IsTrail}
 use Rattle.saga_closure.specs.declared.nets.Residual.{Residual}
 use Rattle.saga_closure.specs.declared.searching.Found.{Found}
-use Rattle.saga_closure.specs.declared.searching.Layer.{Layer}
 use Rattle.saga_closure.specs.Capacities.{room_at}
 use Rattle.saga_closure.specs.Nets.{terms_in, arcs_in}
-use Rattle.saga_closure.specs.Layers.{IsStart, IsSearch, IsVisit, node_level}
+use Rattle.saga_closure.specs.Layers.{IsStart, node_level}
 
 -- how much more the source can send to a step
 abbrev pub room_in : Residual → ℕ → ℕ
@@ -16,15 +15,7 @@ room_in r = room_at r.net.now.caps.now r.on.now
 
 -- just the steps to which the source can send more are labelled
 abbrev pub IsStarted : Residual → Found → Type 0
-IsStarted r f = IsStart (room_in r) (terms_in r.net.now).count f.level.items f.by.items f.order.items (terms_in r.net.now).count
-
--- of a layer from which nothing more can go to the sink, the steps before this place of the order are done
-abbrev pub IsSearching : Residual → Found → Layer → ℕ → Type 0
-IsSearching r f l next = IsSearch (terms_in r.net.now) r.on.now f.level.items f.by.items f.order.items l.first l.end next l.depth (l.depth + 1)
-
--- and the step that stands at this place is at hand
-abbrev pub IsVisiting : Residual → Found → Layer → ℕ → ℕ → Type 0
-IsVisiting r f l next v = IsVisit (terms_in r.net.now) r.on.now f.level.items f.by.items f.order.items l.first l.end next l.depth v
+IsStarted r f = IsStart (room_in r) (terms_in r.net.now).count f.level.items f.labelled.items f.order.items (terms_in r.net.now).count
 
 -- residual arcs from the source to the sink, each a level up
 abbrev pub IsClimb : Residual → ℕ → List ℕ → List ResidualArc → Type 0

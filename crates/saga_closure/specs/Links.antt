@@ -1,9 +1,12 @@
 -- The residual arcs over the needs of a step, in either direction.
-use Rattle.std.specs.Prelude.{ℕ, Bool, List, length, slice_index, slice_get, Some, IsTrue, if◌then◌else◌, ◌⊎◌, ◌≡◌, ◌<◌, ◌≤◌, ◌+◌}
+use Rattle.std.specs.Prelude.{ℕ, Bool, List, length, slice_index, slice_get, Some, IsTrue, if◌then◌else◌, ◌⊎◌, ◌≡◌, ◌<◌, ◌+◌}
 use Rattle.saga_def.specs.declared.steps.Need.{Need}
 use Rattle.saga_def.specs.Neighbours.{a_need}
 use Rattle.saga_case.specs.Terms.{Terms}
 use Rattle.saga_flow.specs.declared.residual_arcs.ResidualArc.{ResidualArc}
+use Rattle.saga_closure.specs.declared.nets.Residual.{Residual}
+use Rattle.saga_closure.specs.Nets.{terms_in}
+use Rattle.saga_closure.specs.Found.{room_in}
 
 -- the need over which a residual arc goes from one step to another, along the need or back
 abbrev pub need_over : Bool → ℕ → ℕ → Need
@@ -24,12 +27,11 @@ pub record AreLinks (needs : List Need) (count : ℕ) (forward : Bool) (v : ℕ)
   pub each : (e : ℕ) → e < length steps → slice_get needs (slice_index places e) ≡ Some (need_over forward v (slice_index steps e))
   pub all : (k w : ℕ) → slice_get needs k ≡ Some (need_over forward v w) → (e : ℕ) × (e < length steps) × (slice_index steps e ≡ w) × (slice_index places e ≡ k)
 
--- the steps to which they lead have a level of at most this
-abbrev pub AreLinkedUpTo : Terms → List ℕ → List ℕ → Bool → ℕ → ℕ → Type 0
-AreLinkedUpTo t on level forward v most =
-    (k w : ℕ) → slice_get t.needs k ≡ Some (need_over forward v w) → LetsThrough on (arc_over t.count forward k) → slice_index level w ≤ most
+-- a walk may still come from a step to the source: more can go to it, or it has neighbours left
+abbrev pub IsAlive : Residual → List ℕ → List ℕ → ℕ → Type 0
+IsAlive r level left v = ((slice_index level v ≡ 0) × (0 < room_in r v)) ⊎ ((0 < slice_index level v) × (0 < slice_index left v))
 
--- those of the first so many entries have
-abbrev pub IsUpTo : Terms → List ℕ → List ℕ → Bool → List ℕ → List ℕ → ℕ → ℕ → Type 0
-IsUpTo t on level forward steps places most count =
-    (e : ℕ) → e < count → LetsThrough on (arc_over t.count forward (slice_index places e)) → slice_index level (slice_index steps e) ≤ most
+-- no residual arc of a direction leads to a step from one a level lower that is alive
+abbrev pub NoneBefore : Residual → List ℕ → List ℕ → Bool → ℕ → Type 0
+NoneBefore r level left forward v =
+    (k w : ℕ) → slice_get (terms_in r.net.now).needs k ≡ Some (need_over forward w v) → LetsThrough r.on.now (arc_over (terms_in r.net.now).count forward k) → slice_index level v ≡ slice_index level w + 1 → IsAlive r level left w → ⊥

@@ -1,20 +1,28 @@
 //! Chains of needs from a step that cannot be left out to one that cannot stand.
-ghost use Rattle.std.specs.Prelude.{◌≡◌, ◌≢◌, ◌<◌, ◌^◌, ℕ, IfOk, IfNone, IfSome, false, slice_index};
+ghost use Rattle.std.specs.Prelude.{◌≡◌, ◌≢◌, ◌<◌, ◌^◌, ℕ, [], IfOk, IfNone, IfSome, false, slice_index};
 ghost use Rattle.saga_case.specs.Right.{IsRightChain};
 ghost use Rattle.saga_flow.specs.Reached.{HasUnbounded, Reaches};
 ghost use Rattle.saga_closure.specs.Chains.{IsChainTo};
 ghost use Rattle.saga_closure.specs.Layers.{IsAtGoal};
 ghost use Rattle.saga_closure.specs.Nets.{terms_in, arcs_in};
+ghost use Rattle.saga_closure.specs.Rows.{AreRows};
 
 use crate::capacities::{ENDLESS, endless_only};
 use crate::nets::{ClosureNet, Residual};
-use crate::paths::ends;
+use crate::paths::came_by;
+use crate::rows::Rows;
 use crate::searching::{Found, Goal, search};
+use crate::walking::ALL;
 use std::alloc::{AllocError, Global};
 
 /// A chain from a step whose leave price is never to one whose stand price is never; none where no path of unbounded
 /// arcs leads from the source to the sink.
-pub fn unbounded_chain(alloc: Global, net: &ClosureNet) -> Result<Option<Vec<u16>>, AllocError>
+pub fn unbounded_chain(
+    alloc: Global,
+    net: &ClosureNet,
+    rows: &Rows,
+) -> Result<Option<Vec<u16>>, AllocError>
+    requires { AreRows (terms_in net.now) [] rows.now }
     ensures some { IfOk result
         (λ chain. IfSome chain (λ steps. IsRightChain (terms_in net.now) steps.items)) }
     ensures none { IfOk result
@@ -34,7 +42,7 @@ pub fn unbounded_chain(alloc: Global, net: &ClosureNet) -> Result<Option<Vec<u16
         net: &only,
         on: on.as_slice(),
     };
-    let (found, goal) = search(alloc, &residual)?;
+    let (found, goal) = search(alloc, &residual, rows)?;
     match goal {
         None => Ok(None),
         Some(goal) => Ok(Some(chain_to(alloc, &residual, &found, goal)?)),
@@ -70,9 +78,9 @@ fn chain_to(
     let mut chain = Vec::new(alloc);
     let mut v = goal.step;
     chain.push(v)?;
+    let left = vec![in alloc; ALL; residual.net.definition.steps()]?;
     while found.level[v as usize] > 0 {
-        let by = found.by[v as usize];
-        v = ends(residual.net, by).0;
+        v = came_by(residual, found, goal, left.as_slice(), v).from;
         chain.push(v)?;
     }
     chain.reverse();

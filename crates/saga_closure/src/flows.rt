@@ -1,14 +1,16 @@
 //! A greatest flow over a definition's lists.
-ghost use Rattle.std.specs.Prelude.{◌≡◌, IfOk, map};
+ghost use Rattle.std.specs.Prelude.{◌≡◌, [], IfOk, map};
 ghost use Rattle.saga_flow.specs.Network.{IsNetwork};
 ghost use Rattle.saga_flow.specs.Reached.{HasUnbounded, Reaches};
 ghost use Rattle.saga_closure.specs.CaseNet.{network_of};
 ghost use Rattle.saga_closure.specs.Layers.{is_level};
 ghost use Rattle.saga_closure.specs.Nets.{terms_in, arcs_in};
 ghost use Rattle.saga_closure.specs.Largest.{IsLargest};
+ghost use Rattle.saga_closure.specs.Rows.{AreRows};
 
 use crate::nets::{ClosureNet, Residual};
-use crate::phases::run_phase;
+use crate::phases::{run_phase, send_straight};
+use crate::rows::Rows;
 use crate::searching::{NONE, search};
 use saga_flow::Progress;
 use std::alloc::{AllocError, Global};
@@ -30,9 +32,10 @@ pub struct ClosureFlow {
 ///
 /// (The flow is Ford and Fulkerson's, the bound on rounds that of Edmonds and Karp, 1972; paths are found in phases as
 /// Dinic found them, 1970.)
-pub fn largest(alloc: Global, net: &ClosureNet) -> Result<ClosureFlow, AllocError>
+pub fn largest(alloc: Global, net: &ClosureNet, rows: &mut Rows) -> Result<ClosureFlow, AllocError>
     requires network { IsNetwork (network_of (terms_in net.now)) }
     requires apart { Reaches (HasUnbounded (arcs_in net.now)) 0 1 → ⊥ }
+    requires rows { AreRows (terms_in net.now) [] rows.old }
     ensures { IfOk result (IsLargest (terms_in net.now)) }
 {
     let arcs = 2 * net.definition.steps() + net.definition.needs();
@@ -41,14 +44,15 @@ pub fn largest(alloc: Global, net: &ClosureNet) -> Result<ClosureFlow, AllocErro
         value: 0,
         rounds: 0,
     };
+    send_straight(net, &mut progress, rows);
     loop {
         let residual = Residual {
             net: &*net,
             on: progress.on.as_slice(),
         };
-        let (found, goal) = search(alloc, &residual)?;
+        let (found, goal) = search(alloc, &residual, rows)?;
         match goal {
-            Some(goal) => run_phase(alloc, net, &found, goal, &mut progress)?,
+            Some(goal) => run_phase(alloc, net, &found, goal, &mut progress, rows)?,
             None => {
                 let reached = are_labelled(alloc, &found.level)?;
                 let Progress { on, value, rounds } = progress;

@@ -4,6 +4,7 @@
 //! the steps of its last layer, a level lower at each step.
 #![tactic(auto)]
 
+mod bits;
 mod capacities;
 mod chains;
 mod flows;
@@ -13,6 +14,7 @@ mod paths;
 mod phases;
 mod pushes;
 mod rooms;
+mod rows;
 mod searching;
 mod solutions;
 mod solving;

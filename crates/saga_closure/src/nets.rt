@@ -4,6 +4,7 @@
 //! as there are steps; after them come the needs by their places. A step's needs, and the needs on it, are the
 //! definition's own lists.
 ghost use Rattle.std.specs.Prelude.{◌≡◌, ◌≤◌, ◌+◌, ◌^◌, ℕ, length, slice_index};
+ghost use Rattle.saga_def.specs.Order.{IsAcyclic};
 ghost use Rattle.saga_def.specs.Rules.{AreKnown, AreSingle};
 ghost use Rattle.saga_closure.specs.Capacities.{terms_by};
 ghost use Rattle.saga_closure.specs.CaseNet.{network_of};
@@ -19,6 +20,7 @@ pub struct ClosureNet<'a> {
     ghost few: { length definition.now.steps ≤ 1024 },
     ghost known: { AreKnown definition.now.needs (length definition.now.steps) },
     ghost single: { AreSingle definition.now.needs },
+    ghost acyclic: { IsAcyclic definition.now.needs },
     ghost sized: { length caps.now ≡ length definition.now.steps + length definition.now.steps },
     ghost small: { (k : ℕ) → slice_index caps.now k ≤ 2 ^ 63 },
 }

@@ -1,5 +1,6 @@
 //! The path that a search found.
-ghost use Rattle.std.specs.Prelude.{◌≡◌, ◌<◌, ◌≤◌, ◌+◌, ◌*◌, OnOk, length};
+ghost use Rattle.std.specs.Prelude.{◌≡◌, ◌<◌, ◌≤◌, ◌+◌, ◌*◌, ℕ, OnOk, length, slice_index};
+ghost use Rattle.saga_flow.specs.Residual.{IsOpen};
 ghost use Rattle.saga_closure.specs.Layers.{IsAtGoal};
 ghost use Rattle.saga_closure.specs.Found.{IsClimb};
 ghost use Rattle.saga_closure.specs.Nets.{terms_in, arcs_in};
@@ -7,6 +8,7 @@ ghost use Rattle.saga_closure.specs.Paths.{tail_of, head_of};
 
 use crate::nets::{ClosureNet, Residual};
 use crate::searching::{Found, Goal};
+use crate::walking::{ALL, Back, step_before};
 use saga_flow::ResidualArc;
 use std::alloc::AllocError;
 
@@ -25,14 +27,39 @@ pub fn ends(net: &ClosureNet, over: ResidualArc) -> (u16, u16)
     if over.forward { (step, on) } else { (on, step) }
 }
 
-/// The path by which a search came to its goal, and on to the sink.
+/// The residual arc by which a search may have come to a step above the lowest level; all neighbours are left.
+pub fn came_by(residual: &Residual, found: &Found, goal: Goal, left: &[usize], v: u16) -> Back
+    requires at { IsAtGoal (terms_in residual.now.net.now) residual.now.on.now found.now goal }
+    requires left { length left.now ≡ (terms_in residual.now.net.now).count }
+    requires all { (x : ℕ) → x < (terms_in residual.now.net.now).count
+        → 0 < slice_index left.now x }
+    requires inside { v < (terms_in residual.now.net.now).count }
+    requires above { 0 < slice_index found.now.level.items v }
+    requires low { slice_index found.now.level.items v ≤ goal.depth }
+    ensures inside { result.from < (terms_in residual.now.net.now).count }
+    ensures opened { IsOpen (arcs_in residual.now.net.now) residual.now.on.now result.by
+        (2 + result.from) (2 + v) }
+    ensures lower { slice_index found.now.level.items v
+        ≡ slice_index found.now.level.items result.from + 1 }
+{
+    match step_before(residual, &found.level, left, v, ALL) {
+        Some(back) => back,
+        None => unreachable!(),
+    }
+}
+
+/// The path by which a search came to its goal, and on to the sink; all neighbours are left.
 pub fn path_to(
     residual: &Residual,
     found: &Found,
     goal: Goal,
+    left: &[usize],
     path: &mut Vec<ResidualArc>,
 ) -> Result<(), AllocError>
-    requires { IsAtGoal (terms_in residual.now.net.now) residual.now.on.now found.now goal }
+    requires at { IsAtGoal (terms_in residual.now.net.now) residual.now.on.now found.now goal }
+    requires left { length left.now ≡ (terms_in residual.now.net.now).count }
+    requires all { (x : ℕ) → x < (terms_in residual.now.net.now).count
+        → 0 < slice_index left.now x }
     ensures { OnOk result (IsClimb residual.now goal.depth found.now.level.items path.new.items) }
 {
     path.clear();
@@ -43,9 +70,9 @@ pub fn path_to(
     })?;
     let mut v = goal.step;
     while found.level[v as usize] > 0 {
-        let by = found.by[v as usize];
-        path.push(by)?;
-        v = ends(residual.net, by).0;
+        let back = came_by(residual, found, goal, left, v);
+        path.push(back.by)?;
+        v = back.from;
     }
     path.push(ResidualArc {
         arc: v as usize,

@@ -1,20 +1,91 @@
 //! Phases: a search, its path, and further paths of the same length.
-ghost use Rattle.std.specs.Prelude.{◌≡◌, ◌<◌, ◌≤◌, ◌^◌, IfOk, OnOk, length, vec_len, slice_index};
+ghost use Rattle.std.specs.Prelude.{◌≡◌, ◌<◌, ◌≤◌, ◌+◌, ◌^◌, ℕ, All, OnOk, length, vec_len, slice_index};
 ghost use Rattle.saga_flow.specs.Network.{IsNetwork};
 ghost use Rattle.saga_flow.specs.Reached.{HasUnbounded, Reaches};
+ghost use Rattle.saga_flow.specs.Residual.{Carries};
+ghost use Rattle.saga_flow.specs.Pushes.{NoArcTwice};
+ghost use Rattle.saga_flow.specs.Progress.{AddsRound};
 ghost use Rattle.saga_flow.specs.Levels.{IsLevelled};
 ghost use Rattle.saga_closure.specs.CaseNet.{network_of};
 ghost use Rattle.saga_closure.specs.Layers.{IsAtGoal, node_level};
 ghost use Rattle.saga_closure.specs.Nets.{terms_in, arcs_in};
 ghost use Rattle.saga_closure.specs.Largest.{IsOnTheWay};
+ghost use Rattle.saga_closure.specs.Rows.{AreRows};
 
 use crate::nets::{ClosureNet, Residual};
 use crate::paths::path_to;
 use crate::pushes::augment;
+use crate::rooms::room_along;
+use crate::rows::{Rows, put_right};
 use crate::searching::{Found, Goal};
-use crate::walking::{put_back, walk_back};
+use crate::walking::{ALL, put_back, walk_back};
 use saga_flow::{Progress, ResidualArc};
 use std::alloc::{AllocError, Global};
+
+/// One round along a path, after which the rows are right again.
+fn send_along(net: &ClosureNet, path: &[ResidualArc], progress: &mut Progress, rows: &mut Rows)
+    requires sized { length progress.old.on.items ≡ length (arcs_in net.now) }
+    requires carries { All (Carries (arcs_in net.now) progress.old.on.items 1) path.now }
+    requires once { NoArcTwice path.now }
+    requires limit { (k : ℕ) → slice_index progress.old.on.items k ≤ progress.old.value }
+    requires fits { (more : ℕ) → All (Carries (arcs_in net.now) progress.old.on.items more) path.now
+        → progress.old.value + more < 2 ^ 63 }
+    requires few { progress.old.rounds ≤ progress.old.value }
+    requires rows { AreRows (terms_in net.now) progress.old.on.items rows.old }
+    ensures round { AddsRound (arcs_in net.now) path.now progress.old progress.new }
+    ensures rows { AreRows (terms_in net.now) progress.new.on.items rows.new }
+{
+    augment(net, path, progress);
+    put_right(net, path, progress.on.as_slice(), rows);
+}
+
+/// Sends from the source over a step to the sink what goes straight.
+fn send_over(net: &ClosureNet, v: usize, progress: &mut Progress, rows: &mut Rows)
+    requires network { IsNetwork (network_of (terms_in net.now)) }
+    requires apart { Reaches (HasUnbounded (arcs_in net.now)) 0 1 → ⊥ }
+    requires inside { v < (terms_in net.now).count }
+    requires progress { IsOnTheWay (terms_in net.now) progress.old }
+    requires small { progress.old.value < 2 ^ 63 }
+    requires rows { AreRows (terms_in net.now) progress.old.on.items rows.old }
+    ensures progress { IsOnTheWay (terms_in net.now) progress.new }
+    ensures small { progress.new.value < 2 ^ 63 }
+    ensures rows { AreRows (terms_in net.now) progress.new.on.items rows.new }
+{
+    let count = net.definition.steps();
+    let residual = Residual {
+        net: &*net,
+        on: progress.on.as_slice(),
+    };
+    if room_along(&residual, v) > 0 && room_along(&residual, count + v) > 0 {
+        let path = [
+            ResidualArc {
+                arc: v,
+                forward: true,
+            },
+            ResidualArc {
+                arc: count + v,
+                forward: true,
+            },
+        ];
+        send_along(net, &path, progress, rows);
+    }
+}
+
+/// Sends over each step what goes straight to the sink.
+pub fn send_straight(net: &ClosureNet, progress: &mut Progress, rows: &mut Rows)
+    requires network { IsNetwork (network_of (terms_in net.now)) }
+    requires apart { Reaches (HasUnbounded (arcs_in net.now)) 0 1 → ⊥ }
+    requires progress { IsOnTheWay (terms_in net.now) progress.old }
+    requires small { progress.old.value < 2 ^ 63 }
+    requires rows { AreRows (terms_in net.now) progress.old.on.items rows.old }
+    ensures progress { IsOnTheWay (terms_in net.now) progress.new }
+    ensures small { progress.new.value < 2 ^ 63 }
+    ensures rows { AreRows (terms_in net.now) progress.new.on.items rows.new }
+{
+    for v in 0..net.definition.steps() {
+        send_over(net, v, progress, rows);
+    }
+}
 
 /// Sends over a step to the sink, along each path that is found to rise a level at each step, what it carries.
 fn send_to(
@@ -25,6 +96,7 @@ fn send_to(
     left: &mut Vec<usize>,
     path: &mut Vec<ResidualArc>,
     progress: &mut Progress,
+    rows: &mut Rows,
 ) -> Result<(), AllocError>
     requires network { IsNetwork (network_of (terms_in net.now)) }
     requires apart { Reaches (HasUnbounded (arcs_in net.now)) 0 1 → ⊥ }
@@ -36,11 +108,13 @@ fn send_to(
     requires levelled { IsLevelled (arcs_in net.now) progress.old.on.items
         (node_level depth level.now) }
     requires progress { IsOnTheWay (terms_in net.now) progress.old }
+    requires rows { AreRows (terms_in net.now) progress.old.on.items rows.old }
     requires small { progress.old.value < 2 ^ 63 }
     ensures left { OnOk result (vec_len left.new ≡ (terms_in net.now).count) }
     ensures levelled { OnOk result
         (IsLevelled (arcs_in net.now) progress.new.on.items (node_level depth level.now)) }
     ensures progress { OnOk result (IsOnTheWay (terms_in net.now) progress.new) }
+    ensures rows { OnOk result (AreRows (terms_in net.now) progress.new.on.items rows.new) }
     ensures small { OnOk result (progress.new.value < 2 ^ 63) }
     ensures more { OnOk result (progress.old.value ≤ progress.new.value) }
 {
@@ -55,22 +129,10 @@ fn send_to(
         left,
         path,
     )? {
-        augment(net, path.as_slice(), progress);
+        send_along(net, path.as_slice(), progress, rows);
         put_back(net, path.as_slice(), left.as_mut_slice());
     }
     Ok(())
-}
-
-/// How many neighbours each step has.
-fn degrees(alloc: Global, net: &ClosureNet) -> Result<Vec<usize>, AllocError>
-    ensures { IfOk result (λ left. vec_len left ≡ (terms_in net.now).count) }
-{
-    let definition = net.definition;
-    let mut left = Vec::with_capacity(alloc, definition.steps())?;
-    for v in 0..definition.steps() as u16 {
-        left.push(definition.needed_by(v).len() + definition.needs_of(v).len())?;
-    }
-    Ok(left)
 }
 
 /// Sends along the search's path, and along each further path of the same length that is found, what it carries.
@@ -80,12 +142,15 @@ pub fn run_phase(
     found: &Found,
     goal: Goal,
     progress: &mut Progress,
+    rows: &mut Rows,
 ) -> Result<(), AllocError>
     requires network { IsNetwork (network_of (terms_in net.now)) }
     requires apart { Reaches (HasUnbounded (arcs_in net.now)) 0 1 → ⊥ }
     requires at { IsAtGoal (terms_in net.now) progress.old.on.items found.now goal }
     requires progress { IsOnTheWay (terms_in net.now) progress.old }
+    requires rows { AreRows (terms_in net.now) progress.old.on.items rows.old }
     ensures progress { OnOk result (IsOnTheWay (terms_in net.now) progress.new) }
+    ensures rows { OnOk result (AreRows (terms_in net.now) progress.new.on.items rows.new) }
     ensures small { OnOk result (progress.new.value < 2 ^ 63) }
     ensures more { OnOk result (progress.old.value < progress.new.value) }
 {
@@ -94,9 +159,9 @@ pub fn run_phase(
         net: &*net,
         on: progress.on.as_slice(),
     };
-    path_to(&residual, found, goal, &mut path)?;
-    augment(net, path.as_slice(), progress);
-    let mut left = degrees(alloc, net)?;
+    let mut left = vec![in alloc; ALL; net.definition.steps()]?;
+    path_to(&residual, found, goal, left.as_slice(), &mut path)?;
+    send_along(net, path.as_slice(), progress, rows);
     for j in goal.first..found.order.len() {
         let to = found.order[j];
         send_to(
@@ -107,6 +172,7 @@ pub fn run_phase(
             &mut left,
             &mut path,
             progress,
+            rows,
         )?;
     }
     Ok(())

@@ -1,36 +1,37 @@
 //! The search from the source, layer by layer.
-ghost use Rattle.std.specs.Prelude.{◌<◌, ◌≤◌, ◌+◌, ℕ, IfOk, IfSome, IfNone, OnOk, length, slice_index};
+ghost use Rattle.std.specs.Prelude.{◌≡◌, ◌≢◌, ◌<◌, ◌≤◌, ◌+◌, ◌-◌, ◌*◌, ℕ, true, IfOk, IfSome, IfNone, OnOk, length, slice_index};
 ghost use Rattle.saga_closure.specs.Nets.{terms_in};
-ghost use Rattle.saga_closure.specs.Layers.{IsLabelled, IsAtGoal, IsReach};
-ghost use Rattle.saga_closure.specs.Links.{AreLinkedUpTo};
-ghost use Rattle.saga_closure.specs.Found.{IsStarted, IsSearching, IsVisiting};
+ghost use Rattle.saga_closure.specs.Layers.{IsLabelled, AreLabelled, IsAtGoal, IsReach};
+ghost use Rattle.saga_closure.specs.Bits.{holds, holds_bit};
+ghost use Rattle.saga_closure.specs.Found.{IsStarted};
 ghost use Rattle.saga_closure.specs.Outs.{IsOut, AreDry};
+ghost use Rattle.saga_closure.specs.Rows.{AreRows};
 
-use crate::links::{lets_through, links_from};
+use crate::bits::{put, put_bit, without};
 use crate::nets::Residual;
 use crate::rooms::room_along;
-use saga_flow::ResidualArc;
+use crate::rows::{Rows, steps_after};
 use std::alloc::{AllocError, Global};
 
 /// The level of a step that is not reached.
 pub const NONE: u16 = 65535;
 
-/// What a search found: for each step its level and the residual arc by which it was reached, and the steps in order.
+/// What a search found: for each step its level, the set of those that have one, and these in order.
 #[derive(Drop)]
 pub struct Found {
     pub level: Vec<u16>,
-    pub by: Vec<ResidualArc>,
+    pub labelled: Vec<u64>,
     pub order: Vec<u16>,
 }
 
 /// Gives a step a level.
-fn label(found: &mut Found, v: u16, level: u16, by: ResidualArc) -> Result<(), AllocError>
+fn label(found: &mut Found, v: u16, level: u16) -> Result<(), AllocError>
     requires level { v < length found.old.level.items }
-    requires by { v < length found.old.by.items }
-    ensures { OnOk result (IsLabelled found.old found.new v level by) }
+    requires labelled { v < 64 * length found.old.labelled.items }
+    ensures { OnOk result (IsLabelled found.old found.new v level) }
 {
     found.level[v as usize] = level;
-    found.by[v as usize] = by;
+    put(found.labelled.as_mut_slice(), v as usize, true);
     found.order.push(v)?;
     Ok(())
 }
@@ -57,78 +58,67 @@ fn start(alloc: Global, residual: &Residual) -> Result<Found, AllocError>
     ensures { IfOk result (IsStarted residual.now) }
 {
     let count = residual.net.definition.steps();
-    let none = ResidualArc {
-        arc: 0,
-        forward: false,
-    };
     let mut found = Found {
         level: vec![in alloc; NONE; count]?,
-        by: vec![in alloc; none; count]?,
+        labelled: vec![in alloc; 0u64; count.div_ceil(64)]?,
         order: Vec::with_capacity(alloc, count)?,
     };
     for v in 0..count {
         if room_along(residual, v) > 0 {
-            label(&mut found, v as u16, 0, none)?;
+            label(&mut found, v as u16, 0)?;
         }
     }
     Ok(found)
 }
 
-/// The layer at hand: where it begins and ends in the order, and its level.
-#[derive(Clone, Copy)]
-pub struct Layer {
-    pub first: usize,
-    pub end: usize,
-    pub depth: u16,
-}
-
-/// Labels what residual arcs of a direction lead to from a step, over needs.
-fn visit_links(
-    residual: &Residual,
-    layer: Layer,
-    next: usize,
-    v: u16,
-    forward: bool,
-    found: &mut Found,
-) -> Result<(), AllocError>
-    requires visit { IsVisiting residual.now found.old layer next v }
-    ensures visit { OnOk result (IsVisiting residual.now found.new layer next v) }
-    ensures seen { OnOk result
-        (AreLinkedUpTo (terms_in residual.now.net.now) residual.now.on.now found.new.level.items forward
-        v (layer.depth + 1)) }
-    ensures lower { OnOk result
-        ((x : ℕ) → slice_index found.new.level.items x ≤ slice_index found.old.level.items x) }
+/// Labels those steps of a word that have no level; its first bit stands for the step `at`.
+fn label_word(found: &mut Found, at: usize, word: u64, level: u16) -> Result<(), AllocError>
+    requires low { level < 65535 }
+    requires level { (b : ℕ) → b < 64 → holds_bit word b ≡ true
+        → at + b < length found.old.level.items }
+    requires wide { length found.old.level.items ≤ 64 * length found.old.labelled.items }
+    requires few { length found.old.level.items ≤ 1024 }
+    ensures labelled { OnOk result
+        (AreLabelled (λ u. (at ≤ u) × (u < at + 64) × (holds_bit word (u - at) ≡ true))
+        level found.old found.new) }
+    ensures all { OnOk result
+        ((b : ℕ) → b < 64 → holds_bit word b ≡ true
+        → slice_index found.new.level.items (at + b) ≢ 65535) }
 {
-    let definition = residual.net.definition;
-    let links = 2 * definition.steps();
-    let (steps, places) = links_from(definition, v, forward);
-    for e in 0..steps.len() {
-        let u = steps[e];
-        let by = ResidualArc {
-            arc: links + places[e] as usize,
-            forward,
-        };
-        if lets_through(residual, by) && found.level[u as usize] == NONE {
-            label(found, u, layer.depth + 1, by)?;
+    let mut left = word;
+    while left != 0 {
+        let b = left.trailing_zeros() as usize;
+        left = put_bit(left, b, false);
+        let u = (at + b) as u16;
+        if found.level[u as usize] == NONE {
+            label(found, u, level)?;
         }
     }
     Ok(())
 }
 
-/// Labels what residual arcs lead to from the step that stands next.
-fn visit(
-    residual: &Residual,
-    layer: Layer,
-    next: usize,
-    found: &mut Found,
-) -> Result<(), AllocError>
-    requires next { next < layer.end }
-    requires search { IsSearching residual.now found.old layer next }
-    ensures { OnOk result (IsSearching residual.now found.new layer (next + 1)) }
+/// Labels those steps of a set that have no level.
+fn label_all(found: &mut Found, set: &[u64], level: u16) -> Result<(), AllocError>
+    requires low { level < 65535 }
+    requires level { (u : ℕ) → u < 64 * length set.now → holds set.now u ≡ true
+        → u < length found.old.level.items }
+    requires same { length set.now ≡ length found.old.labelled.items }
+    requires narrow { length set.now ≤ 16 }
+    requires wide { length found.old.level.items ≤ 64 * length found.old.labelled.items }
+    requires few { length found.old.level.items ≤ 1024 }
+    requires marked { (u : ℕ) → u < length found.old.level.items
+        → holds found.old.labelled.items u ≡ true
+        → slice_index found.old.level.items u ≢ 65535 }
+    ensures labelled { OnOk result
+        (AreLabelled (λ u. holds set.now u ≡ true) level found.old found.new) }
+    ensures all { OnOk result
+        ((u : ℕ) → u < 64 * length set.now → holds set.now u ≡ true
+        → slice_index found.new.level.items u ≢ 65535) }
 {
-    let v = found.order[next];
-    visit_links(residual, layer, next, v, true, found)?;
-    visit_links(residual, layer, next, v, false, found)?;
+    for place in 0..set.len() {
+        let word = without(set[place], found.labelled[place]);
+        label_word(found, 64 * place, word, level)?;
+    }
     Ok(())
 }
 
@@ -141,7 +131,12 @@ pub struct Goal {
 }
 
 /// Searches from the source, layer by layer, to the first layer from which more can go to the sink.
-pub fn search(alloc: Global, residual: &Residual) -> Result<(Found, Option<Goal>), AllocError>
+pub fn search(
+    alloc: Global,
+    residual: &Residual,
+    rows: &Rows,
+) -> Result<(Found, Option<Goal>), AllocError>
+    requires { AreRows (terms_in residual.now.net.now) residual.now.on.now rows.now }
     ensures goal { IfOk result
         (λ r. IfSome r.1
         (λ g. IsAtGoal (terms_in residual.now.net.now) residual.now.on.now r.0 g)) }
@@ -156,12 +151,10 @@ pub fn search(alloc: Global, residual: &Residual) -> Result<(Found, Option<Goal>
         if let Some(step) = find_goal(residual, &found.order, first) {
             return Ok((found, Some(Goal { first, depth, step })));
         }
-        let layer = Layer { first, end, depth };
-        for next in first..end {
-            visit(residual, layer, next, &mut found)?;
-        }
-        first = end;
+        let next = steps_after(alloc, rows, &found.order, first, end)?;
         depth += 1;
+        label_all(&mut found, &next, depth)?;
+        first = end;
     }
     Ok((found, None))
 }

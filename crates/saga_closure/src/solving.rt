@@ -7,6 +7,7 @@ use crate::capacities::capacities;
 use crate::chains::unbounded_chain;
 use crate::flows::largest;
 use crate::nets::ClosureNet;
+use crate::rows::rows_of;
 use crate::solutions::Solution;
 use saga_case::Case;
 use std::alloc::{AllocError, Global};
@@ -26,8 +27,9 @@ pub fn solve(alloc: Global, case: &Case) -> Result<Solution, AllocError>
         definition: case.definition(),
         caps: caps.as_slice(),
     };
-    if let Some(chain) = unbounded_chain(alloc, &net)? {
+    let mut rows = rows_of(alloc, &net)?;
+    if let Some(chain) = unbounded_chain(alloc, &net, &rows)? {
         return Ok(Solution::Blocked(chain));
     }
-    Ok(Solution::Flow(largest(alloc, &net)?))
+    Ok(Solution::Flow(largest(alloc, &net, &mut rows)?))
 }

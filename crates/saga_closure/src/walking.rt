@@ -1,7 +1,8 @@
 //! Further paths of the same length: a walk back from a step, a level lower at each step.
-ghost use Rattle.std.specs.Prelude.{◌≡◌, ◌<◌, ◌+◌, ◌*◌, true, All, IfOk, IfSome, IsTrue, length, vec_len, slice_index};
+ghost use Rattle.std.specs.Prelude.{Bool, ◌≡◌, ◌<◌, ◌≤◌, ◌+◌, ◌-◌, ◌*◌, ◌^◌, ◌↔◌, All, IfOk, IfNone, IfSome, IsTrue, length, vec_len, slice_index};
 ghost use Rattle.saga_flow.specs.Residual.{IsOpen};
 ghost use Rattle.saga_closure.specs.Found.{IsClimb};
+ghost use Rattle.saga_closure.specs.Links.{IsAlive, NoneBefore};
 ghost use Rattle.saga_closure.specs.Nets.{terms_in, arcs_in};
 
 use crate::links::{lets_through, links_from};
@@ -10,6 +11,9 @@ use crate::paths::ends;
 use crate::rooms::room_along;
 use saga_flow::ResidualArc;
 use std::alloc::AllocError;
+
+/// All neighbours of a step are left to be tried.
+pub const ALL: usize = usize::MAX;
 
 /// A residual arc from a step a level lower, and how many entries are left to be tried.
 #[derive(Clone, Copy)]
@@ -21,7 +25,7 @@ pub struct Back {
 
 /// Whether a level is one lower than another.
 fn is_just_below(level: u16, far: u16) -> bool
-    ensures { result ≡ true → far ≡ level + 1 }
+    ensures { IsTrue result ↔ (far ≡ level + 1) }
 {
     level < far && far - level == 1
 }
@@ -31,6 +35,7 @@ fn is_alive(residual: &Residual, level: &[u16], left: &[usize], v: u16) -> bool
     requires level { length level.now ≡ (terms_in residual.now.net.now).count }
     requires left { length left.now ≡ (terms_in residual.now.net.now).count }
     requires inside { v < (terms_in residual.now.net.now).count }
+    ensures { IsTrue result ↔ IsAlive residual.now level.now left.now v }
 {
     if level[v as usize] == 0 {
         room_along(residual, v as usize) > 0
@@ -58,6 +63,8 @@ fn link_before(
         (λ b. IsOpen (arcs_in residual.now.net.now) residual.now.on.now b.by (2 + b.from) (2 + v)) }
     ensures lower { IfSome result
         (λ b. slice_index level.now v ≡ slice_index level.now b.from + 1) }
+    ensures none { 2 ^ 63 ≤ many
+        → IfNone result (NoneBefore residual.now level.now left.now forward v) }
 {
     let definition = residual.net.definition;
     let links = 2 * definition.steps();
@@ -70,8 +77,8 @@ fn link_before(
             arc: links + places[e] as usize,
             forward,
         };
-        if lets_through(residual, by)
-            && is_just_below(level[u as usize], far)
+        if is_just_below(level[u as usize], far)
+            && lets_through(residual, by)
             && is_alive(residual, level, left, u)
         {
             return Some(Back {
@@ -85,7 +92,7 @@ fn link_before(
 }
 
 /// From one of the last `many` neighbours of `v`: first those that need it, then those that it needs.
-fn step_before(
+pub fn step_before(
     residual: &Residual,
     level: &[u16],
     left: &[usize],
@@ -101,7 +108,12 @@ fn step_before(
         (λ b. IsOpen (arcs_in residual.now.net.now) residual.now.on.now b.by (2 + b.from) (2 + v)) }
     ensures lower { IfSome result
         (λ b. slice_index level.now v ≡ slice_index level.now b.from + 1) }
+    ensures none { 2 ^ 64 - 1 ≤ many → IfNone result
+        ((forward : Bool) → NoneBefore residual.now level.now left.now forward v) }
 {
+    if level[v as usize] == 0 {
+        return None;
+    }
     let needs = residual.net.definition.needs_of(v).len();
     if many > needs {
         if let Some(back) = link_before(residual, level, left, v, many - needs, true) {
@@ -112,7 +124,7 @@ fn step_before(
             });
         }
     }
-    link_before(residual, level, left, v, many.min(needs), false)
+    link_before(residual, level, left, v, many, false)
 }
 
 /// Looks for a path of residual arcs from the source over `goal` to the sink that rises a level with each.

@@ -34,6 +34,7 @@ invariant_of-only c =
       few = net.few;
       known = net.known;
       single = net.single;
+      acyclic = net.acyclic;
       sized = rw is (only_sized net.definition.now net.caps.now [] net.sized net.small (λ k. refl));
       small = rw is (only_small net.definition.now net.caps.now [] net.sized net.small (λ k. refl));
     }

@@ -6,15 +6,27 @@ use Rattle.saga_closure.specs.CaseNet.{network_of}
 use Rattle.saga_closure.specs.Layers.{IsReach, is_level}
 use Rattle.saga_closure.specs.Nets.{terms_in}
 use Rattle.saga_closure.proofs.ArcLemmas.{arcs_sized}
+use Rattle.saga_closure.proofs.ChainLemmas.{zeros_empty}
+use Rattle.saga_closure.proofs.RowLemmas.{empty_rows}
 use Rattle.saga_closure.proofs.ReachLemmas.{largest_is}
 use Rattle.saga_closure.proofs.flows.largest.Goals as goal
+use Rattle.saga_closure.proofs.flows.largest.Goals.{In_ok-vec}
 
-pub loop-progress-init : goal.loop-progress-init
-loop-progress-init c =
-    let t : Terms = terms_in c.args.net.now in
+zeros : (c : In_ok-vec) → (2 * c.steps.result + c.needs.result ≡ length (network_of (terms_in c.args.net.now)).arcs) × (c.in_ok-vec.field-0.items ≡ replicate (2 * c.steps.result + c.needs.result) 0)
+zeros c =
     let is : c.in_ok-vec.field-0.items ≡ replicate (2 * c.steps.result + c.needs.result) 0 = search rules in
-    let many : 2 * c.steps.result + c.needs.result ≡ length (network_of t).arcs = omega (arith, c.steps.ensures.count, c.needs.ensures.count, arcs_sized t) in
-    record { progress = rw (is, many) (progress_start (network_of t).nodes (network_of t).arcs (omega arith)); small = omega arith }
+    (omega (arith, c.steps.ensures.count, c.needs.ensures.count, arcs_sized (terms_in c.args.net.now)), is)
+
+pub send_straight-requires-clause-progress : goal.send_straight-requires-clause-progress
+send_straight-requires-clause-progress c =
+    let t : Terms = terms_in c.args.net.now in
+    let made = zeros (goal.at.send_straight-requires-clause-progress c).In_ok-vec in
+    rw (made.1, made.0) (progress_start (network_of t).nodes (network_of t).arcs (omega arith))
+
+pub send_straight-requires-clause-rows : goal.send_straight-requires-clause-rows
+send_straight-requires-clause-rows c =
+    let made = zeros (goal.at.send_straight-requires-clause-rows c).In_ok-vec in
+    empty_rows (terms_in c.args.net.now) c.in_ok-vec.field-0.items c.args.rows.now.width c.args.rows.now.words.items c.requires.rows (λ k. rw made.1 (zeros_empty (2 * c.steps.result + c.needs.result) _))
 
 pub returns-in-None : goal.returns-in-None
 returns-in-None c =

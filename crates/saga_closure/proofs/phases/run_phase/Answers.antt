@@ -10,42 +10,42 @@ use Rattle.saga_closure.specs.Layers.{node_level}
 use Rattle.saga_closure.specs.Nets.{terms_in, arcs_in}
 use Rattle.saga_closure.proofs.PathLemmas.{levelled, low}
 use Rattle.saga_closure.proofs.phases.run_phase.Goals as goal
-use Rattle.saga_closure.proofs.phases.run_phase.Goals.{After-as_slice-2, After-index-to}
+use Rattle.saga_closure.proofs.phases.run_phase.Goals.{After-as_slice-3, After-index-to}
 
-climb : (c : After-as_slice-2) → IsTrail (Climbs (arcs_in c.args.net.now) c.args.progress.now.on.items (node_level c.args.goal.depth c.args.found.now.level.items)) 0 c.as_slice-2.result.now 1
-climb c = rw c.as_slice-2.ensures.value (rw c.as_slice.ensures.value at c.in_ok-path_to.ensures)
+climb : (c : After-as_slice-3) → IsTrail (Climbs (arcs_in c.args.net.now) c.args.progress.now.on.items (node_level c.args.goal.depth c.args.found.now.level.items)) 0 c.as_slice-3.result.now 1
+climb c = rw c.as_slice-3.ensures.value (rw c.as_slice.ensures.value at c.in_ok-path_to.ensures)
 
-pub path_to-requires : goal.path_to-requires
-path_to-requires c = rw c.as_slice.ensures.value c.requires.at
+pub path_to-requires-clause-at : goal.path_to-requires-clause-at
+path_to-requires-clause-at c = rw c.as_slice.ensures.value c.requires.at
 
-pub augment-requires-clause-carries : goal.augment-requires-clause-carries
-augment-requires-clause-carries c =
+pub send_along-requires-clause-carries : goal.send_along-requires-clause-carries
+send_along-requires-clause-carries c =
     let t : Terms = terms_in c.args.net.now in
-    let up = climb (goal.at.augment-requires-clause-carries c).After-as_slice-2 in
+    let up = climb (goal.at.send_along-requires-clause-carries c).After-as_slice-3 in
     climb_carries (network_of t).nodes _ _ _ _ up
 
-pub augment-requires-clause-once : goal.augment-requires-clause-once
-augment-requires-clause-once c =
+pub send_along-requires-clause-once : goal.send_along-requires-clause-once
+send_along-requires-clause-once c =
     let t : Terms = terms_in c.args.net.now in
-    let up = climb (goal.at.augment-requires-clause-once c).After-as_slice-2 in
+    let up = climb (goal.at.send_along-requires-clause-once c).After-as_slice-3 in
     climb_once (network_of t).nodes _ _ _ _ up
 
-pub augment-requires-clause-fits : goal.augment-requires-clause-fits
-augment-requires-clause-fits c =
+pub send_along-requires-clause-fits : goal.send_along-requires-clause-fits
+send_along-requires-clause-fits c =
     let t : Terms = terms_in c.args.net.now in
-    let up = climb (goal.at.augment-requires-clause-fits c).After-as_slice-2 in
+    let up = climb (goal.at.send_along-requires-clause-fits c).After-as_slice-3 in
     climb_fits (network_of t).nodes _ _ _ _ up _ _ c.requires.network c.requires.apart c.requires.progress
 
 pub loop-j-init : goal.loop-j-init
 loop-j-init c =
     let t : Terms = terms_in c.args.net.now in
-    let up = climb (goal.at.loop-j-init c).After-as_slice-2 in
+    let up = climb (goal.at.loop-j-init c).After-as_slice-3 in
     let found = c.args.found.now in
     let at = c.requires.at in
-    let begun = levelled t c.args.progress.now.on.items found.level.items found.by.items found.order.items c.args.goal.first (length found.order.items) c.args.goal.first c.args.goal.depth c.args.net.now.known at.search in
-    let under = low t c.args.progress.now.on.items found.level.items found.by.items found.order.items c.args.goal.first (length found.order.items) c.args.goal.first c.args.goal.depth c.args.net.now.known at.search in
-    let after = climb_round (network_of t).nodes (network_of t).arcs c.args.progress.now c.augment.new.progress (node_level c.args.goal.depth found.level.items) c.as_slice-2.result.now c.requires.network c.requires.apart c.requires.progress begun under up c.augment.ensures in
-    record { left = c.in_ok-left.ensures; levelled = after.1; progress = after.0; small = after.3; more = after.2 }
+    let begun = levelled t c.args.progress.now.on.items found.level.items found.labelled.items found.order.items c.args.goal.first (length found.order.items) c.args.goal.first c.args.goal.depth c.args.net.now.known at.search in
+    let under = low t c.args.progress.now.on.items found.level.items found.labelled.items found.order.items c.args.goal.first (length found.order.items) c.args.goal.first c.args.goal.depth c.args.net.now.known at.search in
+    let after = climb_round (network_of t).nodes (network_of t).arcs c.args.progress.now c.send_along.new.progress (node_level c.args.goal.depth found.level.items) c.as_slice-3.result.now c.requires.network c.requires.apart c.requires.progress begun under up c.send_along.ensures.round in
+    record { left = omega (arith, c.in_ok-left.ensures.len, c.steps.ensures.count); levelled = after.1; progress = after.0; small = after.3; more = after.2; rows = c.send_along.ensures.rows }
 
 -- the step at hand stands in the layer
 at_hand : (c : After-index-to) → (c.index-to.result.now < (terms_in c.args.net.now).count) × (get_or c.args.found.now.level.items c.index-to.result.now 0 ≡ c.args.goal.depth)

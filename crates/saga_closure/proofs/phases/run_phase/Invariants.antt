@@ -2,6 +2,7 @@ use Rattle.std.proofs.Common.{◌≡◌, ◌<◌, ◌^◌, vec_len}
 use Rattle.saga_flow.specs.Levels.{IsLevelled}
 use Rattle.saga_closure.specs.Layers.{node_level}
 use Rattle.saga_closure.specs.Largest.{IsOnTheWay}
+use Rattle.saga_closure.specs.Rows.{AreRows}
 use Rattle.saga_closure.specs.Nets.{terms_in, arcs_in}
 use Rattle.saga_closure.proofs.phases.run_phase.Given as goal
 
@@ -12,4 +13,5 @@ invariant-loop-j l = record {
   progress : IsOnTheWay (terms_in l.net) l.progress;
   small : l.progress.value < 2 ^ 63;
   more : l.fn.progress.value < l.progress.value;
+  rows : AreRows (terms_in l.net) l.progress.on.items l.rows;
 }

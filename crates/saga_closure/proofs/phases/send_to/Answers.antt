@@ -13,20 +13,20 @@ use Rattle.saga_closure.proofs.phases.send_to.Goals.{After-as_slice-in-loop-path
 climb : (c : After-as_slice-in-loop-path) → IsTrail (Climbs (arcs_in c.args.net.now) c.loop-path.progress.on.items (node_level c.args.depth c.args.level.now)) 0 c.as_slice-in-loop-path.result.now 1
 climb c = rw c.as_slice-in-loop-path.ensures.value (rw c.as_slice.ensures.value at (c.in_ok-walk_back.ensures.found c.if-branch.true))
 
-pub augment-requires-clause-carries : goal.augment-requires-clause-carries
-augment-requires-clause-carries c =
+pub send_along-requires-clause-carries : goal.send_along-requires-clause-carries
+send_along-requires-clause-carries c =
     let t : Terms = terms_in c.args.net.now in
-    climb_carries (network_of t).nodes _ _ _ _ (climb (goal.at.augment-requires-clause-carries c).After-as_slice-in-loop-path)
+    climb_carries (network_of t).nodes _ _ _ _ (climb (goal.at.send_along-requires-clause-carries c).After-as_slice-in-loop-path)
 
-pub augment-requires-clause-once : goal.augment-requires-clause-once
-augment-requires-clause-once c =
+pub send_along-requires-clause-once : goal.send_along-requires-clause-once
+send_along-requires-clause-once c =
     let t : Terms = terms_in c.args.net.now in
-    climb_once (network_of t).nodes _ _ _ _ (climb (goal.at.augment-requires-clause-once c).After-as_slice-in-loop-path)
+    climb_once (network_of t).nodes _ _ _ _ (climb (goal.at.send_along-requires-clause-once c).After-as_slice-in-loop-path)
 
-pub augment-requires-clause-fits : goal.augment-requires-clause-fits
-augment-requires-clause-fits c =
+pub send_along-requires-clause-fits : goal.send_along-requires-clause-fits
+send_along-requires-clause-fits c =
     let t : Terms = terms_in c.args.net.now in
-    climb_fits (network_of t).nodes _ _ _ _ (climb (goal.at.augment-requires-clause-fits c).After-as_slice-in-loop-path) _ _ c.requires.network c.requires.apart c.loop-path.invariant.progress
+    climb_fits (network_of t).nodes _ _ _ _ (climb (goal.at.send_along-requires-clause-fits c).After-as_slice-in-loop-path) _ _ c.requires.network c.requires.apart c.loop-path.invariant.progress
 
 pub put_back-requires-clause-steps : goal.put_back-requires-clause-steps
 put_back-requires-clause-steps c =
@@ -39,5 +39,5 @@ loop-path-preserved c =
     let t : Terms = terms_in c.args.net.now in
     let up = climb (goal.at.loop-path-preserved c).After-as_slice-in-loop-path in
     let low : node_level c.args.depth c.args.level.now 1 ≤ (network_of t).nodes = omega (arith, c.requires.low) in
-    let after = climb_round (network_of t).nodes (network_of t).arcs c.loop-path.progress c.augment.new.progress (node_level c.args.depth c.args.level.now) c.as_slice-in-loop-path.result.now c.requires.network c.requires.apart c.loop-path.invariant.progress c.loop-path.invariant.levelled low up c.augment.ensures in
-    record { left = omega (arith, c.in_ok-walk_back.ensures.left, c.loop-path.invariant.left); levelled = after.1; progress = after.0; small = after.3; more = omega (arith, after.2, c.loop-path.invariant.more) }
+    let after = climb_round (network_of t).nodes (network_of t).arcs c.loop-path.progress c.send_along.new.progress (node_level c.args.depth c.args.level.now) c.as_slice-in-loop-path.result.now c.requires.network c.requires.apart c.loop-path.invariant.progress c.loop-path.invariant.levelled low up c.send_along.ensures.round in
+    record { left = omega (arith, c.in_ok-walk_back.ensures.left, c.loop-path.invariant.left); levelled = after.1; progress = after.0; small = after.3; more = omega (arith, after.2, c.loop-path.invariant.more); rows = c.send_along.ensures.rows }

@@ -2,6 +2,7 @@ use Rattle.std.proofs.Common.{◌≡◌, ◌<◌, ◌≤◌, ◌-◌, ◌^◌, v
 use Rattle.saga_flow.specs.Levels.{IsLevelled}
 use Rattle.saga_closure.specs.Layers.{node_level}
 use Rattle.saga_closure.specs.Largest.{IsOnTheWay}
+use Rattle.saga_closure.specs.Rows.{AreRows}
 use Rattle.saga_closure.specs.Nets.{terms_in, arcs_in}
 use Rattle.saga_closure.proofs.phases.send_to.Given as goal
 
@@ -12,6 +13,7 @@ invariant-loop-path l = record {
   progress : IsOnTheWay (terms_in l.net) l.progress;
   small : l.progress.value < 2 ^ 63;
   more : l.initial.progress.value ≤ l.progress.value;
+  rows : AreRows (terms_in l.net) l.progress.on.items l.rows;
 }
 
 abbrev pub decreases-loop-path : goal.decreases-loop-path

@@ -26,6 +26,7 @@ invariant_of-net c =
       few = rw is sound.few_steps;
       known = rw is sound.known;
       single = rw is sound.single;
+      acyclic = rw is sound.acyclic;
       sized = rw is are.sized;
       small = caps_small (terms_of c.args.case.now) c.as_slice.result.now are;
     }

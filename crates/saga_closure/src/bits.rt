@@ -1,0 +1,42 @@
+//! Sets of numbers, a bit each.
+ghost use Rattle.std.specs.Prelude.{◌≡◌, ◌<◌, ◌≤◌, ◌*◌, false, length};
+ghost use Rattle.saga_closure.specs.Bits.{IsPutBit, IsWithout, IsPut, IsJoined};
+
+/// Sets or clears a bit.
+pub fn put_bit(word: u64, b: usize, on: bool) -> u64
+    requires { b < 64 }
+    ensures put { IsPutBit word b on result }
+    ensures less { on ≡ false → result ≤ word }
+{
+    if on {
+        word | (1u64 << b)
+    } else {
+        word & !(1u64 << b)
+    }
+}
+
+/// The bits of a word that another has not.
+pub fn without(word: u64, less: u64) -> u64
+    ensures { IsWithout word less result }
+{
+    word & !less
+}
+
+/// Puts a number in or takes it out.
+pub fn put(words: &mut [u64], i: usize, on: bool)
+    requires { i < 64 * length words.old }
+    ensures { IsPut words.old i on words.new }
+{
+    let word = put_bit(words[i / 64], i % 64, on);
+    words[i / 64] = word;
+}
+
+/// Puts in each number of another set, which has no more words.
+pub fn add_all(words: &mut [u64], more: &[u64])
+    requires { length more.now ≤ length words.old }
+    ensures { IsJoined words.old more.now words.new }
+{
+    for (place, word) in more.iter().enumerate() {
+        words[place] |= *word;
+    }
+}
