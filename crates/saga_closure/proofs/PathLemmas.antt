@@ -1,13 +1,12 @@
 -- Paths of a search: its levels, and steps one level up.
-use Rattle.std.proofs.Common.{ℕ, ◌≡◌, ◌<◌, ◌≤◌, ◌+◌, ◌*◌, ◌-◌, ◌∙◌, ◌⊎◌, ◌++◌, [], ◌∷◌, Bool, true, false, cond, min, List, length, get_or, ap, sym, subst, refl, arith, inl, inr, reverse, Some}
+use Rattle.std.proofs.Common.{ℕ, ◌≡◌, ◌<◌, ◌≤◌, ◌+◌, ◌*◌, ◌-◌, ◌∙◌, ◌⊎◌, ◌++◌, [], ◌∷◌, Bool, true, false, cond, min, List, length, get_or, set, get_or-set_same, get_or-set_other, ap, sym, subst, refl, arith, inl, inr, reverse, Some}
 use Rattle.std.specs.Prelude.{slice_get}
 use Rattle.std.proofs.lemmas.Bool.{cases_eq, cases_lt, ne_eqb}
 use Rattle.std.proofs.lemmas.Option.{slice_get-get_or}
 use Rattle.saga_def.specs.Neighbours.{a_need}
 use Rattle.saga_closure.specs.declared.nets.Residual.{Residual}
 use Rattle.saga_closure.specs.Nets.{terms_in}
-use Rattle.saga_closure.specs.Links.{IsAlive, NoneBefore}
-use Rattle.saga_closure.proofs.NetLemmas.{own_capacities}
+use Rattle.saga_closure.specs.Links.{IsThinned, NoneBefore}
 use Rattle.std.proofs.lemmas.List.{reverse-append}
 use Rattle.saga_def.specs.Rules.{AreKnown}
 use Rattle.saga_case.specs.Terms.{Terms}
@@ -25,7 +24,7 @@ use Rattle.saga_closure.specs.Layers.{GoesIn, GoesOut, Goes, CameBy, IsSearch, I
 use Rattle.saga_closure.specs.Paths.{tail_of, head_of}
 use Rattle.saga_closure.proofs.ArcCases.{need_at, no_need, each_at, each_open, opens_leave, opens_stand, opens_link, opens_unlink}
 use Rattle.saga_closure.proofs.SearchLemmas.{order_few, depth_few}
-use Rattle.saga_closure.proofs.VisitLemmas.{goes_in, goes_by, GoesBy, room_from_in}
+use Rattle.saga_closure.proofs.VisitLemmas.{goes_in, goes_by, GoesBy}
 
 pub level_at : (depth : ℕ) (level : List ℕ) (v : ℕ) → node_level depth level (2 + v) ≡ min (get_or level v 0) (depth + 1) + 1
 level_at depth level v =
@@ -158,27 +157,34 @@ module _ (t : Terms) (on : List ℕ) (found : Found) (goal : Goal) (v : ℕ) (at
       from (inl (zero_level, goes)) = opens_leave t on v lt (goes_in t on v 0 goes).1
       from (inr (u, u_lt, step, up)) = absurd (omega arith)
 
--- so a step from which nothing alive is a level lower is of the lowest level
-pub none_lowest : (r : Residual) (found : Found) (goal : Goal) (left : List ℕ) (v : ℕ) → IsAtGoal (terms_in r.net.now) r.on.now found goal → ((x : ℕ) → x < (terms_in r.net.now).count → 0 < get_or left x 0) → v < (terms_in r.net.now).count → 0 < get_or found.level.items v 0 → get_or found.level.items v 0 ≤ goal.depth → ((forward : Bool) → NoneBefore r found.level.items left forward v) → ⊥
-none_lowest r found goal left v at all lt some few none_before =
+-- so a step from which nothing is a level lower is of the lowest level
+pub none_lowest : (r : Residual) (found : Found) (goal : Goal) (v : ℕ) → IsAtGoal (terms_in r.net.now) r.on.now found goal → v < (terms_in r.net.now).count → 0 < get_or found.level.items v 0 → get_or found.level.items v 0 ≤ goal.depth → ((forward : Bool) → NoneBefore r (get_or found.level.items v 0) found.level.items forward v) → ⊥
+none_lowest r found goal v at lt some few none_before =
     let came = came_from (terms_in r.net.now) r.on.now found goal v at lt some few in
-    from came.0 came.1 came.3 (goes_by (terms_in r.net.now) r.on.now came.0 v came.2)
+    from came.0 came.3 (goes_by (terms_in r.net.now) r.on.now came.0 v came.2)
   where
-    t : Terms
-    t = terms_in r.net.now
-
     needed : (k b a : ℕ) → k < length (terms_in r.net.now).needs → (need_at (terms_in r.net.now) k).step ≡ b → (need_at (terms_in r.net.now) k).on ≡ a → slice_get (terms_in r.net.now).needs k ≡ Some (a_need b a)
     needed k b a lt from to = slice_get-get_or (terms_in r.net.now).needs k no_need lt ∙ ap Some (rw (← from, ← to) refl)
 
-    alive : (u : ℕ) → u < (terms_in r.net.now).count → get_or found.level.items v 0 ≡ get_or found.level.items u 0 + 1 → IsAlive r found.level.items left u
-    alive u u_lt up = elim (cases_eq (get_or found.level.items u 0) 0) [
-      | inl e ↦ inl (e, room_from_in (terms_in r.net.now) r.net.now.caps.now r.on.now u (own_capacities r.net.now.definition.now r.net.now.caps.now r.net.now.sized r.net.now.small) (record { arc = u; forward = true }, came_in (terms_in r.net.now) r.on.now found goal u at u_lt e))
-      | inr ne ↦ inr (omega (arith, ne), all u u_lt)
-    ]
+    from : (u : ℕ) → get_or found.level.items v 0 ≡ get_or found.level.items u 0 + 1 → GoesBy (terms_in r.net.now) r.on.now u v → ⊥
+    from u up (inl (k, k_lt, a, b)) = none_before true k u (needed k u v k_lt a b) (inl refl) up
+    from u up (inr (k, k_lt, a, b, some)) = none_before false k u (needed k v u k_lt b a) (inr some) up
 
-    from : (u : ℕ) → u < (terms_in r.net.now).count → get_or found.level.items v 0 ≡ get_or found.level.items u 0 + 1 → GoesBy (terms_in r.net.now) r.on.now u v → ⊥
-    from u u_lt up (inl (k, k_lt, a, b)) = none_before true k u (needed k u v k_lt a b) (inl refl) up (alive u u_lt up)
-    from u u_lt up (inr (k, k_lt, a, b, some)) = none_before false k u (needed k v u k_lt b a) (inr some) up (alive u u_lt up)
+-- a level that a walk comes down to is that of the step
+pub thin_lower : (level alive : List ℕ) (v u depth : ℕ) → IsThinned level alive → get_or level v 0 ≡ get_or alive u 0 + 1 → get_or level v 0 ≤ depth → depth ≤ 1024 → get_or level v 0 ≡ get_or level u 0 + 1
+thin_lower level alive v u depth thinned up low few = elim (thinned u) [
+  | inl e ↦ omega (arith, up, e)
+  | inr e ↦ absurd (omega (arith, up, e, low, few))
+]
+
+pub thin_more : (level alive : List ℕ) (v : ℕ) → v < length alive → IsThinned level alive → IsThinned level (set alive v 65535)
+thin_more level alive v lt thinned x = elim (cases_eq x v) [
+  | inl e ↦ inr (rw e (get_or-set_same alive v 65535 0 lt))
+  | inr ne ↦ elim (thinned x) [
+    | inl same ↦ inl (get_or-set_other alive v x 65535 0 ne ∙ same)
+    | inr gone ↦ inr (get_or-set_other alive v x 65535 0 ne ∙ gone)
+  ]
+]
 
 -- where a climbing trail begins is below its end
 pub trail_low : (t : Terms) (on level : List ℕ) (depth h : ℕ) (steps : List ResidualArc) → IsTrail (Climbs (network_of t).arcs on (node_level depth level)) (2 + h) steps 1 → get_or level h 0 ≤ depth

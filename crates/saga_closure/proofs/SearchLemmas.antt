@@ -323,7 +323,7 @@ module _ (at word depth left b left' : ℕ) (old now : Found) (on : IsWordOn at 
         labelled = one_more (at + b) new on.labelled (omega arith, omega (arith, lt), rw e (on.some b lt held)) fresh labelled;
         grown = grown_on old now new on.grown one.0;
         fits = omega (arith, le, on.fits);
-    some = fewer;
+        some = fewer;
         all = λ x x_lt is. elim (cases_eq x b) [
           | inl same ↦ inr (λ unlabelled. omega (arith, few, one.1, rw same at unlabelled))
           | inr ne ↦ elim (on.all x x_lt is) [ inl was ↦ inl (put.others x x_lt ne ∙ was) | inr some ↦ inr (one.0.kept (at + x) some) ]

@@ -6,7 +6,7 @@ use Rattle.saga_case.specs.Terms.{Terms}
 use Rattle.saga_flow.specs.declared.residual_arcs.ResidualArc.{ResidualArc}
 use Rattle.saga_closure.specs.declared.nets.Residual.{Residual}
 use Rattle.saga_closure.specs.Nets.{terms_in}
-use Rattle.saga_closure.specs.Found.{room_in}
+use Rattle.saga_closure.specs.Layers.{none}
 
 -- the need over which a residual arc goes from one step to another, along the need or back
 abbrev pub need_over : Bool → ℕ → ℕ → Need
@@ -27,11 +27,11 @@ pub record AreLinks (needs : List Need) (count : ℕ) (forward : Bool) (v : ℕ)
   pub each : (e : ℕ) → e < length steps → slice_get needs (slice_index places e) ≡ Some (need_over forward v (slice_index steps e))
   pub all : (k w : ℕ) → slice_get needs k ≡ Some (need_over forward v w) → (e : ℕ) × (e < length steps) × (slice_index steps e ≡ w) × (slice_index places e ≡ k)
 
--- a walk may still come from a step to the source: more can go to it, or it has neighbours left
-abbrev pub IsAlive : Residual → List ℕ → List ℕ → ℕ → Type 0
-IsAlive r level left v = ((slice_index level v ≡ 0) × (0 < room_in r v)) ⊎ ((0 < slice_index level v) × (0 < slice_index left v))
+-- each step has its level, or it was given up and has none
+abbrev pub IsThinned : List ℕ → List ℕ → Type 0
+IsThinned level alive = (v : ℕ) → (slice_index alive v ≡ slice_index level v) ⊎ (slice_index alive v ≡ none)
 
--- no residual arc of a direction leads to a step from one a level lower that is alive
-abbrev pub NoneBefore : Residual → List ℕ → List ℕ → Bool → ℕ → Type 0
-NoneBefore r level left forward v =
-    (k w : ℕ) → slice_get (terms_in r.net.now).needs k ≡ Some (need_over forward w v) → LetsThrough r.on.now (arc_over (terms_in r.net.now).count forward k) → slice_index level v ≡ slice_index level w + 1 → IsAlive r level left w → ⊥
+-- no residual arc of a direction leads to a step from one a level below this
+abbrev pub NoneBefore : Residual → ℕ → List ℕ → Bool → ℕ → Type 0
+NoneBefore r far level forward v =
+    (k w : ℕ) → slice_get (terms_in r.net.now).needs k ≡ Some (need_over forward w v) → LetsThrough r.on.now (arc_over (terms_in r.net.now).count forward k) → far ≡ slice_index level w + 1 → ⊥

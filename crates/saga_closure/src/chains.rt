@@ -12,7 +12,6 @@ use crate::nets::{ClosureNet, Residual};
 use crate::paths::came_by;
 use crate::rows::Rows;
 use crate::searching::{Found, Goal, search};
-use crate::walking::ALL;
 use std::alloc::{AllocError, Global};
 
 /// A chain from a step whose leave price is never to one whose stand price is never; none where no path of unbounded
@@ -78,9 +77,8 @@ fn chain_to(
     let mut chain = Vec::new(alloc);
     let mut v = goal.step;
     chain.push(v)?;
-    let left = vec![in alloc; ALL; residual.net.definition.steps()]?;
     while found.level[v as usize] > 0 {
-        v = came_by(residual, found, goal, left.as_slice(), v).from;
+        v = came_by(residual, found, goal, v).from;
         chain.push(v)?;
     }
     chain.reverse();

@@ -1,5 +1,5 @@
 //! The path that a search found.
-ghost use Rattle.std.specs.Prelude.{◌≡◌, ◌<◌, ◌≤◌, ◌+◌, ◌*◌, ℕ, OnOk, length, slice_index};
+ghost use Rattle.std.specs.Prelude.{◌≡◌, ◌<◌, ◌≤◌, ◌+◌, ◌*◌, OnOk, length, slice_index};
 ghost use Rattle.saga_flow.specs.Residual.{IsOpen};
 ghost use Rattle.saga_closure.specs.Layers.{IsAtGoal};
 ghost use Rattle.saga_closure.specs.Found.{IsClimb};
@@ -27,12 +27,9 @@ pub fn ends(net: &ClosureNet, over: ResidualArc) -> (u16, u16)
     if over.forward { (step, on) } else { (on, step) }
 }
 
-/// The residual arc by which a search may have come to a step above the lowest level; all neighbours are left.
-pub fn came_by(residual: &Residual, found: &Found, goal: Goal, left: &[usize], v: u16) -> Back
+/// The residual arc by which a search may have come to a step above the lowest level.
+pub fn came_by(residual: &Residual, found: &Found, goal: Goal, v: u16) -> Back
     requires at { IsAtGoal (terms_in residual.now.net.now) residual.now.on.now found.now goal }
-    requires left { length left.now ≡ (terms_in residual.now.net.now).count }
-    requires all { (x : ℕ) → x < (terms_in residual.now.net.now).count
-        → 0 < slice_index left.now x }
     requires inside { v < (terms_in residual.now.net.now).count }
     requires above { 0 < slice_index found.now.level.items v }
     requires low { slice_index found.now.level.items v ≤ goal.depth }
@@ -42,24 +39,20 @@ pub fn came_by(residual: &Residual, found: &Found, goal: Goal, left: &[usize], v
     ensures lower { slice_index found.now.level.items v
         ≡ slice_index found.now.level.items result.from + 1 }
 {
-    match step_before(residual, &found.level, left, v, ALL) {
+    match step_before(residual, found.level[v as usize], &found.level, v, ALL) {
         Some(back) => back,
         None => unreachable!(),
     }
 }
 
-/// The path by which a search came to its goal, and on to the sink; all neighbours are left.
+/// The path by which a search came to its goal, and on to the sink.
 pub fn path_to(
     residual: &Residual,
     found: &Found,
     goal: Goal,
-    left: &[usize],
     path: &mut Vec<ResidualArc>,
 ) -> Result<(), AllocError>
-    requires at { IsAtGoal (terms_in residual.now.net.now) residual.now.on.now found.now goal }
-    requires left { length left.now ≡ (terms_in residual.now.net.now).count }
-    requires all { (x : ℕ) → x < (terms_in residual.now.net.now).count
-        → 0 < slice_index left.now x }
+    requires { IsAtGoal (terms_in residual.now.net.now) residual.now.on.now found.now goal }
     ensures { OnOk result (IsClimb residual.now goal.depth found.now.level.items path.new.items) }
 {
     path.clear();
@@ -70,7 +63,7 @@ pub fn path_to(
     })?;
     let mut v = goal.step;
     while found.level[v as usize] > 0 {
-        let back = came_by(residual, found, goal, left, v);
+        let back = came_by(residual, found, goal, v);
         path.push(back.by)?;
         v = back.from;
     }

@@ -10,6 +10,7 @@ ghost use Rattle.saga_closure.specs.CaseNet.{network_of};
 ghost use Rattle.saga_closure.specs.Layers.{IsAtGoal, node_level};
 ghost use Rattle.saga_closure.specs.Nets.{terms_in, arcs_in};
 ghost use Rattle.saga_closure.specs.Largest.{IsOnTheWay};
+ghost use Rattle.saga_closure.specs.Links.{IsThinned};
 ghost use Rattle.saga_closure.specs.Rows.{AreRows};
 
 use crate::nets::{ClosureNet, Residual};
@@ -93,6 +94,7 @@ fn send_to(
     level: &[u16],
     depth: u16,
     goal: u16,
+    alive: &mut Vec<u16>,
     left: &mut Vec<usize>,
     path: &mut Vec<ResidualArc>,
     progress: &mut Progress,
@@ -104,12 +106,16 @@ fn send_to(
     requires goal { goal < (terms_in net.now).count }
     requires last { slice_index level.now goal ≡ depth }
     requires low { depth ≤ (terms_in net.now).count }
+    requires alive { vec_len alive.old ≡ (terms_in net.now).count }
+    requires thinned { IsThinned level.now alive.old.items }
     requires left { vec_len left.old ≡ (terms_in net.now).count }
     requires levelled { IsLevelled (arcs_in net.now) progress.old.on.items
         (node_level depth level.now) }
     requires progress { IsOnTheWay (terms_in net.now) progress.old }
     requires rows { AreRows (terms_in net.now) progress.old.on.items rows.old }
     requires small { progress.old.value < 2 ^ 63 }
+    ensures alive { OnOk result (vec_len alive.new ≡ (terms_in net.now).count) }
+    ensures thinned { OnOk result (IsThinned level.now alive.new.items) }
     ensures left { OnOk result (vec_len left.new ≡ (terms_in net.now).count) }
     ensures levelled { OnOk result
         (IsLevelled (arcs_in net.now) progress.new.on.items (node_level depth level.now)) }
@@ -126,6 +132,7 @@ fn send_to(
         level,
         depth,
         goal,
+        alive,
         left,
         path,
     )? {
@@ -159,9 +166,10 @@ pub fn run_phase(
         net: &*net,
         on: progress.on.as_slice(),
     };
-    let mut left = vec![in alloc; ALL; net.definition.steps()]?;
-    path_to(&residual, found, goal, left.as_slice(), &mut path)?;
+    path_to(&residual, found, goal, &mut path)?;
     send_along(net, path.as_slice(), progress, rows);
+    let mut alive = found.level.to_vec(alloc)?;
+    let mut left = vec![in alloc; ALL; net.definition.steps()]?;
     for j in goal.first..found.order.len() {
         let to = found.order[j];
         send_to(
@@ -169,6 +177,7 @@ pub fn run_phase(
             &found.level,
             goal.depth,
             to,
+            &mut alive,
             &mut left,
             &mut path,
             progress,

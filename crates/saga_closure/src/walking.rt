@@ -1,14 +1,15 @@
 //! Further paths of the same length: a walk back from a step, a level lower at each step.
-ghost use Rattle.std.specs.Prelude.{Bool, ◌≡◌, ◌<◌, ◌≤◌, ◌+◌, ◌-◌, ◌*◌, ◌^◌, ◌↔◌, All, IfOk, IfNone, IfSome, IsTrue, length, vec_len, slice_index};
+ghost use Rattle.std.specs.Prelude.{Bool, ◌≡◌, ◌<◌, ◌≤◌, ◌+◌, ◌-◌, ◌*◌, ◌^◌, ◌↔◌, All, IfOk, IfNone, IfSome, IsTrue, length, vec_len, slice_index, slice_set};
 ghost use Rattle.saga_flow.specs.Residual.{IsOpen};
 ghost use Rattle.saga_closure.specs.Found.{IsClimb};
-ghost use Rattle.saga_closure.specs.Links.{IsAlive, NoneBefore};
+ghost use Rattle.saga_closure.specs.Links.{IsThinned, NoneBefore};
 ghost use Rattle.saga_closure.specs.Nets.{terms_in, arcs_in};
 
 use crate::links::{lets_through, links_from};
 use crate::nets::{ClosureNet, Residual};
 use crate::paths::ends;
 use crate::rooms::room_along;
+use crate::searching::NONE;
 use saga_flow::ResidualArc;
 use std::alloc::AllocError;
 
@@ -30,46 +31,39 @@ fn is_just_below(level: u16, far: u16) -> bool
     level < far && far - level == 1
 }
 
-/// Whether a walk may still come from a step to the source: one to which the source can send more, or one with entries left.
-fn is_alive(residual: &Residual, level: &[u16], left: &[usize], v: u16) -> bool
-    requires level { length level.now ≡ (terms_in residual.now.net.now).count }
-    requires left { length left.now ≡ (terms_in residual.now.net.now).count }
-    requires inside { v < (terms_in residual.now.net.now).count }
-    ensures { IsTrue result ↔ IsAlive residual.now level.now left.now v }
+/// A step through which no walk comes any more has no level among those `alive`.
+fn give_up(alive: &mut Vec<u16>, v: u16)
+    requires { v < vec_len alive.old }
+    ensures items { alive.new.items ≡ slice_set alive.old.items v 65535 }
+    ensures len { vec_len alive.new ≡ vec_len alive.old }
 {
-    if level[v as usize] == 0 {
-        room_along(residual, v as usize) > 0
-    } else {
-        left[v as usize] > 0
-    }
+    alive[v as usize] = NONE;
 }
 
-/// From one of the last `many` steps from which a residual arc of a direction may lead to `v`: `forward` one that needs it,
-/// else one that it needs.
+/// From one of the last `many` steps from which a residual arc of a direction may lead to `v`, of those a level below `far`:
+/// `forward` one that needs it, else one that it needs.
 fn link_before(
     residual: &Residual,
-    level: &[u16],
-    left: &[usize],
+    far: u16,
+    alive: &[u16],
     v: u16,
     many: usize,
     forward: bool,
 ) -> Option<Back>
-    requires level { length level.now ≡ (terms_in residual.now.net.now).count }
-    requires left { length left.now ≡ (terms_in residual.now.net.now).count }
+    requires alive { length alive.now ≡ (terms_in residual.now.net.now).count }
     requires inside { v < (terms_in residual.now.net.now).count }
     ensures before { IfSome result (λ b. b.left < many) }
     ensures inside { IfSome result (λ b. b.from < (terms_in residual.now.net.now).count) }
     ensures opened { IfSome result
         (λ b. IsOpen (arcs_in residual.now.net.now) residual.now.on.now b.by (2 + b.from) (2 + v)) }
     ensures lower { IfSome result
-        (λ b. slice_index level.now v ≡ slice_index level.now b.from + 1) }
+        (λ b. far ≡ slice_index alive.now b.from + 1) }
     ensures none { 2 ^ 63 ≤ many
-        → IfNone result (NoneBefore residual.now level.now left.now forward v) }
+        → IfNone result (NoneBefore residual.now far alive.now forward v) }
 {
     let definition = residual.net.definition;
     let links = 2 * definition.steps();
     let (steps, places) = links_from(definition, v, !forward);
-    let far = level[v as usize];
     let many = many.min(steps.len());
     for e in steps.len() - many..steps.len() {
         let u = steps[e];
@@ -77,10 +71,7 @@ fn link_before(
             arc: links + places[e] as usize,
             forward,
         };
-        if is_just_below(level[u as usize], far)
-            && lets_through(residual, by)
-            && is_alive(residual, level, left, u)
-        {
+        if is_just_below(alive[u as usize], far) && lets_through(residual, by) {
             return Some(Back {
                 left: steps.len() - e - 1,
                 from: u,
@@ -91,32 +82,31 @@ fn link_before(
     None
 }
 
-/// From one of the last `many` neighbours of `v`: first those that need it, then those that it needs.
+/// From one of the last `many` neighbours of `v` that are a level below `far`: first those that need it, then those that it needs.
 pub fn step_before(
     residual: &Residual,
-    level: &[u16],
-    left: &[usize],
+    far: u16,
+    alive: &[u16],
     v: u16,
     many: usize,
 ) -> Option<Back>
-    requires level { length level.now ≡ (terms_in residual.now.net.now).count }
-    requires left { length left.now ≡ (terms_in residual.now.net.now).count }
+    requires alive { length alive.now ≡ (terms_in residual.now.net.now).count }
     requires inside { v < (terms_in residual.now.net.now).count }
     ensures before { IfSome result (λ b. b.left < many) }
     ensures inside { IfSome result (λ b. b.from < (terms_in residual.now.net.now).count) }
     ensures opened { IfSome result
         (λ b. IsOpen (arcs_in residual.now.net.now) residual.now.on.now b.by (2 + b.from) (2 + v)) }
     ensures lower { IfSome result
-        (λ b. slice_index level.now v ≡ slice_index level.now b.from + 1) }
+        (λ b. far ≡ slice_index alive.now b.from + 1) }
     ensures none { 2 ^ 64 - 1 ≤ many → IfNone result
-        ((forward : Bool) → NoneBefore residual.now level.now left.now forward v) }
+        ((forward : Bool) → NoneBefore residual.now far alive.now forward v) }
 {
-    if level[v as usize] == 0 {
+    if far == 0 {
         return None;
     }
     let needs = residual.net.definition.needs_of(v).len();
     if many > needs {
-        if let Some(back) = link_before(residual, level, left, v, many - needs, true) {
+        if let Some(back) = link_before(residual, far, alive, v, many - needs, true) {
             return Some(Back {
                 left: back.left + needs,
                 from: back.from,
@@ -124,24 +114,31 @@ pub fn step_before(
             });
         }
     }
-    link_before(residual, level, left, v, many, false)
+    link_before(residual, far, alive, v, many, false)
 }
 
 /// Looks for a path of residual arcs from the source over `goal` to the sink that rises a level with each.
 ///
-/// `left` has for each step how many of its neighbours are still to be tried, and `path` is written over.
+/// `alive` has the levels of the steps through which walks may still come, `left` for each step how many of its neighbours are
+/// still to be tried, and `path` is written over.
 pub fn walk_back(
     residual: &Residual,
     level: &[u16],
     depth: u16,
     goal: u16,
+    alive: &mut Vec<u16>,
     left: &mut Vec<usize>,
     path: &mut Vec<ResidualArc>,
 ) -> Result<bool, AllocError>
     requires level { length level.now ≡ (terms_in residual.now.net.now).count }
     requires goal { goal < (terms_in residual.now.net.now).count }
     requires last { slice_index level.now goal ≡ depth }
+    requires low { depth ≤ (terms_in residual.now.net.now).count }
+    requires alive { vec_len alive.old ≡ (terms_in residual.now.net.now).count }
+    requires thinned { IsThinned level.now alive.old.items }
     requires left { vec_len left.old ≡ (terms_in residual.now.net.now).count }
+    ensures alive { vec_len alive.new ≡ vec_len alive.old }
+    ensures thinned { IsThinned level.now alive.new.items }
     ensures left { vec_len left.new ≡ vec_len left.old }
     ensures found { IfOk result
         (λ found. IsTrue found → IsClimb residual.now depth level.now path.new.items) }
@@ -157,14 +154,20 @@ pub fn walk_back(
     })?;
     let mut v = goal;
     while level[v as usize] > 0 || room_along(residual, v as usize) == 0 {
-        match step_before(residual, level, left.as_slice(), v, left[v as usize]) {
+        match step_before(
+            residual,
+            level[v as usize],
+            alive.as_slice(),
+            v,
+            left[v as usize],
+        ) {
             Some(back) => {
                 left[v as usize] = back.left;
                 path.push(back.by)?;
                 v = back.from;
             }
             None => {
-                left[v as usize] = 0;
+                give_up(alive, v);
                 match path.pop() {
                     None => return Ok(false),
                     Some(over) => {

@@ -40,4 +40,4 @@ loop-path-preserved c =
     let up = climb (goal.at.loop-path-preserved c).After-as_slice-in-loop-path in
     let low : node_level c.args.depth c.args.level.now 1 ≤ (network_of t).nodes = omega (arith, c.requires.low) in
     let after = climb_round (network_of t).nodes (network_of t).arcs c.loop-path.progress c.send_along.new.progress (node_level c.args.depth c.args.level.now) c.as_slice-in-loop-path.result.now c.requires.network c.requires.apart c.loop-path.invariant.progress c.loop-path.invariant.levelled low up c.send_along.ensures.round in
-    record { left = omega (arith, c.in_ok-walk_back.ensures.left, c.loop-path.invariant.left); levelled = after.1; progress = after.0; small = after.3; more = omega (arith, after.2, c.loop-path.invariant.more); rows = c.send_along.ensures.rows }
+    record { alive = omega (arith, c.in_ok-walk_back.ensures.alive, c.loop-path.invariant.alive); thinned = c.in_ok-walk_back.ensures.thinned; left = omega (arith, c.in_ok-walk_back.ensures.left, c.loop-path.invariant.left); levelled = after.1; progress = after.0; small = after.3; more = omega (arith, after.2, c.loop-path.invariant.more); rows = c.send_along.ensures.rows }

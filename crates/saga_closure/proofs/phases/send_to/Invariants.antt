@@ -2,12 +2,15 @@ use Rattle.std.proofs.Common.{◌≡◌, ◌<◌, ◌≤◌, ◌-◌, ◌^◌, v
 use Rattle.saga_flow.specs.Levels.{IsLevelled}
 use Rattle.saga_closure.specs.Layers.{node_level}
 use Rattle.saga_closure.specs.Largest.{IsOnTheWay}
+use Rattle.saga_closure.specs.Links.{IsThinned}
 use Rattle.saga_closure.specs.Rows.{AreRows}
 use Rattle.saga_closure.specs.Nets.{terms_in, arcs_in}
 use Rattle.saga_closure.proofs.phases.send_to.Given as goal
 
 abbrev pub invariant-loop-path : goal.invariant-loop-path
 invariant-loop-path l = record {
+  alive : vec_len l.alive ≡ (terms_in l.net).count;
+  thinned : IsThinned l.level l.alive.items;
   left : vec_len l.left ≡ (terms_in l.net).count;
   levelled : IsLevelled (arcs_in l.net) l.progress.on.items (node_level l.fn.depth l.level);
   progress : IsOnTheWay (terms_in l.net) l.progress;

@@ -1,11 +1,11 @@
 -- Each step of the walk leads from one a level lower, and what is taken off leads back to where the walk came from.
-use Rattle.std.proofs.Common.{ℕ, ◌≡◌, ◌+◌, true, List, length, get_or, arith}
+use Rattle.std.proofs.Common.{ℕ, ◌≡◌, ◌≤◌, ◌+◌, true, List, length, get_or, arith}
 use Rattle.saga_case.specs.Terms.{Terms}
 use Rattle.saga_flow.specs.Levels.{Climbs}
 use Rattle.saga_closure.specs.Layers.{node_level}
 use Rattle.saga_closure.specs.Nets.{terms_in, arcs_in}
 use Rattle.saga_closure.proofs.NetLemmas.{own_capacities}
-use Rattle.saga_closure.proofs.PathLemmas.{climbs, climbs_in, climbs_out, trail_one, trail_front, trail_pop}
+use Rattle.saga_closure.proofs.PathLemmas.{climbs, climbs_in, climbs_out, trail_one, trail_front, trail_pop, thin_lower, thin_more}
 use Rattle.saga_closure.proofs.VisitLemmas.{out_from_room, opened_in}
 use Rattle.saga_closure.proofs.walking.walk_back.Goals as goal
 
@@ -20,6 +20,8 @@ loop-v-init c =
     record {
       inside = c.requires.goal;
       low = omega (arith, c.requires.last);
+      alive = c.requires.alive;
+      thinned = c.requires.thinned;
       left = c.requires.left;
       trail = rw (c.in_ok-push.ensures.items, many) (trail_one (Climbs (arcs_in net) on (node_level c.args.depth level)) c.clear.new.self.items (record { arc = t.count + c.args.goal; forward = true }) (2 + c.args.goal) 1 c.clear.ensures.items
           (climbs_out t c.args.residual.now.on.now level c.args.depth c.args.goal (record { arc = t.count + c.args.goal; forward = true })
@@ -32,10 +34,14 @@ loop-v-preserved-in-Some c =
     let on : List ℕ = c.args.residual.now.on.now in
     let t : Terms = terms_in net in
     let level : List ℕ = c.args.level.now in
-    let one = climbs t c.args.residual.now.on.now level c.args.depth c.in-Some.back.from c.loop-v.v c.in-Some.back.by c.in-Some.ensures.opened c.in-Some.ensures.lower c.loop-v.invariant.low in
+    let few : c.args.depth ≤ 1024 = omega (arith, c.requires.low, net.few) in
+    let lower = thin_lower level c.loop-v.alive.items c.loop-v.v c.in-Some.back.from c.args.depth c.loop-v.invariant.thinned (rw c.as_slice.ensures.value at c.in-Some.ensures.lower) c.loop-v.invariant.low few in
+    let one = climbs t c.args.residual.now.on.now level c.args.depth c.in-Some.back.from c.loop-v.v c.in-Some.back.by c.in-Some.ensures.opened lower c.loop-v.invariant.low in
     record {
       inside = c.in-Some.ensures.inside;
-      low = omega (arith, c.in-Some.ensures.lower, c.loop-v.invariant.low);
+      low = omega (arith, lower, c.loop-v.invariant.low);
+      alive = c.loop-v.invariant.alive;
+      thinned = c.loop-v.invariant.thinned;
       left = c.loop-v.invariant.left;
       trail = rw c.in_ok-push-in-Some.ensures.items (trail_front (Climbs (arcs_in net) on (node_level c.args.depth level)) c.loop-v.path.items c.in-Some.back.by (2 + c.in-Some.back.from) (2 + c.loop-v.v) 1 one c.loop-v.invariant.trail);
     }
@@ -53,6 +59,8 @@ loop-v-preserved c =
     record {
       inside = c.ends-v.ensures.head_inside;
       low = rw c.ends-v.ensures.head popped.1;
+      alive = omega (arith, c.give_up.ensures.len, c.loop-v.invariant.alive);
+      thinned = rw c.give_up.ensures.items (thin_more c.args.level.now c.loop-v.alive.items c.loop-v.v (omega (arith, c.loop-v.invariant.inside, c.loop-v.invariant.alive, c.loop-v.alive.ok.0)) c.loop-v.invariant.thinned);
       left = c.loop-v.invariant.left;
       trail = rw c.ends-v.ensures.head popped.2;
     }
