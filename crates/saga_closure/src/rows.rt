@@ -55,27 +55,21 @@ fn row_of(rows: &Rows, v: u16) -> &[u64]
     &rows.words[first..first + rows.width]
 }
 
-/// The steps to which residual arcs lead from the listed ones between two places.
-pub fn steps_after(
-    alloc: Global,
-    rows: &Rows,
-    order: &[u16],
-    first: usize,
-    end: usize,
-) -> Result<Vec<u64>, AllocError>
+/// The steps to which residual arcs lead from the listed ones between two places; `set` is written over.
+pub fn steps_after(rows: &Rows, order: &[u16], first: usize, end: usize, set: &mut [u64])
     requires first { first ≤ end }
     requires end { end ≤ length order.now }
     requires few { length rows.now.words.items ≤ 16384 }
     requires rows { (j : ℕ) → j < length order.now
         → slice_index order.now j * rows.now.width + rows.now.width
         ≤ length rows.now.words.items }
-    ensures { IfOk result (λ set. IsUnion rows.now order.now first end set.items) }
+    requires sized { length set.old ≡ rows.now.width }
+    ensures { IsUnion rows.now order.now first end set.new }
 {
-    let mut set = vec![in alloc; 0u64; rows.width]?;
+    set.fill(0);
     for j in first..end {
-        add_all(set.as_mut_slice(), row_of(rows, order[j]));
+        add_all(set, row_of(rows, order[j]));
     }
-    Ok(set)
 }
 
 /// Puts the bits right of the needs over which a path went.

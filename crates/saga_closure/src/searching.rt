@@ -144,6 +144,7 @@ pub fn search(
         (λ r. IfNone r.1 (IsReach (terms_in residual.now.net.now) residual.now.on.now r.0)) }
 {
     let mut found = start(alloc, residual)?;
+    let mut next = vec![in alloc; 0u64; rows.width]?;
     let mut first = 0;
     let mut depth = 0;
     while first < found.order.len() {
@@ -151,7 +152,7 @@ pub fn search(
         if let Some(step) = find_goal(residual, &found.order, first) {
             return Ok((found, Some(Goal { first, depth, step })));
         }
-        let next = steps_after(alloc, rows, &found.order, first, end)?;
+        steps_after(rows, &found.order, first, end, &mut next);
         depth += 1;
         label_all(&mut found, &next, depth)?;
         first = end;
