@@ -1,5 +1,5 @@
 -- Paths of a search: its levels, and steps one level up.
-use Rattle.std.proofs.Common.{ℕ, ◌≡◌, ◌<◌, ◌≤◌, ◌+◌, ◌*◌, ◌-◌, ◌∙◌, ◌⊎◌, ◌++◌, [], ◌∷◌, Bool, true, false, cond, min, List, length, get_or, set, get_or-set_same, get_or-set_other, ap, sym, subst, refl, arith, inl, inr, reverse, Some}
+use Rattle.std.proofs.Common.{ℕ, ◌≡◌, ◌<◌, ◌≤◌, ◌+◌, ◌*◌, ◌-◌, ◌∙◌, ◌⊎◌, ◌++◌, [], ◌∷◌, Bool, true, false, cond, min, List, length, get_or, set, get_or-set_same, get_or-set_other, ap, sym, refl, arith, inl, inr, reverse, Some}
 use Rattle.std.specs.Prelude.{slice_get}
 use Rattle.std.proofs.lemmas.Bool.{cases_eq, cases_lt, ne_eqb}
 use Rattle.std.proofs.lemmas.Option.{slice_get-get_or}

@@ -1,10 +1,10 @@
 -- Rows of bits: what they hold, and a need put right.
-use Rattle.std.proofs.Common.{ℕ, ◌≡◌, ◌≢◌, ◌<◌, ◌≤◌, ◌+◌, ◌*◌, ◌∙◌, ◌⊎◌, [], ◌∷◌, Bool, true, false, zero, suc, List, Some, length, get_or, replicate, ap, sym, subst, refl, arith, inl, inr}
+use Rattle.std.proofs.Common.{ℕ, ◌≡◌, ◌≢◌, ◌<◌, ◌≤◌, ◌+◌, ◌*◌, ◌∙◌, ◌⊎◌, [], ◌∷◌, Bool, true, false, suc, List, Some, length, get_or, replicate, ap, sym, subst, refl, arith, inl, inr}
 use Rattle.std.specs.Prelude.{slice_get, nat_lt, ◌||◌}
 use Rattle.std.proofs.lemmas.Bool.{cases_eq, lt-ltb, ltb-true}
-use Rattle.std.proofs.lemmas.Option.{slice_get-get_or, slice_get_within, same_Some}
+use Rattle.std.proofs.lemmas.Option.{slice_get-get_or, same_Some}
 use Rattle.std.proofs.lemmas.List.{length-replicate}
-use Rattle.saga_def.specs.Order.{IsAcyclic, NeedsDirectly}
+use Rattle.saga_def.specs.Order.{IsAcyclic}
 use Rattle.saga_def.specs.Rules.{AreKnown, AreSingle}
 use Rattle.saga_def.specs.Neighbours.{a_need}
 use Rattle.saga_def.specs.declared.steps.Need.{Need}
@@ -18,7 +18,7 @@ use Rattle.saga_closure.specs.Bits.{holds, place_in, words_for, IsPut, IsJoined}
 use Rattle.saga_closure.specs.Links.{AreLinks}
 use Rattle.saga_closure.specs.Rows.{AreRowsBut, IsOver, AreAdded, IsUnion, IsRow}
 use Rattle.saga_closure.specs.Layers.{Goes, no_step}
-use Rattle.saga_closure.proofs.ArcCases.{need_at, no_need, opens_link, opens_unlink}
+use Rattle.saga_closure.proofs.ArcCases.{no_need, opens_link, opens_unlink}
 use Rattle.saga_closure.proofs.BitLemmas.{same_row, row_within, words_few, holds_zeros}
 use Rattle.saga_closure.proofs.NeighbourLemmas.{read_need, has_need, same_place}
 use Rattle.saga_closure.proofs.VisitLemmas.{goes_by}

@@ -1,5 +1,5 @@
 -- The steps to which the source can send more.
-use Rattle.std.proofs.Common.{ℕ, zero, suc, ◌≡◌, ◌<◌, ◌≤◌, ◌+◌, ◌*◌, ◌∙◌, ◌++◌, [], ◌∷◌, true, false, cond, List, length, get_or, set, replicate, ap, sym, refl, arith, inl, inr, get_or-set_same, get_or-set_other, length-set, rules}
+use Rattle.std.proofs.Common.{ℕ, zero, suc, ◌≡◌, ◌<◌, ◌+◌, ◌∙◌, ◌++◌, [], ◌∷◌, true, false, cond, List, length, get_or, set, replicate, ap, sym, refl, arith, inl, inr, get_or-set_same, get_or-set_other, length-set, rules}
 use Rattle.std.specs.List.{count_by}
 use Rattle.std.proofs.lemmas.Bool.{cases_eq}
 use Rattle.std.proofs.lemmas.List.{length-append, get_or_push, get_or_append_left, length-replicate, get_or-replicate}

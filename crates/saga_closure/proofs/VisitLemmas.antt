@@ -1,18 +1,12 @@
 -- A visit: the residual arcs out of a step are entries of its lists.
-use Rattle.std.proofs.Common.{ℕ, ◌≡◌, ◌<◌, ◌≤◌, ◌+◌, ◌∙◌, ◌⊎◌, Bool, true, false, List, Some, length, get_or, ap, subst, refl, arith, inl, inr}
-use Rattle.std.proofs.lemmas.Bool.{cases_eq}
-use Rattle.std.specs.Prelude.{slice_get}
-use Rattle.std.proofs.lemmas.Option.{slice_get-get_or}
-use Rattle.saga_def.specs.Neighbours.{a_need}
+use Rattle.std.proofs.Common.{ℕ, ◌≡◌, ◌<◌, ◌≤◌, ◌+◌, ◌⊎◌, true, List, length, get_or, subst, refl, arith, inl, inr}
 use Rattle.saga_case.specs.Terms.{Terms}
-use Rattle.saga_flow.specs.declared.residual_arcs.ResidualArc.{ResidualArc}
 use Rattle.saga_flow.specs.Flows.{IsWithin}
 use Rattle.saga_flow.specs.Residual.{IsOpen}
 use Rattle.saga_closure.specs.CaseNet.{network_of, cap_of}
 use Rattle.saga_closure.specs.Capacities.{AreCapacities, room_at}
-use Rattle.saga_closure.specs.declared.searching.Found.{Found}
-use Rattle.saga_closure.specs.Layers.{none, GoesIn, GoesOut, Goes, IsSearch, IsStart}
-use Rattle.saga_closure.proofs.ArcCases.{no_need, need_at, each_open, opens_leave, opens_stand}
+use Rattle.saga_closure.specs.Layers.{GoesIn, GoesOut, Goes, IsSearch, IsStart}
+use Rattle.saga_closure.proofs.ArcCases.{need_at, each_open, opens_leave, opens_stand}
 use Rattle.saga_closure.proofs.RoomLemmas.{leave_room, stand_room}
 
 module _ (t : Terms) (on : List ℕ) (v w : ℕ) where

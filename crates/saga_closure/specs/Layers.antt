@@ -1,5 +1,5 @@
 -- A search from the source, layer by layer.
-use Rattle.std.specs.Prelude.{ℕ, Bool, List, [], ◌∷◌, ◌++◌, length, slice_index, slice_index_or, slice_set, if◌then◌else◌, nat_lt, min, true, ◌⊎◌, ◌==◌, ◌≡◌, ◌<◌, ◌≤◌, ◌+◌, ◌-◌}
+use Rattle.std.specs.Prelude.{ℕ, Bool, List, [], ◌∷◌, ◌++◌, length, slice_index, slice_set, if◌then◌else◌, nat_lt, min, true, ◌⊎◌, ◌==◌, ◌≡◌, ◌<◌, ◌≤◌, ◌+◌, ◌-◌}
 use Rattle.std.specs.List.{count_by}
 use Rattle.saga_case.specs.Terms.{Terms}
 use Rattle.saga_flow.specs.declared.residual_arcs.ResidualArc.{ResidualArc}

@@ -2,7 +2,6 @@
 use Rattle.std.specs.Prelude.{ℕ, Bool, List, length, slice_index, slice_get, Some, IsTrue, if◌then◌else◌, ◌⊎◌, ◌≡◌, ◌<◌, ◌+◌}
 use Rattle.saga_def.specs.declared.steps.Need.{Need}
 use Rattle.saga_def.specs.Neighbours.{a_need}
-use Rattle.saga_case.specs.Terms.{Terms}
 use Rattle.saga_flow.specs.declared.residual_arcs.ResidualArc.{ResidualArc}
 use Rattle.saga_closure.specs.declared.nets.Residual.{Residual}
 use Rattle.saga_closure.specs.Nets.{terms_in}

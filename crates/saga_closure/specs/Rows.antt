@@ -1,5 +1,5 @@
 -- For each step the steps to which residual arcs over needs lead from it, as rows of bits.
-use Rattle.std.specs.Prelude.{ℕ, Bool, List, length, slice_index, slice_index_or, slice_get, Some, nat_lt, true, ◌⊎◌, ◌≡◌, ◌<◌, ◌≤◌, ◌+◌, ◌*◌}
+use Rattle.std.specs.Prelude.{ℕ, List, length, slice_index, slice_index_or, slice_get, Some, nat_lt, true, ◌⊎◌, ◌≡◌, ◌<◌, ◌≤◌, ◌+◌, ◌*◌}
 use Rattle.saga_def.specs.Neighbours.{a_need}
 use Rattle.saga_case.specs.Terms.{Terms}
 use Rattle.saga_flow.specs.declared.residual_arcs.ResidualArc.{ResidualArc}

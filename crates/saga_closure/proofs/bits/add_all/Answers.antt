@@ -1,4 +1,4 @@
-use Rattle.std.proofs.Common.{◌<◌, ◌≤◌, arith}
+use Rattle.std.proofs.Common.{arith}
 use Rattle.saga_closure.proofs.BitLemmas.{joined_words}
 use Rattle.saga_closure.proofs.bits.add_all.Goals as goal
 

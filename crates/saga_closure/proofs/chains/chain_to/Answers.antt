@@ -1,5 +1,5 @@
 -- Each step of the way back came from one that needs it.
-use Rattle.std.proofs.Common.{◌≡◌, ◌<◌, ◌∙◌, true, get_or, arith}
+use Rattle.std.proofs.Common.{◌≡◌, ◌∙◌, true, get_or, arith}
 use Rattle.std.proofs.lemmas.List.{get_or_default}
 use Rattle.saga_case.specs.Terms.{Terms}
 use Rattle.saga_closure.specs.Nets.{terms_in}

@@ -1,5 +1,5 @@
 -- One of the step's residual arcs comes from a step a level lower.
-use Rattle.std.proofs.Common.{◌≡◌, ◌<◌, ◌∙◌, length, get_or, arith}
+use Rattle.std.proofs.Common.{◌≡◌, ◌∙◌, get_or, arith}
 use Rattle.std.proofs.lemmas.List.{get_or_default}
 use Rattle.saga_closure.proofs.PathLemmas.{none_lowest}
 use Rattle.saga_closure.proofs.paths.came_by.Goals as goal

@@ -1,5 +1,5 @@
 -- Each step of the way back came from one a level lower.
-use Rattle.std.proofs.Common.{ℕ, ◌≡◌, ◌<◌, ◌+◌, ◌∙◌, true, List, get_or, arith}
+use Rattle.std.proofs.Common.{ℕ, ◌≡◌, ◌+◌, ◌∙◌, true, List, get_or, arith}
 use Rattle.std.proofs.lemmas.List.{get_or_default}
 use Rattle.saga_case.specs.Terms.{Terms}
 use Rattle.saga_flow.specs.Levels.{Climbs}

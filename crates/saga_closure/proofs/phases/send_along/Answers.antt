@@ -1,4 +1,4 @@
-use Rattle.std.proofs.Common.{ℕ, ◌≡◌, ◌∙◌, ap, length, arith}
+use Rattle.std.proofs.Common.{◌∙◌, ap, length}
 use Rattle.std.proofs.lemmas.Option.{slice_get_within}
 use Rattle.saga_flow.proofs.PushLemmas.{length-pushed}
 use Rattle.saga_closure.specs.Layers.{no_step}

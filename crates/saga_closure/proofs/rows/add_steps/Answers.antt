@@ -1,4 +1,4 @@
-use Rattle.std.proofs.Common.{arith, ◌<◌, ◌+◌, ◌*◌, get_or, length}
+use Rattle.std.proofs.Common.{arith}
 use Rattle.saga_closure.proofs.RowLemmas.{added_none, added_more}
 use Rattle.saga_closure.proofs.rows.add_steps.Goals as goal
 

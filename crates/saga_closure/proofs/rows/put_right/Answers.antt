@@ -1,5 +1,4 @@
-use Rattle.std.proofs.Common.{ℕ, ◌≡◌, ◌<◌, ◌≤◌, ◌+◌, ◌-◌, ◌*◌, ◌∙◌, List, length, drop, get_or, arith}
-use Rattle.std.specs.Prelude.{nat_lt}
+use Rattle.std.proofs.Common.{ℕ, ◌≡◌, ◌<◌, ◌≤◌, ◌+◌, ◌-◌, ◌*◌, length, drop, get_or, arith}
 use Rattle.std.proofs.lemmas.List.{take_at}
 use Rattle.saga_case.specs.Terms.{Terms}
 use Rattle.saga_closure.specs.Layers.{no_step}

@@ -1,7 +1,6 @@
 -- Each row is filled by the step's list, and then each need is there.
-use Rattle.std.proofs.Common.{ℕ, ◌≡◌, ◌<◌, ◌≤◌, ◌+◌, ◌*◌, List, length, drop, arith}
+use Rattle.std.proofs.Common.{ℕ, ◌≡◌, ◌≤◌, ◌*◌, List, length, drop, arith}
 use Rattle.std.proofs.lemmas.List.{take_at}
-use Rattle.saga_case.specs.Terms.{Terms}
 use Rattle.saga_closure.specs.Bits.{words_for}
 use Rattle.saga_closure.specs.Nets.{terms_in}
 use Rattle.saga_closure.proofs.RowLemmas.{filled_more, filled_rows}

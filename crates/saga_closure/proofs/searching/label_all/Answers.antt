@@ -1,5 +1,5 @@
 -- Of each word those are labelled that have no level; the others of the set have one.
-use Rattle.std.proofs.Common.{ℕ, ◌≡◌, ◌<◌, ◌+◌, ◌*◌, ◌∙◌, length, get_or, arith}
+use Rattle.std.proofs.Common.{◌≡◌, ◌<◌, ◌+◌, ◌*◌, ◌∙◌, length, get_or, arith}
 use Rattle.std.proofs.lemmas.List.{get_or_default}
 use Rattle.saga_closure.specs.Bits.{IsWithout}
 use Rattle.saga_closure.proofs.SearchLemmas.{set_begun, in_set, set_more}

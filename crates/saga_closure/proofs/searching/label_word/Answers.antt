@@ -1,9 +1,9 @@
 -- The lowest bit is taken off, and the step for which it stands has a level then.
-use Rattle.std.proofs.Common.{ℕ, true, ◌≡◌, ◌<◌, ◌+◌, ◌∙◌, length, get_or, refl, sym, arith, w64}
+use Rattle.std.proofs.Common.{true, ◌≡◌, ◌<◌, ◌+◌, ◌∙◌, length, get_or, refl, sym, arith, w64}
 use Rattle.std.specs.Int.{trailing_zeros}
 use Rattle.std.proofs.lemmas.List.{get_or_default}
 use Rattle.saga_closure.specs.Bits.{holds_bit}
-use Rattle.saga_closure.proofs.BitLemmas.{lowest_bit, cleared_less, no_bits}
+use Rattle.saga_closure.proofs.BitLemmas.{lowest_bit, cleared_less}
 use Rattle.saga_closure.proofs.SearchLemmas.{word_begun, word_passed, word_labelled}
 use Rattle.saga_closure.proofs.searching.label_word.Goals as goal
 use Rattle.saga_closure.proofs.searching.label_word.Goals.{In-loop-left, After-index}

@@ -1,5 +1,5 @@
 -- Layer by layer: where none of a layer's steps sends more to the sink, the layer is visited.
-use Rattle.std.proofs.Common.{ℕ, true, ◌≡◌, ◌<◌, ◌≤◌, ◌+◌, ◌*◌, ◌∙◌, List, length, drop, get_or, ap, sym, refl, arith}
+use Rattle.std.proofs.Common.{ℕ, true, ◌≡◌, ◌<◌, ◌+◌, ◌*◌, ◌∙◌, List, length, drop, get_or, ap, sym, refl, arith}
 use Rattle.std.proofs.lemmas.List.{take_at}
 use Rattle.saga_def.specs.Rules.{AreKnown}
 use Rattle.saga_case.specs.Terms.{Terms}
@@ -82,8 +82,8 @@ loop-first-preserved c =
     record {
       sized = ap length (sym c.deref-in-loop-first-2.ensures.value ∙ is) ∙ c.steps_after.ensures.sized;
       on_way = layer_labelled t on c.loop-first.first c.len-end.result c.loop-first.depth (c.loop-first.depth + 1) (λ u. holds c.steps_after.new.set u ≡ true) found dry'
-    (led_to t on c.args.rows.now found c.steps_after.new.set c.loop-first.first c.len-end.result c.loop-first.depth _ net.known c.requires c.loop-first.invariant.on_way end_is union)
-    c.label_all.new.found labelled end_is some
-    (λ w held. all w (holds_within c.steps_after.new.set w held) held)
-    (λ j w le lt w_lt goes. union.all j w le lt (omega (arith, w_lt, c.requires.wide)) (goes_row t on c.args.rows.now.width c.args.rows.now.words.items c.requires net.known (get_or order j 0) w goes));
+          (led_to t on c.args.rows.now found c.steps_after.new.set c.loop-first.first c.len-end.result c.loop-first.depth _ net.known c.requires c.loop-first.invariant.on_way end_is union)
+          c.label_all.new.found labelled end_is some
+          (λ w held. all w (holds_within c.steps_after.new.set w held) held)
+          (λ j w le lt w_lt goes. union.all j w le lt (omega (arith, w_lt, c.requires.wide)) (goes_row t on c.args.rows.now.width c.args.rows.now.words.items c.requires net.known (get_or order j 0) w goes));
     }

@@ -1,5 +1,5 @@
 -- A step is labelled where the source can send more to it.
-use Rattle.std.proofs.Common.{ℕ, ◌≡◌, ◌<◌, ◌≤◌, ◌*◌, replicate, length, rules, arith}
+use Rattle.std.proofs.Common.{ℕ, ◌≡◌, ◌<◌, replicate, length, rules, arith}
 use Rattle.saga_closure.specs.Layers.{none}
 use Rattle.saga_closure.specs.Capacities.{room_at}
 use Rattle.saga_closure.specs.Bits.{words_for}
