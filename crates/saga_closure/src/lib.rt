@@ -1,7 +1,8 @@
 //! A greatest flow through the network of a case, over the lists of its definition: the network is not built.
 //!
 //! Paths are found in phases (E. A. Dinic, 1970): a search from the source, layer by layer, and then walks back from
-//! the steps of its last layer, a level lower at each step.
+//! the steps of its last layer, a level lower at each step. A layer is found by joining rows of bits: for each step of the
+//! layer before those to which residual arcs over needs lead.
 #![tactic(auto)]
 
 mod bits;

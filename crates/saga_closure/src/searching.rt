@@ -85,10 +85,10 @@ fn label_word(found: &mut Found, at: usize, word: u64, level: u16) -> Result<(),
         ((b : ℕ) → b < 64 → holds_bit word b ≡ true
         → slice_index found.new.level.items (at + b) ≢ 65535) }
 {
-    let mut left = word;
-    while left != 0 {
-        let b = left.trailing_zeros() as usize;
-        left = put_bit(left, b, false);
+    let mut rest = word;
+    while rest != 0 {
+        let b = rest.trailing_zeros() as usize;
+        rest = put_bit(rest, b, false);
         let u = (at + b) as u16;
         if found.level[u as usize] == NONE {
             label(found, u, level)?;

@@ -82,7 +82,8 @@ fn link_before(
     None
 }
 
-/// From one of the last `many` neighbours of `v` that are a level below `far`: first those that need it, then those that it needs.
+/// From one of the last `many` neighbours of `v`, of those a level below `far`: first those that need it, then those that
+/// it needs.
 pub fn step_before(
     residual: &Residual,
     far: u16,
