@@ -9,6 +9,7 @@ import pathlib
 import subprocess
 import sys
 import textwrap
+import time
 from collections import Counter
 from typing import Any
 
@@ -17,7 +18,7 @@ import pytest
 
 import records
 import sagas
-from cases import QUICK, Task, ended, run, until
+from cases import QUICK, Task, ended, run, simple, until
 from driving import program
 from relay import relaying
 from sagas.step_pool import Pool
@@ -324,6 +325,63 @@ def test_the_function_cannot_end_its_transaction(url: str, in_thread: bool) -> N
     run(main())
     assert booked(url) == {("k", "book"): 1}
     assert Counter(result.outcome for result in records.read(url).results.values()) == {"missed": 2, "commit": 1}
+
+
+@pytest.mark.parametrize("in_thread", [False, True])
+def test_a_transaction_that_is_over_before_its_step(url: str, in_thread: bool) -> None:
+    """By a statement of the function's, by the connection's end, or by the server's: nothing is kept of it, that is counted, and other sagas go on."""
+    prepare(url)
+    kind, other, calls = sagas.Saga("one"), simple(lambda task: 1), Counter[int]()
+    text, rests = "INSERT INTO book(key, step, token) VALUES(%s, 'book', '')", "SET LOCAL idle_in_transaction_session_timeout = 50"
+
+    if in_thread:
+
+        @kind.step(transaction=True, tries=3, backoff=QUICK)
+        def book(task: Task) -> None:
+            calls[task.attempt] += 1
+            link = task.connection
+            link.execute(text, (task.key,))
+            if task.attempt == 1:
+                link.execute("ROLLBACK")
+            if task.attempt == 2:
+                link.close()
+            if calls[3] == 1:
+                link.execute(rests)
+                time.sleep(0.5)
+            if calls[3] == 2:
+                link.pgconn.finish()
+    else:
+
+        @kind.step(name="book", transaction=True, tries=3, backoff=QUICK)
+        async def book_in_loop(task: Task) -> None:
+            calls[task.attempt] += 1
+            link = task.connection
+            await link.execute(text, (task.key,))
+            if task.attempt == 1:
+                await link.execute("ROLLBACK")
+            if task.attempt == 2:
+                await link.close()
+            if calls[3] == 1:
+                await link.execute(rests)
+                await asyncio.sleep(0.5)
+            if calls[3] == 2:
+                link.pgconn.finish()
+
+    said: list[tuple[str, str]] = []
+
+    async def main() -> None:
+        async with sagas.open(url, [kind, other], on_event=lambda event: said.append((event.name, event.detail or ""))) as store:
+            going = await store.start(kind, "k")
+            for number in range(5):
+                assert (await ended(store, other, f"k{number}")).ok
+            assert (await going.wait()).ok
+
+    run(main())
+    assert calls == {1: 1, 2: 1, 3: 3} and booked(url) == {("k", "book"): 1}
+    told = [detail for name, detail in said if name in ("step_missed", "step_unknown", "commit_failed")]
+    assert [next(word for word in ("no statement of the function", "close()", "server closed", "it is closed", "?") if word in f"{one}?") for one in told] == [
+        "no statement of the function", "close()", "server closed", "it is closed",
+    ]  # fmt: skip
 
 
 def test_what_does_nothing_over_its_connection_is_as_another_step(url: str) -> None:

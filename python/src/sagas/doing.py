@@ -323,6 +323,7 @@ class Doing:
 
     def _lose(self, attempt: Attempt, fault: Lost) -> None:
         """Nobody knows whether its transaction was committed: its log is taken up again, which tells."""
+        self._tell(attempt, "commit_failed", str(fault))
         attempt.state = "taken"
         assert attempt.live.pump
         attempt.live.pump.fail(fault)

@@ -250,7 +250,9 @@ def _doubtful(pump: Pump, there: set[str]) -> None:
     if pump.fault is None:
         pump.opens.extend(again)
         return
-    error = StoreUnwritable(f"{pump.owner.store.path}: {pump.fault}; nothing was begun: make room, and start it again")
+    where, fault = str(pump.owner.store.path), str(pump.fault)
+    told = fault if fault.startswith(where) else f"{where}: {fault}"
+    error = StoreUnwritable(f"{told}; nothing was begun: start it again once that is over (where a disk is full, make room)")
     for live in again:
         pump.owner.refuse(live, error)
 

@@ -19,6 +19,8 @@ if TYPE_CHECKING:
 
 RV = TypeVar("RV")
 FORBIDDEN = "Explicit {}() forbidden: the transaction is the step's, and ends with it"
+ENDED = "the transaction was over before its step: it is the step's, and no statement of the function (COMMIT, ROLLBACK ..) may end it"
+BROKE = "the connection of the step broke before its function was over, so what it did there is rolled back: {}"
 OPEN = (pq.TransactionStatus.INTRANS, pq.TransactionStatus.INERROR)
 JOINS = pq.version() >= 140000
 """Whether libpq can send one statement behind another, without waiting."""
@@ -70,7 +72,7 @@ class AsyncStepLink(psycopg.AsyncConnection[Row]):
             raise
         finally:
             if self.halfway:
-                await self.close()
+                await self._shut()
         return value  # type: ignore[no-any-return]
 
     def watch(self) -> None:
@@ -130,7 +132,12 @@ class AsyncStepLink(psycopg.AsyncConnection[Row]):
         return not self.closed
 
     async def close(self) -> None:
-        """Ends it."""
+        """Not within a step."""
+        if self.begun is not None:
+            raise errors.ProgrammingError(FORBIDDEN.format("close"))
+        await self._shut()
+
+    async def _shut(self) -> None:
         self.silence()
         await super().close()
 
@@ -186,7 +193,7 @@ class StepLink(psycopg.Connection[Row]):
             return super().wait(gen, *words, **more)
         finally:
             if self.halfway:
-                self.close()
+                super().close()
 
     def leave(self) -> None:
         """The step is over: what it did and did not commit is rolled back."""
@@ -194,6 +201,12 @@ class StepLink(psycopg.Connection[Row]):
         if self.pgconn.transaction_status in OPEN:
             with contextlib.suppress(psycopg.Error):  # then the pool lets it go
                 self.rollback()
+
+    def close(self) -> None:
+        """Not within a step."""
+        if self.begun is not None:
+            raise errors.ProgrammingError(FORBIDDEN.format("close"))
+        super().close()
 
     def commit(self) -> None:
         """Not within a step."""
@@ -211,6 +224,21 @@ class StepLink(psycopg.Connection[Row]):
         """A last statement, with braces for its words, and the commit, in one go. Raises what the server says of either that it refuses."""
         with self.lock:
             self.wait(_end(self, text, words))
+
+
+def check_whole(link: AsyncStepLink | StepLink) -> None:
+    """Whether the transaction is there to be ended; nothing of its end was sent. Raises what psycopg raises where the connection broke, as while the
+    function did something else, or where the function ended the transaction."""
+    try:
+        for _ in range(2):  # what the server said last, and that it is gone
+            if not link.closed:
+                link.pgconn.consume_input()
+    except psycopg.Error as error:
+        raise errors.OperationalError(BROKE.format(error)) from error
+    if link.closed:
+        raise errors.OperationalError(BROKE.format("it is closed"))
+    if link.pgconn.transaction_status == pq.TransactionStatus.IDLE:
+        raise errors.ProgrammingError(ENDED)
 
 
 def _joined(link: Any, query: Any, params: Any, more: dict[str, Any]) -> dict[str, Any]:
@@ -307,5 +335,4 @@ def _from(gen: PQGen[RV]) -> PQGen[RV]:
 def _end(link: Any, text: str, words: Sequence[str]) -> PQGen[None]:
     encoding, escaping = _encoding(link), pq.Escaping(link.pgconn)
     last = text.format(*(bytes(escaping.escape_literal(word.encode(encoding))).decode(encoding) for word in words))
-    begin = "BEGIN; " if link.pgconn.transaction_status == pq.TransactionStatus.IDLE else ""  # the function ended it by a statement of its own
-    yield from _done(link, f"{begin}{last}; COMMIT", encoding)
+    yield from _done(link, f"{last}; COMMIT", encoding)

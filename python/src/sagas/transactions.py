@@ -17,7 +17,7 @@ from . import calling, links
 from .calling import Outcome
 from .definition import Function, Manner
 from .errors import Lost, Unknown
-from .step_links import AsyncStepLink
+from .step_links import AsyncStepLink, check_whole
 from .step_pool import REST, Pool, ThreadPool
 from .task import Task
 
@@ -33,8 +33,9 @@ INSERT INTO sagas.results VALUES (%(id)s, %(step)s, '%(kind)s', %(attempt)s, (SE
 """Its outcome would be null where the log is not this node's any more: that is refused, and nothing is committed. In braces: the node, the value."""
 LOOK = REST / 10
 """Seconds between two looks for connections that rest too long."""
-ROLLED_BACK = ("23", "25P02", "40001", "40P01", "P0")
-"""A constraint, also one that is looked at in the commit; a statement that failed before, unnoticed; others in the way; a trigger's own word."""
+ROLLED_BACK = ("23", "25P02", "25P03", "40001", "40P01", "P0")
+"""A constraint, also one that is looked at in the commit; a statement that failed before, unnoticed; a transaction that rested for too long; others in the
+way; a trigger's own word."""
 
 
 @dataclasses.dataclass(slots=True)
@@ -132,6 +133,7 @@ class Transactions:
                     value = await calling.whole(value)
                 link = task.leave()
                 if link is not None and link.begun:
+                    check_whole(link)
                     await link.end(*record.words(value))
                     record.done = True
             finally:
@@ -165,6 +167,7 @@ class Transactions:
             try:
                 value = calling.whole_now(function(task))
                 if link.begun:
+                    check_whole(link)
                     link.end(*record.words(value))
                     record.done = True
             finally:
