@@ -160,10 +160,11 @@ class AsyncStepLink(psycopg.AsyncConnection[Row]):
             raise errors.ProgrammingError(FORBIDDEN.format("rollback"))
         await super().rollback()
 
-    async def end(self, text: str, *words: str) -> None:
-        """A last statement, with braces for its words, and the commit, in one go. Raises what the server says of either that it refuses."""
+    async def end(self, text: str, *words: str, then: Callable[[], object]) -> None:
+        """A last statement, with braces for its words, and the commit, in one go; `then` is called before they are sent. Raises what the server says of either
+        that it refuses."""
         async with self.lock:
-            await self.wait(_end(self, text, words))
+            await self.wait(_end(self, text, words, then))
 
 
 class StepCursor(psycopg.Cursor[Row]):
@@ -220,10 +221,10 @@ class StepLink(psycopg.Connection[Row]):
             raise errors.ProgrammingError(FORBIDDEN.format("rollback"))
         super().rollback()
 
-    def end(self, text: str, *words: str) -> None:
-        """A last statement, with braces for its words, and the commit, in one go. Raises what the server says of either that it refuses."""
+    def end(self, text: str, *words: str, then: Callable[[], object]) -> None:
+        """As `AsyncStepLink.end`."""
         with self.lock:
-            self.wait(_end(self, text, words))
+            self.wait(_end(self, text, words, then))
 
 
 def check_whole(link: AsyncStepLink | StepLink) -> None:
@@ -332,7 +333,8 @@ def _from(gen: PQGen[RV]) -> PQGen[RV]:
     return (yield from _on(gen, state))
 
 
-def _end(link: Any, text: str, words: Sequence[str]) -> PQGen[None]:
+def _end(link: Any, text: str, words: Sequence[str], then: Callable[[], object]) -> PQGen[None]:
     encoding, escaping = _encoding(link), pq.Escaping(link.pgconn)
     last = text.format(*(bytes(escaping.escape_literal(word.encode(encoding))).decode(encoding) for word in words))
+    then()
     yield from _done(link, f"{last}; COMMIT", encoding)

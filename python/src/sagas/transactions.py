@@ -69,9 +69,12 @@ class Record:
         unknown.__cause__ = error
         return unknown
 
-    def words(self, value: Any) -> tuple[str, str, str]:
-        """What is written of a result, from here on: the statement, the node and the value."""
+    def sending(self) -> None:
+        """It is about to be sent: until then nothing can be committed."""
         self.begun = True
+
+    def words(self, value: Any) -> tuple[str, str, str]:
+        """What is written of a result: the statement, the node and the value."""
         pump = self.attempt.live.pump
         assert pump
         id, step, kind, attempt = self.attempt.row
@@ -134,7 +137,7 @@ class Transactions:
                 link = task.leave()
                 if link is not None and link.begun:
                     check_whole(link)
-                    await link.end(*record.words(value))
+                    await link.end(*record.words(value), then=record.sending)
                     record.done = True
             finally:
                 if (link := task.leave()) is None:
@@ -168,7 +171,7 @@ class Transactions:
                 value = calling.whole_now(function(task))
                 if link.begun:
                     check_whole(link)
-                    link.end(*record.words(value))
+                    link.end(*record.words(value), then=record.sending)
                     record.done = True
             finally:
                 try:
