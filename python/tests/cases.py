@@ -3,6 +3,9 @@
 from __future__ import annotations
 
 import asyncio
+import os
+import select
+import signal
 import time
 from collections.abc import Callable, Coroutine
 from typing import Any, TypeVar
@@ -38,6 +41,26 @@ async def until(found: Callable[[], Any], seconds: float = 120) -> Any:
         while not (value := found()):
             await asyncio.sleep(0.005)
     return value
+
+
+def in_child(work: Callable[[], object], seconds: float = 60) -> str:
+    """What comes of it in a forked child, which ends behind it: the error with its text, or the value."""
+    back, to = os.pipe()
+    child = os.fork()
+    if child == 0:
+        try:
+            said = repr(work())
+        except BaseException as error:
+            said = f"{type(error).__name__}: {error}"
+        os.write(to, said.encode())
+        os._exit(0)
+    os.close(to)
+    if not select.select([back], [], [], seconds)[0]:
+        os.kill(child, signal.SIGKILL)
+    said = os.read(back, 1 << 16).decode() or "it hangs"
+    os.close(back)
+    os.waitpid(child, 0)
+    return said
 
 
 def hears(wait: Callable[[], object], text: str, seconds: float = 120) -> None:

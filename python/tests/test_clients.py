@@ -12,7 +12,7 @@ import pytest
 
 import records
 import sagas
-from cases import Task, hears, run, until
+from cases import Task, hears, in_child, run, until
 from kills import children
 from sagas import command
 
@@ -296,6 +296,59 @@ def test_a_client_without_async(url: str) -> None:
         assert client.abort("in") is False
     with pytest.raises(sagas.Closed):
         client.wait("k")
+
+
+def test_a_client_in_a_forked_child(url: str) -> None:
+    """With async and without it says at once that it is another process's, and its closing there does nothing to that one's."""
+    kind = shop()
+    text = "the client was opened in another process, before a fork: make one in this process"
+    with sagas.open_sync(url, [kind]), sagas.SyncClient(url) as client:
+        calls: list[Any] = [lambda: client.start(kind, "c"), lambda: client.wait("k", timeout=60), client.list, client.__enter__]
+        for call in calls:
+            said = in_child(call)
+            assert said.startswith("Closed: ") and text in said
+        assert in_child(client.close) == "None"
+        inner = client._client
+        calls = [lambda: inner.start(kind, "c"), lambda: inner.wait("k"), lambda: inner.abort("k"), inner.__aenter__]
+        for call in calls:
+            assert text in in_child(lambda: asyncio.run(call()))
+        assert in_child(lambda: asyncio.run(inner.close())) == "None"
+        assert client.start(kind, "k").wait(200).ok and len(client.list()) == 1
+
+
+def test_a_client_that_is_entered_twice(url: str) -> None:
+    """The second entry is an error that says so, and the first goes on."""
+    kind = shop()
+
+    async def main() -> None:
+        async with sagas.open(url, [kind]):
+            client = sagas.Client(url)
+            async with client:
+                with pytest.raises(RuntimeError, match="the client is open already: enter it once"):
+                    async with client:
+                        pass
+                assert (await (await client.start(kind, "k")).wait()).ok
+
+    run(main())
+    with sagas.open_sync(url, [kind]), sagas.SyncClient(url) as client:
+        with pytest.raises(RuntimeError, match="the client is open already: enter it once"), client:
+            pass
+        assert client.start(kind, "two").wait(200).ok
+
+
+def test_a_client_by_the_other_kind_of_with() -> None:
+    """`with` and `async with` each say what is meant."""
+    url = "postgresql://a@127.0.0.1/b"
+    with pytest.raises(TypeError, match=r"^a sagas.Client is used by `async with`; without async use `with sagas\.SyncClient\(\.\.\)`$"):
+        with sagas.Client(url):  # type: ignore[attr-defined]
+            pass
+
+    async def main() -> None:
+        async with sagas.SyncClient(url):  # type: ignore[attr-defined]
+            pass
+
+    with pytest.raises(TypeError, match=r"is used by `with`; with async use `async with sagas\.Client"):
+        run(main())
 
 
 def test_a_connection_of_the_other_kind(url: str) -> None:

@@ -23,7 +23,7 @@ import pytest
 import records
 import sagas
 from sagas import coordinator, lines, restoring, sqlite
-from cases import QUICK, Task, ended, run, simple, until
+from cases import QUICK, Task, ended, in_child, run, simple, until
 from driving import program
 from kills import children
 
@@ -216,9 +216,10 @@ def test_the_other_kind_of_with(tmp_path: pathlib.Path) -> None:
     """`with` and `async with` each say what is meant, and nothing is locked by it."""
     saga = simple(lambda task: 1)
     path = tmp_path / "store.db"
-    with pytest.raises(TypeError, match=r"`async with`; without async use `with sagas\.open_sync"):
-        with sagas.open(path, [saga]):  # type: ignore[attr-defined]
-            pass
+    for name in (path, "postgresql://a@127.0.0.1/b"):
+        with pytest.raises(TypeError, match=r"^a store of sagas.open is used by `async with`; without async use `with sagas\.open_sync"):
+            with sagas.open(name, [saga]):  # type: ignore[attr-defined]
+                pass
 
     async def main() -> None:
         with pytest.raises(TypeError, match=r"by `with`; with async use `async with sagas\.open\("):
@@ -258,6 +259,80 @@ def test_a_function_forks(place: str) -> None:
         for child in forked:
             os.waitpid(child, 0)
         os.close(alive)
+
+
+def test_a_store_in_a_forked_child(place: str) -> None:
+    """With async and without it says at once that it is another process's, and its closing there does nothing to that one's."""
+    saga = simple(lambda task: 1)
+    text = "was opened in another process, before a fork: make one in this process"
+
+    async def main() -> None:
+        async with sagas.open(place, [saga]) as store:
+            calls: list[Any] = [lambda: store.start(saga, "c"), lambda: store.wait("k"), lambda: store.abort("k"), store.__aenter__]
+            for call in calls:
+                assert text in in_child(lambda: asyncio.run(call()))
+            assert text in in_child(store.list)
+            assert in_child(lambda: asyncio.run(store.close())) == "None"
+            assert (await ended(store, saga, "async")).ok
+
+    with sagas.open_sync(place, [saga]) as store:
+        assert store.start(saga, "k").wait(240).ok
+        calls: list[Any] = [lambda: store.start(saga, "c"), lambda: store.wait("k", timeout=60), store.list, store.__enter__]
+        for call in calls:
+            said = in_child(call)
+            assert said.startswith("Closed: ") and text in said
+        assert in_child(store.close) == "None"
+        assert store.start(saga, "sync").wait(240).ok and len(store.list()) == 2
+    run(main())
+
+
+def test_a_program_that_forks_under_an_open_store(tmp_path: pathlib.Path, place: str) -> None:
+    """The child ends as a program does, and frees what it has of the store: the parent goes on."""
+    program = f"""
+        import os, sagas, sys
+        saga = sagas.Saga("simple")
+        @saga.step
+        def a(task): ...
+        with sagas.open_sync({place!r}, [saga]) as store:
+            assert store.start(saga, "one").wait(120).ok
+            child = os.fork()
+            if child == 0:
+                try:
+                    store.start(saga, "two")
+                except sagas.Closed:
+                    sys.exit(7)
+            print("the child's status:", os.waitstatus_to_exitcode(os.waitpid(child, 0)[1]))
+            assert store.start(saga, "three").wait(120).ok
+            print([row.key for row in store.list()])
+    """
+    process = script(tmp_path / "forks.py", program)
+    told, _ = process.communicate(timeout=240)
+    assert told.splitlines() == ["the child's status: 7", "['one', 'three']"] and process.returncode == 0
+
+
+def test_a_store_that_is_entered_twice(place: str) -> None:
+    """The second entry is an error that says so, and the first goes on; one that was closed is opened again."""
+    saga = simple(lambda task: 1)
+
+    async def main() -> None:
+        store = sagas.open(place, [saga])
+        async with store:
+            with pytest.raises(RuntimeError, match="the store is open already: enter it once"):
+                async with store:
+                    pass
+            assert (await ended(store, saga, "one")).ok
+        async with store:
+            assert (await ended(store, saga, "two")).ok
+
+    run(main())
+    store = sagas.open_sync(place, [saga])
+    with store:
+        with pytest.raises(RuntimeError, match="the store is open already: enter it once"), store:
+            pass
+        assert store.start(saga, "three").wait(240).ok
+    with store:
+        assert store.start(saga, "four").wait(240).ok
+    assert children(os.getpid()) == []
 
 
 @pytest.mark.parametrize("in_thread", [False, True])

@@ -14,6 +14,7 @@ from .calling import Outcome, failure
 from .databases import FORM
 from .definition import Saga, Step
 from .errors import Closed, NoSuchSaga, NotWaiting, StoreFault, TooLarge
+from .forks import Opened
 from .kinds import Kind, version_of
 from .plans import Plan
 from .records import SagaRow
@@ -109,12 +110,30 @@ class Client:
         checks.count("connections", connections)
         self._url, self.path = url, links.named(url)
         self._asker = links.Asker(url, self.path, connections)
+        self._opened = Opened("the client")
         self._news: news.News | None = None
         self._kinds: dict[str, Kind] = {}
         self._sagas: dict[tuple[str, int], Saga] = {}
 
     async def __aenter__(self) -> Client:
-        """Connects. Raises `StoreUnwritable`, `StoreNewer`, and `StoreFault` where there are no tables: a node makes them, or `sagas store URL init`."""
+        """Connects. Raises `StoreUnwritable`, `StoreNewer`, and `StoreFault` where there are no tables: a node makes them, or `sagas store URL init`;
+        `RuntimeError` where it is open already."""
+        self._opened.begin(self.path)
+        try:
+            await self._open()
+        except BaseException:
+            self._opened.end()
+            raise
+        return self
+
+    if not TYPE_CHECKING:  # a checker says so by itself
+
+        def __enter__(self) -> Client:
+            raise TypeError("a sagas.Client is used by `async with`; without async use `with sagas.SyncClient(..)`")
+
+        def __exit__(self, *_: object) -> None: ...
+
+    async def _open(self) -> None:
         await self._asker.open()
         try:
             version = (await self._asker.read("SELECT to_regclass('sagas.store') IS NOT NULL"))[0][0] and (await self._asker.read("SELECT version FROM sagas.store"))[0][0]
@@ -127,20 +146,25 @@ class Client:
             await self._asker.close()
             raise
         self._news = news.News(self._url, lambda what: None)
-        return self
 
     async def __aexit__(self, kind: type[BaseException] | None, error: BaseException | None, trace: TracebackType | None) -> None:
         await self.close()
 
     async def close(self) -> None:
         """Ends its connections."""
+        if self._opened.is_elsewhere:  # they are that process's to end
+            return
         heard, self._news = self._news, None
-        if heard:
-            await heard.close()
-            await self._asker.close()
+        try:
+            if heard:
+                await heard.close()
+                await self._asker.close()
+        finally:
+            self._opened.end()
 
     @property
     def _heard(self) -> news.News:
+        self._opened.check(self.path)
         if self._news is None:
             raise Closed(f"{self.path}: the client is not open: use `async with sagas.Client(..) as client`")
         return self._news

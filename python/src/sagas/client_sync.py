@@ -5,7 +5,7 @@ from __future__ import annotations
 import builtins
 from collections.abc import Coroutine
 from types import TracebackType
-from typing import Any
+from typing import TYPE_CHECKING, Any
 
 import psycopg
 
@@ -51,7 +51,7 @@ class SyncClient:
 
     def __init__(self, url: str, *, connections: int = 4) -> None:
         self._client = client.Client(url, connections=connections)
-        self._loop = Loop(f"{self._client.path}: the client is not open: use `with sagas.SyncClient(..) as client`")
+        self._loop = Loop(self._client.path, "the client", "is not open: use `with sagas.SyncClient(..) as client`")
 
     def __enter__(self) -> SyncClient:
         self._loop.start()
@@ -61,6 +61,13 @@ class SyncClient:
             self._loop.end()
             raise
         return self
+
+    if not TYPE_CHECKING:  # a checker says so by itself
+
+        async def __aenter__(self) -> SyncClient:
+            raise TypeError("a sagas.SyncClient is used by `with`; with async use `async with sagas.Client(..)`")
+
+        async def __aexit__(self, *_: object) -> None: ...
 
     def __exit__(self, kind: type[BaseException] | None, error: BaseException | None, trace: TracebackType | None) -> None:
         self.close()

@@ -1,9 +1,11 @@
-"""What a forked child must not keep: the lock of a store, and the pipes to `sagas drive`."""
+"""What a forked child must not keep: the lock of a store, and the pipes to `sagas drive`. And what it must not use: what was opened before the fork."""
 
 from __future__ import annotations
 
 import contextlib
 import os
+
+from .errors import Closed
 
 
 class _Private:
@@ -30,3 +32,31 @@ class _Private:
 
 
 private = _Private()
+
+
+class Opened:
+    """Whether a store or a client is open, and in which process: it is entered once, and neither used nor closed by a process that was forked meanwhile."""
+
+    def __init__(self, what: str) -> None:
+        self._what, self._forks = what, -1
+
+    @property
+    def is_elsewhere(self) -> bool:
+        """Whether the process that opened it is another one."""
+        return self._forks not in (-1, private.forks)
+
+    def begin(self, where: str) -> None:
+        """It is about to be opened. Raises `RuntimeError` where it is open, and as `check`."""
+        self.check(where)
+        if self._forks != -1:
+            raise RuntimeError(f"{where}: {self._what} is open already: enter it once, and hand it to whoever needs it")
+        self._forks = private.forks
+
+    def end(self) -> None:
+        """It is closed, or could not be opened."""
+        self._forks = -1
+
+    def check(self, where: str) -> None:
+        """Raises `Closed` where another process opened it."""
+        if self.is_elsewhere:
+            raise Closed(f"{where}: {self._what} was opened in another process, before a fork: make one in this process, and open it there, after the fork")

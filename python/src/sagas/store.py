@@ -26,6 +26,7 @@ from .elsewhere import Leased, Queue, Word
 from .errors import Closed, KeyConflict, Moved, NoSuchSaga, NotWaiting, SagasError, StoreUnwritable
 from .events import Hook, Teller, logger
 from .faults import meant
+from .forks import Opened, private
 from .guessing import Guessing
 from .kinds import Kind, Shelf
 from .live import Attempt, Live
@@ -62,6 +63,7 @@ class Store:
         self._grace = None if grace is None else checks.time("grace", grace)
         self._teller, self._program = Teller(on_event, clock), program
         self._coordinator: Coordinator | None = None
+        self._opened = Opened("the store")
         self._finding: dict[str, asyncio.Future[None]] = {}  # keys that are about to be started
         self._guessing = Guessing()
         self.leased = False
@@ -75,7 +77,16 @@ class Store:
     async def __aenter__(self) -> Store:
         """Opens it: takes the lock, and goes on with each saga that is not over.
 
-        Raises `StoreLocked`, `StoreUnwritable`, `StoreFault`, `MissingHandler`, `ChildError`."""
+        Raises `StoreLocked`, `StoreUnwritable`, `StoreFault`, `MissingHandler`, `ChildError`; `RuntimeError` where it is open already."""
+        self._opened.begin(self.path)
+        try:
+            await self._open()
+        except BaseException:
+            self._opened.end()
+            raise
+        return self
+
+    async def _open(self) -> None:
         for saga in self._shelf.sagas.values():
             for warning in saga.warnings():
                 logger.warning("%s", warning)
@@ -96,12 +107,11 @@ class Store:
         database.watch(coordinator)
         if self._keep_ended is not None:
             coordinator.spawn(retention.keep(coordinator, self._name, self._keep_ended.total_seconds(), self._export_ended))
-        return self
 
     if not TYPE_CHECKING:  # a checker says so by itself
 
         def __enter__(self) -> Store:
-            raise TypeError(f"{self.path}: a store of sagas.open is used by `async with`; without async use `with sagas.open_sync(..)`")
+            raise TypeError("a store of sagas.open is used by `async with`; without async use `with sagas.open_sync(..)`")
 
         def __exit__(self, *_: object) -> None: ...
 
@@ -113,15 +123,22 @@ class Store:
 
         Who still waits gets `Closed`. What was cancelled runs again, with its token, when the store is opened again."""
         seconds = self._grace if grace is None else checks.time("grace", grace)
+        if self._opened.is_elsewhere:  # it is that process's to close
+            return
         if hasattr(self, "_requests"):
             self._requests.stop()
-        if self._coordinator:
-            await self._coordinator.close(seconds)
+        try:
+            if self._coordinator:
+                await self._coordinator.close(seconds)
+        finally:
+            self._opened.end()
 
     @property
     def _inside(self) -> Coordinator:
         if self._coordinator is None:
             raise Closed(f"{self.path}: the store is not open: use `async with sagas.open(..) as store`")
+        if self._coordinator.forks != private.forks:
+            self._opened.check(self.path)
         if self._coordinator.closed:
             raise self._coordinator.closed
         return self._coordinator
@@ -129,7 +146,7 @@ class Store:
     def _here(self) -> Coordinator:
         """As `_inside`, for calls that wait for something in the store's loop. Raises `RuntimeError` in another loop."""
         inside = self._coordinator
-        if inside is None or inside.closed:
+        if inside is None or inside.closed or inside.forks != private.forks:
             inside = self._inside  # raises
         if asyncio.get_running_loop() is not inside.loop:
             raise RuntimeError(f"{self.path}: the store was opened in another event loop: call it there, or use sagas.open_sync, for any thread")

@@ -53,7 +53,7 @@ class SyncStore:
 
     def __init__(self, store: Store) -> None:
         self._store = store
-        self._loop = Loop(f"{store.path}: the store is not open, or was closed: use `with sagas.open_sync(..) as store`")
+        self._loop = Loop(store.path, "the store", "is not open, or was closed: use `with sagas.open_sync(..) as store`")
 
     def __enter__(self) -> SyncStore:
         self._loop.start()
@@ -62,12 +62,13 @@ class SyncStore:
         except BaseException:
             self._loop.end()
             raise
+        self._loop.where = self._store.path  # it has the database's name by now
         return self
 
     if not TYPE_CHECKING:  # a checker says so by itself
 
         async def __aenter__(self) -> SyncStore:
-            raise TypeError(f"{self._store.path}: a store of sagas.open_sync is used by `with`; with async use `async with sagas.open(..)`")
+            raise TypeError("a store of sagas.open_sync is used by `with`; with async use `async with sagas.open(..)`")
 
         async def __aexit__(self, *_: object) -> None: ...
 

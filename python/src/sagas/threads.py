@@ -10,24 +10,28 @@ from typing import Any, TypeVar
 
 from . import waiting
 from .errors import Closed
+from .forks import Opened
 
 T = TypeVar("T")
 SOON = 2.0  # seconds that a loop has to say what a saga waits for
 
 
 class Loop:
-    """Runs what other threads ask for. `closed` is what they hear while it does not run."""
+    """Runs what other threads ask for. `where` and `what` it is for, and `remedy`, are what they hear while it does not run."""
 
-    def __init__(self, closed: str) -> None:
-        self._closed = closed
+    def __init__(self, where: str, what: str, remedy: str) -> None:
+        self.where, self._closed = where, f"{what} {remedy}"
+        self._opened = Opened(what)
         self._loop: asyncio.AbstractEventLoop | None = None
 
     @property
     def runs(self) -> bool:
-        return self._loop is not None
+        """Whether it runs, in this process."""
+        return self._loop is not None and not self._opened.is_elsewhere
 
     def start(self) -> None:
-        """Starts the thread."""
+        """Starts the thread. Raises `RuntimeError` where it runs, and `Closed` where it does in the process that this one was forked from."""
+        self._opened.begin(self.where)
         self._loop = asyncio.new_event_loop()
         self._thread = threading.Thread(target=self._loop.run_forever, name="sagas-loop", daemon=True)
         self._thread.start()
@@ -40,12 +44,14 @@ class Loop:
         loop.call_soon_threadsafe(loop.stop)
         self._thread.join()
         loop.close()
+        self._opened.end()
 
     def do(self, work: Coroutine[Any, Any, T], timeout: float | None = None) -> T:
         """Does it, and gives what it gives, or raises what it raises; `TimeoutError` after so many seconds."""
-        if self._loop is None:
+        if not self.runs or self._loop is None:
             work.close()
-            raise Closed(self._closed)
+            self._opened.check(self.where)
+            raise Closed(f"{self.where}: {self._closed}")
         future = asyncio.run_coroutine_threadsafe(work, self._loop)
         try:
             return future.result(timeout)
