@@ -7,6 +7,7 @@ import json
 import pathlib
 import socket
 import sqlite3
+import urllib.parse
 
 import psycopg
 import pytest
@@ -172,6 +173,8 @@ def test_least_rights(postgresql: Server, url: str, capsys: pytest.CaptureFixtur
 @pytest.mark.parametrize("name, why", [
     ("postgres:/a:geheim@b/c", "two slashes"), ("postgresql://a:ge%heim@b/c", "two hex digits"), ("postgresql://a:geheim@b/c?x=1", '"x"'),
     ("psql://a:geheim@b/c", "psql://"), ("postgresql+psycopg://a:geheim@b/c", "postgresql\\+psycopg://"), ("host=b user=a password=geheim dbname=c", "words"),
+    ("postgresql://a:x@geheim@b/c", "@ or /"), ("postgresql://a:x/geheim@b/c", "@ or /"), ("postgresql://a:x@y/geheim@b/c", "@ or /"),
+    ("postgresql://a:1/geheim@b/c", "@ or /"), ("postgresql://a:x/y?geheim=1@b/c", "quote"), ("postgresql://a:geheim/c", "no number"),
 ])  # fmt: skip
 def test_what_is_no_store(name: str, why: str, capsys: pytest.CaptureFixture[str]) -> None:
     """A URL that is none is refused by node, client and command, with what is wrong, and without its password."""
@@ -187,6 +190,48 @@ def test_what_is_no_store(name: str, why: str, capsys: pytest.CaptureFixture[str
     assert command.main([name, "list"]) == 4 and command.main([name, "nodes"]) in (2, 4)
     for said in (str(told.value), str(client.value), capsys.readouterr().err):
         assert "postgresql://user@host/database" in said and "geheim" not in said
+
+
+@pytest.mark.parametrize("password", ["ge?heim", "ge#heim", "ge:heim", "ge[heim]", 'ge"he im', "ge%40heim", "ge%2Fheim"])
+def test_a_password_that_can_be_read_is_in_no_name(password: str) -> None:
+    """Some characters may stand there as they are; an @ behind a question mark is a parameter's."""
+    for more in ("", "?application_name=a@b"):
+        url = f"postgresql://a:{password}@b:5432,c/d{more}"
+        assert links.named(url) == "postgresql://a@b:5432,c/d" and links.read(url)["password"] == urllib.parse.unquote(password)
+
+
+def test_a_password_is_in_nothing_that_the_command_prints(url: str, capsys: pytest.CaptureFixture[str]) -> None:
+    """Also where it says what to run next, and where it cannot write."""
+    saga = sagas.Saga("fails")
+
+    @saga.step
+    def a(task: Task) -> None: ...
+
+    @a.compensation
+    def undo(task: Task) -> None:
+        raise sagas.Fail("no")
+
+    @saga.step(needs=[a])
+    def b(task: Task) -> None:
+        raise sagas.Fail("no")
+
+    async def main() -> None:
+        async with sagas.open(url, [saga]) as store:
+            await (await store.start(saga, "k")).wait()
+
+    run(main())
+    theirs = url.replace("owner@", "owner:geheim@")
+    for words in ("counts", "stuck", "list"):
+        assert command.main([theirs, words]) == 0
+    with psycopg.connect(url, autocommit=True) as link:
+        link.execute("ALTER TABLE sagas.requests RENAME TO others")
+    assert command.main([theirs, "abort", "none"]) in (1, 4)
+    with psycopg.connect(url, autocommit=True) as link:
+        link.execute("UPDATE sagas.sagas SET phase = NULL")
+    assert command.main([theirs, "abort", "k"]) == 4
+    said = capsys.readouterr()
+    assert "list --phase" in said.out and "cannot write postgresql://owner@" in said.err
+    assert "geheim" not in said.out + said.err
 
 
 def test_a_server_that_is_not_there(monkeypatch: pytest.MonkeyPatch) -> None:

@@ -39,22 +39,43 @@ FAULTS = (psycopg.Error, PoolTimeout, OSError, TimeoutError)
 LINE = "left(pg_walfile_name(pg_current_wal_lsn()), 8)"
 """The server's timeline: another one once a standby has taken over, which may lack what was committed last."""
 
+ESCAPED = 'with % and two hex digits for what is special in a password, as urllib.parse.quote(password, safe="") gives it'
+
 T = TypeVar("T")
 Row = tuple[Any, ...]
 Link = psycopg.AsyncConnection[Row]
 
 
 def read(url: str) -> dict[str, Any]:
-    """What a URL says. Raises `StoreFault` where it is none; the text has no password."""
+    """What a URL says. Raises `StoreFault` where it is none, or most likely none; the text has no part of a password."""
     if not is_url(url):
         raise StoreFault(f"this is no URL of a database in PostgreSQL: {FORM}")
+    if has_stray_at(url):
+        raise unread("most likely a password has @ or / in it, written as they are")
     try:
-        return conninfo.conninfo_to_dict(url)
+        told: dict[str, Any] = conninfo.conninfo_to_dict(url)
     except psycopg.ProgrammingError as error:
         said = str(error).strip()
-        if not said.startswith("invalid URI query parameter"):  # else it may show a part of the password
+        if not said.startswith("invalid URI query parameter") or "@" in url.partition("?")[2]:  # else it may show a part of the password
             said = "two slashes are missing" if said.startswith('missing "="') else said.partition('"')[0].strip(" :")
-        raise StoreFault(f"the URL of the store cannot be read ({said}): it is {FORM}, with % and two hex digits for what is special in a password") from None
+        raise unread(said) from None
+    if not all(port.isdigit() or not port for port in str(told.get("port", "")).split(",")):
+        raise unread("its port is no number; where that is the password, @ and the host are missing behind it")
+    return told
+
+
+def unread(why: str) -> StoreFault:
+    """What is said of a URL that cannot be read."""
+    return StoreFault(f"the URL of the store cannot be read ({why}): it is {FORM}, {ESCAPED}")
+
+
+def has_stray_at(url: str) -> bool:
+    """Whether an @ would be taken for a part of the host or of the database's name, as it is where a password has @ or / as they are."""
+    told = url.partition("://")[2]
+    user, _, behind = told.partition("@")
+    if "/" in user:  # what stands before it is taken for the host
+        behind = told
+    return "@" in behind.partition("?")[0]
 
 
 def address(url: str) -> str:

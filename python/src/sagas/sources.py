@@ -37,6 +37,9 @@ class Trouble(Exception):
 class Source(Protocol):
     """A connection. Queries are such as SQLite and PostgreSQL both understand, with `?` for each word."""
 
+    name: str
+    """The store's in messages: the file's, or the URL without its password."""
+
     def begin(self) -> None:
         """All that is asked from now on is of one moment."""
 
@@ -81,7 +84,7 @@ class File:
     """A SQLite file; `mode` is `ro` or `rw`."""
 
     def __init__(self, name: str, mode: str) -> None:
-        self.path = pathlib.Path(name)
+        self.name, self.path = name, pathlib.Path(name)
         try:
             if not self.path.is_file():
                 what = "it is a folder" if self.path.is_dir() else "there is no such file; sagas.open makes a store"
@@ -254,6 +257,6 @@ def writing(name: str) -> Iterator[Source]:
     try:
         yield link
     except (SagasError, sqlite3.Error) as error:
-        raise Trouble(f"cannot write {name}: {sqlite.told(error) if isinstance(error, sqlite3.Error) else error}", CANNOT) from error
+        raise Trouble(f"cannot write {link.name}: {sqlite.told(error) if isinstance(error, sqlite3.Error) else error}", CANNOT) from error
     finally:
         link.close()

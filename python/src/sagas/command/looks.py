@@ -159,6 +159,7 @@ def waits_for(one: Json) -> str:
 def counts(path: str, words: argparse.Namespace) -> int:
     """Counts sagas, by name and phase."""
     with View(path) as view:
+        name = view.link.name
         rows = view.ask(f"SELECT saga, {PHASE}, count(*) FROM sagas GROUP BY 1, 2 ORDER BY 1")
         ((persons,),) = view.ask(f"SELECT count(*) FROM held WHERE {PERSON}")
         ((planned, undo_failed),) = view.ask(f"SELECT count(*), count(*) FILTER (WHERE {UNDO_FAILED}) FROM sagas WHERE {PLANNED}")
@@ -171,11 +172,11 @@ def counts(path: str, words: argparse.Namespace) -> int:
     print(table(["SAGA", *map(str.upper, COUNTED)], [(saga, *told[saga].values()) for saga in names]))
     said = []
     if planned:
-        said.append(f"{planned} ended by a plan: sagas store {path} list --phase planned")
+        said.append(f"{planned} ended by a plan: sagas store {name} list --phase planned")
     if undo_failed:
-        said.append(f"{undo_failed} of these with a compensation that failed for good: sagas store {path} list --phase undo-failed")
+        said.append(f"{undo_failed} of these with a compensation that failed for good: sagas store {name} list --phase undo-failed")
     if persons:
-        said.append(f"{persons} {'waits' if persons == 1 else 'wait'} for a person: sagas store {path} waiting")
+        said.append(f"{persons} {'waits' if persons == 1 else 'wait'} for a person: sagas store {name} waiting")
     if said:
         print("\n" + "\n".join(said))
     return GOOD
@@ -184,6 +185,7 @@ def counts(path: str, words: argparse.Namespace) -> int:
 def stuck(path: str, words: argparse.Namespace) -> int:
     """Lists the stuck sagas that nobody has resolved."""
     with View(path) as view:
+        name = view.link.name
         rows = view.sagas("phase = 'stuck' AND note IS NULL")
         told: list[Json] = []
         for row in rows:
@@ -199,7 +201,7 @@ def stuck(path: str, words: argparse.Namespace) -> int:
         (one["key"], one["saga"], moment(one["ended"]), " needs ".join(one["chain"])) for one in told
     ]))
     if undo_failed:
-        print(f"\n{undo_failed} ended with a compensation that failed for good: sagas store {path} list --phase undo-failed")
+        print(f"\n{undo_failed} ended with a compensation that failed for good: sagas store {name} list --phase undo-failed")
     return GOOD
 
 
