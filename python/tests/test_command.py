@@ -256,6 +256,49 @@ def test_show_says_why(tmp_path: pathlib.Path, capsys: pytest.CaptureFixture[str
     assert [step["state"] for step in Shell(path, capsys).json("show", "k")["steps"]] == ["fixed", "failed"]
 
 
+def test_texts_that_the_output_has_no_characters_for(place: str, capsys: pytest.CaptureFixture[str], caplog: pytest.LogCaptureFixture) -> None:
+    """Halves of pairs are printed escaped, and so is what is beyond ASCII where the output has no more than that; JSON has them all."""
+    caplog.set_level(logging.CRITICAL, "sagas")  # the tests' runner takes no halves of pairs
+    odd = "half \ud800 of a pair, \N{PILE OF POO} and \xe9"
+    saga, letter = sagas.Saga("odd"), signed()
+
+    @saga.step
+    def give(task: Task) -> str:
+        return odd
+
+    @give.compensation
+    def take(task: Task) -> None:
+        raise ValueError(odd)
+
+    @saga.step(needs=[give], skip=sagas.NEVER)
+    def fail(task: Task) -> None:
+        raise sagas.Fail(odd)
+
+    async def main() -> None:
+        async with sagas.open(place, [saga, letter]) as store:
+            assert (await (await store.start(saga, "k", odd)).wait()).phase == "stuck"
+            await store.start(letter, "l", odd)
+            await until(lambda: held(place))
+
+    run(main())
+    shell = Shell(place, capsys)
+    shell("resolve", "k", "--note", odd)
+    for words in (["show", "k"], ["log", "k"], ["plan", "k"], ["export", "k"], ["draw", "k", "--svg"], ["show", "l"]):
+        told = shell(*words)
+        assert words[0] in ("plan", "draw") or "\\ud800 of" in told, told
+        shell.json(*words)
+    for words in (["list"], ["waiting"], ["counts"], ["stuck"]):
+        shell(*words)
+    assert shell.json("show", "k")["input"] == odd
+    assert command.main([place, "finish", "l", odd]) == 1 and "\\ud800 of" in capsys.readouterr().err
+    plain = io.TextIOWrapper(io.BytesIO(), encoding="ascii")
+    with contextlib.redirect_stdout(plain):
+        assert command.main([place, "show", "k"]) == 0 and command.main([place, "show", "k", "--json"]) == 0
+    plain.seek(0)
+    text, _, rest = plain.read().partition("\n{")
+    assert "\\xe9" in text and json.loads("{" + rest)["input"] == odd
+
+
 def test_a_compensation_that_failed_is_seen(place: str, capsys: pytest.CaptureFixture[str]) -> None:
     """Those that ended with it are listed and counted, and told of as `undo failed`, with what was raised; programs get the word of the rules."""
     row = sagas.Saga("row")

@@ -20,7 +20,7 @@ from .asks import abort, finish, resolve
 from .audits import audit
 from .looks import counts, draw, export, list_sagas, log, plan, show, stuck, waiting
 from .pruning import prune, words_of_prune
-from .tables import CANNOT
+from .tables import CANNOT, escape
 from .tending import init, migrate, nodes
 
 Command = Callable[[str, argparse.Namespace], int]
@@ -103,6 +103,7 @@ def add_patience(part: argparse.ArgumentParser) -> None:
 
 def main(words: list[str] | None = None) -> int:
     """Runs `sagas store` with the words behind it, and gives the status: 0 good, 1 no, 2 usage, 4 a file."""
+    escape()
     given = parser().parse_args(words)
     command: Command = given.do
     try:

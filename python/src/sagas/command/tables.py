@@ -3,10 +3,13 @@
 from __future__ import annotations
 
 import datetime
+import io
 import json
 import sys
 from collections.abc import Sequence
 from typing import Any
+
+from ..values import clean
 
 GOOD, NO, CANNOT = 0, 1, 4
 """The statuses of the command; 2 is for its words."""
@@ -26,7 +29,7 @@ def short(value: Any, most: int = 60) -> str:
 
 def table(heads: Sequence[str], rows: Sequence[Sequence[object]]) -> str:
     """Columns, as wide as they have to be; numbers stand at the right."""
-    cells = [[str(cell) for cell in row] for row in rows]
+    cells = [[clean(str(cell)) for cell in row] for row in rows]
     widths = [max(len(row[at]) for row in [list(heads), *cells]) for at in range(len(heads))]
     numeric = [bool(rows) and all(isinstance(row[at], int) for row in rows) for at in range(len(heads))]
 
@@ -38,8 +41,20 @@ def table(heads: Sequence[str], rows: Sequence[Sequence[object]]) -> str:
 
 
 def show_json(value: object) -> None:
-    """Prints a value for programs."""
-    print(json.dumps(value, indent=1, ensure_ascii=False))
+    """Prints a value for programs; what the output has no character for is escaped as JSON has it."""
+    text = json.dumps(value, indent=1, ensure_ascii=False)
+    try:
+        text.encode(sys.stdout.encoding or "utf-8")
+    except UnicodeEncodeError:
+        text = json.dumps(value, indent=1)
+    print(text)
+
+
+def escape() -> None:
+    """From now on what standard output and error have no character for is printed escaped: a half of a pair, as a saga's texts may have, say."""
+    for stream in (sys.stdout, sys.stderr):
+        if isinstance(stream, io.TextIOWrapper):
+            stream.reconfigure(errors="backslashreplace")
 
 
 class Progress:
