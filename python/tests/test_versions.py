@@ -3,11 +3,15 @@
 from __future__ import annotations
 
 import asyncio
+import contextlib
 import json
 import pathlib
 import socket
 import sqlite3
+import threading
+import time
 import urllib.parse
+from collections.abc import Iterator
 
 import psycopg
 import pytest
@@ -242,6 +246,68 @@ def test_a_server_that_is_not_there(monkeypatch: pytest.MonkeyPatch) -> None:
         url = f"postgresql://a@127.0.0.1:{one.getsockname()[1]}/c"
         with pytest.raises(sagas.StoreUnwritable, match="[Rr]efused"), sagas.SyncClient(url):
             pass
+
+
+@contextlib.contextmanager
+def lets_in(server: Server, words: str) -> Iterator[None]:
+    """The server asks these words of `pg_hba.conf` before its own."""
+    file = server.folder / "data" / "pg_hba.conf"
+    before = file.read_text()
+    file.write_text(f"{words}\n{before}")
+    reload(server)
+    try:
+        yield
+    finally:
+        file.write_text(before)
+        reload(server)
+
+
+def reload(server: Server) -> None:
+    """Has the server read its files again, and waits until it has."""
+    loaded = ""
+    for turn in range(200):
+        with psycopg.connect(server.url("postgres"), autocommit=True) as link:
+            (now,) = link.execute("SELECT pg_conf_load_time()::text").fetchone() or ("",)
+            if turn == 0:
+                loaded = now
+                link.execute("SELECT pg_reload_conf()")
+            elif now != loaded:
+                return
+        time.sleep(0.02)
+    raise TimeoutError("the server did not read its files again")
+
+
+def test_a_client_that_is_never_let_in(postgresql: Server, url: str) -> None:
+    """What the server says for good is told at once."""
+    with psycopg.connect(url, autocommit=True) as link:
+        link.execute("CREATE ROLE keyed LOGIN PASSWORD 'right'")
+        link.execute("CREATE ROLE idle")
+    asked = [
+        (url.replace("owner", "keyed:wrong"), "password authentication failed"), (url.replace("owner", "keyed"), "no password supplied"),
+        (f"{url}_none", 'database ".*" does not exist'), (url.replace("owner", "nobody"), 'role "nobody" does not exist'),
+        (url.replace("owner", "idle"), "not permitted to log in"),
+    ]  # fmt: skip
+    with lets_in(postgresql, "host all keyed 127.0.0.1/32 scram-sha-256"):
+        for name, text in asked:
+            begun = time.monotonic()
+            with pytest.raises(sagas.StoreUnwritable, match=text) as told, sagas.SyncClient(name):
+                pass
+            assert time.monotonic() - begun < links.CONNECT and "wrong" not in str(told.value)
+        with pytest.raises(sagas.StoreFault, match="no tables yet"), sagas.SyncClient(url.replace("owner", "keyed:right")):
+            pass
+
+
+def test_a_client_tries_until_the_server_is_there(postgresql: Server, url: str) -> None:
+    """While it does not answer, or is starting, nothing is final."""
+    assert command.main([url, "init"]) == 0
+    postgresql.stop("fast")
+    starting = threading.Timer(0.5, postgresql.start)
+    starting.start()
+    try:
+        with sagas.SyncClient(url) as client:
+            assert client.list() == []
+    finally:
+        starting.join()
 
 
 @pytest.mark.parametrize("setting", ["off", "local"])

@@ -134,6 +134,7 @@ class Client:
         def __exit__(self, *_: object) -> None: ...
 
     async def _open(self) -> None:
+        await links.knock(self._url, self.path)
         await self._asker.open()
         try:
             version = (await self._asker.read("SELECT to_regclass('sagas.store') IS NOT NULL"))[0][0] and (await self._asker.read("SELECT version FROM sagas.store"))[0][0]

@@ -4,6 +4,7 @@ from __future__ import annotations
 
 import asyncio
 import contextlib
+import re
 from collections.abc import Awaitable, Callable, Iterator
 from typing import Any, TypeVar
 
@@ -17,6 +18,13 @@ from .errors import StoreFault, StoreUnwritable
 PATIENCE = 20.0
 """Seconds that a statement may take: what takes longer is given up, and what it did is looked up."""
 CONNECT = 5
+KNOCK = 2.0
+"""Seconds that a server has for its answer to a first connection."""
+FINAL = re.compile(
+    r"authentication failed|no password supplied|pg_hba\.conf|not permitted to log in|permission denied for database"
+    r"|(role|database) \".*\" does not exist|no such (user|database)"
+)
+"""What is said, in English alone, to who will never be let in so. There is no code with it: libpq keeps that to itself."""
 DEFAULTS: dict[str, Any] = {
     "connect_timeout": CONNECT, "application_name": "sagas", "keepalives_idle": 5, "keepalives_interval": 2, "keepalives_count": 3,
     "tcp_user_timeout": 15_000, "target_session_attrs": "read-write",
@@ -127,6 +135,19 @@ async def connect(url: str, settings: str = SETTINGS) -> Link:
     link: Link = await psycopg.AsyncConnection.connect(address(url), autocommit=True, prepare_threshold=1)
     await link.execute(settings, prepare=False)
     return link
+
+
+async def knock(url: str, where: str) -> None:
+    """Raises `StoreUnwritable` where the server says for good that it lets nobody in so. A pool would try on, and whatever else it is may pass."""
+    try:
+        async with asyncio.timeout(KNOCK):
+            await (await connect(url)).close()
+    except FAULTS as error:
+        if isinstance(error, psycopg.Error) and error.pgconn:  # who has the error keeps it open, and the server would wait for a password
+            with contextlib.suppress(psycopg.Error):
+                error.pgconn.finish()
+        if FINAL.search(str(error)):
+            raise unwritable(where, error) from error
 
 
 async def line_of(link: Link) -> str:
