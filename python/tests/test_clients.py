@@ -14,7 +14,8 @@ import records
 import sagas
 from cases import Task, hears, in_child, run, until
 from kills import children
-from sagas import command
+from server import Server
+from sagas import command, requests as asked
 
 
 def shop() -> sagas.Saga:
@@ -156,6 +157,129 @@ def requests(url: str) -> int:
 
 def test_a_start_is_in_the_inbox_or_in_a_log(url: str) -> None:
     """In one of them at each moment, and never in both; one that a node took which is gone is another's."""
+def test_an_abort_before_a_node_comes_wins(url: str) -> None:
+    """The start is withdrawn at once, and the node that opens later calls nothing."""
+    called: list[str] = []
+    kind = sagas.Saga("fast")
+
+    @kind.step
+    async def a(task: Task) -> None:
+        called.append(task.key)
+
+    made(url, kind)
+
+    async def main() -> None:
+        async with sagas.Client(url) as client:
+            runs = [await client.start(kind, f"k{number}") for number in range(3)]
+            waits = asyncio.create_task(runs[0].wait())
+            await asyncio.sleep(0.1)
+            async with asyncio.timeout(20):
+                assert await asyncio.gather(*(run.abort() for run in runs)) == [True] * 3
+                with pytest.raises(sagas.NoSuchSaga):
+                    await waits
+                with pytest.raises(sagas.NoSuchSaga):
+                    await runs[0].abort()
+            assert inbox(url) == requests(url) == 0
+            async with sagas.open(url, [kind]):
+                again = await client.start(kind, "k0")
+                assert again.new and (await again.wait()).ok and called == ["k0"]
+
+    run(main())
+    with sagas.SyncClient(url) as plain:
+        late = plain.start(kind, "late")
+        assert late.abort() is True and plain.get("late") is None
+
+
+def test_a_node_withdraws_a_start_of_a_saga_that_it_lacks(url: str) -> None:
+    """`Store.abort` of a client's start that no node has taken, as `Client.abort`."""
+    kind, other = shop(), sagas.Saga("other")
+
+    @other.step
+    def x(task: Task) -> int:
+        return 1
+
+    with sagas.open_sync(url, [other]) as store, sagas.SyncClient(url) as client:
+        client.start(kind, "k")
+        assert store.abort("k") is True and inbox(url) == 0
+        with pytest.raises(sagas.NoSuchSaga):
+            store.abort("k")
+
+
+def test_an_abort_whose_start_goes_away_hears_of_it(url: str) -> None:
+    """A node has taken the start, so the abort waits; it returns where the start is let go, and withdraws it where the node gives it back."""
+    kind = shop()
+    made(url, kind)
+
+    async def main() -> None:
+        async with sagas.Client(url) as client:
+            for key in ("gone", "withdrawn", "back"):
+                run = await client.start(kind, key)
+                with psycopg.connect(url) as link:
+                    link.execute("UPDATE sagas.inbox SET node = 'other/1'")
+                abort = asyncio.create_task(run.abort())
+                await until(lambda: requests(url))
+                with psycopg.connect(url, options="-c search_path=sagas") as link:
+                    link.execute("UPDATE inbox SET node = NULL")
+                    if key == "gone":
+                        link.execute("DELETE FROM inbox")
+                    elif key == "withdrawn":
+                        assert link.execute(asked.WITHDRAW.replace("?", "%s"), (key,)).fetchall()
+                async with asyncio.timeout(60):
+                    if key == "back":
+                        assert await abort is True
+                    else:
+                        with pytest.raises(sagas.NoSuchSaga):
+                            await abort
+                assert inbox(url) == requests(url) == 0
+
+    run(main())
+
+
+def test_an_abort_and_a_node_at_once(url: str) -> None:
+    """Whoever has the start first, what the abort answers is so. True: nothing was called and the key is free, or the end says so. False: it is over."""
+    called: list[str] = []
+    kind = sagas.Saga("fast")
+
+    @kind.step
+    async def a(task: Task) -> None:
+        called.append(task.key)
+
+    made(url, kind)
+
+    async def one(run: sagas.ClientRun, pause: float) -> str:
+        await asyncio.sleep(pause)
+        done = await run.abort()
+        try:
+            end = await run.wait()
+        except sagas.NoSuchSaga:
+            assert done and run.key not in called
+            return "withdrawn"
+        assert end.aborted is done and (done or end.ok and run.key in called)
+        return "aborted" if done else "over"
+
+    async def started(client: sagas.Client, name: str) -> list[sagas.ClientRun]:
+        return [await client.start(kind, f"{name}-{place}") for place in range(10)]
+
+    async def answers(runs: list[sagas.ClientRun], step: float) -> list[str]:
+        return await asyncio.gather(*(one(run, step * place) for place, run in enumerate(runs)))
+
+    async def main() -> None:
+        found: set[str] = set()
+        async with sagas.Client(url, connections=8) as client:
+            for turn in range(5):
+                before = asyncio.create_task(answers(await started(client, f"before{turn}"), 0.01 + 0.002 * turn))
+                async with sagas.open(url, [kind]), sagas.open(url, [kind]):
+                    async with asyncio.timeout(60):
+                        found.update(await before)
+                        for part in range(3):
+                            found.update(await answers(await started(client, f"beside{turn}-{part}"), 0.0002 * turn))
+            assert "withdrawn" in found and inbox(url) == requests(url) == 0
+            for key in {*called}:
+                assert called.count(key) == 1 and await client.get(key) is not None
+
+    run(main())
+
+
     kind = shop()
 
     def places() -> list[int]:

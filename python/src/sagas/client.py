@@ -207,7 +207,9 @@ class Client:
             await self._heard.of(row.id, turn)
 
     async def abort(self, key: str) -> bool:
-        """No step of it begins any more. False where it is over or was aborted before. Waits until the saga's node has said so. Raises `NoSuchSaga`."""
+        """No step of it begins any more. Waits until the saga's node has said so; a start that no node has taken is withdrawn at once, and then no saga has
+        the key. True where this abort did it, False where the saga is over or was aborted before. Raises `NoSuchSaga`, also where the start was withdrawn
+        meanwhile."""
         if (await self._row(key)).phase is not None:
             return False
         return bool(requests.told(await postgresql.ask(self._asker, self._heard, key, "abort", "null", None)))

@@ -12,7 +12,7 @@ from typing import Any
 
 import psycopg
 
-from . import links, news, postgresql_schema, questions, wire
+from . import links, news, postgresql_schema, questions, requests, wire
 from .database import Drives, Then, Watcher
 from .definition import Bounds
 from .errors import NoSuchSaga, StoreUnwritable
@@ -55,6 +55,12 @@ UPDATE inbox SET node = %(node)s FROM lot WHERE inbox.id = lot.id RETURNING inbo
 """
 """As a part of an OR what is not taken is looked up again for a row that another node took meanwhile; as a join it would not be."""
 ASK = "INSERT INTO requests(key, what, value, at, token) VALUES (%(key)s, %(what)s, %(value)s, extract(epoch FROM now()), %(token)s) ON CONFLICT (token) WHERE token IS NOT NULL DO NOTHING RETURNING id"
+ANSWER = """
+SELECT answer, EXISTS (SELECT 1 FROM sagas s WHERE s.key = r.key), i.key IS NOT NULL, i.key IS NOT NULL AND i.node IS NULL
+FROM requests r LEFT JOIN inbox i USING (key) WHERE r.id = %(id)s
+"""
+"""A request's answer, and as of the same moment whether a log has the saga, whether a client's start waits, and whether no node has taken that."""
+UNASK = "DELETE FROM requests WHERE id = %(id)s AND answer IS NULL"
 
 
 class PostgreSQL(questions.Questions):
@@ -423,18 +429,28 @@ def _named(query: str) -> str:
 
 
 async def ask(asker: links.Asker, heard: news.News, key: str, what: str, value: str, token: str | None) -> Any:
-    """Leaves a request, tells the nodes, and waits for the answer."""
+    """Leaves a request, tells the nodes, and waits for the answer; an abort of a start that no node has taken withdraws it instead. Raises `NoSuchSaga`."""
+    if what == "abort" and await withdraw(asker, key):
+        return True
     rows = await asker.ask(ASK, key=key, what=what, value=value, token=token)
     rows = rows or await asker.read("SELECT id FROM requests WHERE token = %(token)s", token=token)
     ((id,),) = rows
     await asker.ask(news.SAY, words=["requests"])
     turn = 0
-    while True:
-        rows = await asker.read("SELECT answer FROM requests WHERE id = %(id)s", id=id)
-        if not rows:
-            raise NoSuchSaga(f"no saga has the key {key!r}")
-        ((answer,),) = rows
+    while rows := await asker.read(ANSWER, id=id):
+        ((answer, is_saga, is_started, is_free),) = rows
         if answer is not None:
             return json.loads(answer)
+        if what == "abort" and is_free and await withdraw(asker, key):  # the node that had taken it is gone
+            return True
+        if not is_saga and not is_started:  # nobody will answer
+            await asker.ask(UNASK, id=id)
+            break
         await heard.wait("answered", id, turn)
         turn += 1
+    raise NoSuchSaga(f"no saga has the key {key!r}")
+
+
+async def withdraw(asker: links.Asker, key: str) -> bool:
+    """Takes a client's start back. False where no start has the key, or a node has taken it."""
+    return bool(await asker.ask(requests.WITHDRAW.replace("?", "%(key)s"), key=key))

@@ -18,6 +18,14 @@ if TYPE_CHECKING:
     from .store import Store
 
 logger = logging.getLogger("sagas")
+WITHDRAW = """
+WITH gone AS (DELETE FROM inbox WHERE key = ? AND node IS NULL RETURNING id, key),
+unheard AS (DELETE FROM requests r USING gone WHERE r.key = gone.key AND r.answer IS NULL RETURNING r.id)
+SELECT pg_notify('sagas', 'begun ' || id) FROM gone UNION ALL SELECT pg_notify('sagas', 'answered ' || id) FROM unheard
+"""
+"""Takes a client's start back, with what was asked of it; whoever waits for either looks at once. No row where no start has the key, or a node has taken it.
+
+Of one that a node has taken the saga may be in a log in the next moment, though the node is not heard of any more: that is aborted as a saga."""
 
 
 def finish_of(step: str, kind: str, outcome: Outcome) -> dict[str, Any]:

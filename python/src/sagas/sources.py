@@ -14,6 +14,7 @@ from typing import Any, Protocol
 
 from . import databases, sqlite
 from .errors import SagasError
+from .requests import WITHDRAW
 from .schema import VERSION
 from .values import cleaned
 
@@ -22,8 +23,6 @@ CANNOT = 4
 ALONE = 5_777_002
 """The advisory lock of who lets ended sagas go."""
 STARTS = "SELECT key, saga, version, at FROM inbox i WHERE NOT EXISTS (SELECT 1 FROM nodes n WHERE n.node = i.node AND n.lease > now()) ORDER BY id"
-WITHDRAW = "DELETE FROM inbox WHERE key = ? AND node IS NULL RETURNING id"
-"""Of one that a node has taken the saga may be in a log in the next moment, though the node is not heard of any more: that is aborted as a saga."""
 
 
 class Trouble(Exception):

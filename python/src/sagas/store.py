@@ -292,6 +292,7 @@ class Store:
         self._here()
         return await self._abort(key, self._asked(key, "abort", by, note))
 
+        A client's start that no node has taken is withdrawn, as `Client.abort` does.
     def _asked(self, key: str, what: str, by: str | None, note: str | None, **more: Any) -> Asked | None:
         """What is kept of somebody's request."""
         return None if by is None else (key, what, values.write({"by": by, "note": note, **more}), self._inside.clock())
