@@ -3,12 +3,14 @@
 from __future__ import annotations
 
 import asyncio
+import contextlib
 import json
 import os
 from typing import Any
 
 import psycopg
 import pytest
+from psycopg.rows import dict_row
 
 import records
 import sagas
@@ -155,8 +157,6 @@ def requests(url: str) -> int:
         return int(row[0])
 
 
-def test_a_start_is_in_the_inbox_or_in_a_log(url: str) -> None:
-    """In one of them at each moment, and never in both; one that a node took which is gone is another's."""
 def test_an_abort_before_a_node_comes_wins(url: str) -> None:
     """The start is withdrawn at once, and the node that opens later calls nothing."""
     called: list[str] = []
@@ -280,6 +280,8 @@ def test_an_abort_and_a_node_at_once(url: str) -> None:
     run(main())
 
 
+def test_a_start_is_in_the_inbox_or_in_a_log(url: str) -> None:
+    """In one of them at each moment, and never in both; one that a node took which is gone is another's."""
     kind = shop()
 
     def places() -> list[int]:
@@ -603,5 +605,99 @@ def test_a_race_for_one_key_fails_no_other_start(url: str, monkeypatch: pytest.M
             runs = await asyncio.gather(*(one.start(kind, f"k{number}", number) for number in range(10)))
             assert all(end.ok for end in await asyncio.gather(*(run.wait() for run in runs)))
             assert len(records.read(url).sagas) == 10
+
+    run(main())
+
+
+@pytest.mark.parametrize("plain", [False, True])
+def test_faults_of_the_given_connection_are_told_as_its_own(url: str, postgresql: Server, plain: bool) -> None:
+    """Closed, in a failed transaction, to a database without the tables, or to that of another store: nothing is written, and each text says what to do."""
+    kind, bare, other = shop(), postgresql.create(), postgresql.create()
+    for place in (url, other):
+        made(place, kind)
+
+    def tried(to: str, spoil: str) -> str:
+        with sagas.SyncClient(url) as client, psycopg.connect(to) as link:
+            spoilt(link, spoil)
+            with pytest.raises(sagas.StoreUnwritable) as told:
+                client.start(kind, "k", connection=link)
+            return str(told.value)
+
+    async def tried_async(to: str, spoil: str) -> str:
+        async with sagas.Client(url) as client, await psycopg.AsyncConnection.connect(to) as link:
+            if spoil == "close":
+                await link.close()
+            elif spoil:
+                with contextlib.suppress(psycopg.Error):
+                    await link.execute(spoil)
+            with pytest.raises(sagas.StoreUnwritable) as told:
+                await client.start(kind, "k", connection=link)
+            return str(told.value)
+
+    texts = {
+        (url, "close"): "the connection that was given is closed: nothing was written: give one that is open",
+        (url, "SELECT 1 / 0"): "in which a statement failed: nothing was written: roll it back, and start the saga in the next one",
+        (url, "SET TRANSACTION READ ONLY"): "by the connection that was given: cannot execute INSERT in a read-only transaction",
+        (bare, ""): "the connection that was given is to another database (database '",
+        (other, ""): "nothing was written: give one to the store's database",
+    }
+    for (to, spoil), text in texts.items():
+        assert text in (tried(to, spoil) if plain else run(tried_async(to, spoil)))
+    assert inbox(url) == inbox(other) == 0
+    for place in (bare, other):
+        postgresql.drop(place)
+
+
+def spoilt(link: psycopg.Connection[Any], how: str) -> None:
+    """Closes it, or does something in its transaction, which may fail."""
+    if how == "close":
+        link.close()
+    elif how:
+        with contextlib.suppress(psycopg.Error):
+            link.execute(how)
+
+
+def test_a_given_connection_with_rows_of_its_own_kind(url: str) -> None:
+    """Dicts, by cursors of another class: a start reads its own rows all the same, also where the key is there."""
+    kind = shop()
+    made(url, kind)
+
+    async def main() -> None:
+        other: dict[str, Any] = {"row_factory": dict_row, "cursor_factory": psycopg.AsyncClientCursor}
+        async with sagas.Client(url) as client, await psycopg.AsyncConnection.connect(url, **other) as link:
+            assert (await client.start(kind, "k", 1, connection=link)).new
+            assert not (await client.start(kind, "k", 1, connection=link)).new
+            with pytest.raises(sagas.NoSuchSaga):
+                await client.wait("k")
+            await link.commit()
+
+    run(main())
+    with sagas.SyncClient(url) as plain, psycopg.connect(url, row_factory=dict_row) as link:
+        assert not plain.start(kind, "k", 1, connection=link).new and plain.start(kind, "l", connection=link).new
+    assert inbox(url) == 2
+
+
+def test_a_store_and_a_client_wait_by_key_for_some_time(url: str) -> None:
+    """`wait(key, timeout=)` as of a run; a store that lacks the version of a client's start says so too."""
+    kind, later = shop(), sagas.Saga("shop", version=2)
+
+    @later.step
+    def x(task: Task) -> int:
+        return 1
+
+    async def main() -> None:
+        async with sagas.open(url, [kind]) as store, sagas.Client(url) as client:
+            await client.start(later, "k")
+            text = "'k' is still open after 0.01 s: no node has begun it yet"
+            with pytest.raises(TimeoutError, match=text):
+                await client.wait("k", timeout=0.01)
+            with pytest.raises(TimeoutError, match=text):
+                await store.wait("k", timeout=0.01)
+            assert not (found := await store.start(kind, "k")).new
+            with pytest.raises(TimeoutError, match=text):
+                await found.wait(timeout=0.01)
+            with pytest.raises(sagas.NoSuchSaga):
+                await store.wait("none", timeout=60)
+            assert (await (await store.start(kind, "l")).wait(timeout=60)).ok and (await client.wait("l", timeout=60)).ok
 
     run(main())

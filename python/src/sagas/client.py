@@ -4,16 +4,18 @@ from __future__ import annotations
 
 import builtins
 import json
+from collections.abc import Coroutine
 from types import TracebackType
 from typing import TYPE_CHECKING, Any
+from weakref import WeakSet
 
 import psycopg
 
-from . import checks, histories, links, moving, news, postgresql, postgresql_schema, requests, room, values, waiting
+from . import checks, given, histories, links, moving, news, postgresql, postgresql_schema, requests, room, values, waiting
 from .calling import Outcome, failure
 from .databases import FORM
 from .definition import Saga, Step
-from .errors import Closed, NoSuchSaga, NotWaiting, StoreFault, TooLarge
+from .errors import Closed, NoSuchSaga, NotWaiting, StoreFault, StoreUnwritable, TooLarge
 from .forks import Opened
 from .kinds import Kind, version_of
 from .plans import Plan
@@ -60,13 +62,6 @@ def check_start(words: dict[str, Any], rows: builtins.list[Row], unfit: TooLarge
     check_same(words, rows)
 
 
-def check_connection(connection: object, plain: bool) -> None:
-    """Raises `TypeError` where it is none for this client: before anything is written."""
-    if not isinstance(connection, psycopg.Connection if plain else psycopg.AsyncConnection):
-        wants = ("SyncClient", "psycopg.Connection", "Client", "AsyncConnection") if plain else ("Client", "psycopg.AsyncConnection", "SyncClient", "plain one")
-        raise TypeError(f"nothing was written: sagas.{wants[0]} needs a {wants[1]}, not {type(connection).__name__}; sagas.{wants[2]} takes a {wants[3]}")
-
-
 class ClientRun:
     """A saga that a client started, or found by its key. `new`: whether this very start wrote it down: its key was free. Where a node began the key in the
     same moment, or the caller's transaction does not commit, it was not begun by this start all the same."""
@@ -77,8 +72,7 @@ class ClientRun:
     async def wait(self, timeout: float | None = None) -> End:
         """Waits for its end, at most `timeout` seconds; then `TimeoutError`, which says what it waits for. Raises `KeyConflict` where a node had begun the
         key with another input in the very moment of the start."""
-        work = self._client._wait(self.key, self._words)
-        return await work if timeout is None else await waiting.in_time(self.key, work, timeout, lambda: self._client.waits_for(self.key))
+        return await self._client._in_time(self.key, self._client._wait(self.key, self._words), timeout)
 
     async def abort(self) -> bool:
         """As `Client.abort`."""
@@ -114,6 +108,8 @@ class Client:
         self._news: news.News | None = None
         self._kinds: dict[str, Kind] = {}
         self._sagas: dict[tuple[str, int], Saga] = {}
+        self._checked: WeakSet[given.Given] = WeakSet()
+        """connections that were given, and are to the store's database"""
 
     async def __aenter__(self) -> Client:
         """Connects. Raises `StoreUnwritable`, `StoreNewer`, and `StoreFault` where there are no tables: a node makes them, or `sagas store URL init`;
@@ -176,24 +172,46 @@ class Client:
         """Starts a saga, or gives the one that this key has. When it returns, some node goes on with it, whatever becomes of this program.
 
         With `connection`, a psycopg connection to the same database, it is written in the transaction that is open there: the saga is there
-        exactly if that commits. A second start of the key waits until it has. Raises `KeyConflict`, `TooLarge`, `NotJson`, `StoreUnwritable`,
-        `Closed`; `TypeError` where it is no `psycopg.AsyncConnection`."""
+        exactly if that commits, and `run.wait()` raises `NoSuchSaga` before. A second start of the key waits until it has. Raises `KeyConflict`, `TooLarge`,
+        `NotJson`, `StoreUnwritable`, `Closed`; `TypeError` where it is no `psycopg.AsyncConnection`."""
         self._heard
         if connection is not None:
-            check_connection(connection, plain=False)
+            given.check_kind(connection, plain=False)
         words, unfit = start_words(saga, key, input), room.unfit(saga)
         self._sagas[saga.name, saga.version] = saga
-        with links.faults(self.path):
-            if connection is not None:
-                new = await _start(connection, words, unfit)
-            else:
+        if connection is not None:
+            new = await self._start_within(connection, words, unfit)
+        else:
+            with links.faults(self.path):
                 async with self._asker.pool.connection() as link, link.transaction():
                     new = await _start(link, words, unfit)
         return ClientRun(self, key, words, new)
 
-    async def wait(self, key: str) -> End:
-        """Waits for a saga's end. Raises `NoSuchSaga`, `Closed`."""
-        return await self._wait(key, None)
+    async def _start_within(self, connection: Connection, words: dict[str, Any], unfit: TooLarge | None) -> bool:
+        """A start in the transaction that is open there."""
+        store = [] if connection in self._checked else await self._database()
+        with given.faults(connection, self.path):
+            if store:
+                given.check_database(connection, await given.rows(connection, given.HERE, {}), store, self.path)
+            new = await _start(connection, words, unfit)
+        self._checked.add(connection)
+        return new
+
+    async def _database(self) -> builtins.list[Row]:
+        """Which database the store is in; nothing where this role may not know."""
+        try:
+            return await self._ask(given.HERE)
+        except StoreUnwritable as error:
+            if isinstance(error.__cause__, psycopg.errors.InsufficientPrivilege):
+                return []
+            raise
+
+    async def wait(self, key: str, timeout: float | None = None) -> End:
+        """Waits for a saga's end, at most `timeout` seconds; then `TimeoutError`, which says what it waits for. Raises `NoSuchSaga`, `Closed`."""
+        return await self._in_time(key, self._wait(key, None), timeout)
+
+    async def _in_time(self, key: str, work: Coroutine[Any, Any, End], timeout: float | None) -> End:
+        return await work if timeout is None else await waiting.in_time(key, work, timeout, lambda: self.waits_for(key))
 
     async def _wait(self, key: str, words: dict[str, Any] | None) -> End:
         turn, before = 0, None
@@ -256,7 +274,7 @@ class Client:
         """What a saga waits for, in words, as far as the database knows: who runs is not in it. Raises `NoSuchSaga`."""
         row = await self._row(key)
         if row.id < 0:
-            return ["no node has begun it yet (sagas store URL nodes says which have its saga)"]
+            return [waiting.NOT_BEGUN]
         rows = await self._ask("SELECT step, kind, why, until FROM held WHERE id = %(id)s ORDER BY since", id=row.id)
         return waiting.of_rows((await self._kind(row)).names, rows) if rows else []
 
@@ -297,20 +315,20 @@ class Client:
 async def _start(link: Connection, words: dict[str, Any], unfit: TooLarge | None) -> bool:
     """A row, and then a look whether another has the key: in this order, so that no start of the same key can pass unseen. What fits into no log gets none.
     Whether the row is there."""
-    own = [] if unfit else await (await link.execute(START, words)).fetchall()
-    rows = await (await link.execute(THERE, {"key": words["key"], "own": [id for (id,) in own]})).fetchall()
+    own = [] if unfit else await given.rows(link, START, words)
+    rows = await given.rows(link, THERE, {"key": words["key"], "own": [id for (id,) in own]})
     if rows and own:
-        await link.execute(BACK, {"own": [id for (id,) in own]})
+        await psycopg.AsyncCursor(link).execute(BACK, {"own": [id for (id,) in own]})
     check_start(words, rows, unfit)
     return bool(own) and not rows
 
 
 def start_now(link: psycopg.Connection[Any], words: dict[str, Any], unfit: TooLarge | None) -> bool:
     """As `_start`, where it stands."""
-    own = [] if unfit else link.execute(START, words).fetchall()
-    rows = link.execute(THERE, {"key": words["key"], "own": [id for (id,) in own]}).fetchall()
+    own = [] if unfit else given.rows_now(link, START, words)
+    rows = given.rows_now(link, THERE, {"key": words["key"], "own": [id for (id,) in own]})
     if rows and own:
-        link.execute(BACK, {"own": [id for (id,) in own]})
+        psycopg.Cursor(link).execute(BACK, {"own": [id for (id,) in own]})
     check_start(words, rows, unfit)
     return bool(own) and not rows
 

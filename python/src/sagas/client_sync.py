@@ -9,8 +9,9 @@ from typing import TYPE_CHECKING, Any
 
 import psycopg
 
-from . import client, links, room
+from . import client, given, room
 from .definition import Saga, Step
+from .errors import TooLarge
 from .plans import Plan
 from .runs import End, LogEvent, Summary
 from .threads import Loop
@@ -84,11 +85,20 @@ class SyncClient:
         """As `Client.start`; `connection` is a plain one, a `psycopg.Connection`, and is used in this thread."""
         if connection is None:
             return SyncClientRun(self, self._loop.do(self._client.start(saga, key, input)))
-        client.check_connection(connection, plain=True)
+        given.check_kind(connection, plain=True)
         words = client.start_words(saga, key, input)
-        with links.faults(self._client.path):
-            new = client.start_now(connection, words, room.unfit(saga))
+        new = self._start_within(connection, words, room.unfit(saga))
         return SyncClientRun(self, client.ClientRun(self._client, key, words, new))
+
+    def _start_within(self, connection: psycopg.Connection[Any], words: dict[str, Any], unfit: TooLarge | None) -> bool:
+        checked, path = self._client._checked, self._client.path
+        store = [] if connection in checked else self._loop.do(self._client._database())
+        with given.faults(connection, path):
+            if store:
+                given.check_database(connection, given.rows_now(connection, given.HERE, {}), store, path)
+            new = client.start_now(connection, words, unfit)
+        checked.add(connection)
+        return new
 
     def wait(self, key: str, timeout: float | None = None) -> End:
         """As `Client.wait`, at most `timeout` seconds; then `TimeoutError`, which says what the saga waits for."""

@@ -5,7 +5,7 @@ from __future__ import annotations
 import dataclasses
 from typing import TYPE_CHECKING, Any, Protocol, TypeVar, overload
 
-from . import values, waiting
+from . import values
 from .spoken import state_of
 
 if TYPE_CHECKING:
@@ -173,9 +173,7 @@ class Run:
 
     async def wait(self, timeout: float | None = None) -> End:
         """Waits for its end, at most `timeout` seconds; then `TimeoutError`, which says what it waits for. Raises `Closed` where the store is closed before."""
-        if timeout is None:
-            return await self._store.wait(self.key)
-        return await waiting.in_time(self.key, self._store.wait(self.key), timeout, lambda: self._store.waits_for(self.key))
+        return await self._store.wait(self.key, timeout)
 
     async def abort(self) -> bool:
         """No step of it begins any more, and the plan says what is undone. False where it is over, or was aborted before."""

@@ -240,8 +240,10 @@ class Store:
             if not finding.done():
                 finding.set_result(None)
 
-    async def wait(self, key: str) -> End:
-        """Waits for a saga's end. Raises `NoSuchSaga`, `Closed`."""
+    async def wait(self, key: str, timeout: float | None = None) -> End:
+        """Waits for a saga's end, at most `timeout` seconds; then `TimeoutError`, which says what it waits for. Raises `NoSuchSaga`, `Closed`."""
+        if timeout is not None:
+            return await waiting.in_time(key, self.wait(key), timeout, lambda: self.waits_for(key))
         inside = self._here()
         live = inside.lives.get(key)
         if live is not None and live.is_doubtful:
@@ -259,8 +261,11 @@ class Store:
         return await moving.surely(lambda: self._end(row))
 
     async def waits_for(self, key: str) -> builtins.list[str]:
-        """What a saga waits for that is driven here, in words; of others nothing."""
-        return waiting.of_live(self._inside.lives.get(key))
+        """What a saga waits for that is driven here, or that no node has begun yet, in words; of others nothing."""
+        live = self._inside.lives.get(key)
+        if live is None and (row := await self._inside.store.find(key)) and row.id < 0:
+            return [waiting.NOT_BEGUN]
+        return waiting.of_live(live)
 
     async def over(self, key: str) -> Live | SagaRow:
         """As `wait`, for who reads the end by himself: a saga that was driven here, or its row."""
@@ -287,12 +292,12 @@ class Store:
 
     async def abort(self, key: str, *, by: str | None = None, note: str | None = None) -> bool:
         """No step of it begins any more, and the plan says what is undone. False where it is over or was aborted before. Raises `NoSuchSaga`, `Closed`.
+        A client's start that no node has taken is withdrawn, as `Client.abort` does.
 
         `by`: who asks for it; then that is kept, with the note and the time (`sagas.looks`)."""
         self._here()
         return await self._abort(key, self._asked(key, "abort", by, note))
 
-        A client's start that no node has taken is withdrawn, as `Client.abort` does.
     def _asked(self, key: str, what: str, by: str | None, note: str | None, **more: Any) -> Asked | None:
         """What is kept of somebody's request."""
         return None if by is None else (key, what, values.write({"by": by, "note": note, **more}), self._inside.clock())

@@ -14,6 +14,9 @@ if TYPE_CHECKING:
 
 T = TypeVar("T")
 MOST = 5
+SOON = 2.0  # seconds to find out what a saga waits for
+NOT_BEGUN = "no node has begun it yet (sagas store URL nodes says which have its saga)"
+"""Of a client's start that no log has yet."""
 WHY = {
     "approval": "waits for an approval",
     "backoff": "waits for its next try",
@@ -66,6 +69,7 @@ async def in_time(key: str, work: Coroutine[Any, Any, T], timeout: float, waits:
         if not scope.expired():
             raise
     found: list[str] = []
-    with contextlib.suppress(SagasError):
-        found = await waits()
+    with contextlib.suppress(SagasError, TimeoutError):
+        async with asyncio.timeout(SOON):
+            found = await waits()
     raise still_open(key, timeout, found)
