@@ -40,7 +40,7 @@ class WrongStore(SagasError):
 
 
 class MissingHandler(SagasError):
-    """A saga that is not over needs a step, or a compensation, that this program has no function for.
+    """A saga that is not over needs a step, or a compensation, that this program has no function for. Over PostgreSQL its log is left to another node instead.
 
     The text names it. Give the function again, or run the older program once more with `open(.., new=False)` until it is settled."""
 
