@@ -235,6 +235,24 @@ def test_an_abort_whose_start_goes_away_hears_of_it(url: str) -> None:
     run(main())
 
 
+def test_a_finish_of_a_start_that_is_withdrawn_hears_of_it(url: str) -> None:
+    """It waits for a node; the abort of another client takes the start away, and the request with it."""
+    kind = shop()
+    made(url, kind)
+
+    async def main() -> None:
+        async with sagas.Client(url) as client, sagas.Client(url) as other:
+            run = await client.start(kind, "k")
+            finish = asyncio.create_task(run.finish("reserve"))
+            await until(lambda: requests(url))
+            assert await other.abort("k") is True and requests(url) == inbox(url) == 0
+            with pytest.raises(sagas.NoSuchSaga):
+                async with asyncio.timeout(60):
+                    await finish
+
+    run(main())
+
+
 def test_an_abort_and_a_node_at_once(url: str) -> None:
     """Whoever has the start first, what the abort answers is so. True: nothing was called and the key is free, or the end says so. False: it is over."""
     called: list[str] = []

@@ -473,7 +473,7 @@ class Store:
     # -- questions
 
     def get(self, key: str) -> Run | None:
-        """The saga with this key, if there is one."""
+        """The saga with this key, if there is one. A client's start that no log has yet is none, though `wait` waits for it."""
         inside = self._inside
         live = inside.lives.get(key)
         return Run(self, key) if (live and live.committed) or inside.store.find_now(key) else None
