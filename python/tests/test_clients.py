@@ -391,6 +391,7 @@ def test_abort_and_finish_by_a_client(url: str) -> None:
         async with sagas.open(url, [saga]):
             async with sagas.Client(url) as client:
                 one, two = await client.start(saga, "one"), await client.start(saga, "two")
+                await until(lambda: inbox(url) == 0)  # else the start is withdrawn
                 assert await one.abort() is True and await one.abort() is False
                 assert (await one.wait()).aborted
                 await two.finish("sign", {"by": "Ada"})
