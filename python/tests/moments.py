@@ -244,7 +244,10 @@ def applied(name: str | None) -> Iterator[None]:
     finally:
         for owner, was in zip(owners, before):
             for word in [word for word, value in vars(owner).items() if was.get(word) is not value]:
-                setattr(owner, word, was[word])
+                if word in was:
+                    setattr(owner, word, was[word])
+                else:  # as what a warning leaves in the module that it was told in
+                    delattr(owner, word)
         postgresql_commit.PARTS.clear()
         postgresql_commit.PARTS.update(parts)
         postgresql_commit.statement.cache_clear()
