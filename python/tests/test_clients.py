@@ -157,15 +157,21 @@ def requests(url: str) -> int:
         return int(row[0])
 
 
-def test_an_abort_before_a_node_comes_wins(url: str) -> None:
-    """The start is withdrawn at once, and the node that opens later calls nothing."""
-    called: list[str] = []
-    kind = sagas.Saga("fast")
+def fast(called: list[str]) -> sagas.Saga:
+    """One step, which tells its key."""
+    fast = sagas.Saga("fast")
 
-    @kind.step
+    @fast.step
     async def a(task: Task) -> None:
         called.append(task.key)
 
+    return fast
+
+
+def test_an_abort_before_a_node_comes_wins(url: str) -> None:
+    """The start is withdrawn at once, and the node that opens later calls nothing."""
+    called: list[str] = []
+    kind = fast(called)
     made(url, kind)
 
     async def main() -> None:
@@ -256,12 +262,7 @@ def test_a_finish_of_a_start_that_is_withdrawn_hears_of_it(url: str) -> None:
 def test_an_abort_and_a_node_at_once(url: str) -> None:
     """Whoever has the start first, what the abort answers is so. True: nothing was called and the key is free, or the end says so. False: it is over."""
     called: list[str] = []
-    kind = sagas.Saga("fast")
-
-    @kind.step
-    async def a(task: Task) -> None:
-        called.append(task.key)
-
+    kind = fast(called)
     made(url, kind)
 
     async def one(run: sagas.ClientRun, pause: float) -> str:

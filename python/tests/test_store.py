@@ -947,6 +947,7 @@ def test_each_type_is_tried_with_an_input_of_its_own(place: str) -> None:
 def test_an_interrupt_takes_early_rows_back(tmp_path: pathlib.Path, monkeypatch: pytest.MonkeyPatch) -> None:
     """Nothing stays locked, and nothing is read that is not kept."""
     path, saga, put = str(tmp_path / "store.db"), row(), sqlite_writer.Writer._put_usual
+    monkeypatch.setattr(child, "WAIT", 60_000)  # however busy the machine is
 
     def interrupted(self: sqlite_writer.Writer, *rows: Any) -> None:
         put(self, *rows)

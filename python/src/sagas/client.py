@@ -114,12 +114,8 @@ class Client:
     async def __aenter__(self) -> Client:
         """Connects. Raises `StoreUnwritable`, `StoreNewer`, and `StoreFault` where there are no tables: a node makes them, or `sagas store URL init`;
         `RuntimeError` where it is open already."""
-        self._opened.begin(self.path)
-        try:
+        with self._opened.opening(self.path):
             await self._open()
-        except BaseException:
-            self._opened.end()
-            raise
         return self
 
     if not TYPE_CHECKING:  # a checker says so by itself

@@ -4,6 +4,7 @@ from __future__ import annotations
 
 import contextlib
 import os
+from collections.abc import Iterator
 
 from .errors import Closed
 
@@ -51,6 +52,16 @@ class Opened:
         if self._forks != -1:
             raise RuntimeError(f"{where}: {self._what} is open already: enter it once, and hand it to whoever needs it")
         self._forks = private.forks
+
+    @contextlib.contextmanager
+    def opening(self, where: str) -> Iterator[None]:
+        """As `begin`; what fails within it means that it could not be opened."""
+        self.begin(where)
+        try:
+            yield
+        except BaseException:
+            self.end()
+            raise
 
     def end(self) -> None:
         """It is closed, or could not be opened."""

@@ -78,12 +78,8 @@ class Store:
         """Opens it: takes the lock, and goes on with each saga that is not over.
 
         Raises `StoreLocked`, `StoreUnwritable`, `StoreFault`, `MissingHandler`, `ChildError`; `RuntimeError` where it is open already."""
-        self._opened.begin(self.path)
-        try:
+        with self._opened.opening(self.path):
             await self._open()
-        except BaseException:
-            self._opened.end()
-            raise
         return self
 
     async def _open(self) -> None:
@@ -166,7 +162,7 @@ class Store:
         wrong = kind.misfit(input, text)
         looks = inside.store.shared or not self.new or not kind.fits or wrong  # else it is looked for with others, where it is placed
         live = inside.lives.get(key)
-        if live is not None:
+        if live is not None and live.is_doubtful:
             live = await self._live(key)
         guesses = live is None and wrong is None and self._guesses(kind)
         row = await self._find(key) if looks and not guesses and live is None else None
