@@ -419,6 +419,44 @@ def test_takeover_in_lots_goes_past_a_locked_log(url: str, monkeypatch: pytest.M
     assert Counter(calls) == Counter(f"k{number}" for number in range(60))
 
 
+WAITS = """
+CREATE FUNCTION sagas.waits() RETURNS boolean LANGUAGE plpgsql AS 'BEGIN PERFORM pg_advisory_xact_lock(1); RETURN true; END'
+"""
+
+
+@contextlib.contextmanager
+def as_it_takes(url: str, patch: pytest.MonkeyPatch) -> Iterator[psycopg.Connection[Any]]:
+    """Who takes a log over has begun to look, and goes on once the lock of this connection is given back."""
+    patch.setattr(leases, "TAKE", leases.TAKE.replace("ORDER BY l.log FOR", "AND sagas.waits() ORDER BY l.log FOR"))
+    with psycopg.connect(url, autocommit=True) as link:
+        link.execute(WAITS)
+        link.execute("SELECT pg_advisory_lock(1)")
+        yield link
+
+
+@pytest.mark.parametrize("lacks", [False, True])
+def test_the_last_commit_before_a_takeover_counts(url: str, monkeypatch: pytest.MonkeyPatch, lacks: bool) -> None:
+    """A node that is taken for dead opens a saga while its log, where none was open, is taken: who has it then drives that too, if it has the functions."""
+    gate, calls = asyncio.Event(), list[str]()
+    before, now = pair(gate, calls), pair(calls=calls)
+    other = pair(calls=calls, name="other")
+
+    async def main() -> None:
+        async with contextlib.AsyncExitStack() as stack:
+            old = await stack.enter_async_context(sagas.open(url, [before, other], node="n", grace=0.0))
+            await ended(old, other, "early")
+            with as_it_takes(url, monkeypatch) as link:
+                opening = asyncio.create_task(stack.enter_async_context(sagas.open(url, [other] if lacks else [now, other], node="n")))
+                await until(lambda: link.execute("SELECT 1 FROM pg_locks WHERE locktype = 'advisory' AND NOT granted").fetchone())
+                await old.start(before, "late")
+            await opening
+            gate.set()
+            assert (await asyncio.wait_for(old.wait("late"), 20)).ok
+
+    run(main())
+    assert calls.count("late") >= 1
+
+
 def test_what_happens_is_told(url: str, monkeypatch: pytest.MonkeyPatch) -> None:
     """A client's start that is taken, an answer, an end: whoever waits hears of it, and would look by himself minutes later."""
     monkeypatch.setattr(news, "FIRST_LOOK", 600.0)

@@ -11,11 +11,13 @@ import os
 import secrets
 import socket
 import time
-from typing import TYPE_CHECKING
+from collections.abc import Sequence
+from typing import TYPE_CHECKING, Any
 
 from .links import LINE, Asker
 from .questions import OPENED
 from .records import LogRow
+from .schema import ROOM
 
 if TYPE_CHECKING:
     from .database import Drives
@@ -42,15 +44,22 @@ LOOK = f"""
 SELECT {LINE}, EXISTS (SELECT 1 FROM said UNION ALL SELECT 1 FROM entered), EXISTS (SELECT 1 FROM logs l WHERE {ORPHAN} AND l.log <> ALL(%(left)s::bigint[])),
   EXISTS (SELECT 1 FROM inbox i WHERE {UNTAKEN}) OR EXISTS (SELECT 1 FROM requests WHERE answer IS NULL)
 """
+PLACES = f"ARRAY(SELECT DISTINCT def FROM sagas WHERE id >= l.log * {ROOM} AND id < (l.log + 1) * {ROOM} AND phase IS NULL)"
+"""Of the definitions of a log, those with open sagas."""
 CANDIDATES = f"""
-SELECT l.log, s.texts, ARRAY(SELECT DISTINCT def FROM sagas WHERE id >= l.log * 1000 AND id < (l.log + 1) * 1000 AND phase IS NULL)
+SELECT l.log, s.texts, {PLACES}
 FROM logs l JOIN shelves s USING (shelf) WHERE {ORPHAN} AND l.log <> ALL(%(left)s::bigint[]) ORDER BY l.log LIMIT {LOT}
 """
 TAKE = f"""
-WITH taken AS (UPDATE logs SET owner = %(node)s, epoch = epoch + 1 WHERE log IN (
-  SELECT l.log FROM logs l WHERE l.log = ANY(%(logs)s::bigint[]) AND {ORPHAN} ORDER BY l.log FOR UPDATE SKIP LOCKED) RETURNING log, name, shelf, epoch)
-SELECT log, name, shelf, texts, ({OPENED}), ({OPENED} AND phase IS NULL), epoch FROM taken JOIN shelves USING (shelf) ORDER BY log
+UPDATE logs SET owner = %(node)s, epoch = epoch + 1 WHERE log IN (
+  SELECT l.log FROM logs l WHERE l.log = ANY(%(logs)s::bigint[]) AND {ORPHAN} ORDER BY l.log FOR UPDATE SKIP LOCKED) RETURNING log
 """
+TAKEN = f"""
+SELECT log, name, shelf, texts, ({OPENED}), ({OPENED} AND phase IS NULL), epoch, {PLACES} FROM logs l JOIN shelves USING (shelf)
+WHERE log = ANY(%(logs)s::bigint[]) AND owner = %(node)s ORDER BY log
+"""
+"""What is in the logs that were taken. By a statement behind the taking: one that counted as it took would not see the last commit of a node that still wrote."""
+LEAVE = "UPDATE logs SET owner = NULL, epoch = epoch + 1 WHERE log = ANY(%(logs)s::bigint[]) AND owner = %(node)s"
 GONE = """
 WITH old AS (DELETE FROM nodes WHERE name = %(name)s AND node <> %(node)s),
 old2 AS (DELETE FROM nodes n WHERE lease < now() - interval '1 day' AND NOT EXISTS (SELECT 1 FROM logs WHERE owner = n.node AND closed = 0))
@@ -120,17 +129,28 @@ class Lease:
         """Some logs that nobody has, of those whose functions this program has; none where there are no more."""
         while True:
             found = await self._asker.read(CANDIDATES, left=list(self.left), node=self.node, mine=mine, own=True)
-            lacks = {log: drives(json.loads(texts), places) for log, texts, places in found}
-            fit = [log for log, why in lacks.items() if why is None]
-            left = {log: why for log, why in lacks.items() if why is not None}
-            if left:
-                logger.info("%d logs are left to other nodes: %s", len(left), next(iter(left.values())))
-            self.left |= left.keys()
-            rows = await self._asker.ask(TAKE, node=self.node, logs=fit, mine=mine, own=True) if fit else []
-            if rows or not found:
-                return [LogRow(log, name, shelf, json.loads(texts), opened, open, epoch) for log, name, shelf, texts, opened, open, epoch in rows]
-            if fit:  # others took them
-                return []
+            fit = self._fit(drives, found)
+            taken = await self._asker.ask(TAKE, node=self.node, logs=fit, mine=mine, own=True) if fit else []
+            rows = await self._has(drives, [log for (log,) in taken]) if taken else []
+            if rows or (fit and not taken) or not found:  # else others took them, or there are none
+                return rows
+
+    def _fit(self, drives: Drives, found: Sequence[Sequence[Any]]) -> list[int]:
+        """Those of these logs that this program has the functions for; the others are left to other nodes."""
+        lacks = {log: drives(json.loads(texts), places) for log, texts, places in found}
+        left = {log: why for log, why in lacks.items() if why is not None}
+        if left:
+            logger.info("%d logs are left to other nodes: %s", len(left), next(iter(left.values())))
+        self.left |= left.keys()
+        return [log for log in lacks if log not in left]
+
+    async def _has(self, drives: Drives, taken: list[int]) -> list[LogRow]:
+        """What is in the logs that were just taken. Where a saga of theirs, which was opened meanwhile, needs a function that is not here, they are given back."""
+        found = await self._asker.read(TAKEN, node=self.node, logs=taken)
+        fit = self._fit(drives, [(row[0], row[3], row[7]) for row in found])
+        if len(fit) < len(found):
+            await self._asker.ask(LEAVE, node=self.node, logs=[row[0] for row in found if row[0] not in fit])
+        return [LogRow(log, name, shelf, json.loads(texts), opened, open, epoch) for log, name, shelf, texts, opened, open, epoch, _ in found if log in fit]
 
     async def end(self) -> None:
         """What this node has is free for others, now."""
