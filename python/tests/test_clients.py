@@ -53,7 +53,7 @@ def test_a_client_starts_and_waits(url: str) -> None:
     kind = shop()
 
     async def main() -> None:
-        async with sagas.open(url, [kind]), sagas.open(url, [kind]):
+        async with sagas.open(url, [kind], node="a"), sagas.open(url, [kind], node="b"):
             async with sagas.Client(url) as one, sagas.Client(url) as other:
                 runs = await asyncio.gather(*(client.start(kind, f"k{number}", number) for number in range(40) for client in (one, other)))
                 ends = await asyncio.gather(*(run.wait() for run in runs))
@@ -287,7 +287,7 @@ def test_an_abort_and_a_node_at_once(url: str) -> None:
         async with sagas.Client(url, connections=8) as client:
             for turn in range(5):
                 before = asyncio.create_task(answers(await started(client, f"before{turn}"), 0.01 + 0.002 * turn))
-                async with sagas.open(url, [kind]), sagas.open(url, [kind]):
+                async with sagas.open(url, [kind], node="a"), sagas.open(url, [kind], node="b"):
                     async with asyncio.timeout(60):
                         found.update(await before)
                         for part in range(3):
