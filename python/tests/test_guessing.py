@@ -1,10 +1,12 @@
-"""Starts over PostgreSQL that begin without a look for their keys: a key that is taken is answered as if it had been looked for."""
+"""Starts that begin without a look for their keys: a key that is taken is answered as if it had been looked for."""
 
 from __future__ import annotations
 
 import asyncio
 import contextlib
+import pathlib
 from collections import Counter
+from collections.abc import Sequence
 from typing import Any
 
 import psycopg
@@ -13,10 +15,12 @@ import pytest
 import records
 import sagas
 from cases import Task, ended, run, simple
-from sagas import guessing
+from sagas import guessing, sqlite_writer
 from sagas.postgresql import PostgreSQL
 from sagas.postgresql_commit import Commit
 from sagas.postgresql_writer import Writer
+from sagas.records import Batch
+from sagas.sqlite import Sqlite
 
 
 @pytest.fixture
@@ -32,6 +36,18 @@ def looks(monkeypatch: pytest.MonkeyPatch) -> list[str]:
     async def refused(self: Writer, *words: Any) -> None:
         raise AssertionError("a key was refused by the server")
 
+    here, many = Sqlite.find, Sqlite.find_many
+
+    async def noted_here(self: Sqlite, key: str) -> Any:
+        keys.append(key)
+        return await here(self, key)
+
+    def noted_many(self: Sqlite, some: Sequence[str]) -> Any:
+        keys.extend(some)
+        return many(self, some)
+
+    monkeypatch.setattr(Sqlite, "find", noted_here)
+    monkeypatch.setattr(Sqlite, "find_many", noted_many)
     monkeypatch.setattr(PostgreSQL, "find", noted)
     monkeypatch.setattr(Writer, "_one_by_one", refused)
     return keys
@@ -48,17 +64,17 @@ def step(gate: asyncio.Event | None = None) -> sagas.Saga:
     return simple(a)
 
 
-def count(url: str) -> int:
+def count(place: str) -> int:
     """How many sagas there are."""
-    return len(records.read(url).sagas)
+    return len(records.read(place).sagas)
 
 
-def test_a_new_key_is_not_looked_for(url: str, looks: list[str]) -> None:
+def test_a_new_key_is_not_looked_for(place: str, looks: list[str]) -> None:
     """A lone start's, and those of many at once."""
     kind = step()
 
     async def main() -> None:
-        async with sagas.open(url, [kind]) as store:
+        async with sagas.open(place, [kind]) as store:
             for number in range(5):
                 assert (await ended(store, kind, f"k{number}", number)).results == {"a": number}
             ends = await asyncio.gather(*(ended(store, kind, f"more-{number}", number) for number in range(200)))
@@ -66,11 +82,11 @@ def test_a_new_key_is_not_looked_for(url: str, looks: list[str]) -> None:
             assert looks == []
 
     run(main())
-    assert count(url) == 205
+    assert count(place) == 205
 
 
 @pytest.mark.parametrize("old", [1, 20])
-def test_keys_that_are_there_among_new_ones(url: str, looks: list[str], old: int) -> None:
+def test_keys_that_are_there_among_new_ones(place: str, looks: list[str], old: int) -> None:
     """They are given their sagas; the others are begun, and what was open beside them goes on: nothing is called twice, and no key is refused."""
     gate, calls = asyncio.Event(), Counter[str]()
 
@@ -83,9 +99,9 @@ def test_keys_that_are_there_among_new_ones(url: str, looks: list[str], old: int
     kind = simple(a)
 
     async def main() -> None:
-        async with sagas.open(url, [kind]) as store:
+        async with sagas.open(place, [kind]) as store:
             await asyncio.gather(*(ended(store, kind, f"old-{number}", number) for number in range(old)))
-        async with sagas.open(url, [kind]) as store:
+        async with sagas.open(place, [kind]) as store:
             waiting = [await store.start(kind, f"open-{number}", "waits") for number in range(10)]
             keys = [f"new-{number}" for number in range(30)] + [f"old-{number}" for number in range(old)]
             given: list[Any] = [*range(30), *range(old)]
@@ -97,18 +113,18 @@ def test_keys_that_are_there_among_new_ones(url: str, looks: list[str], old: int
             assert all(said.startswith("yes") for said in (await store.audit()).values())
 
     run(main())
-    assert count(url) == old + 40 and len(calls) == old + 40 and set(calls.values()) == {1}
+    assert count(place) == old + 40 and len(calls) == old + 40 and set(calls.values()) == {1}
 
 
-def test_a_key_that_is_over(url: str, looks: list[str], monkeypatch: pytest.MonkeyPatch) -> None:
+def test_a_key_that_is_over(place: str, looks: list[str], monkeypatch: pytest.MonkeyPatch) -> None:
     """It is in the same log: its saga is given, the next keys are looked for, and after enough new ones no more. A store that is opened again the same."""
     monkeypatch.setattr(guessing, "AGAIN", 3)
     kind = step()
 
     async def main() -> None:
-        async with sagas.open(url, [kind]) as store:
+        async with sagas.open(place, [kind]) as store:
             assert (await ended(store, kind, "k", 1)).results == {"a": 1}
-        async with sagas.open(url, [kind]) as store:
+        async with sagas.open(place, [kind]) as store:
             for _ in range(2):
                 again = await store.start(kind, "k", 1)
                 assert not again.new and (await again.wait()).results == {"a": 1}
@@ -123,7 +139,7 @@ def test_a_key_that_is_over(url: str, looks: list[str], monkeypatch: pytest.Monk
             assert all(said.startswith("yes") for said in (await store.audit()).values())
 
     run(main())
-    assert count(url) == 7
+    assert count(place) == 7
 
 
 def test_a_key_of_another_node(url: str, looks: list[str]) -> None:
@@ -211,6 +227,35 @@ def test_an_answer_that_is_lost(url: str, looks: list[str], monkeypatch: pytest.
 
     run(main())
     assert lost == ["k0", "k1", "k2"] and count(url) == 3
+
+
+@pytest.mark.parametrize("fast", [True, False])
+def test_a_wrong_guess_in_a_file(tmp_path: pathlib.Path, looks: list[str], monkeypatch: pytest.MonkeyPatch, fast: bool) -> None:
+    """Of its log nothing is written, by the loop as by the thread, and the other logs of that commit are; then all its sagas are begun."""
+    monkeypatch.setattr("sagas.kinds.ROOM", 10)
+    monkeypatch.setattr(sqlite_writer, "AT_ONCE", 60.0 if fast else 0.0)
+    path, kind, lost = str(tmp_path / "store.db"), step(), set[int]()
+    put = sqlite_writer.Writer._put_those_that_may
+
+    def noted(self: sqlite_writer.Writer, batches: Sequence[Batch], patient: bool) -> Any:
+        told = put(self, batches, patient)
+        lost.update(told[1])
+        assert not told[1] & told[0].keys()
+        return told
+
+    monkeypatch.setattr(sqlite_writer.Writer, "_put_those_that_may", noted)
+
+    async def main() -> None:
+        async with sagas.open(path, [kind]) as store:
+            await ended(store, kind, "old", 1)
+        async with sagas.open(path, [kind]) as store:
+            ends = await asyncio.gather(*(ended(store, kind, f"k{number}", number) for number in range(35)), ended(store, kind, "old", 1))
+            assert [end.results["a"] for end in ends] == [*range(35), 1]
+            assert lost and looks
+            assert all(said.startswith("yes") for said in (await store.audit()).values())
+
+    run(main())
+    assert count(path) == 36
 
 
 def test_a_store_that_takes_nothing(url: str, looks: list[str]) -> None:

@@ -27,7 +27,7 @@ import sagas
 import sagas.testing
 from cases import HOUR, QUICK, Task, ended, hears, run, simple, until
 from kills import children
-from sagas import child, holding, lines, program, pump, sqlite_writer
+from sagas import callers, child, holding, lines, program, pump, sqlite_writer
 
 
 def row(gate: asyncio.Event | None = None) -> sagas.Saga:
@@ -993,8 +993,10 @@ def test_nobody_waits_for_rows_of_an_answer_that_is_late(tmp_path: pathlib.Path)
     run(main())
 
 
-def test_each_step_gives_the_loop_a_turn(place: str) -> None:
-    """Whatever is committed and answered at once: what else goes on in the loop is not held up by a saga of many steps."""
+@pytest.mark.parametrize("turn", [0.0, callers.TURN])
+def test_steps_give_the_loop_a_turn(place: str, monkeypatch: pytest.MonkeyPatch, turn: float) -> None:
+    """Whatever is committed and answered at once: what else goes on in the loop has its turn after `TURN`, and is not held up by a saga of many steps."""
+    monkeypatch.setattr(callers, "TURN", turn)
     saga, turns, seen = sagas.Saga("long"), 0, []
     for number in range(30):
 
@@ -1013,7 +1015,7 @@ def test_each_step_gives_the_loop_a_turn(place: str) -> None:
             assert going.result().ok
 
     run(main())
-    assert len(set(seen)) == 30
+    assert len(set(seen)) == 30 if turn == 0.0 else len(set(seen)) > 1
 
 
 def test_tasks_of_a_reply() -> None:

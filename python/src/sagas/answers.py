@@ -130,19 +130,19 @@ class Answers:
         """What else the store has of an attempt that was reported. Of a wait that is tried again it keeps until when, or that its time is over."""
         keeps = attempt.event == "missed" and attempt.is_wait and not attempt.live.draining
         if attempt.has_row and not keeps:
-            batch.freed.append(attempt.row)
+            batch.more.freed.append(attempt.row)
         elif attempt.has_row and attempt.why == "unknown":
-            batch.held.append((*attempt.row, "wait", 0, attempt.since, 0.0, None))
+            batch.more.held.append((*attempt.row, "wait", 0, attempt.since, 0.0, None))
         if attempt.request is not None:
             batch.answer(attempt.request, "true")
         if attempt.is_remote:
-            batch.settled.append((attempt.token(), self.log))
+            batch.more.settled.append((attempt.token(), self.log))
 
     def _told_otherwise(self, attempt: Attempt, outcome: Outcome, event: str) -> None:
         """It is undone, or has failed or was missed."""
         live = attempt.live
         if event == "undone":
-            live.results.pop(attempt.step, None)
+            live.results = {step: value for step, value in live.results.items() if step != attempt.step}
             return
         live.raised(attempt.step, outcome.value, outcome.called)
         if event in ("fail", "undo_fail"):  # the saga drains
@@ -172,7 +172,7 @@ class Answers:
             self.live[number] = live
             self.opened += 1
             if live.start is not None:
-                batch.begun.append(live.start)
+                batch.more.begun.append(live.start)
             if live.guessed:
                 batch.guessed.append(live.key)
             batch.opened.append(self._opening(live, number, batch.at))

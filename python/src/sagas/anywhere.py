@@ -13,7 +13,7 @@ from typing import TYPE_CHECKING, Any
 from .calling import Outcome
 from .elsewhere import TOKEN, Leased, Queue, Word
 from .errors import Moved, NotHere, SagasError
-from .task import Task
+from .task import Task, Told
 
 if TYPE_CHECKING:
     from .between import Between
@@ -130,10 +130,10 @@ class Anywhere:
         undo, step = told["undo"], told["step"]
         kind = next((kind for kind in self.owner.shelf.kinds if (kind.name, kind.version) == (told["saga"], told["version"]) and step in kind.names), None)
         hint = (kind.undo_inputs if undo else kind.inputs)[kind.names.index(step)] if kind else None
-        task: Task[Any] = Task(
-            told["saga"], told["key"], step, undo, told["attempt"], told["of"], told["input"], told["results"], told["result"], hint, kind.decoders if kind else None
+        about = Told(
+            told["saga"], told["key"], step, undo, told["attempt"], told["of"], told["input"], told["results"], told["result"], hint, kind.decoders if kind else {}
         )
-        return Leased(told["token"], told["lease"], self.owner.clock() + told["seconds"], task)
+        return Leased(told["token"], told["lease"], self.owner.clock() + told["seconds"], Task(about))
 
     async def beat(self, token: str, lease: int, seconds: float) -> float:
         """As `Store.beat`."""

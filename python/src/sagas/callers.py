@@ -22,6 +22,8 @@ AGAIN = 100
 """Calls of a function that waited, after which it is looked at whether it still does."""
 LONG = 1.0
 """Seconds that a function may hold the loop before that is told."""
+TURN = 0.001
+"""Seconds after which what begins meanwhile is for the loop's next turn, so that others have theirs: a turn takes as long as a step that has little to do."""
 Begins = Callable[[Attempt], bool]
 Ended = Callable[[Attempt, float, "Outcome | None"], None]
 Done = Callable[[list[Attempt]], None]
@@ -81,14 +83,15 @@ class Callers:
             await asyncio.sleep(0)
 
     async def _work(self) -> None:
-        """Calls those that are ready. What begins meanwhile is for the loop's next turn, behind who was told something before it."""
-        job, rest = asyncio.current_task(), None
+        """Calls those that are ready. What begins meanwhile follows, or is for the loop's next turn, behind who was told something before it."""
+        job, rest, since = asyncio.current_task(), None, time.monotonic()
         assert job
         try:
             while self._ready and rest is None and not job.cancelling():  # a function may cancel the task that it is in
                 rest = self._row(job)
-                if self._ready and rest is None:
+                if self._ready and rest is None and time.monotonic() - since > TURN:
                     await asyncio.sleep(0)
+                    since = time.monotonic()
         finally:
             self._next = self.start(self._work()) if self._ready else None
         if rest is not None:
@@ -131,7 +134,7 @@ class Callers:
             return
         began = time.monotonic()
         try:
-            task = attempt.task()
+            task: Task[Any] = Task(attempt)
             work = self._within(attempt, function, task) if self._within else function(task)
             outcome: Outcome | None = await calling.ended(work, task)
         except BaseException as error:
@@ -143,7 +146,7 @@ class Callers:
         function, began, context = attempt.action.simple, time.monotonic(), self._context.copy()
         assert function
         try:
-            task = attempt.task()
+            task: Task[Any] = Task(attempt)
             work = self._within(attempt, function, task) if self._within else function(task)
             if not isinstance(work, types.CoroutineType):  # it only says that it is async
                 work = _awaited(work)

@@ -40,6 +40,8 @@ class Child:
         self._part = b""  # of a line that has not come whole
         self._out = b""
         self._writing = self.dead = False
+        self.buried: asyncio.Future[None] = self._loop.create_future()
+        """Done once the process that was thrown away is no more."""
         self._late = 0  # questions whose answers are not waited for
         self._start(program, definitions, text)
 
@@ -174,12 +176,16 @@ class Child:
         """Takes its status, once it is there: the loop does not stand still for it."""
         if self.process.poll() is None:
             end = os.pidfd_open(self.process.pid)
-            self._loop.add_reader(end, self._buried, end)
+            self._loop.add_reader(end, self._ended, end)
         else:
-            os.close(self._words)
+            self._forget()
 
-    def _buried(self, end: int) -> None:
+    def _ended(self, end: int) -> None:
         self._loop.remove_reader(end)
         os.close(end)
         self.process.wait()
+        self._forget()
+
+    def _forget(self) -> None:
         os.close(self._words)
+        self.buried.set_result(None)

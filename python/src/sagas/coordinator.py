@@ -6,6 +6,7 @@ import asyncio
 import json
 import logging
 import secrets
+import time
 from collections.abc import Callable, Coroutine, Sequence
 from concurrent.futures import ThreadPoolExecutor
 
@@ -241,7 +242,7 @@ class Coordinator:
         placing, self.placing = self.placing, []
         try:
             self._raise_if_closed()
-            there = {} if self.store.shared else self.store.find_many([live.key for live in placing])
+            there = {} if self.store.shared else self.store.find_many([live.key for live in placing if not live.guessed])
         except SagasError as error:
             for live in placing:
                 self.loop.call_soon(self.refuse, live, error)
@@ -294,14 +295,14 @@ class Coordinator:
 
     def ended(self, lives: list[Live]) -> None:
         """Their ends are in the store."""
-        wants = {"ended": self.teller.wants("saga_ended"), "stuck": self.teller.wants("saga_stuck")}
+        tells = self.teller.wants("saga_ended")
         for live in lives:
             assert live.pump
             live.pump.live.pop(live.number, None)
             if self.lives.get(live.key) is live:
                 del self.lives[live.key]
             live.tell(live.ending)
-            if wants[live.phase]:
+            if tells or live.phase != "ended":
                 self._tell_end(live)
         self.rest()
 
@@ -348,7 +349,7 @@ class Coordinator:
             self.children.gone(pump)
 
     def _tick(self) -> None:
-        now = self.loop.time()
+        now = time.monotonic()
         for pump in list(self.pumps.values()):
             if pump.state == "up" and now - pump.used > self.idle and pump.rests() and not pump.due():
                 pump.sleep()
@@ -413,6 +414,7 @@ class Coordinator:
         await self._drain()
         if hasattr(self, "_timer"):
             self._timer.cancel()
+        children = [pump.child for pump in self.pumps.values() if pump.child]
         for pump in list(self.pumps.values()):
             pump.stop()
             self._tell_closed(pump)
@@ -426,6 +428,8 @@ class Coordinator:
         await self.reports.close()
         await self.anywhere.close()
         await self.store.close()
+        if children:
+            await asyncio.wait([child.buried for child in children], timeout=QUIET)
         self.threads.shutdown(wait=not late, cancel_futures=True)
 
     def _tell_closed(self, pump: Pump) -> None:

@@ -212,7 +212,7 @@ class Doing:
         pump = attempt.live.pump
         assert pump
         batch = pump.batch()
-        batch.held.append((*attempt.row, why, attempt.count, attempt.since, until, error))
+        batch.more.held.append((*attempt.row, why, attempt.count, attempt.since, until, error))
         pump.commit(batch, [(self._has_row, attempt)])
 
     def _has_row(self, attempt: Attempt) -> None:

@@ -278,7 +278,7 @@ class Elsewhere:
                 assert lease
                 attempt.has_row = True
                 more = json.dumps({"worker": lease.worker, "unknown": attempt.count, "first": attempt.since})
-                batch.held.append((*attempt.row, "elsewhere", lease.number, lease.since, lease.until, more))
+                batch.more.held.append((*attempt.row, "elsewhere", lease.number, lease.since, lease.until, more))
             pump.commit(batch, [(self._kept, (attempt, attempt.lease)) for attempt in some])
 
     def _kept(self, about: tuple[Attempt, Lease]) -> None:

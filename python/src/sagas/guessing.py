@@ -1,7 +1,7 @@
 """Whether a start begins without a look for its key: then its commit finds out whether the key is taken.
 
-That saves a trip to the server, and the node what it costs. A key that turns out to be taken costs its log a new child, which all its sagas wait
-for, so keys are looked for for a while where one came that was there."""
+That saves a question to the database, and a node a trip to the server. A key that turns out to be taken costs its log a new child, which all its sagas
+wait for, so keys are looked for for a while where one came that was there."""
 
 from __future__ import annotations
 
@@ -21,4 +21,7 @@ class Guessing:
 
     def told(self, was_there: bool) -> None:
         """What became of a start."""
-        self._looks = AGAIN if was_there else max(0, self._looks - 1)
+        if was_there:
+            self._looks = AGAIN
+        elif self._looks:
+            self._looks -= 1

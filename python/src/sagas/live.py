@@ -10,7 +10,8 @@ from typing import TYPE_CHECKING, Any
 from .calling import Outcome
 from .kinds import Kind, Word
 from .schema import ROOM
-from .task import Task
+from .task import Task, whole
+from .values import Decoder
 
 if TYPE_CHECKING:
     from .definition import Manner
@@ -56,7 +57,7 @@ class Live:
     def forget(self) -> None:
         """As it was opened; a reload puts in what the database has."""
         self.token: str | None = None  # log and number, once they are known
-        self.results: dict[int, str] = {}  # of the steps that stand
+        self.results: dict[int, str] = {}  # of the steps that stand; another one where a step is undone, so that attempts keep those they began with
         self.busy: dict[Word, Attempt] = {}
         self.odd = self.over = self.aborted = self.draining = False  # odd: something has failed, was missed or aborted
         self.answer: dict[str, Any] | None = None  # the last that was adopted
@@ -127,7 +128,7 @@ class Attempt:
 
     `why` it is held: backoff, unknown, wait, approval, elsewhere, limit. `fresh`: it cannot have been called, by this program or an earlier one."""
 
-    __slots__ = ("live", "step", "kind", "attempt", "action", "word", "state", "why", "fresh", "outcome", "at", "timer", "job", "since", "count", "has_row", "request", "told", "until", "pending", "awaited", "lease", "took", "event", "record")
+    __slots__ = ("live", "step", "kind", "attempt", "action", "word", "state", "why", "fresh", "outcome", "at", "timer", "job", "since", "count", "has_row", "request", "told", "until", "pending", "awaited", "lease", "took", "event", "record", "results")
 
     def __init__(self, live: Live, step: int, kind: str, attempt: int, fresh: bool) -> None:
         self.live = live
@@ -154,6 +155,7 @@ class Attempt:
         self.took: float | None = None  # seconds, of its last call
         self.event = ""  # that its report came to
         self.record: Record | None = None  # of the transaction that it is called in
+        self.results = live.results  # of the steps that stand as it begins, and stay in it
 
     @property
     def name(self) -> str:
@@ -183,7 +185,7 @@ class Attempt:
 
     def effect_token(self) -> str:
         """Of the log's name, the saga's number and the step, as the task's."""
-        return f"{self.saga_token()}-{self.name}-{self.kind}"
+        return f"{self.saga_token}-{self.name}-{self.kind}"
 
     def token(self) -> str:
         """Of its effect and the attempt, as the task's."""
@@ -210,17 +212,49 @@ class Attempt:
         step = self.live.kind.steps[self.step]
         return step is not None and step.manner(self.kind).run_on is not None
 
+    # -- what its function's task is asked for (`task.About`)
+
+    @property
+    def saga(self) -> str:
+        return self.live.kind.name
+
+    @property
+    def key(self) -> str:
+        return self.live.key
+
+    @property
+    def undo(self) -> bool:
+        return self.action.undo
+
+    @property
     def saga_token(self) -> str:
+        """Of the log's name and the saga's number."""
         live = self.live
         if live.token is None:
             assert live.pump
             live.token = f"{live.pump.name}-{live.number}"
         return live.token
 
+    @property
+    def input(self) -> str:
+        return self.live.text
+
+    @property
+    def given(self) -> dict[str, str]:
+        return {name: self.results.get(number, "null") for number, name in self.action.given}
+
+    @property
+    def own(self) -> str | None:
+        return self.results.get(self.step) if self.action.undo else None
+
+    @property
+    def hint(self) -> Decoder | None:
+        return self.action.hint
+
+    @property
+    def decoders(self) -> dict[str, Decoder]:
+        return self.live.kind.decoders
+
     def task(self) -> Task[Any]:
-        """What its function is handed."""
-        live, action = self.live, self.action
-        kind, told = live.kind, live.results
-        results = {name: told.get(number, "null") for number, name in action.given} if action.given else {}
-        own = told.get(self.step) if action.undo else None
-        return Task(kind.name, live.key, action.name, action.undo, self.attempt, live.token or self.saga_token(), live.text, results, own, action.hint, kind.decoders)
+        """What its function is handed, where that goes on elsewhere: as it is now."""
+        return Task(whole(self))

@@ -117,6 +117,6 @@ def found(owner: Coordinator, live: Live, row: SagaRow) -> None:
     """Another log has the key: that is the saga, or a conflict."""
     if live.start is not None:
         batch = owner.empty_batch(-1, lambda fault: None)
-        batch.begun.append(live.start)
+        batch.more.begun.append(live.start)
         owner.enqueue(batch)
     leave(owner, live, conflict(live.key, live.kind.name, live.text, row.saga, row.input))

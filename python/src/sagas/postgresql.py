@@ -251,7 +251,7 @@ class PostgreSQL(questions.Questions):
 
     def _kept(self, commit: Commit) -> None:
         """A commit is in the store: the others hear of it."""
-        begun, answered = [id for batch in commit.batches for id in batch.begun], [id for batch in commit.batches for _, id in batch.answers]
+        begun, answered = [id for _, rare in commit.rare for id in rare.begun], [id for _, rare in commit.rare for _, id in rare.answers]
         for what, ids in (("ended", commit.ended), ("begun", begun), ("answered", answered)):
             if ids:
                 self._say(news.payloads(what, ids))

@@ -135,7 +135,8 @@ class Commit:
             rows = [row for batch in batches for row in getattr(batch, part)]
             if rows:
                 self._rows[part] = rows
-        if any(batch.born or batch.begun or batch.guessed or batch.is_rare for batch in batches):
+        self.rare = [(batch.log, batch.rare) for batch in batches if batch.rare]
+        if self.rare or any(batch.born or batch.guessed for batch in batches):
             self._others()
 
     @property
@@ -160,10 +161,10 @@ class Commit:
         """The last word of each held attempt."""
         held: dict[tuple[int, int, str], dict[int, HeldRow]] = {}
         freed: dict[tuple[int, int, str], int] = {}
-        for batch in self.batches:
-            for row in batch.held:
+        for _, rare in self.rare:
+            for row in rare.held:
                 held.setdefault(row[:3], {})[row[3]] = (*row[:8], clean(row[8])) if row[8] is not None else row
-            for id, step, kind, attempt in batch.freed:
+            for id, step, kind, attempt in rare.freed:
                 at = id, step, kind
                 freed[at] = max(attempt, freed.get(at, 0))
                 held[at] = {number: row for number, row in held.get(at, {}).items() if number > attempt}
@@ -186,13 +187,13 @@ class Commit:
         yield "born", [[(log, name, shelf) for log, (name, shelf, _) in born.items()]]
         yield "shelves", [{(shelf, texts): None for _, shelf, texts in born.values()}]  # type: ignore[list-item]
         yield "guessed", ([(batch.log, key) for key in batch.guessed] for batch in self.batches)
-        yield "settled", (batch.settled for batch in self.batches)
-        yield "emptied", ([(batch.log,)] for batch in self.batches if batch.closed)
-        yield "answers", ([(batch.log, *answer) for answer in batch.answers] for batch in self.batches)
-        yield "asked", ([(batch.log, *row, answer) for row, answer in batch.asked] for batch in self.batches)
-        yield "begun", ([(batch.log, id) for id in batch.begun] for batch in self.batches)
-        yield "notes", ([(clean(note), id) for note, id in batch.notes] for batch in self.batches)
-        yield "closed", ([(batch.log, *batch.closed)] for batch in self.batches if batch.closed)
+        yield "settled", (rare.settled for _, rare in self.rare)
+        yield "emptied", ([(log,)] for log, rare in self.rare if rare.closed)
+        yield "answers", ([(log, *answer) for answer in rare.answers] for log, rare in self.rare)
+        yield "asked", ([(log, *row, answer) for row, answer in rare.asked] for log, rare in self.rare)
+        yield "begun", ([(log, id) for id in rare.begun] for log, rare in self.rare)
+        yield "notes", ([(clean(note), id) for note, id in rare.notes] for _, rare in self.rare)
+        yield "closed", ([(log, *rare.closed)] for log, rare in self.rare if rare.closed)
 
     def words(self, node: str) -> tuple[str, list[bytes | None]]:
         """The statement and its words."""

@@ -5,6 +5,7 @@ from __future__ import annotations
 import itertools
 import json
 import logging
+import time
 from collections import deque
 from collections.abc import Callable, Iterable, Sequence
 from typing import TYPE_CHECKING, Any
@@ -102,7 +103,7 @@ class Pump(Answers):
             return False
         if not self.due():
             return True
-        return self.owner.loop.time() - self.woke > TURN
+        return time.monotonic() - self.woke > TURN
 
     def due(self) -> bool:
         """Whether something can be sent now: tasks only where there is a slot for them."""
@@ -134,7 +135,7 @@ class Pump(Answers):
         except SagasError as error:
             self.fail(error)
             return
-        self.state, self.used = "up", self.owner.loop.time()
+        self.state, self.used = "up", time.monotonic()
         self.woke = self.used
         self.poke()
 
@@ -152,7 +153,7 @@ class Pump(Answers):
         child = self.child
         if self.state != "up" or child is None or child.asked:
             return
-        if self.owner.children.wanted and self.owner.loop.time() - self.woke > TURN:
+        if self.owner.children.wanted and time.monotonic() - self.woke > TURN:
             self.owner.loop.call_soon(self.owner.yield_child, self)
             if not self.unwritten:
                 return
@@ -164,8 +165,9 @@ class Pump(Answers):
         asked: list[Asked] = []
         reports: list[Attempt] = []
         opens: list[Live] = []
+        is_well = True
         if self.reports:
-            reports = self._ask_reports(requests)
+            reports, is_well = self._ask_reports(requests)
             asked.append((self._told_reports, reports))
         if self.aborts:
             asked.append((self._told_aborts, self._ask_aborts(requests)))
@@ -177,29 +179,29 @@ class Pump(Answers):
         if self._ask_next(requests):
             asked.append((self._told_next, (None,)))
         if requests:
-            self.used = self.owner.loop.time()
+            self.used = time.monotonic()
             batch = self.batch()
             child.ask(requests, lambda replies, text: self._answered(batch, asked, replies, text))
             if wait and len(requests) <= FEW:
-                self._wait(child, batch, reports, opens)
+                self._wait(child, batch, reports if is_well else None, opens)
         else:
             self.offer()
 
-    def _wait(self, child: Child, batch: Batch, reports: Sequence[Attempt], opens: Sequence[Live]) -> None:
-        """Nothing else goes on: the rows that are written where the child agrees are put while it thinks. Behind a failure a plan may be made, which calls
-        what the user wrote, so nothing is put."""
+    def _wait(self, child: Child, batch: Batch, reports: Sequence[Attempt] | None, opens: Sequence[Live]) -> None:
+        """Nothing else goes on: the rows that are written where the child agrees are put while it thinks. Behind a failure (`reports` is None) a plan may
+        be made, which calls what the user wrote, so nothing is put."""
         store, self._waits = self.owner.store, True
         try:
-            if child.is_prompt and not self.owner.is_writing and all(one.outcome and one.outcome.kind == "done" for one in reports):
+            if reports is not None and child.is_prompt and not self.owner.is_writing:
                 store.expect(*self._expected(batch, reports, opens))
             child.wait()
         finally:
             self._waits = False
             store.forget()
 
-    def _ask_reports(self, requests: list[str]) -> list[Attempt]:
-        """A lot of them, the first first."""
-        lot = list(itertools.islice(self.reports, LOT))
+    def _ask_reports(self, requests: list[str]) -> tuple[list[Attempt], bool]:
+        """A lot of them, the first first; and whether all ended well."""
+        lot, is_well = list(itertools.islice(self.reports, LOT)), True
         self.reports = {} if len(lot) == len(self.reports) else dict.fromkeys(itertools.islice(self.reports, LOT, None))
         self.reporting.append(lot)
         for attempt in lot:
@@ -210,7 +212,8 @@ class Pump(Answers):
             live.busy.pop(attempt.word, None)
             if not ok or attempt.kind == "undo":
                 live.odd = True
-        return lot
+            is_well = is_well and ok
+        return lot, is_well
 
     def _ask_aborts(self, requests: list[str]) -> list[Abort]:
         lot, self.aborts = self.aborts, []
@@ -294,7 +297,8 @@ class Pump(Answers):
         if self._begun:
             acts.append((self._begin, self._begun))
         took, unused, self.outstanding = len(self._begun), self.outstanding - len(self._begun), 0
-        self.owner.slots.release(unused)
+        if unused:
+            self.owner.slots.release(unused)
         self.more = min(MOST_NEXT, 2 * took) if self.hungry else 1
         batch.text = self._text
         self.events += batch.text.count("\n")

@@ -32,6 +32,23 @@ Wanted = Union[int, Asked, None]
 
 
 @dataclasses.dataclass(slots=True)
+class Rare:
+    """What most batches have nothing of."""
+
+    held: list[HeldRow] = dataclasses.field(default_factory=list)
+    freed: list[Freed] = dataclasses.field(default_factory=list)
+    answers: list[Told] = dataclasses.field(default_factory=list)
+    asked: list[tuple[Asked, str]] = dataclasses.field(default_factory=list)
+    """requests that have no row yet, with their answers"""
+    notes: list[tuple[str, int]] = dataclasses.field(default_factory=list)
+    begun: list[int] = dataclasses.field(default_factory=list)
+    """starts of clients (`Start`) that are done with"""
+    settled: list[tuple[str, int]] = dataclasses.field(default_factory=list)
+    """attempts that were ordered elsewhere: their tokens, and their log; no report of them is taken any more"""
+    closed: tuple[int, str] | None = None
+
+
+@dataclasses.dataclass(slots=True)
 class Batch:
     """What one log gains at once. `then` is called with None after the commit, else with what kept it from being."""
 
@@ -45,35 +62,26 @@ class Batch:
     opened: list[Opened] = dataclasses.field(default_factory=list)
     results: list[Result] = dataclasses.field(default_factory=list)
     ended: list[Ended] = dataclasses.field(default_factory=list)
-    held: list[HeldRow] = dataclasses.field(default_factory=list)
-    freed: list[Freed] = dataclasses.field(default_factory=list)
-    answers: list[Told] = dataclasses.field(default_factory=list)
-    asked: list[tuple[Asked, str]] = dataclasses.field(default_factory=list)
-    """requests that have no row yet, with their answers"""
-    notes: list[tuple[str, int]] = dataclasses.field(default_factory=list)
-    begun: list[int] = dataclasses.field(default_factory=list)
-    """starts of clients (`Start`) that are done with"""
     guessed: list[str] = dataclasses.field(default_factory=list)
     """keys of sagas that it opens, which nobody has looked for: where one is taken, nothing of the batch is written, as where the log is another's"""
-    settled: list[tuple[str, int]] = dataclasses.field(default_factory=list)
-    """attempts that were ordered elsewhere: their tokens, and their log; no report of them is taken any more"""
-    closed: tuple[int, str] | None = None
+    rare: Rare | None = None
 
     def __bool__(self) -> bool:
         """Whether it holds anything."""
-        return bool(self.text or self.opened or self.results or self.ended or self.is_rare or self.begun)
+        return bool(self.text or self.opened or self.results or self.ended or self.rare)
 
     @property
-    def is_rare(self) -> bool:
-        """Whether it holds what most do not."""
-        return bool(self.held or self.freed or self.answers or self.asked or self.notes or self.settled or self.closed)
+    def more(self) -> Rare:
+        """What most have nothing of, to be put into."""
+        self.rare = self.rare or Rare()
+        return self.rare
 
     def answer(self, request: Wanted, answer: str) -> None:
         """The answer to a request, as JSON."""
         if isinstance(request, int):
-            self.answers.append((answer, request))
+            self.more.answers.append((answer, request))
         elif request is not None:
-            self.asked.append((request, answer))
+            self.more.asked.append((request, answer))
 
 
 @dataclasses.dataclass(slots=True)

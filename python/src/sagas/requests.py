@@ -101,7 +101,7 @@ class Requests:
         except (TypeError, ValueError, KeyError) as error:
             answer = {"error": f"this cannot be read: {error!r}"}
         batch = self._store._inside.empty_batch(-1, lambda fault: None)
-        batch.answers.append((json.dumps(answer), id))
+        batch.more.answers.append((json.dumps(answer), id))
         self._store._inside.enqueue(batch)
 
     async def _ask(self, id: int, key: str, what: str, told: Any) -> Any:

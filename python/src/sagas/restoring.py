@@ -6,6 +6,7 @@ import asyncio
 import json
 import logging
 import re
+import time
 from typing import TYPE_CHECKING, Any
 
 from . import lines, moving
@@ -67,8 +68,7 @@ async def load(pump: Pump) -> None:
         if loaded.epoch != pump.epoch:
             pump.epoch, pump.born = loaded.epoch, None
         there = {key for _, key, _, _ in loaded.open}
-        if owner.store.shared:
-            await _elsewhere(pump, there)
+        await _elsewhere(pump, there)
         if pump.state != "loading":
             return
         _doubtful(pump, there)
@@ -117,7 +117,7 @@ def _restore(pump: Pump, loaded: Loaded, shown: list[int], replies: list[Reply])
     pump.events, pump.opened = loaded.events, loaded.opened
     pump.reports = {}
     pump.hungry, pump.more = True, 1
-    pump.state, pump.used = "up", pump.owner.loop.time()
+    pump.state, pump.used = "up", time.monotonic()
     pump.woke = pump.used
     batch, pump._ended = pump.batch(), []
     for number, told in zip(shown, map(json.loads, replies[1:])):

@@ -75,7 +75,7 @@ class Answering:
         return "\n".join([head, *(f"  {state:{wide}} {step}{said.get(step, '')}" for step, state in states.items())])
 
 
-@dataclasses.dataclass(frozen=True, slots=True)
+@dataclasses.dataclass(frozen=True, init=False)
 class End(Answering):
     """How a saga ended.
 
@@ -95,8 +95,16 @@ class End(Answering):
     chain: list[str]
     kept: list[str]
     aborted: bool
-    note: str | None = None
-    errors: dict[str, str] = dataclasses.field(default_factory=dict)
+    note: str | None
+    errors: dict[str, str]
+
+    def __init__(
+        self, key: str, saga: str, phase: str, states: dict[str, str], results: dict[str, Any], cost: int | None, chain: list[str], kept: list[str], aborted: bool,
+        note: str | None = None, errors: dict[str, str] | None = None,
+    ) -> None:  # fmt: skip
+        vars(self).update(  # at once: a frozen class's own form takes three times as long, and each saga makes one
+            key=key, saga=saga, phase=phase, states=states, results=results, cost=cost, chain=chain, kept=kept, aborted=aborted, note=note, errors=errors or {},
+        )  # fmt: skip
 
 
 @dataclasses.dataclass(frozen=True, slots=True)

@@ -16,11 +16,11 @@ from collections.abc import Sequence
 from typing import Any
 
 from . import places_sqlite, questions
-from .database import Drives, Then, Watcher
+from .database import Drives, Watcher
 from .definition import Bounds
 from .errors import MissingHandler, StoreFault, StoreLocked, StoreNewer, StoreUnwritable
 from .forks import private
-from .records import Batch, Grant, Loaded, LogRow, Opened, Request, Result, SagaRow, Start
+from .records import Grant, Loaded, LogRow, Request, SagaRow, Start
 from .schema import MIGRATIONS, VERSION
 from .sqlite_writer import BUSY, CHECKPOINT, Writer
 from .values import cleaned
@@ -155,12 +155,13 @@ class Sqlite(questions.Questions):
         self._lock: int | None = None
         self._timer: asyncio.Handle | None = None
         self._next_log = 0
-        self._writer: Writer | None = None
+        self._writer = writer = Writer()
+        self.commit, self.expect, self.forget, self.settle = writer.commit, writer.expect, writer.forget, writer.settle
 
     @property
     def commits(self) -> int:
         """How many transactions were written."""
-        return self._writer.commits if self._writer else 0
+        return self._writer.commits
 
     # -- opening and closing
 
@@ -169,7 +170,7 @@ class Sqlite(questions.Questions):
         self._take_lock()
         self._make()
         lengthen(self._db)
-        self._writer = Writer(self._db)
+        self._writer.open(self._db)
         self._next_log = int(self.rows("SELECT coalesce(max(log) + 1, 0) FROM logs")[0][0])
         rows = self.open_logs()
         for row in rows:
@@ -248,8 +249,7 @@ class Sqlite(questions.Questions):
             self._timer.cancel()
         if self._lock is None:
             return
-        if self._writer:
-            self._writer.close()
+        self._writer.close()
         with contextlib.suppress(sqlite3.Error):
             self._reader.close()
             self._db.close()
@@ -275,26 +275,6 @@ class Sqlite(questions.Questions):
             count, pause = await asyncio.to_thread(places_sqlite.take, connected, self.path, name, bounds.rate, count, time.time())
         return Grant(count, places[:count], pause)
 
-    def commit(self, batches: Sequence[Batch], then: Then) -> None:
-        """One transaction for all; `then` is called in the loop with None, or with what kept it from being."""
-        assert self._writer
-        self._writer.commit(batches, then)
-
-    def expect(self, opened: Sequence[Opened], results: Sequence[Result]) -> None:
-        """Puts them while the child thinks."""
-        assert self._writer
-        self._writer.expect(opened, results)
-
-    def forget(self) -> None:
-        """Takes them back, if they were put and not committed."""
-        assert self._writer
-        self._writer.forget()
-
-    def settle(self) -> None:
-        """Calls `then` of a commit that is over."""
-        assert self._writer
-        self._writer.settle()
-
     async def call(self, *words: Any) -> Any:
         """A file has no transactions of others: a store with such steps was refused."""
         raise NotImplementedError
@@ -317,7 +297,6 @@ class Sqlite(questions.Questions):
 
     def find_many(self, keys: Sequence[str]) -> dict[str, SagaRow]:
         """The sagas with these keys, by key, as far as they are there."""
-        assert self._writer
         return self.found(keys, functools.partial(self._read, self._writer.reader() or self._reader))
 
     def reader(self) -> Reader:
@@ -326,7 +305,6 @@ class Sqlite(questions.Questions):
 
     async def take_up(self, log: int, epoch: int) -> tuple[str, int]:
         """As `text`, for who will write behind it: nobody else writes this file. No lines of it may be on their way."""
-        assert self._writer
         text, self._writer.events[log] = self.text(log)
         return text, self._writer.events[log]
 

@@ -16,7 +16,7 @@ from collections.abc import Iterable, Sequence
 from typing import Any
 
 from .database import Then
-from .records import Batch, Ended, Opened, Result
+from .records import Batch, Ended, Opened, Rare, Result
 from .values import clean, cleaned
 
 BUSY = 5000  # ms: an operator's command may be writing
@@ -35,6 +35,8 @@ FORGET = 0.97  # of what the disk took, a commit of the thread's
 NONE: frozenset[int] = frozenset()
 Events = dict[int, int]
 """How many events each log has."""
+Put = tuple[Events, frozenset[int]]
+"""What a transaction brings the logs to, and those of which it has nothing: they begun a saga without a look for its key, which is another's."""
 Rows = tuple[Sequence[Opened], Sequence[Result]]
 
 LINES = "INSERT INTO lines VALUES(?, ?, ?, ?)"
@@ -49,28 +51,34 @@ class Gap(Exception):
 
 
 class Writer:
-    """Has the connection that writes. `events`: how many each log has, by what was read or written last."""
+    """Has the connection that writes, from `open` on. `events`: how many each log has, by what was read or written last."""
 
-    def __init__(self, db: sqlite3.Connection) -> None:
-        self._db = db
+    _db: sqlite3.Connection
+    _thread: threading.Thread | None = None
+
+    def __init__(self) -> None:
         self.commits = 0
         self.events: dict[int, int] = {}
-        self._loop = asyncio.get_running_loop()
-        self._jobs: queue.SimpleQueue[tuple[Sequence[Batch], Then, Events | None] | None] = queue.SimpleQueue()
+        self._jobs: queue.SimpleQueue[tuple[Sequence[Batch], Then, Put | None] | None] = queue.SimpleQueue()
         self._took = AT_ONCE  # seconds, by the last commits of the loop's
         self._patient: bool | None = None  # waits for other programs, as the connection is set
         self._moves: bool | None = None  # moves the WAL into the file, as the connection is set
         self._lent = False  # the thread has the connection
         self._pages = 0  # that the loop wrote into the WAL, about
-        self._over: tuple[Then, Sequence[Batch], BaseException | None] | None = None  # a commit of the loop's, whose `then` is to be called
+        self._over: tuple[Then, Sequence[Batch], BaseException | None, frozenset[int]] | None = None  # a commit of the loop's, whose `then` is to be called
         self._early: Rows | None = None  # put already, in a transaction that is begun
+
+    def open(self, db: sqlite3.Connection) -> None:
+        """Begins to write."""
+        self._db, self._loop = db, asyncio.get_running_loop()
         self._thread = threading.Thread(target=self._work, name="sagas-writer", daemon=True)
         self._thread.start()
 
     def close(self) -> None:
         """Ends behind what it was given."""
-        self._jobs.put(None)
-        self._thread.join()
+        if self._thread:
+            self._jobs.put(None)
+            self._thread.join()
 
     def commit(self, batches: Sequence[Batch], then: Then) -> None:
         """As `Database.commit`."""
@@ -80,21 +88,21 @@ class Writer:
         if rows > FEW_ROWS:
             self.forget()
         try:
-            events = self._put_here(batches) if rows <= FEW_ROWS else None
-            is_over = events is not None and self._sync_here(events, rows)
+            put = self._put_here(batches) if rows <= FEW_ROWS else None
+            is_over = put is not None and self._sync_here(put[0], rows)
         except Exception as fault:
-            self._over = then, batches, fault
+            self._over = then, batches, fault, NONE
             return
         except BaseException as error:  # Ctrl-C, say: nobody knows how far it came
-            self._over = then, batches, error
+            self._over = then, batches, error, NONE
             raise
-        if is_over:
-            self._over = then, batches, None
+        if put is not None and is_over:
+            self._over = then, batches, None, put[1]
         else:
             self._pages, self._lent = 0, True
-            self._jobs.put((batches, then, events))
+            self._jobs.put((batches, then, put))
 
-    def _put_here(self, batches: Sequence[Batch]) -> Events | None:
+    def _put_here(self, batches: Sequence[Batch]) -> Put | None:
         """As `_put`; None where somebody else writes just now."""
         try:
             return self._put(batches, patient=False)
@@ -127,53 +135,73 @@ class Writer:
 
     def forget(self) -> None:
         """As `Database.forget`; also where putting them was interrupted."""
-        if not self._lent:
+        if not self._lent and self._db.in_transaction:
             self._early = None
             self._roll_back()
 
     def settle(self) -> None:
         """As `Database.settle`."""
         if self._over:
-            (then, batches, fault), self._over = self._over, None
-            then(batches, fault, NONE)
+            (then, batches, fault, lost), self._over = self._over, None
+            then(batches, fault, lost)
 
     def _work(self) -> None:
         while (job := self._jobs.get()) is not None:
-            batches, then, events = job
-            fault = self._try(batches, events)
+            batches, then, put = job
+            fault, lost = self._try(batches, put)
             self._took *= FORGET
             with contextlib.suppress(RuntimeError):  # the loop is closed
-                self._loop.call_soon_threadsafe(self._done, batches, then, fault)
+                self._loop.call_soon_threadsafe(self._done, batches, then, fault, lost)
 
-    def _try(self, batches: Sequence[Batch], events: Events | None) -> Exception | None:
-        """Ends a transaction, of which all rows are put if there are `events`; or what kept it from being: that is told to the coordinator, which
-        begins again from the database."""
+    def _try(self, batches: Sequence[Batch], put: Put | None) -> tuple[Exception | None, frozenset[int]]:
+        """Ends a transaction, of which all rows are there if they were `put`; gives the logs of which it has nothing, or what kept it from being: that is
+        told to the coordinator, which begins again from the database."""
         try:
-            self._sync(self._put(batches, patient=True) if events is None else events, patient=True)
+            events, lost = self._put(batches, patient=True) if put is None else put
+            self._sync(events, patient=True)
         except Exception as fault:
-            return fault
-        return None
+            return fault, NONE
+        return None, lost
 
-    def _done(self, batches: Sequence[Batch], then: Then, fault: Exception | None) -> None:
+    def _done(self, batches: Sequence[Batch], then: Then, fault: Exception | None, lost: frozenset[int]) -> None:
         self._lent = False
-        then(batches, fault, NONE)
+        then(batches, fault, lost)
 
     def reader(self) -> sqlite3.Connection | None:
         """The connection, to read by where it is not writing: it knows what it wrote, and another one would have to look."""
         return None if self._lent or self._early else self._db
 
-    def _put(self, batches: Sequence[Batch], patient: bool) -> Events:
+    def _put(self, batches: Sequence[Batch], patient: bool) -> Put:
         """Begins a transaction, unless it is begun with just these rows, and puts the rows of all into it. `patient`: it waits for another program's commit."""
         early, self._early = self._early, None
         try:
             is_begun = self._db.in_transaction and len(batches) == 1 and early == (batches[0].opened, batches[0].results)
-            if not is_begun:
-                self._roll_back()
-                self._begin(patient)
-            return self._put_rows(batches, is_begun)
+            if is_begun:
+                return self._put_rows(batches, is_begun), NONE
+            return self._put_those_that_may(batches, patient)
         except BaseException:
             self._roll_back()
             raise
+
+    def _put_those_that_may(self, batches: Sequence[Batch], patient: bool) -> Put:
+        """Begins a transaction, with the rows of all logs but those that guessed wrong (`Batch.guessed`)."""
+        self._begin_anew(patient)
+        try:
+            return self._put_rows(batches, False), NONE
+        except sqlite3.IntegrityError:
+            self._begin_anew(patient)
+            lost = frozenset(batch.log for batch in batches if any(map(self._has, batch.guessed)))
+            if not lost:
+                raise
+            return self._put_rows([batch for batch in batches if batch.log not in lost], False), lost
+
+    def _has(self, key: str) -> bool:
+        """Whether a saga has the key."""
+        return self._db.execute("SELECT 1 FROM sagas WHERE key = ?", (key,)).fetchone() is not None
+
+    def _begin_anew(self, patient: bool) -> None:
+        self._roll_back()
+        self._begin(patient)
 
     def _begin(self, patient: bool) -> None:
         if patient != self._patient:
@@ -218,7 +246,7 @@ class Writer:
             self._put_usual(opened, results)
         if ended:
             self._put_ended(ended)
-        rare = [batch for batch in batches if batch.is_rare]
+        rare = [(batch.log, batch.rare) for batch in batches if batch.rare]
         if rare:
             self._put_rare(rare)
         return events
@@ -229,10 +257,10 @@ class Writer:
         if results:
             self._lots(RESULTS, 7, results)
 
-    def _put_lines(self, batches: Sequence[Batch]) -> dict[int, int]:
+    def _put_lines(self, batches: Sequence[Batch]) -> Events:
         """Writes the lines, one row a log; gives how many events the logs have now."""
         chunks: dict[int, tuple[int, list[str]]] = {}
-        events: dict[int, int] = {}
+        events: Events = {}
         at = 0.0
         for batch in batches:
             if batch.born:
@@ -262,15 +290,16 @@ class Writer:
         for way, ids in ways.items():
             self._lots(ENDED, 1, ids, way)
 
-    def _put_rare(self, batches: Sequence[Batch]) -> None:
-        self._many("INSERT OR REPLACE INTO held VALUES(?, ?, ?, ?, ?, ?, ?, ?, ?)", ([cleaned(row) for row in b.held] for b in batches))
-        self._many("DELETE FROM held WHERE id = ? AND step = ? AND kind = ? AND attempt <= ?", (b.freed for b in batches))
-        self._many(SETTLED, (b.settled for b in batches))
-        self._many("DELETE FROM reports WHERE log = ?", ([(b.log,)] for b in batches if b.closed))
-        self._many("UPDATE requests SET answer = ? WHERE id = ?", (b.answers for b in batches))
-        self._many("INSERT INTO requests(key, what, value, at, answer) VALUES(?, ?, ?, ?, ?)", ([(*row, answer) for row, answer in b.asked] for b in batches))
-        self._many("UPDATE sagas SET note = ? WHERE id = ?", ([(clean(note), id) for note, id in b.notes] for b in batches))
-        self._many("UPDATE logs SET closed = ?, audit = ? WHERE log = ?", ([(*b.closed, b.log)] for b in batches if b.closed))
+    def _put_rare(self, rare: Sequence[tuple[int, Rare]]) -> None:
+        """Of the logs with these numbers."""
+        self._many("INSERT OR REPLACE INTO held VALUES(?, ?, ?, ?, ?, ?, ?, ?, ?)", ([cleaned(row) for row in of.held] for _, of in rare))
+        self._many("DELETE FROM held WHERE id = ? AND step = ? AND kind = ? AND attempt <= ?", (of.freed for _, of in rare))
+        self._many(SETTLED, (of.settled for _, of in rare))
+        self._many("DELETE FROM reports WHERE log = ?", ([(log,)] for log, of in rare if of.closed))
+        self._many("UPDATE requests SET answer = ? WHERE id = ?", (of.answers for _, of in rare))
+        self._many("INSERT INTO requests(key, what, value, at, answer) VALUES(?, ?, ?, ?, ?)", ([(*row, answer) for row, answer in of.asked] for _, of in rare))
+        self._many("UPDATE sagas SET note = ? WHERE id = ?", ([(clean(note), id) for note, id in of.notes] for _, of in rare))
+        self._many("UPDATE logs SET closed = ?, audit = ? WHERE log = ?", ([(*of.closed, log)] for log, of in rare if of.closed))
 
     def _many(self, statement: str, lists: Iterable[Sequence[Sequence[Any]]]) -> None:
         rows = [row for rows in lists for row in rows]

@@ -70,7 +70,7 @@ class Starts:
             return
         if there and there.id >= 0:
             batch = owner.empty_batch(-1, lambda fault: None)
-            batch.begun.append(id)
+            batch.more.begun.append(id)
             owner.enqueue(batch)
             return
         place = owner.shelf.places[saga, version]

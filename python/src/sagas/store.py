@@ -28,7 +28,7 @@ from .events import Hook, Teller, logger
 from .faults import meant
 from .forks import Opened, private
 from .guessing import Guessing
-from .kinds import Kind, Shelf
+from .kinds import Shelf
 from .live import Attempt, Live
 from .plans import Plan
 from .records import Asked, Wanted, SagaRow
@@ -164,7 +164,7 @@ class Store:
         live = inside.lives.get(key)
         if live is not None and live.is_doubtful:
             live = await self._live(key)
-        guesses = live is None and wrong is None and self._guesses(kind)
+        guesses = live is None and wrong is None and self.new and kind.fits and self._guessing.is_worth()  # that the key is new
         row = await self._find(key) if looks and not guesses and live is None else None
         live = inside.lives.get(key)  # another start of it may have come meanwhile
         there = (live.kind.name, live.text) if live else (row.saga, row.input) if row else None
@@ -183,14 +183,14 @@ class Store:
         elif wrong:
             raise wrong
         else:
-            return await self._begin(inside.new_live(key, text, kind, place), guesses)
+            return await self._begin(inside, inside.new_live(key, text, kind, place), guesses)
         if live and not live.committed:
             await live.started(inside.loop)
         return Run(self, key)
 
-    async def _begin(self, live: Live, guessed: bool) -> Run:
+    async def _begin(self, inside: Coordinator, live: Live, guessed: bool) -> Run:
         """Starts one whose key is free, as far as is known."""
-        inside, live.guessed = self._inside, guessed
+        live.guessed = guessed
         begun = live.started(inside.loop)  # before it is placed: it may be there at once, or refused
         inside.place(live)
         try:
@@ -209,11 +209,6 @@ class Store:
         if error:
             raise error
         return row is not None
-
-    def _guesses(self, kind: Kind) -> bool:
-        """Whether a start begins without a look for its key, which takes a while."""
-        inside = self._inside
-        return inside.store.shared and self.new and kind.fits and self._guessing.is_worth()
 
     async def _live(self, key: str) -> Live | None:
         """The saga with this key, as far as it is driven here and the key is known to be its own."""

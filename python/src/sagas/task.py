@@ -2,8 +2,9 @@
 
 from __future__ import annotations
 
-from collections.abc import Callable
-from typing import TYPE_CHECKING, Any, Generic, TypeVar, overload
+import dataclasses
+from collections.abc import Callable, Mapping
+from typing import TYPE_CHECKING, Any, Generic, Protocol, TypeVar, overload
 
 from . import values
 
@@ -14,33 +15,93 @@ I = TypeVar("I")
 R = TypeVar("R")
 
 
+class About(Protocol):
+    """What a task is asked for: looked up only then, since most functions ask for little. Inputs and results are JSON texts.
+
+    `saga_token` begins its tokens. `given`: the results of the steps that it needs, by name; `own`: in a compensation that of its step."""
+
+    @property
+    def saga(self) -> str: ...
+    @property
+    def key(self) -> str: ...
+    @property
+    def name(self) -> str: ...
+    @property
+    def undo(self) -> bool: ...
+    @property
+    def attempt(self) -> int: ...
+    @property
+    def saga_token(self) -> str: ...
+    @property
+    def input(self) -> str: ...
+    @property
+    def given(self) -> Mapping[str, str]: ...
+    @property
+    def own(self) -> str | None: ...
+    @property
+    def hint(self) -> values.Decoder | None: ...
+    @property
+    def decoders(self) -> Mapping[str, values.Decoder]: ...
+
+
+@dataclasses.dataclass(frozen=True, slots=True)
+class Told:
+    """All of it at once, for a task of which nothing else is here."""
+
+    saga: str
+    key: str
+    name: str
+    undo: bool
+    attempt: int
+    saga_token: str
+    input: str
+    given: Mapping[str, str]
+    own: str | None
+    hint: values.Decoder | None = None
+    decoders: Mapping[str, values.Decoder] = dataclasses.field(default_factory=dict)
+
+
+def whole(about: About) -> Told:
+    """As it is now, whatever becomes of it."""
+    return Told(
+        about.saga, about.key, about.name, about.undo, about.attempt, about.saga_token, about.input, about.given, about.own, about.hint, about.decoders,
+    )  # fmt: skip
+
+
 class Task(Generic[I]):
-    """One attempt of a step, or of its compensation. Write `task: Task[Order]` to get the input as an `Order`.
+    """One attempt of a step, or of its compensation. Write `task: Task[Order]` to get the input as an `Order`."""
 
-    - `saga`, `key`, `step`: the saga's name, its key, the step's name. `undo`: whether it is the compensation. `attempt`: from 1.
-    - `effect_token`: the same over all tries: **the one to hand to a service as its idempotency key**.
-    - `token`: another one for each attempt, for a service that remembers a refusal under its key.
-    - `action_token`: in a compensation the effect token of what it undoes; in an action its own."""
+    __slots__ = ("_about", "_connection", "_take")
 
-    __slots__ = ("saga", "key", "step", "undo", "attempt", "_saga_token", "_input", "_results", "_result", "_hint", "_decoders", "_connection", "_take")
-
-    def __init__(
-        self, saga: str, key: str, step: str, undo: bool, attempt: int, saga_token: str, input: str, results: dict[str, str], result: str | None,
-        hint: values.Decoder | None = None, decoders: dict[str, values.Decoder] | None = None,
-    ) -> None:
-        self.saga = saga  # one by one, since a step makes one of these: that takes less time than a tuple of all
-        self.key = key
-        self.step = step
-        self.undo = undo
-        self.attempt = attempt
-        self._saga_token = saga_token
-        self._input = input
-        self._results = results
-        self._result = result
-        self._hint = hint
-        self._decoders = decoders or {}
+    def __init__(self, about: About) -> None:
+        self._about = about
         self._connection: Any = None
         self._take: Callable[[], Any] | None = None
+
+    @property
+    def saga(self) -> str:
+        """The saga's name."""
+        return self._about.saga
+
+    @property
+    def key(self) -> str:
+        """The saga's key."""
+        return self._about.key
+
+    @property
+    def step(self) -> str:
+        """The step's name."""
+        return self._about.name
+
+    @property
+    def undo(self) -> bool:
+        """Whether it is the compensation."""
+        return self._about.undo
+
+    @property
+    def attempt(self) -> int:
+        """Its number, from 1."""
+        return self._about.attempt
 
     def enter(self, connection: Any) -> None:
         """Sets the connection of a step with `transaction=True`."""
@@ -66,45 +127,49 @@ class Task(Generic[I]):
 
     @property
     def effect_token(self) -> str:
-        """Log, saga, step, and `run` or `undo`: the same over all tries, and after a kill."""
-        return f"{self._saga_token}-{self.step}-{'undo' if self.undo else 'run'}"
+        """Log, saga, step, and `run` or `undo`: the same over all tries, and after a kill. **The one to hand to a service as its idempotency key.**"""
+        return f"{self._about.saga_token}-{self.step}-{'undo' if self.undo else 'run'}"
 
     @property
     def token(self) -> str:
-        """The effect token and the attempt."""
+        """The effect token and the attempt: another one for each attempt, for a service that remembers a refusal under its key."""
         return f"{self.effect_token}-{self.attempt}"
 
     @property
     def action_token(self) -> str:
-        """The effect token of the step's action."""
-        return f"{self._saga_token}-{self.step}-run"
+        """The effect token of the step's action: in a compensation that of what it undoes, in an action its own."""
+        return f"{self._about.saga_token}-{self.step}-run"
 
     @property
     def input(self) -> I:
         """What the saga was started with: a new object each time."""
-        return values.read(self._input, self._hint)  # type: ignore[no-any-return]
+        return values.read(self._about.input, self._about.hint)  # type: ignore[no-any-return]
 
     @property
     def results(self) -> dict[str, Any]:
         """The results of all steps that this one needs, directly or not, by name: the same in each run. One that could not be stored is `{"unstorable": why}`."""
-        return {name: values.kept(text, self._decoders.get(name)) for name, text in self._results.items()}
+        decoders = self._about.decoders
+        return {name: values.kept(text, decoders.get(name)) for name, text in self._about.given.items()}
 
     @property
     def result(self) -> Any:
         """In a compensation: what the step returned; `{"unstorable": why}` where that could not be stored. In an action: None."""
-        return None if self._result is None else values.kept(self._result, self._decoders.get(self.step))
+        own = self._about.own
+        return None if own is None else values.kept(own, self._about.decoders.get(self.step))
 
     @property
     def plain(self) -> dict[str, Any]:
         """`input`, `results` and `result` as JSON has them, for a worker elsewhere."""
-        result = None if self._result is None else values.read(self._result)
-        return {"input": values.read(self._input), "results": {name: values.read(text) for name, text in self._results.items()}, "result": result}
+        about = self._about
+        result = None if about.own is None else values.read(about.own)
+        return {"input": values.read(about.input), "results": {name: values.read(text) for name, text in about.given.items()}, "result": result}
 
     @property
     def texts(self) -> dict[str, Any]:
         """All of it, for another node, which makes it again: `input`, `results` and `result` as texts, and `of`, of which its tokens are made."""
-        told = {"saga": self.saga, "key": self.key, "step": self.step, "undo": self.undo, "attempt": self.attempt, "of": self._saga_token}
-        return told | {"input": self._input, "results": self._results, "result": self._result}
+        about = self._about
+        told = {"saga": about.saga, "key": about.key, "step": about.name, "undo": about.undo, "attempt": about.attempt, "of": about.saga_token}
+        return told | {"input": about.input, "results": about.given, "result": about.own}
 
     @overload
     def of(self, step: Step[R]) -> R: ...
@@ -115,13 +180,14 @@ class Task(Generic[I]):
     def of(self, step: Step[Any] | str) -> Any:
         """What a step, or the one of this name, returned that this one needs, directly or not. Raises `Unstorable` where that could not be stored."""
         name = step if isinstance(step, str) else step.name
-        text = self._results.get(name)
+        about = self._about
+        text = about.given.get(name)
         if text is None:
-            if self.undo and name == self.step and self._result is not None:
-                text = self._result
+            if about.undo and name == about.name and about.own is not None:
+                text = about.own
             else:
-                raise KeyError(f"step {self.step!r} does not need {name!r}: name it in needs")
-        return values.returned(text, self._decoders.get(name), name)
+                raise KeyError(f"step {about.name!r} does not need {name!r}: name it in needs")
+        return values.returned(text, about.decoders.get(name), name)
 
     def __repr__(self) -> str:
         return f"<task {self.token} of {self.key!r}>"

@@ -27,7 +27,7 @@ from .errors import ChildError, DefinitionError, Fail
 from .kinds import Kind
 from .runs import Answering
 from .scripts import Answers, Attempts as Attempts, Rule, Script, answers_of, name_of, script
-from .task import Task
+from .task import Task, Told
 
 Json = dict[str, Any]
 MOST_CALLS = 10_000
@@ -290,7 +290,7 @@ class _Player:
         undo = kind == "undo"
         hint = (self.kind.undo_inputs if undo else self.kind.inputs)[step]
         own = self.results.get(step) if undo else None
-        return Task(self.saga.name, self.key, names[step], undo, attempt, "test-0", self.input, given, own, hint, self.kind.decoders)
+        return Task(Told(self.saga.name, self.key, names[step], undo, attempt, "test-0", self.input, given, own, hint, self.kind.decoders))
 
     # -- a task that is due ------------------------------------------------------------------------------------------
 

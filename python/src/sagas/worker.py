@@ -34,7 +34,7 @@ from typing import Any
 from . import calling, faults, values
 from .definition import UNKNOWN, Unknowns
 from .errors import DefinitionError, Fail, NotJson, SagasError, Unknown
-from .task import Task
+from .task import Task, Told
 
 logger = logging.getLogger("sagas.worker")
 Function = Callable[[Task[Any]], Any]
@@ -373,7 +373,7 @@ def task_of(told: dict[str, Any]) -> Task[Any]:
     saga_token = told["effect_token"].removesuffix(f"-{step}-{'undo' if undo else 'run'}")
     results = {name: values.write(value) for name, value in told["results"].items()}
     result = values.write(told["result"]) if undo else None
-    return Task(told["saga"], told["key"], step, undo, told["attempt"], saga_token, values.write(told["input"]), results, result)
+    return Task(Told(told["saga"], told["key"], step, undo, told["attempt"], saga_token, values.write(told["input"]), results, result))
 
 
 def outcome(manner: _Manner, task: Task[Any]) -> tuple[str, dict[str, Any]]:

@@ -2,10 +2,7 @@
 
 from __future__ import annotations
 
-from typing import Any
-
 from sagas.live import Attempt
-from sagas.task import Task
 
 FINDS = "input"
 STRIKES = "child"
@@ -13,13 +10,11 @@ STRIKES = "child"
 
 def apply() -> None:
     """Keeps one input for all."""
-    right, first = Attempt.task, ""
+    first = ""
 
-    def task(self: Attempt) -> Task[Any]:
+    def given(self: Attempt) -> str:
         nonlocal first
         first = first or self.live.text
-        made = right(self)
-        made._input = first
-        return made
+        return first
 
-    setattr(Attempt, "task", task)
+    setattr(Attempt, "input", property(given))

@@ -2,10 +2,7 @@
 
 from __future__ import annotations
 
-from typing import Any
-
 from sagas.live import Attempt
-from sagas.task import Task
 
 FINDS = "handed"
 STRIKES = "child"
@@ -13,12 +10,10 @@ STRIKES = "child"
 
 def apply() -> None:
     """Keeps results by the step's name alone."""
-    right = Attempt.task
+    right = Attempt.given.fget
     seen: dict[str, str] = {}
 
-    def task(self: Attempt) -> Task[Any]:
-        made = right(self)
-        made._results = {name: seen.setdefault(name, text) for name, text in made._results.items()}
-        return made
+    def given(self: Attempt) -> dict[str, str]:
+        return {name: seen.setdefault(name, text) for name, text in right(self).items()}
 
-    setattr(Attempt, "task", task)
+    setattr(Attempt, "given", property(given))

@@ -15,6 +15,6 @@ def apply() -> None:
     """Puts the number of the process into the token."""
 
     def effect_token(self: Task[Any]) -> str:
-        return f"{self._saga_token}-{self.step}-{'undo' if self.undo else 'run'}{os.getpid()}"
+        return f"{self._about.saga_token}-{self.step}-{'undo' if self.undo else 'run'}{os.getpid()}"
 
     setattr(Task, "effect_token", property(effect_token))

@@ -14,6 +14,6 @@ def apply() -> None:
     """Leaves the step out."""
 
     def effect_token(self: Task[Any]) -> str:
-        return f"{self._saga_token}-step-{'undo' if self.undo else 'run'}"
+        return f"{self._about.saga_token}-step-{'undo' if self.undo else 'run'}"
 
     setattr(Task, "effect_token", property(effect_token))

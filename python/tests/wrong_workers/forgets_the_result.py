@@ -2,12 +2,13 @@
 
 from __future__ import annotations
 
+import dataclasses
 from typing import Any
 
 from sagas.celery.worker import Work
 from sagas.desks import Begun
 from sagas.remote import Order
-from sagas.task import Task
+from sagas.task import Task, whole
 
 FINDS = "handed"
 STRIKES = "run"
@@ -18,8 +19,7 @@ def apply() -> None:
     right = Work._task
 
     def task(self: Work, order: Order, begun: Begun) -> Task[Any]:
-        made = right(self, order, begun)
-        made._result = "null" if made.undo else None
-        return made
+        told = whole(right(self, order, begun)._about)
+        return Task(dataclasses.replace(told, own="null" if told.undo else None))
 
     setattr(Work, "_task", task)

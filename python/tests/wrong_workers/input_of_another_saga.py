@@ -2,12 +2,13 @@
 
 from __future__ import annotations
 
+import dataclasses
 from typing import Any
 
 from sagas.celery.worker import Work
 from sagas.desks import Begun
 from sagas.remote import Order
-from sagas.task import Task
+from sagas.task import Task, whole
 
 FINDS = "input"
 STRIKES = "run"
@@ -19,8 +20,7 @@ def apply() -> None:
     seen: dict[str, str] = {}
 
     def task(self: Work, order: Order, begun: Begun) -> Task[Any]:
-        made = right(self, order, begun)
-        made._input = seen.setdefault(order.saga, made._input)
-        return made
+        told = whole(right(self, order, begun)._about)
+        return Task(dataclasses.replace(told, input=seen.setdefault(order.saga, told.input)))
 
     setattr(Work, "_task", task)

@@ -2,12 +2,13 @@
 
 from __future__ import annotations
 
+import dataclasses
 from typing import Any
 
 from sagas.celery.worker import Work
 from sagas.desks import Begun
 from sagas.remote import Order
-from sagas.task import Task
+from sagas.task import Task, whole
 
 FINDS = "handed"
 STRIKES = "run"
@@ -19,8 +20,7 @@ def apply() -> None:
     seen: dict[str, str] = {}
 
     def task(self: Work, order: Order, begun: Begun) -> Task[Any]:
-        made = right(self, order, begun)
-        made._results = {name: seen.setdefault(name, text) for name, text in made._results.items()}
-        return made
+        told = whole(right(self, order, begun)._about)
+        return Task(dataclasses.replace(told, given={name: seen.setdefault(name, text) for name, text in told.given.items()}))
 
     setattr(Work, "_task", task)

@@ -2,12 +2,13 @@
 
 from __future__ import annotations
 
+import dataclasses
 from typing import Any
 
 from sagas.celery.worker import Work
 from sagas.desks import Begun
 from sagas.remote import Order
-from sagas.task import Task
+from sagas.task import Task, whole
 
 FINDS = "begun-early"
 STRIKES = "run"
@@ -18,8 +19,7 @@ def apply() -> None:
     right = Work._task
 
     def task(self: Work, order: Order, begun: Begun) -> Task[Any]:
-        made = right(self, order, begun)
-        made.attempt += 1
-        return made
+        told = whole(right(self, order, begun)._about)
+        return Task(dataclasses.replace(told, attempt=told.attempt + 1))
 
     setattr(Work, "_task", task)

@@ -18,7 +18,7 @@ from ..definition import Function, Manner, Step
 from ..desks import Begun, Settled
 from ..errors import StoreUnwritable
 from ..remote import Order
-from ..task import Task
+from ..task import Task, Told
 
 if TYPE_CHECKING:
     from . import Queue
@@ -68,7 +68,7 @@ class Work:
     def _task(self, order: Order, begun: Begun) -> Task[Any]:
         """What the function is handed."""
         undo, token = self.kind == "undo", f"{order.log}-{order.number}"
-        return Task(order.saga, order.key, order.step, undo, order.attempt, token, begun.input, begun.results, begun.result, self.hint, self.decoders)
+        return Task(Told(order.saga, order.key, order.step, undo, order.attempt, token, begun.input, begun.results, begun.result, self.hint, self.decoders))
 
 
 def _surely(queue: Queue, ask: Callable[[], T]) -> T:
