@@ -11,6 +11,7 @@ pub mod VisitLemmas
 pub mod BitLemmas
 pub mod RowLemmas
 pub mod PathLemmas
+pub mod ApartLemmas
 pub mod RoundLemmas
 pub mod ReachLemmas
 pub mod ChainLemmas

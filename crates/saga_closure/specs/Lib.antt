@@ -9,5 +9,6 @@ pub mod Layers
 pub mod Rows
 pub mod Found
 pub mod Paths
+pub mod Apart
 pub mod Chains
 pub mod Largest

@@ -9,7 +9,8 @@ ghost use Rattle.saga_closure.specs.Largest.{IsLargest};
 ghost use Rattle.saga_closure.specs.Rows.{AreRows};
 
 use crate::nets::{ClosureNet, Residual};
-use crate::phases::{run_phase, send_straight};
+use crate::pairs::{send_over_needs, send_straight};
+use crate::phases::run_phase;
 use crate::rows::Rows;
 use crate::searching::{NONE, search};
 use saga_flow::Progress;
@@ -45,6 +46,7 @@ pub fn largest(alloc: Global, net: &ClosureNet, rows: &mut Rows) -> Result<Closu
         rounds: 0,
     };
     send_straight(net, &mut progress, rows);
+    send_over_needs(net, &mut progress, rows);
     loop {
         let residual = Residual {
             net: &*net,

@@ -11,6 +11,7 @@ mod chains;
 mod flows;
 mod links;
 mod nets;
+mod pairs;
 mod paths;
 mod phases;
 mod pushes;

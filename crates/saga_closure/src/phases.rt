@@ -16,7 +16,6 @@ ghost use Rattle.saga_closure.specs.Rows.{AreRows};
 use crate::nets::{ClosureNet, Residual};
 use crate::paths::path_to;
 use crate::pushes::augment;
-use crate::rooms::room_along;
 use crate::rows::{Rows, put_right};
 use crate::searching::{Found, Goal};
 use crate::walking::{ALL, put_back, walk_back};
@@ -24,7 +23,7 @@ use saga_flow::{Progress, ResidualArc};
 use std::alloc::{AllocError, Global};
 
 /// One round along a path, after which the rows are right again.
-fn send_along(net: &ClosureNet, path: &[ResidualArc], progress: &mut Progress, rows: &mut Rows)
+pub fn send_along(net: &ClosureNet, path: &[ResidualArc], progress: &mut Progress, rows: &mut Rows)
     requires sized { length progress.old.on.items ≡ length (arcs_in net.now) }
     requires carries { All (Carries (arcs_in net.now) progress.old.on.items 1) path.now }
     requires once { NoArcTwice path.now }
@@ -38,54 +37,6 @@ fn send_along(net: &ClosureNet, path: &[ResidualArc], progress: &mut Progress, r
 {
     augment(net, path, progress);
     put_right(net, path, progress.on.as_slice(), rows);
-}
-
-/// Sends from the source over a step to the sink what goes straight.
-fn send_over(net: &ClosureNet, v: usize, progress: &mut Progress, rows: &mut Rows)
-    requires network { IsNetwork (network_of (terms_in net.now)) }
-    requires apart { Reaches (HasUnbounded (arcs_in net.now)) 0 1 → ⊥ }
-    requires inside { v < (terms_in net.now).count }
-    requires progress { IsOnTheWay (terms_in net.now) progress.old }
-    requires small { progress.old.value < 2 ^ 63 }
-    requires rows { AreRows (terms_in net.now) progress.old.on.items rows.old }
-    ensures progress { IsOnTheWay (terms_in net.now) progress.new }
-    ensures small { progress.new.value < 2 ^ 63 }
-    ensures rows { AreRows (terms_in net.now) progress.new.on.items rows.new }
-{
-    let count = net.definition.steps();
-    let residual = Residual {
-        net: &*net,
-        on: progress.on.as_slice(),
-    };
-    if room_along(&residual, v) > 0 && room_along(&residual, count + v) > 0 {
-        let path = [
-            ResidualArc {
-                arc: v,
-                forward: true,
-            },
-            ResidualArc {
-                arc: count + v,
-                forward: true,
-            },
-        ];
-        send_along(net, &path, progress, rows);
-    }
-}
-
-/// Sends over each step what goes straight to the sink.
-pub fn send_straight(net: &ClosureNet, progress: &mut Progress, rows: &mut Rows)
-    requires network { IsNetwork (network_of (terms_in net.now)) }
-    requires apart { Reaches (HasUnbounded (arcs_in net.now)) 0 1 → ⊥ }
-    requires progress { IsOnTheWay (terms_in net.now) progress.old }
-    requires small { progress.old.value < 2 ^ 63 }
-    requires rows { AreRows (terms_in net.now) progress.old.on.items rows.old }
-    ensures progress { IsOnTheWay (terms_in net.now) progress.new }
-    ensures small { progress.new.value < 2 ^ 63 }
-    ensures rows { AreRows (terms_in net.now) progress.new.on.items rows.new }
-{
-    for v in 0..net.definition.steps() {
-        send_over(net, v, progress, rows);
-    }
 }
 
 /// Sends over a step to the sink, along each path that is found to rise a level at each step, what it carries.

@@ -1,0 +1,155 @@
+//! Short paths: over one step, and then over a need and the two steps that it joins.
+//!
+//! They take no search: once nothing goes straight over a step any more, those over a need are the shortest.
+ghost use Rattle.std.specs.Prelude.{◌≡◌, ◌≢◌, ◌<◌, ◌+◌, ◌^◌, ℕ, slice_index, slice_get, Some};
+ghost use Rattle.saga_def.specs.Neighbours.{a_need};
+ghost use Rattle.saga_flow.specs.Network.{IsNetwork};
+ghost use Rattle.saga_flow.specs.Reached.{HasUnbounded, Reaches};
+ghost use Rattle.saga_closure.specs.Apart.{IsApart, IsOneSided};
+ghost use Rattle.saga_closure.specs.CaseNet.{network_of};
+ghost use Rattle.saga_closure.specs.Nets.{terms_in, arcs_in};
+ghost use Rattle.saga_closure.specs.Largest.{IsOnTheWay};
+ghost use Rattle.saga_closure.specs.Rows.{AreRows};
+
+use crate::links::links_from;
+use crate::nets::{ClosureNet, Residual};
+use crate::phases::send_along;
+use crate::rooms::room_along;
+use crate::rows::Rows;
+use saga_flow::{Progress, ResidualArc};
+
+/// Sends from the source over a step to the sink what goes straight.
+fn send_over(net: &ClosureNet, v: usize, progress: &mut Progress, rows: &mut Rows)
+    requires network { IsNetwork (network_of (terms_in net.now)) }
+    requires apart { Reaches (HasUnbounded (arcs_in net.now)) 0 1 → ⊥ }
+    requires inside { v < (terms_in net.now).count }
+    requires progress { IsOnTheWay (terms_in net.now) progress.old }
+    requires small { progress.old.value < 2 ^ 63 }
+    requires rows { AreRows (terms_in net.now) progress.old.on.items rows.old }
+    ensures progress { IsOnTheWay (terms_in net.now) progress.new }
+    ensures small { progress.new.value < 2 ^ 63 }
+    ensures rows { AreRows (terms_in net.now) progress.new.on.items rows.new }
+    ensures one_sided { IsOneSided net.now.caps.now progress.new.on.items (terms_in net.now).count v }
+    ensures others { (k : ℕ) → k ≢ v → k ≢ (terms_in net.now).count + v
+        → slice_index progress.new.on.items k ≡ slice_index progress.old.on.items k }
+{
+    let count = net.definition.steps();
+    let residual = Residual {
+        net: &*net,
+        on: progress.on.as_slice(),
+    };
+    if room_along(&residual, v) > 0 && room_along(&residual, count + v) > 0 {
+        let path = [
+            ResidualArc {
+                arc: v,
+                forward: true,
+            },
+            ResidualArc {
+                arc: count + v,
+                forward: true,
+            },
+        ];
+        send_along(net, &path, progress, rows);
+    }
+}
+
+/// Sends over each step what goes straight to the sink.
+pub fn send_straight(net: &ClosureNet, progress: &mut Progress, rows: &mut Rows)
+    requires network { IsNetwork (network_of (terms_in net.now)) }
+    requires apart { Reaches (HasUnbounded (arcs_in net.now)) 0 1 → ⊥ }
+    requires progress { IsOnTheWay (terms_in net.now) progress.old }
+    requires small { progress.old.value < 2 ^ 63 }
+    requires rows { AreRows (terms_in net.now) progress.old.on.items rows.old }
+    ensures progress { IsOnTheWay (terms_in net.now) progress.new }
+    ensures small { progress.new.value < 2 ^ 63 }
+    ensures rows { AreRows (terms_in net.now) progress.new.on.items rows.new }
+    ensures one_sided { (v : ℕ) → v < (terms_in net.now).count
+        → IsOneSided net.now.caps.now progress.new.on.items (terms_in net.now).count v }
+{
+    for v in 0..net.definition.steps() {
+        send_over(net, v, progress, rows);
+    }
+}
+
+/// Sends from the source to a step, and on over its need at a place to the sink, what goes so.
+fn send_by(net: &ClosureNet, v: u16, u: u16, place: u16, progress: &mut Progress, rows: &mut Rows)
+    requires network { IsNetwork (network_of (terms_in net.now)) }
+    requires apart { Reaches (HasUnbounded (arcs_in net.now)) 0 1 → ⊥ }
+    requires need { slice_get (terms_in net.now).needs place ≡ Some (a_need v u) }
+    requires far { IsApart (arcs_in net.now) progress.old.on.items 3 }
+    requires progress { IsOnTheWay (terms_in net.now) progress.old }
+    requires small { progress.old.value < 2 ^ 63 }
+    requires rows { AreRows (terms_in net.now) progress.old.on.items rows.old }
+    ensures far { IsApart (arcs_in net.now) progress.new.on.items 3 }
+    ensures progress { IsOnTheWay (terms_in net.now) progress.new }
+    ensures small { progress.new.value < 2 ^ 63 }
+    ensures rows { AreRows (terms_in net.now) progress.new.on.items rows.new }
+{
+    let count = net.definition.steps();
+    let residual = Residual {
+        net: &*net,
+        on: progress.on.as_slice(),
+    };
+    if room_along(&residual, v as usize) > 0 && room_along(&residual, count + u as usize) > 0 {
+        let path = [
+            ResidualArc {
+                arc: v as usize,
+                forward: true,
+            },
+            ResidualArc {
+                arc: 2 * count + place as usize,
+                forward: true,
+            },
+            ResidualArc {
+                arc: count + u as usize,
+                forward: true,
+            },
+        ];
+        send_along(net, &path, progress, rows);
+    }
+}
+
+/// Sends from the source to a step, and on over each of its needs to the sink, what goes so.
+fn send_from(net: &ClosureNet, v: u16, progress: &mut Progress, rows: &mut Rows)
+    requires network { IsNetwork (network_of (terms_in net.now)) }
+    requires apart { Reaches (HasUnbounded (arcs_in net.now)) 0 1 → ⊥ }
+    requires inside { v < (terms_in net.now).count }
+    requires far { IsApart (arcs_in net.now) progress.old.on.items 3 }
+    requires progress { IsOnTheWay (terms_in net.now) progress.old }
+    requires small { progress.old.value < 2 ^ 63 }
+    requires rows { AreRows (terms_in net.now) progress.old.on.items rows.old }
+    ensures far { IsApart (arcs_in net.now) progress.new.on.items 3 }
+    ensures progress { IsOnTheWay (terms_in net.now) progress.new }
+    ensures small { progress.new.value < 2 ^ 63 }
+    ensures rows { AreRows (terms_in net.now) progress.new.on.items rows.new }
+{
+    let (needed, places) = links_from(net.definition, v, true);
+    for e in 0..needed.len() {
+        let residual = Residual {
+            net: &*net,
+            on: progress.on.as_slice(),
+        };
+        if room_along(&residual, v as usize) == 0 {
+            return;
+        }
+        send_by(net, v, needed[e], places[e], progress, rows);
+    }
+}
+
+/// Sends over each need what goes so, where nothing goes straight over a step any more.
+pub fn send_over_needs(net: &ClosureNet, progress: &mut Progress, rows: &mut Rows)
+    requires network { IsNetwork (network_of (terms_in net.now)) }
+    requires apart { Reaches (HasUnbounded (arcs_in net.now)) 0 1 → ⊥ }
+    requires one_sided { (v : ℕ) → v < (terms_in net.now).count
+        → IsOneSided net.now.caps.now progress.old.on.items (terms_in net.now).count v }
+    requires progress { IsOnTheWay (terms_in net.now) progress.old }
+    requires small { progress.old.value < 2 ^ 63 }
+    requires rows { AreRows (terms_in net.now) progress.old.on.items rows.old }
+    ensures progress { IsOnTheWay (terms_in net.now) progress.new }
+    ensures small { progress.new.value < 2 ^ 63 }
+    ensures rows { AreRows (terms_in net.now) progress.new.on.items rows.new }
+{
+    for v in 0..net.definition.steps() as u16 {
+        send_from(net, v, progress, rows);
+    }
+}
