@@ -1,5 +1,5 @@
 -- A search without a goal: the steps with a level are those that the source reaches, and the flow is a greatest.
-use Rattle.std.proofs.Common.{ℕ, zero, suc, ◌≡◌, ◌<◌, ◌≤◌, ◌+◌, ◌-◌, ◌∙◌, Bool, true, false, cond, eqb, List, length, get_or, map, ap, sym, refl, arith, inl, inr}
+use Rattle.std.proofs.Common.{ℕ, zero, suc, ◌≡◌, ◌<◌, ◌≤◌, ◌+◌, ◌-◌, ◌∙◌, Bool, true, false, cond, eqb, List, length, get_or, map, ap, sym, subst, refl, arith, inl, inr}
 use Rattle.std.proofs.lemmas.List.{get_or-map, length-map}
 use Rattle.std.proofs.lemmas.Bool.{cases_eq, cases_lt, ne_eqb, lt-ltb, ltb-true, true≢false}
 use Rattle.saga_def.specs.Rules.{AreKnown}
@@ -14,7 +14,7 @@ use Rattle.saga_flow.proofs.RoundLemmas.{rounds_le_size}
 use Rattle.saga_closure.specs.CaseNet.{network_of}
 use Rattle.saga_closure.specs.declared.searching.Found.{Found}
 use Rattle.saga_closure.specs.declared.flows.ClosureFlow.{ClosureFlow}
-use Rattle.saga_closure.specs.Layers.{none, is_level, Goes, CameBy, IsReach}
+use Rattle.saga_closure.specs.Layers.{none, is_level, Goes, CameBy, IsReach, IsSearch}
 use Rattle.saga_closure.specs.Largest.{IsLargest}
 use Rattle.saga_closure.proofs.ArcCases.{need_at, no_need, each_open, opens_leave, opens_stand, opens_link, opens_unlink}
 use Rattle.saga_closure.proofs.SearchLemmas.{depth_few}
@@ -101,3 +101,10 @@ module _ (t : Terms) (on : List ℕ) (found : Found) (known : AreKnown t.needs t
       (λ r. sym (side_step found.level.items v) ∙ reached_in_closed (IsResidual (network_of t).arcs on) (side found.level.items) 0 (2 + v) refl closed r),
     );
   }
+
+-- a search that begins with no step has its end
+pub reach_begun : (t : Terms) (on : List ℕ) (found : Found) → length found.order.items ≡ 0 → IsSearch t on found.level.items found.labelled.items found.order.items 0 (length found.order.items) 0 0 0 → IsReach t on found
+reach_begun t on found none begun = record {
+  depth = 0;
+  search = subst (λ n. IsSearch t on found.level.items found.labelled.items found.order.items n (length found.order.items) n 0 0) (sym none) begun;
+}

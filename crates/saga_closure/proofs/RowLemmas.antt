@@ -225,6 +225,48 @@ rows_off t on after path more width words is rows = record {
   none = rows.none;
 }
 
+-- ---- a bit is put right
+
+module _ (t : Terms) (on : List ℕ) (width : ℕ) (words new : List ℕ) (m b a : ℕ) (Stale : ℕ → Type 0) (known : AreKnown t.needs t.count) (single : AreSingle t.needs) (acyclic : IsAcyclic t.needs) (rows : AreRowsBut t on width words Stale) (at : slice_get t.needs m ≡ Some (a_need b a)) (put : IsPut words (place_in width a b) (nat_lt 0 (get_or on (t.count + (t.count + m)) 0)) new) where
+  b_lt : b < 64 * width
+  b_lt = omega (arith, (known_need t.needs t.count m b a known at).0, rows.wide)
+
+  -- the bits of other needs stay
+  pub other_bit : (k d c : ℕ) → k ≢ m → slice_get t.needs k ≡ Some (a_need d c) → holds new (place_in width c d) ≡ holds words (place_in width c d)
+  other_bit k d c ne at_k =
+      let ks = known_need t.needs t.count k d c known at_k in
+      put.others (place_in width c d) (λ e.
+      let same = same_row width c a d b (omega (arith, ks.0, rows.wide)) b_lt e in
+      ne (same_place t.needs k m (a_need b a) single (rw (same.0, same.1) at at_k) at))
+
+  pub bit_right : (Left : ℕ → Type 0) → ((k : ℕ) → k ≢ m → Stale k → Left k) → AreRowsBut t on width new Left
+  bit_right Left less = record {
+    wide = rows.wide;
+    narrow = rows.narrow;
+    exact = rows.exact;
+    sized = put.sized ∙ rows.sized;
+    along = λ k d c at_k.
+        let ks = known_need t.needs t.count k d c known at_k in
+        put.others (place_in width d c) (λ e.
+        let same = same_row width d a c b (omega (arith, ks.1, rows.wide)) b_lt e in
+        not_opposite t.needs m k b a acyclic at (rw (same.0, same.1) at at_k)) ∙ rows.along k d c at_k;
+    back = λ k d c at_k. elim (cases_eq k m) [
+      | inl e ↦
+          let same = same_need d c b a (same_Some _ _ (sym at_k ∙ ap (slice_get t.needs) e ∙ at)) in
+          inl (rw (e, same.0, same.1) put.here)
+      | inr ne ↦ elim (rows.back k d c at_k) [
+        | inl held ↦ inl (other_bit k d c ne at_k ∙ held)
+        | inr stale ↦ inr (less k ne stale)
+      ]
+    ];
+    none = λ v u v_lt u_lt held. elim (cases_eq (place_in width v u) (place_in width a b)) [
+      | inl e ↦
+          let same = same_row width v a u b u_lt b_lt e in
+          (m, inr (rw (same.0, same.1) at))
+      | inr ne ↦ rows.none v u v_lt u_lt (sym (put.others (place_in width v u) ne) ∙ held)
+    ];
+  }
+
 module _ (t : Terms) (on : List ℕ) (path : List ResidualArc) (i width : ℕ) (words : List ℕ) (rows : AreRowsBut t on width words (λ k. IsOver path i (t.count + (t.count + k)))) where
   -- the path goes on over another arc than that of a need
   over_more : (k : ℕ) → ((get_or path i no_step).arc ≢ t.count + (t.count + k)) → IsOver path i (t.count + (t.count + k)) → IsOver path (i + 1) (t.count + (t.count + k))
@@ -249,40 +291,8 @@ module _ (t : Terms) (on : List ℕ) (path : List ResidualArc) (i width : ℕ) (
 
   -- the bit of a need is put right
   pub link_right : (m b a : ℕ) (new : List ℕ) → AreKnown t.needs t.count → AreSingle t.needs → IsAcyclic t.needs → (get_or path i no_step).arc ≡ t.count + (t.count + m) → slice_get t.needs m ≡ Some (a_need b a) → IsPut words (place_in width a b) (nat_lt 0 (get_or on (t.count + (t.count + m)) 0)) new → AreRowsBut t on width new (λ k. IsOver path (i + 1) (t.count + (t.count + k)))
-  link_right m b a new known single acyclic over at put = record {
-    wide = rows.wide;
-    narrow = rows.narrow;
-    exact = rows.exact;
-    sized = put.sized ∙ rows.sized;
-    along = λ k d c at_k.
-        let ks = known_need t.needs t.count k d c known at_k in
-        put.others (place_in width d c) (λ e.
-        let same = same_row width d a c b (omega (arith, ks.1, rows.wide)) b_lt e in
-        not_opposite t.needs m k b a acyclic at (rw (same.0, same.1) at at_k)) ∙ rows.along k d c at_k;
-    back = λ k d c at_k. elim (cases_eq k m) [
-      | inl e ↦
-          let same = same_need d c b a (same_Some _ _ (sym at_k ∙ ap (slice_get t.needs) e ∙ at)) in
-          inl (rw (e, same.0, same.1) put.here)
-      | inr ne ↦
-          let ks = known_need t.needs t.count k d c known at_k in
-          let apart : place_in width c d ≢ place_in width a b = λ e.
-          let same = same_row width c a d b (omega (arith, ks.0, rows.wide)) b_lt e in
-          ne (same_place t.needs k m (a_need b a) single (rw (same.0, same.1) at at_k) at) in
-          elim (rows.back k d c at_k) [
-            | inl held ↦ inl (put.others (place_in width c d) apart ∙ held)
-            | inr stale ↦ inr (over_more k (λ e. ne (omega (arith, e, over))) stale)
-          ]
-    ];
-    none = λ v u v_lt u_lt held. elim (cases_eq (place_in width v u) (place_in width a b)) [
-      | inl e ↦
-          let same = same_row width v a u b u_lt b_lt e in
-          (m, inr (rw (same.0, same.1) at))
-      | inr ne ↦ rows.none v u v_lt u_lt (sym (put.others (place_in width v u) ne) ∙ held)
-    ];
-  }
-    where
-      b_lt : b < 64 * width
-      b_lt = omega (arith, (known_need t.needs t.count m b a known at).0, rows.wide)
+  link_right m b a new known single acyclic over at put =
+      bit_right t on width words new m b a (λ k. IsOver path i (t.count + (t.count + k))) known single acyclic rows at put (λ k. IsOver path (i + 1) (t.count + (t.count + k))) (λ k ne stale. over_more k (λ e. ne (omega (arith, e, over))) stale)
 
 -- the path is at its end
 pub all_right : (t : Terms) (on : List ℕ) (path : List ResidualArc) (i width : ℕ) (words : List ℕ) → length path ≤ i → AreRowsBut t on width words (λ k. IsOver path i (t.count + (t.count + k))) → AreRowsBut t on width words (λ _. ⊥)
@@ -305,3 +315,69 @@ place_small t on width words Stale v u rows few v_lt u_lt =
     let within : v * width + width ≤ length words = omega (arith, rows.sized, row_within t.count width v v_lt) in
     let small : length words ≤ 16384 = omega (arith, rows.sized, words_few t.count width few rows.narrow) in
     (within, small, omega (arith, within, u_lt, rows.wide))
+
+-- ---- what needs carry is added to rows of empty amounts
+
+-- the bits of the needs before a place are right, and those of the others still clear
+pub record AreRowsTo (t : Terms) (on : List ℕ) (width : ℕ) (words : List ℕ) (so_far : ℕ) : Type 0 where
+  pub rows : AreRowsBut t on width words (λ k. so_far ≤ k)
+  pub clear : (k b a : ℕ) → so_far ≤ k → slice_get t.needs k ≡ Some (a_need b a) → holds words (place_in width a b) ≡ false
+
+pub rows_begun : (t : Terms) (on : List ℕ) (width : ℕ) (words : List ℕ) → AreRowsBut t [] width words (λ _. ⊥) → AreRowsTo t on width words 0
+rows_begun t on width words rows = record {
+  rows = record {
+    wide = rows.wide;
+    narrow = rows.narrow;
+    exact = rows.exact;
+    sized = rows.sized;
+    along = rows.along;
+    back = λ k b a at. inr (omega arith);
+    none = rows.none;
+  };
+  clear = λ k b a le at. elim (rows.back k b a at) [ inl is ↦ is | inr never ↦ absurd never ];
+}
+
+module _ (t : Terms) (on : List ℕ) (width : ℕ) (words : List ℕ) (m : ℕ) (are : AreRowsTo t on width words m) where
+  -- a need that carries nothing
+  pub rows_passed : get_or on (t.count + (t.count + m)) 0 ≡ 0 → AreRowsTo t on width words (m + 1)
+  rows_passed empty = record {
+    rows = record {
+      wide = are.rows.wide;
+      narrow = are.rows.narrow;
+      exact = are.rows.exact;
+      sized = are.rows.sized;
+      along = are.rows.along;
+      back = λ k b a at. elim (cases_eq k m) [
+        | inl e ↦ inl (are.clear k b a (omega (arith, e)) at ∙ sym (ap (nat_lt 0) (ap (λ x. get_or on (t.count + (t.count + x)) 0) e ∙ empty)))
+        | inr ne ↦ elim (are.rows.back k b a at) [
+          | inl held ↦ inl held
+          | inr le ↦ inr (omega (arith, le, ne))
+        ]
+      ];
+      none = are.rows.none;
+    };
+    clear = λ k b a le at. are.clear k b a (omega (arith, le)) at;
+  }
+
+  -- one that carries something
+  pub rows_carrying : (b a : ℕ) (new : List ℕ) → AreKnown t.needs t.count → AreSingle t.needs → IsAcyclic t.needs → 0 < get_or on (t.count + (t.count + m)) 0 → slice_get t.needs m ≡ Some (a_need b a) → IsPut words (place_in width a b) true new → AreRowsTo t on width new (m + 1)
+  rows_carrying b a new known single acyclic some at put =
+      let right : IsPut words (place_in width a b) (nat_lt 0 (get_or on (t.count + (t.count + m)) 0)) new = record { sized = put.sized; here = put.here ∙ sym (lt-ltb 0 _ some); others = put.others } in
+      record {
+        rows = bit_right t on width words new m b a (λ k. m ≤ k) known single acyclic are.rows at right (λ k. m + 1 ≤ k) (λ k ne le. omega (arith, le, ne));
+        clear = λ k d c le at_k. other_bit t on width words new m b a (λ k. m ≤ k) known single acyclic are.rows at right k d c (λ e. absurd (omega (arith, e, le))) at_k ∙ are.clear k d c (omega (arith, le)) at_k;
+      }
+
+pub rows_ended : (t : Terms) (on : List ℕ) (width : ℕ) (words : List ℕ) (so_far : ℕ) → length t.needs ≤ so_far → AreRowsTo t on width words so_far → AreRowsBut t on width words (λ _. ⊥)
+rows_ended t on width words so_far end are = record {
+  wide = are.rows.wide;
+  narrow = are.rows.narrow;
+  exact = are.rows.exact;
+  sized = are.rows.sized;
+  along = are.rows.along;
+  back = λ k b a at. elim (are.rows.back k b a at) [
+    | inl held ↦ inl held
+    | inr le ↦ absurd (omega (arith, end, le, (read_need t.needs k (a_need b a) at).0))
+  ];
+  none = are.rows.none;
+}

@@ -1,27 +1,21 @@
 //! Chains of needs from a step that cannot be left out to one that cannot stand.
-ghost use Rattle.std.specs.Prelude.{◌≡◌, ◌≢◌, ◌<◌, ◌^◌, ℕ, [], IfOk, IfNone, IfSome, false, slice_index};
+ghost use Rattle.std.specs.Prelude.{◌≡◌, ◌≢◌, ◌<◌, ◌^◌, ℕ, IfOk, IfNone, IfSome, false, slice_index};
 ghost use Rattle.saga_case.specs.Right.{IsRightChain};
 ghost use Rattle.saga_flow.specs.Reached.{HasUnbounded, Reaches};
 ghost use Rattle.saga_closure.specs.Chains.{IsChainTo};
 ghost use Rattle.saga_closure.specs.Layers.{IsAtGoal};
 ghost use Rattle.saga_closure.specs.Nets.{terms_in, arcs_in};
-ghost use Rattle.saga_closure.specs.Rows.{AreRows};
 
 use crate::capacities::{ENDLESS, endless_only};
 use crate::nets::{ClosureNet, Residual};
 use crate::paths::came_by;
-use crate::rows::Rows;
+use crate::rows::rows_of;
 use crate::searching::{Found, Goal, search};
 use std::alloc::{AllocError, Global};
 
 /// A chain from a step whose leave price is never to one whose stand price is never; none where no path of unbounded
 /// arcs leads from the source to the sink.
-pub fn unbounded_chain(
-    alloc: Global,
-    net: &ClosureNet,
-    rows: &Rows,
-) -> Result<Option<Vec<u16>>, AllocError>
-    requires { AreRows (terms_in net.now) [] rows.now }
+pub fn unbounded_chain(alloc: Global, net: &ClosureNet) -> Result<Option<Vec<u16>>, AllocError>
     ensures some { IfOk result
         (λ chain. IfSome chain (λ steps. IsRightChain (terms_in net.now) steps.items)) }
     ensures none { IfOk result
@@ -41,7 +35,8 @@ pub fn unbounded_chain(
         net: &only,
         on: on.as_slice(),
     };
-    let (found, goal) = search(alloc, &residual, rows)?;
+    let rows = rows_of(alloc, &residual)?;
+    let (found, goal) = search(alloc, &residual, &rows)?;
     match goal {
         None => Ok(None),
         Some(goal) => Ok(Some(chain_to(alloc, &residual, &found, goal)?)),

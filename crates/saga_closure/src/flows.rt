@@ -1,18 +1,18 @@
 //! A greatest flow over a definition's lists.
-ghost use Rattle.std.specs.Prelude.{◌≡◌, [], IfOk, map};
+ghost use Rattle.std.specs.Prelude.{◌≡◌, ◌<◌, ◌^◌, IfOk, map};
 ghost use Rattle.saga_flow.specs.Network.{IsNetwork};
 ghost use Rattle.saga_flow.specs.Reached.{HasUnbounded, Reaches};
 ghost use Rattle.saga_closure.specs.CaseNet.{network_of};
-ghost use Rattle.saga_closure.specs.Layers.{is_level};
+ghost use Rattle.saga_closure.specs.Layers.{IsReach, is_level};
 ghost use Rattle.saga_closure.specs.Nets.{terms_in, arcs_in};
-ghost use Rattle.saga_closure.specs.Largest.{IsLargest};
+ghost use Rattle.saga_closure.specs.Largest.{IsLargest, IsOnTheWay};
 ghost use Rattle.saga_closure.specs.Rows.{AreRows};
 
 use crate::nets::{ClosureNet, Residual};
 use crate::pairs::{send_over_needs, send_straight};
 use crate::phases::run_phase;
-use crate::rows::Rows;
-use crate::searching::{NONE, search};
+use crate::rows::{Rows, rows_of};
+use crate::searching::{Found, NONE, search, start};
 use saga_flow::Progress;
 use std::alloc::{AllocError, Global};
 
@@ -33,10 +33,9 @@ pub struct ClosureFlow {
 ///
 /// (The flow is Ford and Fulkerson's, the bound on rounds that of Edmonds and Karp, 1972; paths are found in phases as
 /// Dinic found them, 1970.)
-pub fn largest(alloc: Global, net: &ClosureNet, rows: &mut Rows) -> Result<ClosureFlow, AllocError>
+pub fn largest(alloc: Global, net: &ClosureNet) -> Result<ClosureFlow, AllocError>
     requires network { IsNetwork (network_of (terms_in net.now)) }
     requires apart { Reaches (HasUnbounded (arcs_in net.now)) 0 1 → ⊥ }
-    requires rows { AreRows (terms_in net.now) [] rows.old }
     ensures { IfOk result (IsLargest (terms_in net.now)) }
 {
     let arcs = 2 * net.definition.steps() + net.definition.needs();
@@ -45,8 +44,35 @@ pub fn largest(alloc: Global, net: &ClosureNet, rows: &mut Rows) -> Result<Closu
         value: 0,
         rounds: 0,
     };
-    send_straight(net, &mut progress, rows);
-    send_over_needs(net, &mut progress, rows);
+    send_straight(net, &mut progress);
+    send_over_needs(net, &mut progress);
+    let residual = Residual {
+        net: &*net,
+        on: progress.on.as_slice(),
+    };
+    let found = start(alloc, &residual)?;
+    if found.order.is_empty() {
+        return flow_of(alloc, net, progress, &found);
+    }
+    let mut rows = rows_of(alloc, &residual)?;
+    run_phases(alloc, net, progress, &mut rows)
+}
+
+/// Goes on phase by phase, to the search that finds no goal.
+fn run_phases(
+    alloc: Global,
+    net: &ClosureNet,
+    start: Progress,
+    rows: &mut Rows,
+) -> Result<ClosureFlow, AllocError>
+    requires network { IsNetwork (network_of (terms_in net.now)) }
+    requires apart { Reaches (HasUnbounded (arcs_in net.now)) 0 1 → ⊥ }
+    requires progress { IsOnTheWay (terms_in net.now) start }
+    requires small { start.value < 2 ^ 63 }
+    requires rows { AreRows (terms_in net.now) start.on.items rows.old }
+    ensures { IfOk result (IsLargest (terms_in net.now)) }
+{
+    let mut progress = start;
     loop {
         let residual = Residual {
             net: &*net,
@@ -55,18 +81,31 @@ pub fn largest(alloc: Global, net: &ClosureNet, rows: &mut Rows) -> Result<Closu
         let (found, goal) = search(alloc, &residual, rows)?;
         match goal {
             Some(goal) => run_phase(alloc, net, &found, goal, &mut progress, rows)?,
-            None => {
-                let reached = are_labelled(alloc, &found.level)?;
-                let Progress { on, value, rounds } = progress;
-                return Ok(ClosureFlow {
-                    value,
-                    on,
-                    rounds,
-                    reached,
-                });
-            }
+            None => return flow_of(alloc, net, progress, &found),
         }
     }
+}
+
+/// The flow of which a search found no goal.
+fn flow_of(
+    alloc: Global,
+    net: &ClosureNet,
+    progress: Progress,
+    found: &Found,
+) -> Result<ClosureFlow, AllocError>
+    requires network { IsNetwork (network_of (terms_in net.now)) }
+    requires progress { IsOnTheWay (terms_in net.now) progress }
+    requires reach { IsReach (terms_in net.now) progress.on.items found.now }
+    ensures { IfOk result (IsLargest (terms_in net.now)) }
+{
+    let reached = are_labelled(alloc, &found.level)?;
+    let Progress { on, value, rounds } = progress;
+    Ok(ClosureFlow {
+        value,
+        on,
+        rounds,
+        reached,
+    })
 }
 
 /// Which steps have a level.

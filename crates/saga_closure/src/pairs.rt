@@ -9,26 +9,22 @@ ghost use Rattle.saga_closure.specs.Apart.{IsApart, IsOneSided};
 ghost use Rattle.saga_closure.specs.CaseNet.{network_of};
 ghost use Rattle.saga_closure.specs.Nets.{terms_in, arcs_in};
 ghost use Rattle.saga_closure.specs.Largest.{IsOnTheWay};
-ghost use Rattle.saga_closure.specs.Rows.{AreRows};
 
 use crate::links::links_from;
 use crate::nets::{ClosureNet, Residual};
-use crate::phases::send_along;
+use crate::pushes::augment;
 use crate::rooms::room_along;
-use crate::rows::Rows;
 use saga_flow::{Progress, ResidualArc};
 
 /// Sends from the source over a step to the sink what goes straight.
-fn send_over(net: &ClosureNet, v: usize, progress: &mut Progress, rows: &mut Rows)
+fn send_over(net: &ClosureNet, v: usize, progress: &mut Progress)
     requires network { IsNetwork (network_of (terms_in net.now)) }
     requires apart { Reaches (HasUnbounded (arcs_in net.now)) 0 1 → ⊥ }
     requires inside { v < (terms_in net.now).count }
     requires progress { IsOnTheWay (terms_in net.now) progress.old }
     requires small { progress.old.value < 2 ^ 63 }
-    requires rows { AreRows (terms_in net.now) progress.old.on.items rows.old }
     ensures progress { IsOnTheWay (terms_in net.now) progress.new }
     ensures small { progress.new.value < 2 ^ 63 }
-    ensures rows { AreRows (terms_in net.now) progress.new.on.items rows.new }
     ensures one_sided { IsOneSided net.now.caps.now progress.new.on.items (terms_in net.now).count v }
     ensures others { (k : ℕ) → k ≢ v → k ≢ (terms_in net.now).count + v
         → slice_index progress.new.on.items k ≡ slice_index progress.old.on.items k }
@@ -49,41 +45,37 @@ fn send_over(net: &ClosureNet, v: usize, progress: &mut Progress, rows: &mut Row
                 forward: true,
             },
         ];
-        send_along(net, &path, progress, rows);
+        augment(net, &path, progress);
     }
 }
 
 /// Sends over each step what goes straight to the sink.
-pub fn send_straight(net: &ClosureNet, progress: &mut Progress, rows: &mut Rows)
+pub fn send_straight(net: &ClosureNet, progress: &mut Progress)
     requires network { IsNetwork (network_of (terms_in net.now)) }
     requires apart { Reaches (HasUnbounded (arcs_in net.now)) 0 1 → ⊥ }
     requires progress { IsOnTheWay (terms_in net.now) progress.old }
     requires small { progress.old.value < 2 ^ 63 }
-    requires rows { AreRows (terms_in net.now) progress.old.on.items rows.old }
     ensures progress { IsOnTheWay (terms_in net.now) progress.new }
     ensures small { progress.new.value < 2 ^ 63 }
-    ensures rows { AreRows (terms_in net.now) progress.new.on.items rows.new }
     ensures one_sided { (v : ℕ) → v < (terms_in net.now).count
         → IsOneSided net.now.caps.now progress.new.on.items (terms_in net.now).count v }
 {
     for v in 0..net.definition.steps() {
-        send_over(net, v, progress, rows);
+        send_over(net, v, progress);
     }
 }
 
 /// Sends from the source to a step, and on over its need at a place to the sink, what goes so.
-fn send_by(net: &ClosureNet, v: u16, u: u16, place: u16, progress: &mut Progress, rows: &mut Rows)
+fn send_by(net: &ClosureNet, v: u16, u: u16, place: u16, progress: &mut Progress)
     requires network { IsNetwork (network_of (terms_in net.now)) }
     requires apart { Reaches (HasUnbounded (arcs_in net.now)) 0 1 → ⊥ }
     requires need { slice_get (terms_in net.now).needs place ≡ Some (a_need v u) }
     requires far { IsApart (arcs_in net.now) progress.old.on.items 3 }
     requires progress { IsOnTheWay (terms_in net.now) progress.old }
     requires small { progress.old.value < 2 ^ 63 }
-    requires rows { AreRows (terms_in net.now) progress.old.on.items rows.old }
     ensures far { IsApart (arcs_in net.now) progress.new.on.items 3 }
     ensures progress { IsOnTheWay (terms_in net.now) progress.new }
     ensures small { progress.new.value < 2 ^ 63 }
-    ensures rows { AreRows (terms_in net.now) progress.new.on.items rows.new }
 {
     let count = net.definition.steps();
     let residual = Residual {
@@ -105,23 +97,21 @@ fn send_by(net: &ClosureNet, v: u16, u: u16, place: u16, progress: &mut Progress
                 forward: true,
             },
         ];
-        send_along(net, &path, progress, rows);
+        augment(net, &path, progress);
     }
 }
 
 /// Sends from the source to a step, and on over each of its needs to the sink, what goes so.
-fn send_from(net: &ClosureNet, v: u16, progress: &mut Progress, rows: &mut Rows)
+fn send_from(net: &ClosureNet, v: u16, progress: &mut Progress)
     requires network { IsNetwork (network_of (terms_in net.now)) }
     requires apart { Reaches (HasUnbounded (arcs_in net.now)) 0 1 → ⊥ }
     requires inside { v < (terms_in net.now).count }
     requires far { IsApart (arcs_in net.now) progress.old.on.items 3 }
     requires progress { IsOnTheWay (terms_in net.now) progress.old }
     requires small { progress.old.value < 2 ^ 63 }
-    requires rows { AreRows (terms_in net.now) progress.old.on.items rows.old }
     ensures far { IsApart (arcs_in net.now) progress.new.on.items 3 }
     ensures progress { IsOnTheWay (terms_in net.now) progress.new }
     ensures small { progress.new.value < 2 ^ 63 }
-    ensures rows { AreRows (terms_in net.now) progress.new.on.items rows.new }
 {
     let (needed, places) = links_from(net.definition, v, true);
     for e in 0..needed.len() {
@@ -132,24 +122,22 @@ fn send_from(net: &ClosureNet, v: u16, progress: &mut Progress, rows: &mut Rows)
         if room_along(&residual, v as usize) == 0 {
             return;
         }
-        send_by(net, v, needed[e], places[e], progress, rows);
+        send_by(net, v, needed[e], places[e], progress);
     }
 }
 
 /// Sends over each need what goes so, where nothing goes straight over a step any more.
-pub fn send_over_needs(net: &ClosureNet, progress: &mut Progress, rows: &mut Rows)
+pub fn send_over_needs(net: &ClosureNet, progress: &mut Progress)
     requires network { IsNetwork (network_of (terms_in net.now)) }
     requires apart { Reaches (HasUnbounded (arcs_in net.now)) 0 1 → ⊥ }
     requires one_sided { (v : ℕ) → v < (terms_in net.now).count
         → IsOneSided net.now.caps.now progress.old.on.items (terms_in net.now).count v }
     requires progress { IsOnTheWay (terms_in net.now) progress.old }
     requires small { progress.old.value < 2 ^ 63 }
-    requires rows { AreRows (terms_in net.now) progress.old.on.items rows.old }
     ensures progress { IsOnTheWay (terms_in net.now) progress.new }
     ensures small { progress.new.value < 2 ^ 63 }
-    ensures rows { AreRows (terms_in net.now) progress.new.on.items rows.new }
 {
     for v in 0..net.definition.steps() as u16 {
-        send_from(net, v, progress, rows);
+        send_from(net, v, progress);
     }
 }

@@ -23,7 +23,7 @@ use saga_flow::{Progress, ResidualArc};
 use std::alloc::{AllocError, Global};
 
 /// One round along a path, after which the rows are right again.
-pub fn send_along(net: &ClosureNet, path: &[ResidualArc], progress: &mut Progress, rows: &mut Rows)
+fn send_along(net: &ClosureNet, path: &[ResidualArc], progress: &mut Progress, rows: &mut Rows)
     requires sized { length progress.old.on.items ≡ length (arcs_in net.now) }
     requires carries { All (Carries (arcs_in net.now) progress.old.on.items 1) path.now }
     requires once { NoArcTwice path.now }

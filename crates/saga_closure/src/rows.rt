@@ -8,7 +8,7 @@ ghost use Rattle.saga_closure.specs.Rows.{AreRows, AreRowsOff, AreAdded, IsRow, 
 
 use crate::bits::{add_all, put};
 use crate::links::links_from;
-use crate::nets::ClosureNet;
+use crate::nets::{ClosureNet, Residual};
 use saga_flow::ResidualArc;
 use std::alloc::{AllocError, Global};
 
@@ -32,7 +32,7 @@ fn add_steps(words: &mut [u64], at: usize, steps: &[u16])
 }
 
 /// The rows where no need carries anything.
-pub fn rows_of(alloc: Global, net: &ClosureNet) -> Result<Rows, AllocError>
+fn empty_rows(alloc: Global, net: &ClosureNet) -> Result<Rows, AllocError>
     ensures { IfOk result (AreRows (terms_in net.now) []) }
 {
     let count = net.definition.steps();
@@ -43,6 +43,31 @@ pub fn rows_of(alloc: Global, net: &ClosureNet) -> Result<Rows, AllocError>
         add_steps(words.as_mut_slice(), 64 * (v * width), needed);
     }
     Ok(Rows { width, words })
+}
+
+/// Puts in the bits of the needs that carry something.
+fn add_carrying(residual: &Residual, rows: &mut Rows)
+    requires { AreRows (terms_in residual.now.net.now) [] rows.old }
+    ensures { AreRows (terms_in residual.now.net.now) residual.now.on.now rows.new }
+{
+    let definition = residual.net.definition;
+    let links = 2 * definition.steps();
+    for k in 0..definition.needs() {
+        if residual.on[links + k] > 0 {
+            let need = definition.need(k);
+            let place = 64 * (need.on as usize * rows.width) + need.step as usize;
+            put(rows.words.as_mut_slice(), place, true);
+        }
+    }
+}
+
+/// The rows of a residual network.
+pub fn rows_of(alloc: Global, residual: &Residual) -> Result<Rows, AllocError>
+    ensures { IfOk result (AreRows (terms_in residual.now.net.now) residual.now.on.now) }
+{
+    let mut rows = empty_rows(alloc, residual.net)?;
+    add_carrying(residual, &mut rows);
+    Ok(rows)
 }
 
 /// The row of a step.

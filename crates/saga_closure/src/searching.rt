@@ -54,7 +54,7 @@ fn find_goal(residual: &Residual, order: &[u16], first: usize) -> Option<u16>
 }
 
 /// The steps to which the source can send more.
-fn start(alloc: Global, residual: &Residual) -> Result<Found, AllocError>
+pub fn start(alloc: Global, residual: &Residual) -> Result<Found, AllocError>
     ensures { IfOk result (IsStarted residual.now) }
 {
     let count = residual.net.definition.steps();

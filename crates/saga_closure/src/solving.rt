@@ -7,7 +7,6 @@ use crate::capacities::capacities;
 use crate::chains::unbounded_chain;
 use crate::flows::largest;
 use crate::nets::ClosureNet;
-use crate::rows::rows_of;
 use crate::solutions::Solution;
 use saga_case::Case;
 use std::alloc::{AllocError, Global};
@@ -27,9 +26,8 @@ pub fn solve(alloc: Global, case: &Case) -> Result<Solution, AllocError>
         definition: case.definition(),
         caps: caps.as_slice(),
     };
-    let mut rows = rows_of(alloc, &net)?;
-    if let Some(chain) = unbounded_chain(alloc, &net, &rows)? {
+    if let Some(chain) = unbounded_chain(alloc, &net)? {
         return Ok(Solution::Blocked(chain));
     }
-    Ok(Solution::Flow(largest(alloc, &net, &mut rows)?))
+    Ok(Solution::Flow(largest(alloc, &net)?))
 }

@@ -17,7 +17,7 @@ use Rattle.saga_closure.proofs.NetLemmas.{own_capacities}
 use Rattle.saga_closure.proofs.RowLemmas.{known_need}
 use Rattle.saga_closure.proofs.VisitLemmas.{opened_in, out_from_room}
 use Rattle.saga_closure.proofs.pairs.send_by.Goals as goal
-use Rattle.saga_closure.proofs.pairs.send_by.Goals.{Then-room_along-gt0-2, After-send_along}
+use Rattle.saga_closure.proofs.pairs.send_by.Goals.{Then-room_along-gt0-2, After-augment}
 
 abbrev path : Then-room_along-gt0-2 → List ResidualArc
 path c = by_need c.args.v (2 * c.steps-count.result + c.args.place) (c.steps-count.result + c.args.u)
@@ -40,38 +40,38 @@ climb c =
     link
     (out_from_room t net.caps.now on c.args.u are known.1 (omega (arith, last, c.if-room_along-gt0-2.true))))
 
-pub send_along-requires-clause-carries : goal.send_along-requires-clause-carries
-send_along-requires-clause-carries c =
+pub augment-requires-clause-carries : goal.augment-requires-clause-carries
+augment-requires-clause-carries c =
     let t : Terms = terms_in c.args.net.now in
-    climb_carries (network_of t).nodes (arcs_in c.args.net.now) _ c.requires.far.level (path (goal.at.send_along-requires-clause-carries c).Then-room_along-gt0-2) (climb (goal.at.send_along-requires-clause-carries c).Then-room_along-gt0-2)
+    climb_carries (network_of t).nodes (arcs_in c.args.net.now) _ c.requires.far.level (path (goal.at.augment-requires-clause-carries c).Then-room_along-gt0-2) (climb (goal.at.augment-requires-clause-carries c).Then-room_along-gt0-2)
 
-pub send_along-requires-clause-once : goal.send_along-requires-clause-once
-send_along-requires-clause-once c =
+pub augment-requires-clause-once : goal.augment-requires-clause-once
+augment-requires-clause-once c =
     let t : Terms = terms_in c.args.net.now in
-    climb_once (network_of t).nodes (arcs_in c.args.net.now) _ c.requires.far.level (path (goal.at.send_along-requires-clause-once c).Then-room_along-gt0-2) (climb (goal.at.send_along-requires-clause-once c).Then-room_along-gt0-2)
+    climb_once (network_of t).nodes (arcs_in c.args.net.now) _ c.requires.far.level (path (goal.at.augment-requires-clause-once c).Then-room_along-gt0-2) (climb (goal.at.augment-requires-clause-once c).Then-room_along-gt0-2)
 
-pub send_along-requires-clause-fits : goal.send_along-requires-clause-fits
-send_along-requires-clause-fits c =
+pub augment-requires-clause-fits : goal.augment-requires-clause-fits
+augment-requires-clause-fits c =
     let t : Terms = terms_in c.args.net.now in
-    climb_fits (network_of t).nodes (arcs_in c.args.net.now) _ c.requires.far.level (path (goal.at.send_along-requires-clause-fits c).Then-room_along-gt0-2) (climb (goal.at.send_along-requires-clause-fits c).Then-room_along-gt0-2) _ _ c.requires.network c.requires.apart c.requires.progress
+    climb_fits (network_of t).nodes (arcs_in c.args.net.now) _ c.requires.far.level (path (goal.at.augment-requires-clause-fits c).Then-room_along-gt0-2) (climb (goal.at.augment-requires-clause-fits c).Then-room_along-gt0-2) _ _ c.requires.network c.requires.apart c.requires.progress
 
-after : (c : After-send_along) → IsTrail (Climbs (arcs_in c.args.net.now) c.args.progress.now.on.items c.requires.far.level) 0 (by_need c.args.v (2 * c.steps-count.result + c.args.place) (c.steps-count.result + c.args.u)) 1 → IsProgress (network_of (terms_in c.args.net.now)).nodes (arcs_in c.args.net.now) c.send_along.new.progress.on.items c.send_along.new.progress.value c.send_along.new.progress.rounds × IsLevelled (arcs_in c.args.net.now) c.send_along.new.progress.on.items c.requires.far.level × (c.args.progress.now.value < c.send_along.new.progress.value) × (c.send_along.new.progress.value < 2 ^ 63)
+after : (c : After-augment) → IsTrail (Climbs (arcs_in c.args.net.now) c.args.progress.now.on.items c.requires.far.level) 0 (by_need c.args.v (2 * c.steps-count.result + c.args.place) (c.steps-count.result + c.args.u)) 1 → IsProgress (network_of (terms_in c.args.net.now)).nodes (arcs_in c.args.net.now) c.augment.new.progress.on.items c.augment.new.progress.value c.augment.new.progress.rounds × IsLevelled (arcs_in c.args.net.now) c.augment.new.progress.on.items c.requires.far.level × (c.args.progress.now.value < c.augment.new.progress.value) × (c.augment.new.progress.value < 2 ^ 63)
 after c climbing =
     let net = c.args.net.now in
     let t : Terms = terms_in net in
     let known = known_need t.needs t.count c.args.place c.args.v c.args.u net.known c.requires.need in
     let low : c.requires.far.level 1 ≤ (network_of t).nodes = omega (arith, c.requires.far.sink, known.0) in
-    climb_round (network_of t).nodes (network_of t).arcs c.args.progress.now c.send_along.new.progress c.requires.far.level _ c.requires.network c.requires.apart c.requires.progress c.requires.far.levelled low climbing c.send_along.ensures.round
+    climb_round (network_of t).nodes (network_of t).arcs c.args.progress.now c.augment.new.progress c.requires.far.level _ c.requires.network c.requires.apart c.requires.progress c.requires.far.levelled low climbing c.augment.ensures
 
 pub returns-then-room_along-gt0-2-clause-progress : goal.returns-then-room_along-gt0-2-clause-progress
-returns-then-room_along-gt0-2-clause-progress c = (after (goal.at.returns-then-room_along-gt0-2-clause-progress c).After-send_along (climb (goal.at.returns-then-room_along-gt0-2-clause-progress c).Then-room_along-gt0-2)).0
+returns-then-room_along-gt0-2-clause-progress c = (after (goal.at.returns-then-room_along-gt0-2-clause-progress c).After-augment (climb (goal.at.returns-then-room_along-gt0-2-clause-progress c).Then-room_along-gt0-2)).0
 
 pub returns-then-room_along-gt0-2-clause-small : goal.returns-then-room_along-gt0-2-clause-small
-returns-then-room_along-gt0-2-clause-small c = (after (goal.at.returns-then-room_along-gt0-2-clause-small c).After-send_along (climb (goal.at.returns-then-room_along-gt0-2-clause-small c).Then-room_along-gt0-2)).3
+returns-then-room_along-gt0-2-clause-small c = (after (goal.at.returns-then-room_along-gt0-2-clause-small c).After-augment (climb (goal.at.returns-then-room_along-gt0-2-clause-small c).Then-room_along-gt0-2)).3
 
 pub returns-then-room_along-gt0-2-clause-far : goal.returns-then-room_along-gt0-2-clause-far
 returns-then-room_along-gt0-2-clause-far c = record {
   level = c.requires.far.level;
-  levelled = (after (goal.at.returns-then-room_along-gt0-2-clause-far c).After-send_along (climb (goal.at.returns-then-room_along-gt0-2-clause-far c).Then-room_along-gt0-2)).1;
+  levelled = (after (goal.at.returns-then-room_along-gt0-2-clause-far c).After-augment (climb (goal.at.returns-then-room_along-gt0-2-clause-far c).Then-room_along-gt0-2)).1;
   sink = c.requires.far.sink;
 }

@@ -2,7 +2,6 @@ use Rattle.std.proofs.Common.{◌<◌, ◌^◌}
 use Rattle.saga_closure.specs.Apart.{IsApart}
 use Rattle.saga_closure.specs.Largest.{IsOnTheWay}
 use Rattle.saga_closure.specs.Nets.{terms_in, arcs_in}
-use Rattle.saga_closure.specs.Rows.{AreRows}
 use Rattle.saga_closure.proofs.pairs.send_from.Given as goal
 
 abbrev pub invariant-loop-e : goal.invariant-loop-e
@@ -10,5 +9,4 @@ invariant-loop-e l = record {
   far : IsApart (arcs_in l.net) l.progress.on.items 3;
   progress : IsOnTheWay (terms_in l.net) l.progress;
   small : l.progress.value < 2 ^ 63;
-  rows : AreRows (terms_in l.net) l.progress.on.items l.rows;
 }

@@ -10,5 +10,4 @@ loop-v-init c =
       far = sides_apart (terms_in net) net.caps.now c.args.progress.now.on.items (own_capacities net.definition.now net.caps.now net.sized net.small) c.requires.one_sided;
       progress = c.requires.progress;
       small = c.requires.small;
-      rows = c.requires.rows;
     }

@@ -11,7 +11,6 @@ loop-v-preserved c =
     record {
       progress = c.send_over.ensures.progress;
       small = c.send_over.ensures.small;
-      rows = c.send_over.ensures.rows;
       one_sided = λ w lt. elim (cases_eq w c.loop-v.v) [
         | inl e ↦ rw e c.send_over.ensures.one_sided
         | inr ne ↦ sided_on c.args.net.now.caps.now c.loop-v.progress.on.items c.send_over.new.progress.on.items count c.loop-v.v w here (omega (arith, lt, ne, here)) ne c.send_over.ensures.others (c.loop-v.invariant.one_sided w (omega (arith, lt, ne)))

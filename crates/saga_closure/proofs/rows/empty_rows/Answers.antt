@@ -4,7 +4,7 @@ use Rattle.std.proofs.lemmas.List.{take_at}
 use Rattle.saga_closure.specs.Bits.{words_for}
 use Rattle.saga_closure.specs.Nets.{terms_in}
 use Rattle.saga_closure.proofs.RowLemmas.{filled_more, filled_rows}
-use Rattle.saga_closure.proofs.rows.rows_of.Goals as goal
+use Rattle.saga_closure.proofs.rows.empty_rows.Goals as goal
 
 pub loop-v-preserved : goal.loop-v-preserved
 loop-v-preserved c =

@@ -2,7 +2,7 @@ use Rattle.std.proofs.Common.{◌<◌, ◌-◌, ◌^◌}
 use Rattle.saga_closure.specs.Largest.{IsOnTheWay}
 use Rattle.saga_closure.specs.Rows.{AreRows}
 use Rattle.saga_closure.specs.Nets.{terms_in}
-use Rattle.saga_closure.proofs.flows.largest.Given as goal
+use Rattle.saga_closure.proofs.flows.run_phases.Given as goal
 
 abbrev pub invariant-loop-progress : goal.invariant-loop-progress
 invariant-loop-progress l = record {
