@@ -8,7 +8,7 @@ use Rattle.std.proofs.lemmas.Bool.{cases_eq, cases_lt, eq-eqb, eqb-true, false�
 use Rattle.std.proofs.lemmas.List.{get_or-take, get_or-drop, length-set, get_or_past, length-replicate, get_or-replicate}
 use Rattle.std.proofs.lemmas.Nat.{and_le_l}
 use Rattle.std.proofs.lemmas.Nat.Bits.{bit_at_or, bit_at_and, bit_at_not, bit_at-lt, bit_at-zero, bit_at_set_same, bit_at_set_other, bit_at_clear_same, bit_at_clear_other, bit_at-trailing_zeros}
-use Rattle.saga_closure.specs.Bits.{holds, holds_bit, IsPutBit, IsPut, IsJoined, place_in, words_for}
+use Rattle.saga_closure.specs.Bits.{holds, holds_bit, IsPutBit, IsPut, IsJoined, IsJoinedTwo, place_in, words_for}
 
 -- ---- one word
 
@@ -91,6 +91,26 @@ joined_words old more new sized front rest = record {
             ap (λ w. holds_bit w (s % 64)) (rest (s / 64) past)
             ∙ sym (or-false (holds_bit (get_or old (s / 64) 0) (s % 64)))
             ∙ ap (λ (b : Bool). holds_bit (get_or old (s / 64) 0) (s % 64) || b) (sym none)
+      ];
+}
+
+bit_in_or : (x y b : ℕ) → holds_bit (bit_or x y) b ≡ (holds_bit x b || holds_bit y b)
+bit_in_or x y b = ap (λ w. w == 1) (bit_at_or x y b) ∙ or_bits (bit_at x b) (bit_at y b) (bit_at-lt _ _) (bit_at-lt _ _)
+
+none_past : (words : List ℕ) (s : ℕ) → length words ≤ s / 64 → holds words s ≡ false
+none_past words s past = ap (λ w. holds_bit w (s % 64)) (get_or_past words (s / 64) 0 past) ∙ ap (λ b. b == 1) (bit_at-zero (s % 64))
+
+-- words that are joined two by two
+pub joined_two_words : (old one two new : List ℕ) → length new ≡ length old → length one ≡ length old → length two ≡ length old → ((k : ℕ) → k < length old → get_or new k 0 ≡ bit_or (get_or old k 0) (bit_or (get_or one k 0) (get_or two k 0))) → IsJoinedTwo old one two new
+joined_two_words old one two new sized sized_one sized_two each = record {
+  sized = sized;
+  either = λ s.
+      elim (cases_lt (s / 64) (length old)) [
+        | inl lt ↦
+            ap (λ w. holds_bit w (s % 64)) (each (s / 64) lt)
+            ∙ bit_in_or (get_or old (s / 64) 0) (bit_or (get_or one (s / 64) 0) (get_or two (s / 64) 0)) (s % 64)
+            ∙ ap (λ (b : Bool). holds_bit (get_or old (s / 64) 0) (s % 64) || b) (bit_in_or (get_or one (s / 64) 0) (get_or two (s / 64) 0) (s % 64))
+        | inr past ↦ rw (none_past new s (omega (arith, past, sized)), none_past old s past, none_past one s (omega (arith, past, sized_one)), none_past two s (omega (arith, past, sized_two))) refl
       ];
 }
 

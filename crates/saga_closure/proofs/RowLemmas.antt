@@ -14,7 +14,7 @@ use Rattle.saga_flow.specs.Pushes.{AvoidsArc}
 use Rattle.saga_flow.specs.Rounds.{pushed}
 use Rattle.saga_flow.proofs.PushLemmas.{pushed_other, All-cons}
 use Rattle.saga_closure.specs.declared.rows.Rows.{Rows}
-use Rattle.saga_closure.specs.Bits.{holds, place_in, words_for, IsPut, IsJoined}
+use Rattle.saga_closure.specs.Bits.{holds, place_in, words_for, IsPut, IsJoined, IsJoinedTwo}
 use Rattle.saga_closure.specs.Links.{AreLinks}
 use Rattle.saga_closure.specs.Rows.{AreRowsBut, IsOver, AreAdded, IsUnion, IsRow}
 use Rattle.saga_closure.specs.Layers.{Goes, no_step}
@@ -189,6 +189,26 @@ union_more rows order first j set row new le before is joined = record {
   all = λ i u le_i lt_i lt held. elim (cases_eq i j) [
     | inl e ↦ joined.either u ∙ or_right (holds set u) (holds row u) (is.each u lt ∙ rw e at held)
     | inr ne ↦ joined.either u ∙ or_left (holds set u) (holds row u) (before.all i u le_i (omega (arith, lt_i, ne)) lt held)
+  ];
+}
+
+-- two rows at once
+pub union_two : (rows : Rows) (order : List ℕ) (first j : ℕ) (set one two new : List ℕ) → first ≤ j → IsUnion rows order first j set → IsRow rows (get_or order j 0) one → IsRow rows (get_or order (j + 1) 0) two → IsJoinedTwo set one two new → IsUnion rows order first (j + 2) new
+union_two rows order first j set one two new le before is_one is_two joined = record {
+  sized = joined.sized ∙ before.sized;
+  only = λ u lt held. elim (or_true (holds set u) (holds one u || holds two u) (sym (joined.either u) ∙ held)) [
+    | inl was ↦ let at = before.only u lt was in (at.0, at.1, omega (arith, at.2), at.3)
+    | inr more ↦ elim (or_true (holds one u) (holds two u) more) [
+      | inl now ↦ (j, le, omega arith, sym (is_one.each u lt) ∙ now)
+      | inr now ↦ (j + 1, omega (arith, le), omega arith, sym (is_two.each u lt) ∙ now)
+    ]
+  ];
+  all = λ i u le_i lt_i lt held. elim (cases_eq i j) [
+    | inl e ↦ joined.either u ∙ or_right (holds set u) (holds one u || holds two u) (or_left (holds one u) (holds two u) (is_one.each u lt ∙ rw e at held))
+    | inr ne ↦ elim (cases_eq i (j + 1)) [
+      | inl e ↦ joined.either u ∙ or_right (holds set u) (holds one u || holds two u) (or_right (holds one u) (holds two u) (is_two.each u lt ∙ rw e at held))
+      | inr ne_one ↦ joined.either u ∙ or_left (holds set u) (holds one u || holds two u) (before.all i u le_i (omega (arith, lt_i, ne, ne_one)) lt held)
+    ]
   ];
 }
 

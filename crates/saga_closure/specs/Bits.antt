@@ -35,6 +35,11 @@ pub record IsJoined (old more new : List ℕ) : Type 0 where
   pub sized : length new ≡ length old
   pub either : (i : ℕ) → holds new i ≡ (holds old i || holds more i)
 
+-- the numbers of all three
+pub record IsJoinedTwo (old one two new : List ℕ) : Type 0 where
+  pub sized : length new ≡ length old
+  pub either : (i : ℕ) → holds new i ≡ (holds old i || (holds one i || holds two i))
+
 -- where the bit for u stands in the row of v, in rows of so many words
 abbrev pub place_in : ℕ → ℕ → ℕ → ℕ
 place_in width v u = 64 * (v * width) + u

@@ -1,6 +1,6 @@
 //! Sets of numbers, a bit each.
 ghost use Rattle.std.specs.Prelude.{◌≡◌, ◌<◌, ◌≤◌, ◌*◌, false, length};
-ghost use Rattle.saga_closure.specs.Bits.{IsPutBit, IsWithout, IsPut, IsJoined};
+ghost use Rattle.saga_closure.specs.Bits.{IsPutBit, IsWithout, IsPut, IsJoined, IsJoinedTwo};
 
 /// Sets or clears a bit.
 pub fn put_bit(word: u64, b: usize, on: bool) -> u64
@@ -38,5 +38,16 @@ pub fn add_all(words: &mut [u64], more: &[u64])
 {
     for (place, word) in more.iter().enumerate() {
         words[place] |= *word;
+    }
+}
+
+/// Puts in each number of two other sets, which have as many words.
+pub fn add_both(words: &mut [u64], one: &[u64], two: &[u64])
+    requires one { length one.now ≡ length words.old }
+    requires two { length two.now ≡ length words.old }
+    ensures { IsJoinedTwo words.old one.now two.now words.new }
+{
+    for place in 0..words.len() {
+        words[place] |= one[place] | two[place];
     }
 }

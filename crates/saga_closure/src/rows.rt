@@ -6,7 +6,7 @@ ghost use Rattle.saga_closure.specs.Layers.{no_step};
 ghost use Rattle.saga_closure.specs.Nets.{terms_in, arcs_in};
 ghost use Rattle.saga_closure.specs.Rows.{AreRows, AreRowsOff, AreAdded, IsRow, IsUnion};
 
-use crate::bits::{add_all, put};
+use crate::bits::{add_all, add_both, put};
 use crate::links::links_from;
 use crate::nets::{ClosureNet, Residual};
 use saga_flow::ResidualArc;
@@ -80,7 +80,8 @@ fn row_of(rows: &Rows, v: u16) -> &[u64]
     &rows.words[first..first + rows.width]
 }
 
-/// The steps to which residual arcs lead from the listed ones between two places; `set` is written over.
+/// The steps to which residual arcs lead from the listed ones between two places; two rows at a time;
+/// `set` is written over.
 pub fn steps_after(rows: &Rows, order: &[u16], first: usize, end: usize, set: &mut [u64])
     requires first { first ≤ end }
     requires end { end ≤ length order.now }
@@ -92,8 +93,13 @@ pub fn steps_after(rows: &Rows, order: &[u16], first: usize, end: usize, set: &m
     ensures { IsUnion rows.now order.now first end set.new }
 {
     set.fill(0);
-    for j in first..end {
-        add_all(set, row_of(rows, order[j]));
+    let mut next = first;
+    while end - next > 1 {
+        add_both(set, row_of(rows, order[next]), row_of(rows, order[next + 1]));
+        next += 2;
+    }
+    if next < end {
+        add_all(set, row_of(rows, order[next]));
     }
 }
 
