@@ -62,17 +62,17 @@ pub fn largest(alloc: Global, net: &ClosureNet) -> Result<ClosureFlow, AllocErro
 fn run_phases(
     alloc: Global,
     net: &ClosureNet,
-    start: Progress,
+    begun: Progress,
     rows: &mut Rows,
 ) -> Result<ClosureFlow, AllocError>
     requires network { IsNetwork (network_of (terms_in net.now)) }
     requires apart { Reaches (HasUnbounded (arcs_in net.now)) 0 1 → ⊥ }
-    requires progress { IsOnTheWay (terms_in net.now) start }
-    requires small { start.value < 2 ^ 63 }
-    requires rows { AreRows (terms_in net.now) start.on.items rows.old }
+    requires progress { IsOnTheWay (terms_in net.now) begun }
+    requires small { begun.value < 2 ^ 63 }
+    requires rows { AreRows (terms_in net.now) begun.on.items rows.old }
     ensures { IfOk result (IsLargest (terms_in net.now)) }
 {
-    let mut progress = start;
+    let mut progress = begun;
     loop {
         let residual = Residual {
             net: &*net,

@@ -95,7 +95,11 @@ pub fn steps_after(rows: &Rows, order: &[u16], first: usize, end: usize, set: &m
     set.fill(0);
     let mut next = first;
     while end - next > 1 {
-        add_both(set, row_of(rows, order[next]), row_of(rows, order[next + 1]));
+        add_both(
+            set,
+            row_of(rows, order[next]),
+            row_of(rows, order[next + 1]),
+        );
         next += 2;
     }
     if next < end {
