@@ -1,19 +1,24 @@
 -- Paths over a need and the two steps that it joins, where no path is shorter.
-use Rattle.std.proofs.Common.{ℕ, ◌≡◌, ◌≢◌, ◌<◌, ◌≤◌, ◌+◌, ◌-◌, ◌∙◌, [], ◌∷◌, true, List, length, get_or, set, get_or-set_same, get_or-set_other, length-set, ap, sym, refl, arith, inl, inr}
+use Rattle.std.proofs.Common.{ℕ, ◌≡◌, ◌≢◌, ◌<◌, ◌≤◌, ◌+◌, ◌-◌, ◌∙◌, [], ◌∷◌, true, List, length, get_or, set, get_or-set_same, get_or-set_other, length-set, ap, sym, refl, arith, inl, inr, min, ◌^◌}
 use Rattle.std.specs.Prelude.{nat_lt, if◌then◌else◌, ◌==◌, All}
 use Rattle.std.proofs.lemmas.Bool.{cases_eq, ne_eqb, lt-ltb}
+use Rattle.std.proofs.lemmas.Option.{same_Some}
 use Rattle.saga_case.specs.Terms.{Terms}
 use Rattle.saga_flow.specs.declared.residual_arcs.ResidualArc.{ResidualArc}
+use Rattle.saga_flow.specs.declared.nets.Cap.{Cap}
+use Rattle.saga_flow.specs.declared.nets.Cap.TheVariants as cap
 use Rattle.saga_flow.specs.Flows.{IsWithin}
+use Rattle.saga_flow.specs.Pushes.{IsPush}
 use Rattle.saga_flow.specs.Residual.{Carries, IsOpen}
 use Rattle.saga_flow.specs.Rounds.{IsTrail, pushed}
 use Rattle.saga_flow.specs.Levels.{Climbs}
 use Rattle.saga_flow.proofs.PushLemmas.{pushed_other, All-cons}
 use Rattle.saga_closure.specs.Apart.{IsApart, IsOneSided}
 use Rattle.saga_closure.specs.Capacities.{AreCapacities, room_at}
-use Rattle.saga_closure.specs.CaseNet.{network_of, leave_arc, stand_arc, cap_of}
-use Rattle.saga_closure.proofs.ArcCases.{need_at, each_open}
-use Rattle.saga_closure.proofs.ArcLemmas.{leave_at, stand_at}
+use Rattle.saga_closure.specs.CaseNet.{network_of, leave_arc, stand_arc, link_arc, cap_of}
+use Rattle.saga_closure.specs.Layers.{no_step}
+use Rattle.saga_closure.proofs.ArcCases.{no_need, need_at, each_open, opens_leave, opens_stand}
+use Rattle.saga_closure.proofs.ArcLemmas.{leave_at, stand_at, link_at}
 use Rattle.saga_closure.proofs.RoomLemmas.{leave_room, stand_room}
 
 -- ---- levels by the sides of the steps
@@ -135,3 +140,68 @@ sided_on caps on after count v w v_lt w_lt ne others sided =
       | inl is ↦ inl (rw first is)
       | inr is ↦ inr (rw second is)
     ]
+
+-- ---- the greatest amount along a path over a step, or over a need
+
+within_less : (cap : Cap) (x y : ℕ) → x ≤ y → IsWithin y cap → IsWithin x cap
+within_less (cap.Of c) x y le within = omega (arith, le, within)
+within_less cap.Unbounded x y le within = tt
+
+module _ (t : Terms) (caps on : List ℕ) (v u more : ℕ) (are : AreCapacities t caps) (v_lt : v < t.count) (u_lt : u < t.count) (is : more ≡ min (room_at caps on v) (room_at caps on (t.count + u))) (some : 0 < more) where
+  some_in : 0 < room_at caps on v
+  some_in = omega (arith, is, some)
+
+  some_out : 0 < room_at caps on (t.count + u)
+  some_out = omega (arith, is, some)
+
+  pub goes_on_in : IsOpen (network_of t).arcs on (record { arc = v; forward = true }) 0 (2 + v)
+  goes_on_in = opens_leave t on v v_lt ((leave_room t caps on v are v_lt).one some_in)
+
+  pub goes_on_out : IsOpen (network_of t).arcs on (record { arc = t.count + u; forward = true }) (2 + u) 1
+  goes_on_out = opens_stand t on u u_lt ((stand_room t caps on u are u_lt).one some_out)
+
+  into_carries : Carries (network_of t).arcs on more (record { arc = v; forward = true })
+  into_carries = (leave_arc t v, leave_at t v v_lt, within_less (cap_of (t.leave v)) (get_or on v 0 + more) (get_or on v 0 + room_at caps on v) (omega (arith, is)) ((leave_room t caps on v are v_lt).goes some_in))
+
+  out_carries : Carries (network_of t).arcs on more (record { arc = t.count + u; forward = true })
+  out_carries = (stand_arc t u, stand_at t u u_lt, within_less (cap_of (t.stand u)) (get_or on (t.count + u) 0 + more) (get_or on (t.count + u) 0 + room_at caps on (t.count + u)) (omega (arith, is)) ((stand_room t caps on u are u_lt).goes some_out))
+
+  -- no more than that goes along both arcs
+  least_most : more < 2 ^ 63 → Carries (network_of t).arcs on (more + 1) (record { arc = v; forward = true }) → Carries (network_of t).arcs on (more + 1) (record { arc = t.count + u; forward = true }) → ⊥
+  least_most small (a, at_a, within_a) (b, at_b, within_b) = elim (cases_eq more (room_at caps on v)) [
+    | inl e ↦
+        let same : a ≡ leave_arc t v = same_Some _ _ (sym at_a ∙ leave_at t v v_lt) in
+        (leave_room t caps on v are v_lt).most (omega (arith, small, e)) some_in (rw (same, e) at within_a)
+    | inr ne ↦
+        let e : more ≡ room_at caps on (t.count + u) = omega (arith, is, ne) in
+        let same : b ≡ stand_arc t u = same_Some _ _ (sym at_b ∙ stand_at t u u_lt) in
+        (stand_room t caps on u are u_lt).most (omega (arith, small, e)) some_out (rw (same, e) at within_b)
+  ]
+
+  pub need_carries : (k : ℕ) → k < length t.needs → All (Carries (network_of t).arcs on more) (by_need v (t.count + (t.count + k)) (t.count + u))
+  need_carries k lt =
+      All-cons (Carries (network_of t).arcs on more) (record { arc = v; forward = true }) (record { arc = t.count + (t.count + k); forward = true } ∷ record { arc = t.count + u; forward = true } ∷ []) into_carries
+      (All-cons (Carries (network_of t).arcs on more) (record { arc = t.count + (t.count + k); forward = true }) (record { arc = t.count + u; forward = true } ∷ []) (link_arc (need_at t k), link_at t k no_need lt, tt)
+      (All-cons (Carries (network_of t).arcs on more) (record { arc = t.count + u; forward = true }) [] out_carries (λ i d h. absurd (omega arith))))
+
+  pub need_push : (k : ℕ) → k < length t.needs → more < 2 ^ 63 → IsPush (network_of t).arcs on (by_need v (t.count + (t.count + k)) (t.count + u)) more (pushed on (by_need v (t.count + (t.count + k)) (t.count + u)) more)
+  need_push k lt small = record {
+    some = some;
+    carries = need_carries k lt;
+    most = λ all. least_most small (all 0 no_step (omega arith)) (all 2 no_step (omega arith));
+    adds = refl;
+  }
+
+module _ (t : Terms) (caps on : List ℕ) (v more : ℕ) (are : AreCapacities t caps) (lt : v < t.count) (is : more ≡ min (room_at caps on v) (room_at caps on (t.count + v))) (some : 0 < more) where
+  pub step_carries : All (Carries (network_of t).arcs on more) (over_step v (t.count + v))
+  step_carries =
+      All-cons (Carries (network_of t).arcs on more) (record { arc = v; forward = true }) (record { arc = t.count + v; forward = true } ∷ []) (into_carries t caps on v v more are lt lt is some)
+      (All-cons (Carries (network_of t).arcs on more) (record { arc = t.count + v; forward = true }) [] (out_carries t caps on v v more are lt lt is some) (λ i d h. absurd (omega arith)))
+
+  pub step_push : more < 2 ^ 63 → IsPush (network_of t).arcs on (over_step v (t.count + v)) more (pushed on (over_step v (t.count + v)) more)
+  step_push small = record {
+    some = some;
+    carries = step_carries;
+    most = λ all. least_most t caps on v v more are lt lt is some small (all 0 no_step (omega arith)) (all 1 no_step (omega arith));
+    adds = refl;
+  }

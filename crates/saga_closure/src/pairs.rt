@@ -1,20 +1,56 @@
 //! Short paths: over one step, and then over a need and the two steps that it joins.
 //!
 //! They take no search: once nothing goes straight over a step any more, those over a need are the shortest.
-ghost use Rattle.std.specs.Prelude.{◌≡◌, ◌≢◌, ◌<◌, ◌+◌, ◌^◌, ℕ, slice_index, slice_get, Some};
+ghost use Rattle.std.specs.Prelude.{◌≡◌, ◌≢◌, ◌<◌, ◌+◌, ◌^◌, ℕ, length, min, slice_index, slice_get, slice_set, Some};
 ghost use Rattle.saga_def.specs.Neighbours.{a_need};
 ghost use Rattle.saga_flow.specs.Network.{IsNetwork};
 ghost use Rattle.saga_flow.specs.Reached.{HasUnbounded, Reaches};
 ghost use Rattle.saga_closure.specs.Apart.{IsApart, IsOneSided};
+ghost use Rattle.saga_closure.specs.Capacities.{room_at};
 ghost use Rattle.saga_closure.specs.CaseNet.{network_of};
 ghost use Rattle.saga_closure.specs.Nets.{terms_in, arcs_in};
 ghost use Rattle.saga_closure.specs.Largest.{IsOnTheWay};
 
 use crate::links::links_from;
 use crate::nets::{ClosureNet, Residual};
-use crate::pushes::augment;
 use crate::rooms::room_along;
-use saga_flow::{Progress, ResidualArc};
+use saga_flow::Progress;
+
+/// How much more goes along both of two arcs of prices.
+fn least_room(net: &ClosureNet, on: &[u64], into: usize, out: usize) -> u64
+    requires sized { length on.now ≡ length (arcs_in net.now) }
+    requires into { into < length net.now.caps.now }
+    requires out { out < length net.now.caps.now }
+    ensures { result
+        ≡ min (room_at net.now.caps.now on.now into) (room_at net.now.caps.now on.now out) }
+{
+    let residual = Residual { net: &*net, on };
+    room_along(&residual, into).min(room_along(&residual, out))
+}
+
+/// Adds to the amount on an arc.
+fn add(progress: &mut Progress, arc: usize, more: u64)
+    requires within { arc < length progress.old.on.items }
+    requires fits { slice_index progress.old.on.items arc + more < 2 ^ 64 }
+    ensures on { progress.new.on.items ≡ slice_set progress.old.on.items arc
+        (slice_index progress.old.on.items arc + more) }
+    ensures value { progress.new.value ≡ progress.old.value }
+    ensures rounds { progress.new.rounds ≡ progress.old.rounds }
+{
+    progress.on[arc] += more;
+}
+
+/// Counts a round in which so much more leaves the source.
+fn count_round(progress: &mut Progress, more: u64)
+    requires value { progress.old.value + more < 2 ^ 64 }
+    requires rounds { progress.old.rounds + 1 < 2 ^ 64 }
+    ensures on { progress.new.on.items ≡ progress.old.on.items }
+    ensures value { progress.new.value ≡ progress.old.value + more }
+    ensures rounds { progress.new.rounds ≡ progress.old.rounds + 1 }
+{
+    progress.value += more;
+    progress.rounds += 1;
+}
 
 /// Sends from the source over a step to the sink what goes straight.
 fn send_over(net: &ClosureNet, v: usize, progress: &mut Progress)
@@ -29,23 +65,12 @@ fn send_over(net: &ClosureNet, v: usize, progress: &mut Progress)
     ensures others { (k : ℕ) → k ≢ v → k ≢ (terms_in net.now).count + v
         → slice_index progress.new.on.items k ≡ slice_index progress.old.on.items k }
 {
-    let count = net.definition.steps();
-    let residual = Residual {
-        net: &*net,
-        on: progress.on.as_slice(),
-    };
-    if room_along(&residual, v) > 0 && room_along(&residual, count + v) > 0 {
-        let path = [
-            ResidualArc {
-                arc: v,
-                forward: true,
-            },
-            ResidualArc {
-                arc: count + v,
-                forward: true,
-            },
-        ];
-        augment(net, &path, progress);
+    let out = net.definition.steps() + v;
+    let more = least_room(net, progress.on.as_slice(), v, out);
+    if more > 0 {
+        add(progress, v, more);
+        add(progress, out, more);
+        count_round(progress, more);
     }
 }
 
@@ -78,26 +103,14 @@ fn send_by(net: &ClosureNet, v: u16, u: u16, place: u16, progress: &mut Progress
     ensures small { progress.new.value < 2 ^ 63 }
 {
     let count = net.definition.steps();
-    let residual = Residual {
-        net: &*net,
-        on: progress.on.as_slice(),
-    };
-    if room_along(&residual, v as usize) > 0 && room_along(&residual, count + u as usize) > 0 {
-        let path = [
-            ResidualArc {
-                arc: v as usize,
-                forward: true,
-            },
-            ResidualArc {
-                arc: 2 * count + place as usize,
-                forward: true,
-            },
-            ResidualArc {
-                arc: count + u as usize,
-                forward: true,
-            },
-        ];
-        augment(net, &path, progress);
+    let into = v as usize;
+    let out = count + u as usize;
+    let more = least_room(net, progress.on.as_slice(), into, out);
+    if more > 0 {
+        add(progress, into, more);
+        add(progress, 2 * count + place as usize, more);
+        add(progress, out, more);
+        count_round(progress, more);
     }
 }
 
