@@ -1,5 +1,5 @@
 //! The amounts of a flow, which contracts see as a list of numbers.
-ghost use Rattle.std.specs.Prelude.{◌≡◌, ◌<◌, IfOk, IfSome, length, slice_index};
+ghost use Rattle.std.specs.Prelude.{◌≡◌, ◌<◌, ◌≤◌, ◌^◌, All, IfOk, length, slice_index};
 
 use std::alloc::{AllocError, Global};
 use std::marker::Model;
@@ -27,32 +27,39 @@ impl Model for Amounts {
     ghost view = { λ a. amounts_in a.amounts };
 }
 
-/// The amounts in two bytes each, or none where one is too great.
-fn in_two_bytes(alloc: Global, amounts: &[u64]) -> Result<Option<Vec<u16>>, AllocError>
-    ensures { IfOk result (λ o. IfSome o (λ list. list.items ≡ amounts.now)) }
+/// The bits that amounts have, taken together: no amount is greater.
+fn bits_of(amounts: &[u64]) -> u64
+    ensures { All (λ a. a ≤ result) amounts.now }
 {
-    let mut list = Vec::with_capacity(alloc, amounts.len())?;
+    let mut bits = 0;
     for amount in amounts {
-        let Ok(narrow) = u16::try_from(*amount) else {
-            return Ok(None);
-        };
-        list.push(narrow)?;
+        bits |= *amount;
     }
-    Ok(Some(list))
+    bits
 }
 
-/// The amounts in four bytes each, or none where one is too great.
-fn in_four_bytes(alloc: Global, amounts: &[u64]) -> Result<Option<Vec<u32>>, AllocError>
-    ensures { IfOk result (λ o. IfSome o (λ list. list.items ≡ amounts.now)) }
+/// The amounts in two bytes each.
+fn in_two_bytes(alloc: Global, amounts: &[u64]) -> Result<Vec<u16>, AllocError>
+    requires { All (λ a. a < 2 ^ 16) amounts.now }
+    ensures { IfOk result (λ list. list.items ≡ amounts.now) }
 {
-    let mut list = Vec::with_capacity(alloc, amounts.len())?;
-    for amount in amounts {
-        let Ok(narrow) = u32::try_from(*amount) else {
-            return Ok(None);
-        };
-        list.push(narrow)?;
+    let mut list = vec![in alloc; 0u16; amounts.len()]?;
+    for place in 0..amounts.len() {
+        list[place] = amounts[place] as u16;
     }
-    Ok(Some(list))
+    Ok(list)
+}
+
+/// The amounts in four bytes each.
+fn in_four_bytes(alloc: Global, amounts: &[u64]) -> Result<Vec<u32>, AllocError>
+    requires { All (λ a. a < 2 ^ 32) amounts.now }
+    ensures { IfOk result (λ list. list.items ≡ amounts.now) }
+{
+    let mut list = vec![in alloc; 0u32; amounts.len()]?;
+    for place in 0..amounts.len() {
+        list[place] = amounts[place] as u32;
+    }
+    Ok(list)
 }
 
 impl Amounts {
@@ -60,20 +67,15 @@ impl Amounts {
     pub fn new(alloc: Global, amounts: &[u64]) -> Result<Amounts, AllocError>
         ensures { IfOk result (λ own. own ≡ amounts.now) }
     {
-        if let Some(list) = in_two_bytes(alloc, amounts)? {
-            return Ok(Amounts {
-                amounts: Widths::Two(list),
-            });
-        }
-        if let Some(list) = in_four_bytes(alloc, amounts)? {
-            return Ok(Amounts {
-                amounts: Widths::Four(list),
-            });
-        }
-        let list = Vec::from_slice(alloc, amounts)?;
-        Ok(Amounts {
-            amounts: Widths::Eight(list),
-        })
+        let bits = bits_of(amounts);
+        let amounts = if bits <= u64::from(u16::MAX) {
+            Widths::Two(in_two_bytes(alloc, amounts)?)
+        } else if bits <= u64::from(u32::MAX) {
+            Widths::Four(in_four_bytes(alloc, amounts)?)
+        } else {
+            Widths::Eight(Vec::from_slice(alloc, amounts)?)
+        };
+        Ok(Amounts { amounts })
     }
 
     /// How many there are.
