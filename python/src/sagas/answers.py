@@ -56,9 +56,8 @@ class Answers:
 
     # -- rows
 
-    def _result(self, attempt: Attempt, event: str) -> Result:
-        assert attempt.outcome
-        return self.log * ROOM + attempt.live.number, attempt.step, attempt.kind, attempt.attempt, event, attempt.outcome.value, attempt.at
+    def _result(self, attempt: Attempt, event: str, value: str) -> Result:
+        return self.log * ROOM + attempt.live.number, attempt.step, attempt.kind, attempt.attempt, event, value, attempt.at
 
     def _opening(self, live: Live, number: int, at: float) -> Opened:
         return self.log * ROOM + number, live.key, live.kind.name, live.place, live.text, at
@@ -66,7 +65,7 @@ class Answers:
     def _expected(self, batch: Batch, attempts: Sequence[Attempt], lives: Sequence[Live]) -> tuple[list[Opened], list[Result]]:
         """The rows of sagas that are asked to be opened and of attempts that are reported, where the child agrees to all."""
         opened = [self._opening(live, self.opened + place, batch.at) for place, live in enumerate(lives)]
-        return opened, [self._result(attempt, WELL[attempt.kind]) for attempt in attempts]
+        return opened, [self._result(attempt, WELL[attempt.kind], attempt.outcome.value) for attempt in attempts if attempt.outcome]
 
     # -- replies
 
@@ -115,7 +114,7 @@ class Answers:
             live, outcome = attempt.live, attempt.outcome
             assert outcome
             attempt.event = event
-            rows.append(self._result(attempt, event))
+            rows.append(self._result(attempt, event, outcome.value))
             if attempt.has_row or attempt.request is not None or live.kind.has_remote:
                 self._settle_rows(batch, attempt)
             if event == "commit":
@@ -236,5 +235,5 @@ class Answers:
     def _over(self, batch: Batch, live: Live, phase: str, end: str) -> None:
         live.over = True
         live.phase, live.end = phase, end
-        batch.ended.append((phase, end, batch.at, live.id))
+        batch.ended.append((phase, end, batch.at, self.log * ROOM + live.number))
         self._ended.append(live)

@@ -36,7 +36,7 @@ class Child:
         self.asked = 0
         """How many replies are to come: while there are any, nothing else is asked."""
         self._replies: list[Reply] = []  # that came
-        self._shown: list[str] = []  # lines of the log that came
+        self._shown: list[str] = []  # lines of the log that came, each with its plus
         self._part = b""  # of a line that has not come whole
         self._out = b""
         self._writing = self.dead = False
@@ -128,7 +128,7 @@ class Child:
         self._sort(data)
         if self.asked and len(self._replies) >= self.asked:
             replies, self._replies, self.asked = self._replies, [], 0
-            text, self._shown = "\n".join([*self._shown, ""]), []
+            text, self._shown = "\n".join([*self._shown, ""])[1:].replace("\n+", "\n"), []
             answered, self._answered = self._answered, None
             assert answered
             answered(replies, text.removeprefix(lines.HEADER))
@@ -140,10 +140,7 @@ class Child:
         self._part = data[whole:]
         replies, shown = self._replies, self._shown
         for line in filter(None, data[:whole].decode().split("\n")):
-            if line[0] == "+":
-                shown.append(line[1:])
-            else:
-                replies.append(line)
+            (shown if line[0] == "+" else replies).append(line)
 
     def _die(self) -> None:
         if not self.dead:

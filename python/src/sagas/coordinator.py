@@ -361,9 +361,9 @@ class Coordinator:
 
     def close_if_over(self, pump: Pump) -> None:
         """A settled log that takes no more sagas is audited once, and closed."""
-        full = pump.full or pump.opened >= self.shelf.room
-        if pump.state not in ("up", "asleep") or pump.unwritten or pump.live or pump.opens or pump.sent or pump.reserved != pump.opened:
+        if pump.live or pump.unwritten or pump.opens or pump.sent or pump.reserved != pump.opened or pump.state not in ("up", "asleep"):
             return
+        full = pump.full or pump.opened >= self.shelf.room
         if self.closed or pump.born or (pump is self.current and not full):
             return
         pump.stop()

@@ -160,12 +160,13 @@ class Store:
         place, text = self._shelf.place(saga), values.write(input, "input")
         kind = self._shelf.kinds[place]
         wrong = kind.misfit(input, text)
-        looks = inside.store.shared or not self.new or not kind.fits or wrong  # else it is looked for with others, where it is placed
         live = inside.lives.get(key)
+        if live is None and wrong is None and self.new and kind.fits and self._guessing.is_worth():  # the key is new, as far as the last ones tell
+            return await self._begin(inside, inside.new_live(key, text, kind, place), guessed=True)
         if live is not None and live.is_doubtful:
             live = await self._live(key)
-        guesses = live is None and wrong is None and self.new and kind.fits and self._guessing.is_worth()  # that the key is new
-        row = await self._find(key) if looks and not guesses and live is None else None
+        looks = inside.store.shared or not self.new or not kind.fits or wrong  # else it is looked for with others, where it is placed
+        row = await self._find(key) if looks and live is None else None
         live = inside.lives.get(key)  # another start of it may have come meanwhile
         there = (live.kind.name, live.text) if live else (row.saga, row.input) if row else None
         if there:
@@ -183,7 +184,7 @@ class Store:
         elif wrong:
             raise wrong
         else:
-            return await self._begin(inside, inside.new_live(key, text, kind, place), guesses)
+            return await self._begin(inside, inside.new_live(key, text, kind, place), guessed=False)
         if live and not live.committed:
             await live.started(inside.loop)
         return Run(self, key)
