@@ -22,7 +22,7 @@ import records
 import sagas
 from cases import QUICK, Task, ended, run, simple, until
 from driving import program
-from sagas import leases, news, postgresql_commit
+from sagas import leases, links, news, postgresql_commit
 from server import Server
 
 HERE = pathlib.Path(__file__).resolve().parent
@@ -455,6 +455,39 @@ def test_the_last_commit_before_a_takeover_counts(url: str, monkeypatch: pytest.
 
     run(main())
     assert calls.count("late") >= 1
+
+
+def test_a_log_that_could_not_be_given_back(url: str, monkeypatch: pytest.MonkeyPatch) -> None:
+    """A node lacks a function of a log that it just took, and the server does not answer as it gives it back: it is given back the next time."""
+    ask, is_lost = links.Asker.ask, True
+
+    async def loses(self: links.Asker, text: str, **words: Any) -> list[Any]:
+        nonlocal is_lost
+        if text == leases.LEAVE and is_lost:
+            is_lost = False
+            raise sagas.StoreUnwritable("it does not answer")
+        return await ask(self, text, **words)
+
+    async def main() -> None:
+        gate, calls = asyncio.Event(), list[str]()
+        kind, said = pair(gate, calls), iter([None, "it lacks b", "it lacks b"])
+        async with sagas.open(url, [kind], grace=0.0) as store:
+            await store.start(kind, "k")
+            await until(lambda: calls)
+        monkeypatch.setattr(links.Asker, "ask", loses)
+        asker = links.Asker(url, url, 1)
+        await asker.open()
+        lease = leases.Lease(asker, "n", 10.0, "")
+        await lease.begin()
+        with pytest.raises(sagas.StoreUnwritable):
+            await lease.take(lambda texts, places: next(said), [])
+        owner = "SELECT owner FROM sagas.logs WHERE closed = 0"
+        assert await asker.ask(owner) == [(lease.node,)] and not lease.left
+        assert await lease.take(lambda texts, places: next(said), []) == []
+        assert await asker.ask(owner) == [(None,)] and lease.left
+        await asker.close()
+
+    run(main())
 
 
 def test_what_happens_is_told(url: str, monkeypatch: pytest.MonkeyPatch) -> None:

@@ -3,10 +3,12 @@
 from __future__ import annotations
 
 import asyncio
+import copy
 import dataclasses
 import datetime
 import logging
 import pathlib
+import pickle
 import threading
 import time
 from typing import Any
@@ -463,6 +465,9 @@ def test_tokens(place: str) -> None:
     assert len({task.token for task in tasks}) == 5
     name = next(iter(records.read(place).logs.values())).name
     assert all(task.token.startswith(f"{name}-0-") for task in tasks)
+    for copied in (*map(copy.deepcopy, tasks), *(pickle.loads(pickle.dumps(task)) for task in tasks)):
+        (task,) = [task for task in tasks if task.token == copied.token]
+        assert (copied.key, copied.results, copied.result, copied.attempt) == (task.key, task.results, task.result, task.attempt)
 
 
 def test_a_logs_name_is_used_once(tmp_path: pathlib.Path) -> None:

@@ -228,7 +228,8 @@ class Coordinator:
         return live
 
     def place(self, live: Live) -> None:
-        """Into a log, with what else is placed in this turn of the loop, unless its key is there. Its callers, who may wait in a moment, hear why it is not."""
+        """Into a log, with what else is placed in this turn of the loop, unless its key is there, where that is looked for. Its callers, who may wait in a
+        moment, hear why it is not."""
         self.placing.append(live)
         if len(self.lives) == 1:
             self.place_now()
@@ -428,9 +429,9 @@ class Coordinator:
         await self.reports.close()
         await self.anywhere.close()
         await self.store.close()
+        self.threads.shutdown(wait=not late, cancel_futures=True)
         if children:
             await asyncio.wait([child.buried for child in children], timeout=QUIET)
-        self.threads.shutdown(wait=not late, cancel_futures=True)
 
     def _tell_closed(self, pump: Pump) -> None:
         """Who waits for an abort or for a step's end to be kept hears that it was not."""

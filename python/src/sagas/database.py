@@ -3,9 +3,9 @@
 It holds keys, inputs, results, ends and the lines of each log, and it is the only truth. What one commit holds is a list of `Batch`es
 (records.py); a batch is what one log gained at once, and after its commit, and only then, functions are called and callers told.
 
-A database that is `shared` has more than one node. There each log has an owner and an epoch, which grows at each `load`; a batch whose log
-or epoch is not its writer's any more is not written, and its `then` is called with `Lost`. So is one that opens a saga whose key is taken,
-where nobody has looked for that (`Batch.guessed`).
+A batch that opens a saga whose key is taken, where nobody has looked for that (`Batch.guessed`), is not written, and its `then` is called with
+`Lost`. A database that is `shared` has more than one node: there each log has an owner and an epoch, which grows at each `load`, and so it is with a
+batch whose log or epoch is not its writer's any more.
 """
 
 from __future__ import annotations
@@ -23,7 +23,7 @@ if TYPE_CHECKING:
     from .task import Task
 
 Then = Callable[[Sequence[Batch], "BaseException | None", frozenset[int]], None]
-"""What was given to be written; None, or what kept it from being written (as far as is known); and the logs that are not this node's any more."""
+"""What was given to be written; None, or what kept it from being written (as far as is known); and the logs of which nothing was written (`Lost`)."""
 
 Drives = Callable[[list[str], list[int]], "str | None"]
 """Of a log's definitions and of the places of those that have open sagas: None where this program has all functions, else what it lacks."""

@@ -28,7 +28,7 @@ class StoreNewer(StoreFault):
 
 
 class Lost(SagasError):
-    """A log is another node's now, and nothing was written. A caller never meets it."""
+    """A log is another node's now, or a saga of it has a key that is another's, and nothing was written. A caller never meets it."""
 
 
 class Moved(SagasError):

@@ -129,27 +129,26 @@ class Lease:
         """Some logs that nobody has, of those whose functions this program has; none where there are no more."""
         while True:
             found = await self._asker.read(CANDIDATES, left=list(self.left), node=self.node, mine=mine, own=True)
-            fit = self._fit(drives, found)
+            fit = await self._fit(drives, found)
             taken = await self._asker.ask(TAKE, node=self.node, logs=fit, mine=mine, own=True) if fit else []
             rows = await self._has(drives, [log for (log,) in taken]) if taken else []
             if rows or (fit and not taken) or not found:  # else others took them, or there are none
                 return rows
 
-    def _fit(self, drives: Drives, found: Sequence[Sequence[Any]]) -> list[int]:
-        """Those of these logs that this program has the functions for; the others are left to other nodes."""
+    async def _fit(self, drives: Drives, found: Sequence[Sequence[Any]]) -> list[int]:
+        """Those of these logs that this program has the functions for; the others are left to other nodes, and given back where they are this one's by now."""
         lacks = {log: drives(json.loads(texts), places) for log, texts, places in found}
         left = {log: why for log, why in lacks.items() if why is not None}
         if left:
+            await self._asker.ask(LEAVE, node=self.node, logs=[*left])
+            self.left |= left.keys()
             logger.info("%d logs are left to other nodes: %s", len(left), next(iter(left.values())))
-        self.left |= left.keys()
         return [log for log in lacks if log not in left]
 
     async def _has(self, drives: Drives, taken: list[int]) -> list[LogRow]:
-        """What is in the logs that were just taken. Where a saga of theirs, which was opened meanwhile, needs a function that is not here, they are given back."""
+        """What is in the logs that were just taken: a saga of theirs, which was opened meanwhile, may need a function that is not here."""
         found = await self._asker.read(TAKEN, node=self.node, logs=taken)
-        fit = self._fit(drives, [(row[0], row[3], row[7]) for row in found])
-        if len(fit) < len(found):
-            await self._asker.ask(LEAVE, node=self.node, logs=[row[0] for row in found if row[0] not in fit])
+        fit = await self._fit(drives, [(row[0], row[3], row[7]) for row in found])
         return [LogRow(log, name, shelf, json.loads(texts), opened, open, epoch) for log, name, shelf, texts, opened, open, epoch, _ in found if log in fit]
 
     async def end(self) -> None:

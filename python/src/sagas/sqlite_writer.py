@@ -36,7 +36,7 @@ NONE: frozenset[int] = frozenset()
 Events = dict[int, int]
 """How many events each log has."""
 Put = tuple[Events, frozenset[int]]
-"""What a transaction brings the logs to, and those of which it has nothing: they begun a saga without a look for its key, which is another's."""
+"""What a transaction brings the logs to, and those of which it has nothing: they began a saga without a look for its key, which is another's."""
 Rows = tuple[Sequence[Opened], Sequence[Result]]
 
 LINES = "INSERT INTO lines VALUES(?, ?, ?, ?)"

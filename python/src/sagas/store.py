@@ -196,11 +196,13 @@ class Store:
         inside.place(live)
         try:
             await begun
+        except KeyConflict:
+            self._guessing.told(was_there=True)
+            raise
         except StoreUnwritable:
             if not (guessed and await self._is_there(live)):
                 raise
-        finally:
-            self._guessing.told(was_there=not live.committed)
+        self._guessing.told(was_there=not live.committed)
         return Run(self, live.key, new=live.committed)  # else another node was first
 
     async def _is_there(self, live: Live) -> bool:

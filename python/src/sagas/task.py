@@ -71,10 +71,11 @@ def whole(about: About) -> Told:
 class Task(Generic[I]):
     """One attempt of a step, or of its compensation. Write `task: Task[Order]` to get the input as an `Order`."""
 
-    __slots__ = ("_about", "_connection", "_take")
+    __slots__ = ("_about", "_given", "_connection", "_take")
 
     def __init__(self, about: About) -> None:
         self._about = about
+        self._given: Mapping[str, str] | None = None
         self._connection: Any = None
         self._take: Callable[[], Any] | None = None
 
@@ -102,6 +103,17 @@ class Task(Generic[I]):
     def attempt(self) -> int:
         """Its number, from 1."""
         return self._about.attempt
+
+    def __reduce__(self) -> tuple[type[Task[Any]], tuple[Told]]:
+        """A copy, or one for another process, knows all of it, and has no connection."""
+        return Task, (whole(self._about),)
+
+    @property
+    def _texts(self) -> Mapping[str, str]:
+        """The results that it may ask for: gathered once, since a step may ask for each of many."""
+        if self._given is None:
+            self._given = self._about.given
+        return self._given
 
     def enter(self, connection: Any) -> None:
         """Sets the connection of a step with `transaction=True`."""
@@ -149,7 +161,7 @@ class Task(Generic[I]):
     def results(self) -> dict[str, Any]:
         """The results of all steps that this one needs, directly or not, by name: the same in each run. One that could not be stored is `{"unstorable": why}`."""
         decoders = self._about.decoders
-        return {name: values.kept(text, decoders.get(name)) for name, text in self._about.given.items()}
+        return {name: values.kept(text, decoders.get(name)) for name, text in self._texts.items()}
 
     @property
     def result(self) -> Any:
@@ -162,14 +174,14 @@ class Task(Generic[I]):
         """`input`, `results` and `result` as JSON has them, for a worker elsewhere."""
         about = self._about
         result = None if about.own is None else values.read(about.own)
-        return {"input": values.read(about.input), "results": {name: values.read(text) for name, text in about.given.items()}, "result": result}
+        return {"input": values.read(about.input), "results": {name: values.read(text) for name, text in self._texts.items()}, "result": result}
 
     @property
     def texts(self) -> dict[str, Any]:
         """All of it, for another node, which makes it again: `input`, `results` and `result` as texts, and `of`, of which its tokens are made."""
         about = self._about
         told = {"saga": about.saga, "key": about.key, "step": about.name, "undo": about.undo, "attempt": about.attempt, "of": about.saga_token}
-        return told | {"input": about.input, "results": about.given, "result": about.own}
+        return told | {"input": about.input, "results": self._texts, "result": about.own}
 
     @overload
     def of(self, step: Step[R]) -> R: ...
@@ -181,7 +193,7 @@ class Task(Generic[I]):
         """What a step, or the one of this name, returned that this one needs, directly or not. Raises `Unstorable` where that could not be stored."""
         name = step if isinstance(step, str) else step.name
         about = self._about
-        text = about.given.get(name)
+        text = self._texts.get(name)
         if text is None:
             if about.undo and name == about.name and about.own is not None:
                 text = about.own
