@@ -202,7 +202,9 @@ class Answers:
         for live in lives:
             self.sent.pop(live, None)
             live.committed = True
-            live.tell(live.starting)
+            if live.starting:
+                live.tell(live.starting)
+                self.owner.has_told = True
             if tells:
                 self.owner.teller.tell("saga_started", key=live.key, saga=live.kind.name)
 

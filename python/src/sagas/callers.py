@@ -39,13 +39,13 @@ class Callers:
 
     `begins` is asked before each call, and `ended` is told when it began, by the monotonic clock, and what came of it; `done` is told instead of all that
     ended well without waiting, several at once: they have their outcomes. `held` is told of one that held the loop for long, up to its end or to where it
-    first waits, and for how many seconds."""
+    first waits, and for how many seconds. `lets` is asked whether others have their turn before further ones are called."""
 
-    def __init__(self, begins: Begins, ended: Ended, done: Done, held: Held, lot: Lot, within: Within | None = None) -> None:
+    def __init__(self, begins: Begins, ended: Ended, done: Done, held: Held, lot: Lot, lets: Callable[[], bool], within: Within | None = None) -> None:
         self._loop = asyncio.get_running_loop()
         self._context = contextvars.copy_context()
         self._begins, self._ended, self._done, self._held, self._within = begins, ended, done, held, within
-        self._lot, self._most = lot, LOT
+        self._lot, self._lets, self._most = lot, lets, LOT
         self._told = time.monotonic()
         self._ready: deque[Attempt] = deque()
         self._next: asyncio.Task[None] | None = None  # the task that calls those
@@ -83,13 +83,15 @@ class Callers:
             await asyncio.sleep(0)
 
     async def _work(self) -> None:
-        """Calls those that are ready. What begins meanwhile follows, or is for the loop's next turn, behind who was told something before it."""
+        """Calls those that are ready. What begins meanwhile follows, or is for the loop's next turn, behind who was told something before it: else a saga
+        might be over before who started it asks how it ended."""
         job, rest, since = asyncio.current_task(), None, time.monotonic()
         assert job
+        self._lets()  # who was told before had their turn before this one
         try:
             while self._ready and rest is None and not job.cancelling():  # a function may cancel the task that it is in
                 rest = self._row(job)
-                if self._ready and rest is None and time.monotonic() - since > TURN:
+                if self._ready and rest is None and (self._lets() or time.monotonic() - since > TURN):
                     await asyncio.sleep(0)
                     since = time.monotonic()
         finally:

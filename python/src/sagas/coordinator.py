@@ -61,6 +61,7 @@ class Coordinator:
         self._queue: list[Batch] = []
         self._writing = self._feeding = False
         self.reading = False  # an answer is read, behind which the store is settled
+        self.has_told = False  # who waited for a start or an end goes on in the loop's next turn
         self.holding = Holding()
         self._opening: asyncio.Future[None] | None = None
         self._loading: set[Pump] = set()
@@ -213,6 +214,11 @@ class Coordinator:
         """How many of so many functions that are called now are told of at once: half, where the server would have nothing to do until all were over."""
         return half(ready) if self.store.takes and not self.is_writing else ready
 
+    def lets(self) -> bool:
+        """Whether somebody was told something, since this was asked, whose turn comes before further functions are called."""
+        told, self.has_told = self.has_told, False
+        return told
+
     def _holds_back(self) -> bool:
         """Whether what waits to be written waits for what is on its way to it."""
         takes = self.store.takes
@@ -302,7 +308,9 @@ class Coordinator:
             live.pump.live.pop(live.number, None)
             if self.lives.get(live.key) is live:
                 del self.lives[live.key]
-            live.tell(live.ending)
+            if live.ending:
+                live.tell(live.ending)
+                self.has_told = True
             if tells or live.phase != "ended":
                 self._tell_end(live)
         self.rest()

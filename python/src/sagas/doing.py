@@ -58,8 +58,8 @@ class Doing:
         self.owner, self.executor = owner, executor
         self.slots = Slots(concurrency, self._run, owner.feed)
         self.fleet = Fleet(owner, self.slots.enter)
-        self.callers = Callers(self._begins, self._called, self._done, self._held_loop, owner.lot)
-        self.inside = Callers(self._begins, self._called_inside, self._done_inside, self._held_loop, owner.lot, owner.store.within)
+        self.callers = Callers(self._begins, self._called, self._done, self._held_loop, owner.lot, owner.lets)
+        self.inside = Callers(self._begins, self._called_inside, self._done_inside, self._held_loop, owner.lot, owner.lets, owner.store.within)
         self._holders: set[tuple[str, str, str]] = set()  # functions of which was told that they hold the loop
         self.running: set[Attempt] = set()
         self.closing = False
