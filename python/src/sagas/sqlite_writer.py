@@ -175,9 +175,8 @@ class Writer:
         """Begins a transaction, unless it is begun with just these rows, and puts the rows of all into it. `patient`: it waits for another program's commit."""
         early, self._early = self._early, None
         try:
-            is_begun = self._db.in_transaction and len(batches) == 1 and early == (batches[0].opened, batches[0].results)
-            if is_begun:
-                return self._put_rows(batches, is_begun), NONE
+            if self._db.in_transaction and len(batches) == 1 and early == (batches[0].opened, batches[0].results):
+                return self._put_rows(batches, has_usual=True), NONE
             return self._put_those_that_may(batches, patient)
         except BaseException:
             self._roll_back()
@@ -187,13 +186,13 @@ class Writer:
         """Begins a transaction, with the rows of all logs but those that guessed wrong (`Batch.guessed`)."""
         self._begin_anew(patient)
         try:
-            return self._put_rows(batches, False), NONE
+            return self._put_rows(batches, has_usual=False), NONE
         except sqlite3.IntegrityError:
             self._begin_anew(patient)
             lost = frozenset(batch.log for batch in batches if any(map(self._has, batch.guessed)))
             if not lost:
                 raise
-            return self._put_rows([batch for batch in batches if batch.log not in lost], False), lost
+            return self._put_rows([batch for batch in batches if batch.log not in lost], has_usual=False), lost
 
     def _has(self, key: str) -> bool:
         """Whether a saga has the key."""
