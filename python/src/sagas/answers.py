@@ -5,7 +5,7 @@ from __future__ import annotations
 import asyncio
 import json
 from collections import deque
-from collections.abc import Callable, Sequence
+from collections.abc import Callable, Iterator, Sequence
 from typing import TYPE_CHECKING, Any
 
 from . import lines, values
@@ -47,7 +47,6 @@ class Answers:
     reserved: int
     full: bool
     hungry: bool
-    _text: str
     _begun: list[Attempt]
     _ended: list[Live]
     _over_odd: dict[int, None]
@@ -64,35 +63,33 @@ class Answers:
 
     def _expected(self, batch: Batch, attempts: Sequence[Attempt], lives: Sequence[Live]) -> tuple[list[Opened], list[Result]]:
         """The rows of sagas that are asked to be opened and of attempts that are reported, where the child agrees to all."""
-        opened = [self._opening(live, self.opened + place, batch.at) for place, live in enumerate(lives)]
+        opened = [self._opening(live, self.opened + place, batch.at) for place, live in enumerate(lives)] if lives else []
         return opened, [self._result(attempt, WELL[attempt.kind], attempt.outcome.value) for attempt in attempts if attempt.outcome]
 
     # -- replies
 
-    def _told_next(self, batch: Batch, acts: list[Act], abouts: Sequence[None], replies: Sequence[str]) -> None:
-        """What begins now, of the reply to `next` where it was asked."""
-        begun = self._begun
-        for reply in replies:
-            tasks = lines.tasks_in(reply)
-            if tasks is not None:  # most replies have no plan
-                self.hungry = not reply.startswith(lines.SETTLED)
-                lives = self.live
-                for saga, step, word, number in tasks:
-                    live = lives[saga]
-                    attempt = Attempt(live, step, word, number, fresh=True)
-                    live.busy[attempt.word] = attempt
-                    begun.append(attempt)
-                continue
-            told = values.read(reply)
-            self.hungry = "settled" not in told
-            for task in told["tasks"]:
-                live, word = self.live[task["saga"]], task["task"]
-                if word == "plan":
-                    self._told_plan(batch, acts, live, task)
-                    continue
-                attempt = Attempt(live, task["step"], word, task["attempt"], fresh=True)
+    def _told_next(self, batch: Batch, acts: list[Act], reply: str) -> None:
+        """What begins now."""
+        begun, lives = self._begun, self.live
+        tasks = lines.tasks_in(reply)
+        if tasks is not None:  # most replies have no plan
+            self.hungry = not reply.startswith(lines.SETTLED)
+            for saga, step, word, number in tasks:
+                live = lives[saga]
+                attempt = Attempt(live, step, word, number, fresh=True)
                 live.busy[attempt.word] = attempt
                 begun.append(attempt)
+            return
+        told = values.read(reply)
+        self.hungry = "settled" not in told
+        for task in told["tasks"]:
+            live, word = lives[task["saga"]], task["task"]
+            if word == "plan":
+                self._told_plan(batch, acts, live, task)
+                continue
+            attempt = Attempt(live, task["step"], word, task["attempt"], fresh=True)
+            live.busy[attempt.word] = attempt
+            begun.append(attempt)
 
     def _told_plan(self, batch: Batch, acts: list[Act], live: Live, task: dict[str, Any]) -> None:
         live.odd, live.draining, live.answer = True, False, task["answer"]
@@ -104,7 +101,7 @@ class Answers:
         self.owner.slots.release(len(attempts))
         self.owner.doing.begin_all(attempts)
 
-    def _told_reports(self, batch: Batch, acts: list[Act], attempts: Sequence[Attempt], replies: Sequence[str]) -> None:
+    def _told_reports(self, batch: Batch, acts: list[Act], attempts: Sequence[Attempt], replies: Iterator[str]) -> None:
         rows = batch.results
         for attempt, reply in zip(attempts, replies):
             told = lines.event_and_phase(reply)
@@ -161,7 +158,7 @@ class Answers:
         else:
             self._over(batch, live, "ended", live.kind.all_done)
 
-    def _told_opens(self, batch: Batch, acts: list[Act], lives: Sequence[Live], replies: Sequence[str]) -> None:
+    def _told_opens(self, batch: Batch, acts: list[Act], lives: Sequence[Live], replies: Iterator[str]) -> None:
         there: list[Live] = []
         for live, reply in zip(lives, replies):
             if not reply.startswith(lines.EVENT):
@@ -208,7 +205,7 @@ class Answers:
             if tells:
                 self.owner.teller.tell("saga_started", key=live.key, saga=live.kind.name)
 
-    def _told_aborts(self, batch: Batch, acts: list[Act], aborts: Sequence[Abort], replies: Sequence[str]) -> None:
+    def _told_aborts(self, batch: Batch, acts: list[Act], aborts: Sequence[Abort], replies: Iterator[str]) -> None:
         for abort, reply in zip(aborts, replies):
             live, _, request = abort
             done = reply.startswith(lines.EVENT)

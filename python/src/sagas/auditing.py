@@ -8,7 +8,7 @@ from typing import TYPE_CHECKING
 
 from . import lines, program
 from .errors import StoreUnwritable
-from .records import Batch, Rare
+from .records import Batch
 
 if TYPE_CHECKING:
     from .coordinator import Coordinator
@@ -33,7 +33,8 @@ async def close(owner: Coordinator, pump: Pump) -> None:
         return
     if not yes:
         owner.teller.tell("audit_failed", detail=f"log {pump.name}: {said}")
-    batch = Batch(pump.log, owner.clock(), epoch=pump.epoch, then=lambda fault: owner.ending.discard(pump.log), rare=Rare(closed=(1 if yes else 2, said)))
+    batch = Batch(pump.log, owner.clock(), epoch=pump.epoch, then=lambda fault: owner.ending.discard(pump.log))
+    batch.more.closed = 1 if yes else 2, said
     owner.enqueue(batch)
     owner.teller.tell("log_closed", detail=pump.name)
 

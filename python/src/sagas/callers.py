@@ -4,11 +4,12 @@ from __future__ import annotations
 
 import asyncio
 import contextvars
+import inspect
 import time
 import types
 from collections import deque
 from collections.abc import Awaitable, Callable, Coroutine, Generator, Sequence
-from typing import Any
+from typing import Any, Protocol
 
 from . import calling
 from .calling import Outcome
@@ -28,10 +29,28 @@ Begins = Callable[[Attempt], bool]
 Ended = Callable[[Attempt, float, "Outcome | None"], None]
 Done = Callable[[list[Attempt]], None]
 Held = Callable[[Attempt, float], None]
-Within = Callable[[Attempt, Function, Task[Any]], Awaitable[Any]]
-"""How a function is called that is not called alone."""
 Lot = Callable[[int], int]
 """How many of so many that are called now are told of at once."""
+
+
+Take = Callable[[], Any]
+"""What gives a function a connection, where it asks for one."""
+
+
+class Inside(Protocol):
+    """How functions are called that may have a connection: as others, as long as they ask for none."""
+
+    def enter(self, attempt: Attempt) -> Take | None:
+        """One is about to be called: what gives it a connection until it first waits. None where there is no connection at hand."""
+
+    async def end(self, attempt: Attempt, task: Task[Any], work: Awaitable[Any]) -> Any:
+        """What is left of a function that was entered, up to the end of what it did there. Gives what it returns, and raises what it raises."""
+
+    def raised(self, error: BaseException) -> BaseException:
+        """What a function is taken to have raised that had no connection."""
+
+    async def within(self, attempt: Attempt, function: Function, task: Task[Any]) -> Any:
+        """All of it, as soon as there is a connection."""
 
 
 class Callers:
@@ -41,16 +60,17 @@ class Callers:
     ended well without waiting, several at once: they have their outcomes. `held` is told of one that held the loop for long, up to its end or to where it
     first waits, and for how many seconds. `lets` is asked whether others have their turn before further ones are called."""
 
-    def __init__(self, begins: Begins, ended: Ended, done: Done, held: Held, lot: Lot, lets: Callable[[], bool], within: Within | None = None) -> None:
+    def __init__(self, begins: Begins, ended: Ended, done: Done, held: Held, lot: Lot, lets: Callable[[], bool], inside: Inside | None = None) -> None:
         self._loop = asyncio.get_running_loop()
         self._context = contextvars.copy_context()
-        self._begins, self._ended, self._done, self._held, self._within = begins, ended, done, held, within
+        self._begins, self._ended, self._done, self._held, self._inside = begins, ended, done, held, inside
         self._lot, self._lets, self._most = lot, lets, LOT
         self._told = time.monotonic()
         self._ready: deque[Attempt] = deque()
         self._next: asyncio.Task[None] | None = None  # the task that calls those
         self._waiters: dict[Function, int] = {}  # functions that waited the last time, and how many calls have their own task at once
         self._over: list[Attempt] = []  # ended well, and not told
+        self._turns = _Turns()  # goes on with one after the other
 
     def call(self, attempts: Sequence[Attempt]) -> None:
         """Calls their simple functions soon."""
@@ -62,9 +82,10 @@ class Callers:
         """Calls it by a task of its own, where it will wait as far as is known."""
         function = attempt.action.simple
         assert function
-        left = self._waiters.get(function, 0)
-        if left:
+        left = self._waiters.pop(function, 0)
+        if left > 1:
             self._waiters[function] = left - 1
+        if left:
             attempt.job = self.start(self._alone(attempt, function))
         return left > 0
 
@@ -137,7 +158,7 @@ class Callers:
         began = time.monotonic()
         try:
             task: Task[Any] = Task(attempt)
-            work = self._within(attempt, function, task) if self._within else function(task)
+            work = self._inside.within(attempt, function, task) if self._inside else function(task)
             outcome: Outcome | None = await calling.ended(work, task)
         except BaseException as error:
             outcome = calling.interrupted(error, attempt.manner)
@@ -145,45 +166,56 @@ class Callers:
 
     def _call(self, attempt: Attempt) -> Coroutine[Any, Any, None] | None:
         """Its function up to where it waits: then what is left."""
-        function, began, context = attempt.action.simple, time.monotonic(), self._context.copy()
+        function, began, context, turns, inside = attempt.action.simple, time.monotonic(), self._context.copy(), self._turns, self._inside
         assert function
+        task: Task[Any] = Task(attempt)
+        if inside:
+            take = inside.enter(attempt)
+            if take is None:
+                return self._wait(attempt, began, task, inside.within(attempt, function, task))
+            task.enter_by(take)
         try:
-            task: Task[Any] = Task(attempt)
-            work = self._within(attempt, function, task) if self._within else function(task)
-            if not isinstance(work, types.CoroutineType):  # it only says that it is async
+            work = function(task)
+            if type(work) is not types.CoroutineType:  # it only says that it is async
                 work = _awaited(work)
-            waits_for = context.run(work.send, None)
-        except StopIteration as end:
+            waits_for = context.run(turns.go, work)
+        except BaseException as error:
+            self._turns = _Turns()
+            if inside and task.leave() is not None:
+                return self._wait(attempt, began, task, inside.end(attempt, task, _raised(error)))
+            outcome: Outcome | None = calling.interrupted(inside.raised(error) if inside else error, attempt.manner)
+            self._look(attempt, time.monotonic() - began)
+        else:
+            if waits_for is not turns.over:
+                self._turns = _Turns()
+                rest = _whole(_Rest(turns, waits_for, context))
+                return self._late(attempt, function, began, task, inside.end(attempt, task, rest) if inside else rest)
+            value = waits_for.pop()
             try:
-                attempt.took, attempt.outcome = time.monotonic() - began, calling.done(end.value, task)
-            except calling.Unawaited as forgot:
-                self._waiters[function] = AGAIN
-                self._look(attempt, time.monotonic() - began)
-                return self._wait(attempt, began, task, _Rest(calling.whole(forgot.value), None, context))
+                attempt.took, attempt.outcome = time.monotonic() - began, calling.done(value, task)
+            except calling.Unawaited:
+                rest = _come_of(value, context)
+                return self._late(attempt, function, began, task, inside.end(attempt, task, rest) if inside else rest)
+            if inside and task.leave() is not None:
+                return self._late(attempt, function, began, task, inside.end(attempt, task, calling.whole(value)))
             self._over.append(attempt)
             if len(self._over) >= self._most:
                 self._tell()
             return None
-        except BaseException as error:
-            outcome: Outcome | None = calling.interrupted(error, attempt.manner)
-            self._look(attempt, time.monotonic() - began)
-        else:
-            self._waiters[function] = AGAIN
-            self._look(attempt, time.monotonic() - began)
-            return self._wait(attempt, began, task, _Rest(work, waits_for, context))
         if self._over:
             self._tell()
         self._ended(attempt, began, outcome)
         return None
 
-    async def _wait(self, attempt: Attempt, began: float, task: Task[Any], rest: _Rest) -> None:
+    def _late(self, attempt: Attempt, function: Function, began: float, task: Task[Any], rest: Awaitable[Any]) -> Coroutine[Any, Any, None]:
+        """What is left of one that waits."""
+        self._waiters[function] = AGAIN
+        self._look(attempt, time.monotonic() - began)
+        return self._wait(attempt, began, task, rest)
+
+    async def _wait(self, attempt: Attempt, began: float, task: Task[Any], rest: Awaitable[Any]) -> None:
         try:
-            while True:
-                try:
-                    outcome: Outcome | None = calling.done(await rest, task)
-                    break
-                except calling.Unawaited as forgot:
-                    rest = _Rest(calling.whole(forgot.value), None, rest.context)
+            outcome: Outcome | None = calling.done(await rest, task)
         except BaseException as error:
             outcome = calling.interrupted(error, attempt.manner)
         self._ended(attempt, began, outcome)
@@ -193,20 +225,61 @@ async def _awaited(work: Awaitable[Any]) -> Any:
     return await work
 
 
+async def _raised(error: BaseException) -> Any:
+    raise error
+
+
+async def _come_of(value: Any, context: contextvars.Context) -> Any:
+    """What comes of what a function gave that is to be awaited, in its context."""
+    return await _Rest(_Turns(), None, context, calling.whole(value))
+
+
+async def _whole(rest: _Rest) -> Any:
+    """What is left, and what comes of that, where it is to be awaited."""
+    value = await rest
+    return await _come_of(value, rest.context) if inspect.isawaitable(value) else value
+
+
+class _Turns:
+    """Goes on with one function after the other, up to where it waits or is over. A function that it sends along would end by an exception, which takes as
+    long as a short function; so what it sends on is over by giving `over`, a list of what it returned, and is then sent the next function."""
+
+    __slots__ = ("over", "go", "fail")
+
+    def __init__(self) -> None:
+        self.over: list[Any] = []
+        turns = _one_by_one(self.over)
+        next(turns)
+        self.go: Callable[[Any], Any] = turns.send
+        self.fail: Callable[[BaseException], Any] = turns.throw
+
+
+@types.coroutine
+def _one_by_one(over: list[Any]) -> Generator[Any, Any, None]:
+    work = yield
+    while True:
+        over.append((yield from work))
+        work = yield over
+
+
 class _Rest:
     """What is left of a function that waits for something (None: the loop's next turn), each part of it in its context; gives what it returns."""
 
-    def __init__(self, work: Coroutine[Any, Any, Any], waits_for: Any, context: contextvars.Context) -> None:
-        self._work, self._waits_for, self.context = work, waits_for, context
+    def __init__(self, turns: _Turns, waits_for: Any, context: contextvars.Context, work: Coroutine[Any, Any, Any] | None = None) -> None:
+        """`work`: it is not begun yet, and goes on with that."""
+        self._turns, self._waits_for, self.context, self._work = turns, waits_for, context, work
 
     def __await__(self) -> Generator[Any, Any, Any]:
-        waits_for = self._waits_for
-        while True:
+        turns, waits_for, work = self._turns, self._waits_for, self._work
+        while waits_for is not turns.over:
             try:
-                go_on, told = self._work.send, (yield waits_for)
+                go_on, told = turns.go, (yield waits_for)
             except BaseException as error:
-                go_on, told = self._work.throw, error
-            try:
-                waits_for = self.context.run(go_on, told)
-            except StopIteration as end:
-                return end.value
+                go_on, told = turns.fail, error
+                if work is not None:
+                    work.close()
+            else:
+                if work is not None:
+                    told, work = work, None
+            waits_for = self.context.run(go_on, told)
+        return waits_for.pop()

@@ -37,7 +37,7 @@ class Child:
         """How many replies are to come: while there are any, nothing else is asked."""
         self._replies: list[Reply] = []  # that came
         self._shown: list[str] = []  # lines of the log that came, each with its plus
-        self._part = b""  # of a line that has not come whole
+        self._part = ""  # of a line that has not come whole
         self._out = b""
         self._writing = self.dead = False
         self.buried: asyncio.Future[None] = self._loop.create_future()
@@ -87,17 +87,22 @@ class Child:
         """Whether its answers are waited for."""
         return not self._late
 
-    def wait(self) -> None:
-        """Waits here for the answer, as long as answers come within `WAIT`: that takes less than a turn of the loop."""
+    def wait(self, is_late: bool) -> None:
+        """Waits here for the answer, as long as answers come within `WAIT`: that takes less than a turn of the loop. `is_late`: it may be there already."""
         if self._late:
             self._late -= 1
-        elif self._poll.poll(WAIT):
-            try:
+            return
+        answered = self._answered
+        try:
+            if is_late:
                 self._readable()
-            except Exception as error:  # who asks has nothing to do with what the answer comes to
-                self._loop.call_exception_handler({"message": "an answer of sagas drive", "exception": error})
-        else:
-            self._late = AGAIN
+            if self._answered is answered and not self.dead:
+                if self._poll.poll(WAIT):
+                    self._readable()
+                else:
+                    self._late = AGAIN
+        except Exception as error:  # who asks has nothing to do with what the answer comes to
+            self._loop.call_exception_handler({"message": "an answer of sagas drive", "exception": error})
 
     def _write(self) -> None:
         try:
@@ -125,22 +130,19 @@ class Child:
         if not data:
             self._die()
             return
-        self._sort(data)
-        if self.asked and len(self._replies) >= self.asked:
-            replies, self._replies, self.asked = self._replies, [], 0
-            text, self._shown = "\n".join([*self._shown, ""])[1:].replace("\n+", "\n"), []
-            answered, self._answered = self._answered, None
-            assert answered
-            answered(replies, text.removeprefix(lines.HEADER))
-
-    def _sort(self, data: bytes) -> None:
-        """The whole lines that have come: one of the log stands behind a plus, and is shown before the reply that it belongs to; a reply begins with a brace."""
-        data = self._part + data
-        whole = data.rfind(b"\n") + 1
-        self._part = data[whole:]
+        came = (self._part + data.decode()).split("\n")  # all of ASCII: no character is cut
+        self._part = came.pop()
         replies, shown = self._replies, self._shown
-        for line in filter(None, data[:whole].decode().split("\n")):
-            (shown if line[0] == "+" else replies).append(line)
+        for line in came:
+            if line[:1] == "+":  # a line of the log, shown before the reply that it belongs to
+                shown.append(line)
+            else:
+                replies.append(line)
+        if self.asked and len(replies) >= self.asked:
+            answered = self._answered
+            assert answered
+            self._replies, self._shown, self.asked, self._answered = [], [], 0, None
+            answered(replies, "\n".join([*shown, ""])[1:].replace("\n+", "\n").removeprefix(lines.HEADER))
 
     def _die(self) -> None:
         if not self.dead:

@@ -59,7 +59,7 @@ class Doing:
         self.slots = Slots(concurrency, self._run, owner.feed)
         self.fleet = Fleet(owner, self.slots.enter)
         self.callers = Callers(self._begins, self._called, self._done, self._held_loop, owner.lot, owner.lets)
-        self.inside = Callers(self._begins, self._called_inside, self._done_inside, self._held_loop, owner.lot, owner.lets, owner.store.within)
+        self.inside = Callers(self._begins, self._called_inside, self._done, self._held_loop, owner.lot, owner.lets, owner.store.inside)
         self._holders: set[tuple[str, str, str]] = set()  # functions of which was told that they hold the loop
         self.running: set[Attempt] = set()
         self.closing = False
@@ -76,11 +76,12 @@ class Doing:
         alone: list[Attempt] = []
         inside: list[Attempt] = []
         for attempt in attempts:
-            if self._is_simple(attempt) and slots.running < slots.most and not self.closing:
-                slots.running += 1
-                (inside if attempt.action.inside else alone).append(attempt)
-            else:
+            action = attempt.action
+            if action.simple is None or attempt.attempt != 1 or attempt.live.draining or slots.running >= slots.most or self.closing:
                 self.begin(attempt)
+                continue
+            slots.running += 1
+            (inside if action.inside else alone).append(attempt)
         if alone:
             self._call_simple(self.callers, alone)
         if inside:
@@ -315,13 +316,16 @@ class Doing:
             outcome = await self._elsewise(attempt, attempt.manner)
         except Lost as error:
             outcome, fault = None, error
-        if self._over(attempt, began):
+        record, attempt.record = attempt.record, None
+        if record and record.carried:
+            self.owner.carrying.carry(attempt, began, outcome, record.carried)
+        elif self.over(attempt, began):
             if fault is not None:
-                self._lose(attempt, fault)
+                self.lose(attempt, fault)
             elif outcome is not None:
-                self._sort(attempt, outcome)
+                self.sort(attempt, outcome)
 
-    def _lose(self, attempt: Attempt, fault: Lost) -> None:
+    def lose(self, attempt: Attempt, fault: Lost) -> None:
         """Nobody knows whether its transaction was committed: its log is taken up again, which tells."""
         self._tell(attempt, "commit_failed", str(fault))
         attempt.state = "taken"
@@ -330,11 +334,11 @@ class Doing:
 
     def _called(self, attempt: Attempt, began: float, outcome: Outcome | None) -> None:
         """A simple one was called."""
-        if self._over(attempt, began) and outcome is not None:
+        if self.over(attempt, began) and outcome is not None:
             if outcome.kind == "done":
                 self.outcome(attempt, outcome, now=True)
             else:
-                self._sort(attempt, outcome)
+                self.sort(attempt, outcome)
 
     def _done(self, attempts: list[Attempt]) -> None:
         """Simple ones were called, and each is done: as `_called`, of all at once."""
@@ -360,18 +364,14 @@ class Doing:
         """A simple one was called in a transaction."""
         record, attempt.record = attempt.record, None
         fault = record.lost() if record else None
-        if fault is None:
+        if record and record.carried:
+            self.owner.carrying.carry(attempt, began, outcome, record.carried)
+        elif fault is None:
             self._called(attempt, began, outcome)
-        elif self._over(attempt, began):
-            self._lose(attempt, fault)
+        elif self.over(attempt, began):
+            self.lose(attempt, fault)
 
-    def _done_inside(self, attempts: list[Attempt]) -> None:
-        """Simple ones were called in transactions, and did nothing there."""
-        for attempt in attempts:
-            attempt.record = None
-        self._done(attempts)
-
-    def _over(self, attempt: Attempt, began: float) -> bool:
+    def over(self, attempt: Attempt, began: float) -> bool:
         """Its function is over; whether anything comes of that, since it was not forgotten meanwhile."""
         if private.forks != self.owner.forks:  # a function forked, and its child came back here
             os._exit(70)
@@ -391,7 +391,8 @@ class Doing:
         late = functools.partial(self._tell, attempt, "step_late")
         return await call(attempt, manner, attempt.task(), self.executor, late)
 
-    def _sort(self, attempt: Attempt, outcome: Outcome) -> None:
+    def sort(self, attempt: Attempt, outcome: Outcome) -> None:
+        """What becomes of it, by how its function ended."""
         if outcome.kind == "unknown":
             self.unknown(attempt, outcome)
         elif outcome.kind == "done" and self._asks(attempt):

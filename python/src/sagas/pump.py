@@ -26,8 +26,6 @@ logger = logging.getLogger("sagas")
 MOST_NEXT = 1000
 FEW = 64
 """Requests whose answer comes soon."""
-Asked = tuple[Callable[[Batch, list[Act], Sequence[Any], Sequence[Reply]], None], Sequence[Any]]
-"""What reads some replies, and what each of them is about."""
 TURN = 0.1  # seconds that a log keeps its child while others wait for one
 
 
@@ -54,7 +52,6 @@ class Pump(Answers):
         self.unwritten: int = 0  # batches on their way to the store
         self.more: int = 1
         self.outstanding = 0  # tasks that were asked for
-        self._text = ""  # of the log, by the answer that is read
         self._begun: list[Attempt] = []  # that this answer begins
         self._ended: list[Live] = []  # sagas that it ends
         self._over_odd: dict[int, None] = {}  # sagas that this answer ends otherwise than all well
@@ -107,8 +104,9 @@ class Pump(Answers):
 
     def due(self) -> bool:
         """Whether something can be sent now: tasks only where there is a slot for them."""
-        starved = self in self.owner.slots.starved or self.owner.closed is not None
-        return bool(self.reports or self.opens or self.aborts or (self.hungry and not starved))
+        if self.reports or self.opens or self.aborts:
+            return True
+        return self.hungry and not (self in self.owner.slots.starved or self.owner.closed is not None)
 
     def granted(self) -> None:
         """It may have a child."""
@@ -159,29 +157,26 @@ class Pump(Answers):
                 return
         if self.owner.placing:
             self.owner.place_now(self)
-        if self.state != "up" or child.asked:  # another log took its child, or it was asked
-            return
+            if self.state != "up" or child.asked:  # another log took its child, or it was asked
+                return
         requests: list[str] = []
-        asked: list[Asked] = []
-        reports: list[Attempt] = []
-        opens: list[Live] = []
+        reports: Sequence[Attempt] = ()
+        aborts: Sequence[Abort] = ()
+        opens: Sequence[Live] = ()
         is_well = True
         if self.reports:
             reports, is_well = self._ask_reports(requests)
-            asked.append((self._told_reports, reports))
         if self.aborts:
-            asked.append((self._told_aborts, self._ask_aborts(requests)))
+            aborts = self._ask_aborts(requests)
         if self.opens:
             opens = self._ask_opens(requests)
-            asked.append((self._told_opens, opens))
         if requests:
             self.hungry = True
-        if self._ask_next(requests):
-            asked.append((self._told_next, (None,)))
+        takes = self._ask_next(requests)
         if requests:
             self.used = time.monotonic()
             batch = self.batch()
-            child.ask(requests, lambda replies, text: self._answered(batch, asked, replies, text))
+            child.ask(requests, lambda replies, text: self._answered(batch, reports, aborts, opens, takes, replies, text))
             if wait and len(requests) <= FEW:
                 self._wait(child, batch, reports if is_well else None, opens)
         else:
@@ -191,18 +186,20 @@ class Pump(Answers):
         """Nothing else goes on: the rows that are written where the child agrees are put while it thinks. Behind a failure (`reports` is None) a plan may
         be made, which calls what the user wrote, so nothing is put."""
         store, self._waits = self.owner.store, True
+        expects = not store.shared and reports is not None and child.is_prompt and not self.owner.is_writing
         try:
-            if reports is not None and child.is_prompt and not self.owner.is_writing:
+            if expects and reports is not None:
                 store.expect(*self._expected(batch, reports, opens))
-            child.wait()
+            child.wait(expects)
         finally:
             self._waits = False
             store.forget()
 
     def _ask_reports(self, requests: list[str]) -> tuple[list[Attempt], bool]:
         """A lot of them, the first first; and whether all ended well."""
-        lot, is_well = list(itertools.islice(self.reports, LOT)), True
-        self.reports = {} if len(lot) == len(self.reports) else dict.fromkeys(itertools.islice(self.reports, LOT, None))
+        lot, self.reports, is_well = [*self.reports], {}, True
+        if len(lot) > LOT:
+            lot, self.reports = lot[:LOT], dict.fromkeys(lot[LOT:])
         self.reporting.append(lot)
         for attempt in lot:
             live, outcome = attempt.live, attempt.outcome
@@ -249,19 +246,27 @@ class Pump(Answers):
 
     # -- from the child
 
-    def _answered(self, batch: Batch, asked: list[Asked], replies: list[Reply], text: str) -> None:
+    def _answered(
+        self, batch: Batch, reports: Sequence[Attempt], aborts: Sequence[Abort], opens: Sequence[Live], takes: bool, replies: list[Reply], text: str
+    ) -> None:
+        """Replies to what was asked of these, and to `next` last, where that was asked."""
         acts: list[Act] = []
-        batch.first = self.events
+        batch.first, batch.text = self.events, text
         if not self._waits:
             batch.at = self.owner.clock()
-        self._text, self._begun, self._ended, self._over_odd, self._passed = text, [], [], {}, False
-        place = 0
+        self._begun, self._ended, self._over_odd, self._passed = [], [], {}, False
         try:
-            for then, abouts in asked:
-                then(batch, acts, abouts, replies[place : place + len(abouts)])
-                place += len(abouts)
-            if place != len(replies):
-                raise Disagrees(f"{len(replies)} replies to {place} requests")
+            if len(reports) + len(aborts) + len(opens) + takes != len(replies):
+                raise Disagrees(f"{len(replies)} replies to {len(reports) + len(aborts) + len(opens) + takes} requests")
+            left = iter(replies)
+            if reports:
+                self._told_reports(batch, acts, reports, left)
+            if aborts:
+                self._told_aborts(batch, acts, aborts, left)
+            if opens:
+                self._told_opens(batch, acts, opens, left)
+            if takes:
+                self._told_next(batch, acts, next(left))
         except Exception as error:
             self._misunderstood(error)
             return
@@ -292,38 +297,39 @@ class Pump(Answers):
 
     def _read(self, batch: Batch, acts: list[Act]) -> None:
         """What is to be asked is asked, and what was answered is committed: a commit may be made here, and meanwhile the child decides."""
+        begun = self._begun
         if self._ended:
             acts.append((self.owner.ended, self._ended))
-        if self._begun:
-            acts.append((self._begin, self._begun))
-        took, unused, self.outstanding = len(self._begun), self.outstanding - len(self._begun), 0
+        if begun:
+            acts.append((self._begin, begun))
+        unused, self.outstanding = self.outstanding - len(begun), 0
         if unused:
             self.owner.slots.release(unused)
-        self.more = min(MOST_NEXT, 2 * took) if self.hungry else 1
-        batch.text = self._text
+        self.more = min(MOST_NEXT, 2 * len(begun)) if self.hungry else 1
         self.events += batch.text.count("\n")
-        is_due, held = self.due(), int(bool(batch))
+        if not self.due():
+            self._commit_now(batch, acts)
+            if self.owner.children.wanted:
+                self.offer()
+            return
+        held = int(bool(batch))
         self.unwritten += held  # it keeps its child until then
         try:
-            if is_due:
-                self._send()
+            self._send()
         finally:
             self.unwritten -= held
             self._commit_now(batch, acts)
-        if not is_due and self.owner.children.wanted:
-            self.offer()
 
     def _commit_now(self, batch: Batch, acts: list[Act]) -> None:
         """As `commit`. Nothing else is in the middle of something: where the commit was made here, what is done after it is done at once."""
-        self.owner.reading = True
-        try:
-            self.commit(batch, acts)
-        except BaseException:
-            self.owner.settle_soon()
-            raise
-        finally:
-            self.owner.reading = False
-        self.owner.store.settle()
+        if batch:
+            self.owner.reading = True
+            try:
+                self.commit(batch, acts)
+            finally:
+                self.owner.reading = False
+        else:
+            self._act(acts)
 
     def commit(self, batch: Batch, acts: list[Act]) -> None:
         """Acts once the batch is in the store."""
@@ -344,20 +350,25 @@ class Pump(Answers):
         else:
             self.born, self.pause = None, 0.0
             self._act(acts)
-        if not self.unwritten:
-            self._settle()
+        self.is_settled()
 
     def offer(self) -> None:
         """Others may have its child, where they wait for one and it rests."""
         if self.owner.children.wanted and self.rests():
             self.owner.loop.call_soon(self.owner.yield_child, self)
 
+    def is_settled(self) -> None:
+        """Nothing of it may be on its way to the store any more."""
+        if not self.unwritten:
+            self._settle()
+
     def _settle(self) -> None:
         if self.state == "stale":
             restoring.again(self)
         if self.owner.children.wanted:
             self.offer()
-        self.owner.close_if_over(self)
+        if not self.live:
+            self.owner.close_if_over(self)
         self.owner.changed()
 
     def batch(self) -> Batch:

@@ -20,16 +20,22 @@ OPENED = f"SELECT count(*) FROM sagas WHERE id >= log * {ROOM} AND id < (log + 1
 LOGS = f"SELECT log, name, shelf, texts, ({OPENED}), ({OPENED} AND phase IS NULL) FROM logs JOIN shelves USING (shelf)"
 LINES = "SELECT first, text FROM lines WHERE log = ? ORDER BY first"
 OPEN_SAGAS = f"SELECT s.id, s.key, s.def, s.input FROM sagas s WHERE {OPEN} ORDER BY s.id"
-OPEN_RESULTS = f"SELECT {RESULT} FROM sagas s JOIN results r USING (id) WHERE {OPEN}"
-OPEN_HELD = f"SELECT {HELD} FROM sagas s JOIN held h USING (id) WHERE {OPEN}"
+OPEN_RESULTS = f"SELECT {RESULT} FROM sagas s CROSS JOIN results r WHERE {OPEN} AND r.id = s.id ORDER BY s.id, r.step, r.kind, r.attempt"
+OPEN_HELD = f"SELECT {HELD} FROM sagas s CROSS JOIN held h WHERE {OPEN} AND h.id = s.id"
+"""SQLite goes by a CROSS JOIN from left to right: by the open sagas first."""
 PLACES = f"SELECT DISTINCT def FROM sagas s WHERE {OPEN}"
 COUNT = "SELECT count(*) FROM sagas s WHERE s.id >= ? AND s.id < ?"
 FIND = f"SELECT {SAGA} FROM sagas WHERE key = ?"
 FIND_MANY = {count: f"SELECT {SAGA} FROM sagas WHERE key IN ({', '.join('?' * count)})" for count in (1, 2, 4, 8, 16, 32, 64, 128, 256)}
 """By how many keys: few numbers, so that their statements are kept."""
 FOUND, MOST_FOUND = [*FIND_MANY], max(FIND_MANY)
+IN_OPEN_LOGS = (
+    f" AND id IN (SELECT o.id FROM logs CROSS JOIN sagas o WHERE closed = 0 AND o.id >= log * {ROOM} AND o.id < (log + 1) * {ROOM} AND o.phase IS NULL)"
+)
+"""How a file, which has no index of open sagas, finds them: a log is closed only when none of its sagas is open, so those of closed ones are not looked at.
+In this order too. PostgreSQL has an index, and leaves this out."""
 PHASES = {
-    "open": "phase IS NULL", "ended": "phase = 'ended'", "planned": PLANNED, "undo-failed": UNDO_FAILED,
+    "open": f"phase IS NULL{IN_OPEN_LOGS}", "ended": "phase = 'ended'", "planned": PLANNED, "undo-failed": UNDO_FAILED,
     "stuck": "phase = 'stuck' AND note IS NULL", "resolved": "phase = 'stuck' AND note IS NOT NULL",
 }  # fmt: skip
 """What a list may be asked for. `planned`: those of `ended` that ended by a plan, since a step had failed or they were aborted; `undo-failed`: those of these
@@ -39,6 +45,11 @@ ENDED_BY_PLAN = f"CASE WHEN {UNDO_FAILED} THEN 2 WHEN {PLANNED} THEN 1 ELSE 0 EN
 """1 of a saga that ended by a plan, 2 where a compensation failed for good, too."""
 DEFINITION = f"SELECT texts, def FROM sagas JOIN logs ON log = id / {ROOM} JOIN shelves USING (shelf) WHERE id = ?"
 REQUESTS = "SELECT id, key, what, value FROM requests WHERE answer IS NULL ORDER BY id"
+
+
+def for_postgresql(query: str, mark: str = "%s") -> str:
+    """A query as psycopg and PostgreSQL take it, with a mark for each value."""
+    return query.replace(IN_OPEN_LOGS, "").replace("?", mark)
 
 
 def bounds(log: int) -> tuple[int, int]:

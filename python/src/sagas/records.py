@@ -48,23 +48,26 @@ class Rare:
     closed: tuple[int, str] | None = None
 
 
-@dataclasses.dataclass(slots=True)
 class Batch:
-    """What one log gains at once. `then` is called with None after the commit, else with what kept it from being."""
+    """What one log gains at once. `then` is called with None after the commit, else with what kept it from being.
 
-    log: int
-    at: float
-    first: int = 0
-    epoch: int = 0
-    then: Callable[[BaseException | None], None] | None = None
-    text: str = ""
-    born: tuple[str, str, str] | None = None
-    opened: list[Opened] = dataclasses.field(default_factory=list)
-    results: list[Result] = dataclasses.field(default_factory=list)
-    ended: list[Ended] = dataclasses.field(default_factory=list)
-    guessed: list[str] = dataclasses.field(default_factory=list)
-    """keys of sagas that it opens, which nobody has looked for: where one is taken, nothing of the batch is written, as where the log is another's"""
-    rare: Rare | None = None
+    `guessed`: keys of sagas that it opens, which nobody has looked for: where one is taken, nothing of the batch is written, as where the log is another's."""
+
+    __slots__ = ("log", "at", "first", "epoch", "then", "text", "born", "opened", "results", "ended", "guessed", "rare")
+
+    def __init__(self, log: int, at: float, first: int = 0, epoch: int = 0, then: Callable[[BaseException | None], None] | None = None) -> None:
+        self.log = log
+        self.at = at
+        self.first = first
+        self.epoch = epoch
+        self.then = then
+        self.text = ""
+        self.born: tuple[str, str, str] | None = None
+        self.opened: list[Opened] = []
+        self.results: list[Result] = []
+        self.ended: list[Ended] = []
+        self.guessed: list[str] = []
+        self.rare: Rare | None = None
 
     def __bool__(self) -> bool:
         """Whether it holds anything."""

@@ -84,7 +84,7 @@ async def load(pump: Pump) -> None:
     shown = [number for number in numbers if number in odd]
     requests = [lines.BUSY, *(lines.show_line(number) for number in shown)]
     whole = loaded
-    child.ask(requests, lambda replies, _: _restore(pump, whole, shown, replies))
+    child.ask(requests, lambda replies, _: _restored(pump, whole, shown, replies))
 
 
 async def _elsewhere(pump: Pump, there: set[str]) -> None:
@@ -108,6 +108,16 @@ def _ended(pump: Pump, child: Child, last: str) -> None:
     pump.child = None
     pump.owner.trouble(pump, SagasError(f"log {pump.name}: sagas drive: {last}"))
     stale(pump)
+
+
+def _restored(pump: Pump, loaded: Loaded, shown: list[int], replies: list[Reply]) -> None:
+    """As `_restore`; a store that contradicts itself is told of, at the opening as an error."""
+    try:
+        _restore(pump, loaded, shown, replies)
+    except Exception as error:
+        logger.exception("log %s: what the store has of it was not understood", pump.name)
+        pump.owner.trouble(pump, SagasError(f"log {pump.name}: what the store has of it was not understood: {error!r}"))
+        stale(pump)
 
 
 def _restore(pump: Pump, loaded: Loaded, shown: list[int], replies: list[Reply]) -> None:

@@ -3,6 +3,7 @@
 from __future__ import annotations
 
 import dataclasses
+from collections.abc import Callable
 from typing import TYPE_CHECKING, Any, Protocol, TypeVar, overload
 
 from . import values
@@ -105,6 +106,27 @@ class End(Answering):
         vars(self).update(  # at once: a frozen class's own form takes three times as long, and each saga makes one
             key=key, saga=saga, phase=phase, states=states, results=results, cost=cost, chain=chain, kept=kept, aborted=aborted, note=note, errors=errors or {},
         )  # fmt: skip
+
+    @classmethod
+    def later(cls, read: Callable[[], End]) -> End:
+        """As what `read` gives, which is called when something is asked of it: most who wait for an end ask for little."""
+        end = object.__new__(cls)
+        vars(end)["_read"] = read
+        return end
+
+    def __getattr__(self, name: str) -> Any:
+        """What is not read yet. (Two threads may read it at once: both have the same.)"""
+        mine = vars(self)
+        if (read := mine.get("_read")) is not None:
+            mine.update({**vars(read()), **mine})
+            mine.pop("_read", None)
+        if name not in mine:
+            raise AttributeError(f"{type(self).__name__!r} object has no attribute {name!r}", name=name, obj=self)
+        return mine[name]
+
+    def __getstate__(self) -> dict[str, Any]:
+        """All of it, for a copy and another process."""
+        return {field.name: getattr(self, field.name) for field in dataclasses.fields(self)}
 
 
 @dataclasses.dataclass(frozen=True, slots=True)

@@ -79,12 +79,18 @@ CREATE INDEX sagas_planned ON sagas(id) WHERE {PLANNED};
 """
 
 
+OPEN = """
+-- open sagas are those of logs that are not closed: to keep an index of them took each saga two pages of the WAL more
+DROP INDEX IF EXISTS sagas_open;
+"""
+
+
 def statements(text: str) -> list[str]:
     """The statements of a text; each ends with a semicolon and its line."""
     return [part for part in text.split(";\n") if part.strip()]
 
 
-MIGRATIONS = [statements(text) for text in (FIRST, TOKENS, REPORTS, PLACES, ENDED)]
+MIGRATIONS = [statements(text) for text in (FIRST, TOKENS, REPORTS, PLACES, ENDED, OPEN)]
 """What makes each version of the one before."""
 
 VERSION = len(MIGRATIONS)

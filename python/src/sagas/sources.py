@@ -12,7 +12,7 @@ import time
 from collections.abc import Iterator
 from typing import Any, Protocol
 
-from . import databases, sqlite
+from . import databases, questions, sqlite
 from .errors import SagasError
 from .requests import WITHDRAW
 from .schema import VERSION
@@ -207,7 +207,7 @@ class Base:
 
     def ask(self, text: str, *words: Any) -> list[Row]:
         with self._faults():
-            return self.link.execute(text.replace("?", "%s"), cleaned(words)).fetchall()
+            return self.link.execute(questions.for_postgresql(text), cleaned(words)).fetchall()
 
     def changed(self, text: str, *words: Any) -> int:
         with self._faults():

@@ -22,11 +22,11 @@ from .errors import MissingHandler, StoreFault, StoreLocked, StoreNewer, StoreUn
 from .forks import private
 from .records import Grant, Loaded, LogRow, Request, SagaRow, Start
 from .schema import MIGRATIONS, VERSION
-from .sqlite_writer import BUSY, CHECKPOINT, Writer
+from .sqlite_writer import BUSY, CHECKPOINT, LONG, Writer
 from .values import cleaned
 
 FRAME = 24  # bytes before each page of a WAL
-LENGTH = CHECKPOINT + CHECKPOINT // 2  # pages: commits go on in the loop for some time before one in the thread moves the WAL
+LENGTH = CHECKPOINT + LONG * 3 // 4  # pages: where the WAL has just fewer than are moved, commits go on in the loop until the thread has the next one
 LOOK = 0.2  # seconds: another program's commit makes no event here
 MOST_LOOK = 30.0
 RIGHTS = "SQLite writes beside it, so this user has to be able to read and write it, and to write in its folder"
@@ -149,6 +149,7 @@ class Sqlite(questions.Questions):
     shared = False
     takes = 0.0
     sought = 0
+    inside = None
 
     def __init__(self, path: str | os.PathLike[str]) -> None:
         self.path = os.fspath(path)
@@ -277,10 +278,6 @@ class Sqlite(questions.Questions):
 
     async def call(self, *words: Any) -> Any:
         """A file has no transactions of others: a store with such steps was refused."""
-        raise NotImplementedError
-
-    async def within(self, *words: Any) -> Any:
-        """As `call`."""
         raise NotImplementedError
 
     # -- reading

@@ -8,6 +8,7 @@ import bisect
 import contextlib
 import functools
 import itertools
+import math
 import queue
 import sqlite3
 import threading
@@ -21,7 +22,11 @@ from .values import clean, cleaned
 
 BUSY = 5000  # ms: an operator's command may be writing
 CHECKPOINT = 750
-"""Pages: a WAL of so many is moved into the file, which takes longer than a commit, and happens in the thread."""
+"""Pages: a WAL of so many is moved into the file by the next commit of the thread, which takes as long as some ten commits."""
+MOST = 6000
+"""Pages: a WAL of so many, as large values make it, is moved by the next commit, wherever that is made."""
+LONG = 1000
+"""Pages that the loop writes into the WAL, as far as it knows, until a commit is made in the thread for that."""
 ROWS = (*range(1, 17), 20, 24, 28, 32, 40, 48, 56, 64, 80, 96, 112, 128, 160, 192, 224, 256, 320, 384, 448, 512)
 """Of a statement: few numbers, so that their statements are kept, and close, so that few statements make any number."""
 FEW_ROWS = 1000
@@ -71,6 +76,7 @@ class Writer:
     def open(self, db: sqlite3.Connection) -> None:
         """Begins to write."""
         self._db, self._loop = db, asyncio.get_running_loop()
+        self._execute = db.cursor().execute  # one cursor for all that gives no rows
         self._thread = threading.Thread(target=self._work, name="sagas-writer", daemon=True)
         self._thread.start()
 
@@ -80,27 +86,31 @@ class Writer:
             self._jobs.put(None)
             self._thread.join()
 
-    def commit(self, batches: Sequence[Batch], then: Then) -> None:
+    def commit(self, batches: Sequence[Batch], then: Then, now: bool) -> None:
         """As `Database.commit`."""
         rows = 0
         for batch in batches:
             rows += len(batch.results) + len(batch.opened)
+        fault: Exception | None = None
+        lost = NONE
         if rows > FEW_ROWS:
             self.forget()
         try:
             put = self._put_here(batches) if rows <= FEW_ROWS else None
-            is_over = put is not None and self._sync_here(put[0], rows)
-        except Exception as fault:
-            self._over = then, batches, fault, NONE
-            return
+            if put is None or not self._sync_here(put[0], rows):
+                self._pages, self._lent = 0, True
+                self._jobs.put((batches, then, put))
+                return
+            lost = put[1]
+        except Exception as error:
+            fault = error
         except BaseException as error:  # Ctrl-C, say: nobody knows how far it came
             self._over = then, batches, error, NONE
             raise
-        if put is not None and is_over:
-            self._over = then, batches, None, put[1]
+        if now:
+            then(batches, fault, lost)
         else:
-            self._pages, self._lent = 0, True
-            self._jobs.put((batches, then, put))
+            self._over = then, batches, fault, lost
 
     def _put_here(self, batches: Sequence[Batch]) -> Put | None:
         """As `_put`; None where somebody else writes just now."""
@@ -113,9 +123,9 @@ class Writer:
 
     def _sync_here(self, events: Events, rows: int) -> bool:
         """As `_sync`, if the disk is fast, and the WAL need not be moved; whether it was done."""
-        if self._took >= AT_ONCE or self._pages >= CHECKPOINT:
+        if self._took >= AT_ONCE or self._pages >= LONG:
             return False
-        self._pages += 6 + rows // 8
+        self._pages += 1 + math.isqrt(4 * rows)  # about as many as they are: rows share pages with their neighbours
         took = self._sync(events, patient=False)
         self._took += LAST * (took - self._took)
         if self._took >= AT_ONCE:
@@ -207,17 +217,17 @@ class Writer:
             self._patient = None
             self._db.execute(f"PRAGMA busy_timeout = {BUSY if patient else 0}")
             self._patient = patient
-        self._db.execute("BEGIN IMMEDIATE")
+        self._execute("BEGIN IMMEDIATE")
 
     def _sync(self, events: Events, patient: bool) -> float:
         """Commits what was put; gives how many seconds the disk took. `patient`: it may move the WAL into the file."""
         try:
             if patient != self._moves:
                 self._moves = None
-                self._db.execute(f"PRAGMA wal_autocheckpoint = {CHECKPOINT if patient else 0}")
+                self._db.execute(f"PRAGMA wal_autocheckpoint = {CHECKPOINT if patient else MOST}")
                 self._moves = patient
             began = time.perf_counter()
-            self._db.execute("COMMIT")
+            self._execute("COMMIT")
         except BaseException:
             self._roll_back()
             raise
@@ -229,25 +239,32 @@ class Writer:
         """A transaction that fails is as if it had never begun."""
         if self._db.in_transaction:
             with contextlib.suppress(sqlite3.Error):
-                self._db.execute("ROLLBACK")
+                self._execute("ROLLBACK")
 
     def _put_rows(self, batches: Sequence[Batch], has_usual: bool) -> Events:
         """Writes the rows of all, as far as they are not there; gives how many events the logs have then."""
-        events = self._put_lines(batches)
+        events: Events = {}
         if len(batches) == 1:
             (batch,) = batches
             opened, results, ended = batch.opened, batch.results, batch.ended
+            self._put_lines(batches, events)
         else:
             opened = [row for batch in batches for row in batch.opened]
             results = [row for batch in batches for row in batch.results]
             ended = [row for batch in batches for row in batch.ended]
+            logs: dict[int, list[Batch]] = {}
+            for batch in batches:
+                logs.setdefault(batch.log, []).append(batch)
+            for of in logs.values():
+                self._put_lines(of, events)
         if not has_usual:
             self._put_usual(opened, results)
         if ended:
             self._put_ended(ended)
-        rare = [(batch.log, batch.rare) for batch in batches if batch.rare]
-        if rare:
-            self._put_rare(rare)
+        for batch in batches:
+            if batch.rare:
+                self._put_rare([(batch.log, batch.rare) for batch in batches if batch.rare])
+                break
         return events
 
     def _put_usual(self, opened: Sequence[Opened], results: Sequence[Result]) -> None:
@@ -256,32 +273,28 @@ class Writer:
         if results:
             self._lots(RESULTS, 7, results)
 
-    def _put_lines(self, batches: Sequence[Batch]) -> Events:
-        """Writes the lines, one row a log; gives how many events the logs have now."""
-        chunks: dict[int, tuple[int, list[str]]] = {}
-        events: Events = {}
-        at = 0.0
+    def _put_lines(self, batches: Sequence[Batch], events: Events) -> None:
+        """Writes the lines of batches of one log, as one row; how many events it has then goes into `events`."""
+        log = batches[0].log
+        had = has = self.events.get(log, 0)
         for batch in batches:
             if batch.born:
                 name, shelf, texts = batch.born
-                self._db.execute("INSERT OR IGNORE INTO shelves VALUES(?, ?)", (shelf, texts))
-                self._db.execute("INSERT OR IGNORE INTO logs(log, name, shelf) VALUES(?, ?, ?)", (batch.log, name, shelf))
+                self._execute("INSERT OR IGNORE INTO shelves VALUES(?, ?)", (shelf, texts))
+                self._execute("INSERT OR IGNORE INTO logs(log, name, shelf) VALUES(?, ?, ?)", (log, name, shelf))
             if batch.text:
-                log = batch.log
-                had = events[log] if log in events else self.events.get(log, 0)
-                if batch.first != had:
-                    raise Gap(f"log {log}: event {batch.first} behind {had}")
-                events[log] = had + batch.text.count("\n")
-                chunks.setdefault(log, (had, []))[1].append(batch.text)
-            at = max(at, batch.at)
-        for log, (first, lines) in chunks.items():
-            self._db.execute(LINES, (log, first, at, "".join(lines)))
-        return events
+                if batch.first != has:
+                    raise Gap(f"log {log}: event {batch.first} behind {has}")
+                has += batch.text.count("\n")
+        if has > had:
+            text = batch.text if len(batches) == 1 else "".join([batch.text for batch in batches])
+            self._execute(LINES, (log, had, batch.at, text))
+            events[log] = has
 
     def _put_ended(self, rows: Sequence[Ended]) -> None:
         """Most of them ended in the same way, and at the same time."""
         if len(rows) == 1:
-            self._db.execute(_statement(ENDED, 1, 1), rows[0])
+            self._execute(_statement(ENDED, 1, 1), rows[0])
             return
         ways: dict[tuple[str, str, float], list[tuple[int]]] = {}
         for phase, end, at, id in rows:
@@ -308,12 +321,12 @@ class Writer:
     def _lots(self, statement: str, width: int, rows: Sequence[Sequence[Any]], words: Sequence[Any] = ()) -> None:
         """As `_many`, by a statement for many rows: one for each row takes longer, and gives up the interpreter's lock each time. `words` stand before them."""
         if len(rows) == 1 and not words:
-            self._db.execute(_statement(statement, width, 1), rows[0])
+            self._execute(_statement(statement, width, 1), rows[0])
             return
         place = 0
         while place < len(rows):
             count = ROWS[bisect.bisect_right(ROWS, len(rows) - place) - 1]
-            self._db.execute(_statement(statement, width, count), [*words, *itertools.chain.from_iterable(rows[place : place + count])])
+            self._execute(_statement(statement, width, count), [*words, *itertools.chain.from_iterable(rows[place : place + count])])
             place += count
 
 
