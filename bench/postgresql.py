@@ -387,6 +387,7 @@ def opening(server: Server, words: argparse.Namespace) -> None:
             times.append(asyncio.run(opened(url)) - began)
         print(f"opening: {int(100_000 * words.scale)} ended, 1,000 open sagas in {1000 // room} logs: {statistics.median(times):.2f} s until all are called", flush=True)
         server.drop(url)
+        setattr(sagas.kinds, "ROOM", 1000)
 
 
 def prune(server: Server, words: argparse.Namespace) -> None:

@@ -38,6 +38,11 @@ from witness import witness_at
 
 KINDS = ("nodes", "children", "closing", "sleep", "names", "server", "relay", "sessions", "lock")
 LEASE = 1.5
+BOOK = """
+CREATE TABLE kinds(kind text PRIMARY KEY); INSERT INTO kinds VALUES ('good');
+CREATE TABLE book(token text, note text, kind text REFERENCES kinds DEFERRABLE INITIALLY DEFERRED);
+"""
+"""Where the steps inside have their effects."""
 TABLES = ("nodes", "logs", "lines", "sagas", "results", "held")
 
 
@@ -111,12 +116,22 @@ class NodeStriker(Striker):
         self.kills["locks"] += 2
 
 
+def noted(url: str, notes: pathlib.Path) -> list[str]:
+    """Tells the witness's notes of the effects inside; gives the tokens of which there are two."""
+    with psycopg.connect(url) as link, open(notes, "a", encoding="utf-8") as file:
+        rows = link.execute("SELECT token, note FROM book").fetchall()
+        file.writelines(f"{note}\n" for _, note in rows)
+    return [token for token, count in Counter(token for token, _ in rows).items() if count > 1]
+
+
 def play(kind: str, seed: int, sagas: int, server: Server, *, most: float = 180, wrong: str | None = None, quiet: int = 6) -> Round:
     """One round: a database, its strikes, its judgement. Its files stay where something was found."""
     draw = random.Random(seed)
     folder = pathlib.Path(tempfile.mkdtemp(prefix="sagas-kills-"))
     concurrency, small = draw.choice((4, 16, 64)), wrong is None and draw.random() < 0.5
     url = server.create()
+    with psycopg.connect(url) as link:
+        link.execute(BOOK)
     with witness_at(folder / "socket", folder / "notes"), relaying(server.port, seed) as relay:
         strikers = []
         for name in ("one", "two"):
@@ -129,7 +144,10 @@ def play(kind: str, seed: int, sagas: int, server: Server, *, most: float = 180,
             thread.start()
         for thread in threads:
             thread.join()
+    twice = noted(url, folder / "notes")
     verdict = judge(url, folder / "notes", sagas)
+    for token in twice:
+        verdict.faults.append(f"inside-twice: {token}")
     for trouble in troubles:
         if trouble:
             verdict.fault("not-over", trouble)

@@ -20,7 +20,8 @@ import sagas
 from cases import until
 from judge import judge
 from relay import Relay, relaying
-from sagas import leases, postgresql, postgresql_commit
+from kills_nodes import BOOK, noted
+from sagas import carried, leases, postgresql, postgresql_commit, step_commit
 from server import Server
 from witness import Witness, witness_at
 from world import Eye, World, started
@@ -30,27 +31,27 @@ COMMIT = b'"event":"commit"'  # as a word of its own: there is one row of each k
 
 
 class Node(World):
-    """The sagas of one node: two steps in a row, each call of which is told to the witness and then waits for its gate."""
+    """The sagas of one node: two steps in a row, each call of which is told to the witness and then waits for its gate; those `inside` are transactions."""
 
-    def __init__(self, witness: Witness, url: str, gates: bool) -> None:
+    def __init__(self, witness: Witness, url: str, gates: bool, inside: bool = False) -> None:
         self.called: list[tuple[str, str]] = []
         self.gates: dict[tuple[str, str], asyncio.Event] = defaultdict(asyncio.Event)
         self.gated, self.wrong = gates, False
         super().__init__(witness, Eye(url))
-        self.sagas = [self.pair()]
+        self.sagas = [self.pair(inside)]
 
-    def pair(self) -> sagas.Saga:
+    def pair(self, inside: bool) -> sagas.Saga:
         """Two steps."""
         pair = sagas.Saga("pair")
 
         async def call(task: Any) -> Any:
             self.called.append((task.key, task.step))
-            value = self.act(task, 0.0)
+            value = await self.write(task, 0.0) if inside else self.act(task, 0.0)
             if self.gated:
                 await self.gates[task.key, task.step].wait()
             return value
 
-        pair.step(name="b", needs=[pair.step(name="a")(call)])(call)
+        pair.step(name="b", transaction=inside, needs=[pair.step(name="a", transaction=inside)(call)])(call)
         return pair
 
     def open_all(self) -> None:
@@ -78,9 +79,9 @@ class Stage:
         self.found: set[str] = set()
 
     @contextlib.asynccontextmanager
-    async def node(self, name: str, *, gates: bool = True, url: str | None = None) -> AsyncIterator[tuple[Node, sagas.Store]]:
+    async def node(self, name: str, *, gates: bool = True, url: str | None = None, inside: bool = False) -> AsyncIterator[tuple[Node, sagas.Store]]:
         """A node, until the block ends."""
-        node = Node(Witness(self._socket), self.url, gates)
+        node = Node(Witness(self._socket), self.url, gates, inside)
         store = sagas.open(url or self.url, node.sagas, node=name, lease=600, idle=600)
         await store.__aenter__()
         try:
@@ -221,11 +222,70 @@ async def a_node_lives(stage: Stage) -> int:
     return 1
 
 
+async def steps_are_inside(stage: Stage) -> int:
+    """As `nothing_happens`, of steps inside the database, each of which is alone."""
+    async with stage.node("one", gates=False, inside=True) as (node, store):
+        for number in range(4):
+            await stage.over(node.one(store, number))
+    return 4
+
+
+async def another_node_has_the_log_of_a_step_inside(stage: Stage) -> int:
+    """A step inside ends, alone, when its log is another's, who has called it too."""
+    async with stage.node("same", inside=True) as (first, store):
+        work = asyncio.create_task(first.one(store, 0))
+        await until(lambda: first.called)
+        async with stage.node("same", inside=True) as (second, other):
+            await until(lambda: second.called)
+            first.gates["k0", "a"].set()
+            assert store._coordinator
+            await stage.happens(lambda: ("k0", "b") in first.called or not store._coordinator.pumps)  # type: ignore[union-attr]
+            second.open_all()
+            await stage.happens(lambda: all(phase for (phase,) in stage.ask("SELECT phase FROM sagas")))
+            first.open_all()
+            await stage.over(work)
+    return 1
+
+
+async def the_commit_of_a_step_inside_takes_long(stage: Stage) -> int:
+    """Nobody can write lines while a step inside ends, alone; another saga's was there before, so that the next step has a connection."""
+    async with stage.node("one", inside=True) as (node, store):
+        work, other = asyncio.create_task(node.one(store, 0)), asyncio.create_task(node.one(store, 1))
+        await until(lambda: len(node.called) == 2)
+        for name in ("a", "b"):
+            node.gates["k1", name].set()
+        await stage.over(other)
+        with stage.locked("lines"):
+            node.gates["k0", "a"].set()
+            await until(stage.waiting)
+            await asyncio.sleep(0.05)  # what would be done before the commit is done by now
+        node.open_all()
+        await stage.over(work)
+    return 2
+
+
+async def the_answer_to_a_step_inside_is_lost(stage: Stage) -> int:
+    """Its commit is done, and its connection cut before the answer."""
+    with relaying(stage.server.port) as relay:
+        async with stage.node("one", url=through(stage, relay), inside=True) as (node, store):
+            work = asyncio.create_task(node.one(store, 0))
+            await until(lambda: node.called)
+            relay.mark = b"EXECUTE sagas_carry("
+            node.gates["k0", "a"].set()
+            await until(lambda: relay.cuts["marked"])
+            node.open_all()
+            await stage.over(work)
+            if not stage.wrong:
+                assert node.called == [("k0", "a"), ("k0", "b")]
+    return 1
+
+
 MOMENTS = {
     moment.__name__: moment
     for moment in (
         nothing_happens, another_node_has_the_log, the_answer_to_a_commit_is_lost, the_commit_takes_long, two_nodes_start_a_key_at_once,
-        two_nodes_guess_a_key_at_once, a_node_lives,
+        two_nodes_guess_a_key_at_once, a_node_lives, steps_are_inside, another_node_has_the_log_of_a_step_inside,
+        the_commit_of_a_step_inside_takes_long, the_answer_to_a_step_inside_is_lost,
     )
 }
 
@@ -233,7 +293,7 @@ MOMENTS = {
 @contextlib.contextmanager
 def applied(name: str | None) -> Iterator[None]:
     """A wrong store in place of the right one, until the block ends."""
-    owners: list[Any] = [postgresql, postgresql.PostgreSQL, postgresql_commit, postgresql_commit.Commit, leases]
+    owners: list[Any] = [postgresql, postgresql.PostgreSQL, postgresql_commit, postgresql_commit.Commit, leases, carried.Carried, step_commit]
     before = [dict(vars(owner)) for owner in owners]
     parts = dict(postgresql_commit.PARTS)
     postgresql_commit.statement.cache_clear()
@@ -256,11 +316,15 @@ def applied(name: str | None) -> Iterator[None]:
 def play(server: Server, name: str, wrong: str | None = None) -> tuple[set[str], list[str]]:
     """A moment over a database of its own; gives the names of what is found, and the faults."""
     url = server.create()
+    with psycopg.connect(url) as link:
+        link.execute(BOOK)
     with tempfile.TemporaryDirectory() as folder, applied(wrong):
         socket, notes = pathlib.Path(folder) / "socket", pathlib.Path(folder) / "notes"
         with witness_at(socket, notes):
             stage = Stage(server, url, socket, wrong is not None)
             count = asyncio.run(asyncio.wait_for(MOMENTS[name](stage), 120))
+        if noted(url, notes):
+            stage.found.add("inside-twice")
         verdict = judge(url, notes, count)
     server.drop(url)
     return verdict.names | stage.found, verdict.faults

@@ -9,6 +9,7 @@ import os
 import pathlib
 import resource
 import signal
+import sqlite3
 import subprocess
 import sys
 import textwrap
@@ -903,5 +904,28 @@ def test_a_compensation_fails_for_good(place: str, must: bool) -> None:
                 assert store.stuck() == [] and (await store.wait("k")).note == "undone by hand"
             else:
                 assert end.phase == "ended" and end.cost == 5 and store.stuck() == []
+
+    run(main())
+
+
+def test_a_store_that_contradicts_itself_is_told_of(tmp_path: pathlib.Path) -> None:
+    """A saga whose row says that it is over, while its log says that it goes on: the opening says so, and does not wait for ever."""
+    gate = asyncio.Event()
+
+    async def main() -> None:
+        waits = sagas.Saga("waits")
+
+        @waits.step
+        async def one(task: Task) -> None:
+            await gate.wait()
+
+        async with sagas.open(tmp_path / "s.db", [waits], grace=0.0) as store:
+            await store.start(waits, "k")
+            await store.start(waits, "other")
+        with contextlib.closing(sqlite3.connect(tmp_path / "s.db")) as db, db:
+            db.execute("UPDATE sagas SET phase = 'ended', \"end\" = '{}' WHERE key = 'k'")
+        with pytest.raises(sagas.ChildError, match="not understood"):
+            async with asyncio.timeout(20), sagas.open(tmp_path / "s.db", [waits], grace=0.0):
+                pass
 
     run(main())

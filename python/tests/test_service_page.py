@@ -241,7 +241,7 @@ def test_what_no_worker_takes(browser: Browser) -> None:
     """A step that waits for a worker says so, and who asks for a step that is not there is shown."""
     with browser.service.client() as client:
         start(client, "trip", "idle-1")
-        take(client, "trip/train")
+        take(client, "trip/train", wait=0)
         browser.go("/ui/sagas/idle-1")
         browser.has("waits for a worker")
         assert "flight: waits for a worker" in client.get("/sagas/idle-1/picture.svg").text

@@ -185,12 +185,14 @@ def test_a_forgotten_await_in_a_transaction(url: str, in_thread: bool) -> None:
 
 KILLED = """
     import asyncio, os, sagas
+    from sagas.carrying import Carrying
     from sagas.doing import Doing
     saga = sagas.Saga("one")
     @saga.step(transaction=True)
     async def book(task):
         await task.connection.execute("INSERT INTO book(key, step, token) VALUES(%s, 'book', %s)", (task.key, task.token))
         return "booked"
+    Carrying.may = lambda self, attempt: False  # as where it is not alone
     Doing.outcome = lambda self, attempt, outcome, now=False: os._exit(9)
     async def main():
         async with sagas.open({url!r}, [saga], node="killed") as store:
@@ -538,12 +540,15 @@ def test_connections_are_reserved(url: str) -> None:
 
     async def main() -> None:
         pool = Pool(url, 2)
-        assert not pool.reserve()
-        await pool.reserve_next()
-        assert not pool.reserve() and pool.at_hand() is None
+        assert not pool.is_at_hand()
+        with pytest.raises(psycopg.OperationalError, match="broke"):
+            pool.now()
+        await pool.reserve()
+        assert not pool.is_at_hand() and pool.at_hand() is None
         first = pool.reserved()
         pool.give(first)
-        assert pool.reserve()
+        assert pool.is_at_hand()
+        await pool.reserve()
         second = await pool.take()
         assert second is not first
         waits = asyncio.create_task(pool.take())
@@ -551,15 +556,17 @@ def test_connections_are_reserved(url: str) -> None:
         pool.release()
         assert await waits is first
         pool.give(first)
-        assert pool.reserve()
+        assert pool.now() is first
+        pool.give(first)
+        await pool.reserve()
         with psycopg.connect(url, autocommit=True) as link:
             link.execute("SELECT pg_terminate_backend(pid) FROM pg_stat_activity WHERE datname = current_database() AND pid <> pg_backend_pid()")
         await until(lambda: first.closed)
         with pytest.raises(psycopg.OperationalError, match="broke"):
             pool.reserved()
         pool.release()
-        assert not pool.reserve()
-        await pool.reserve_next()
+        assert not pool.is_at_hand()
+        await pool.reserve()
         third = pool.reserved()
         await third.execute("SELECT 1")
         await third.rollback()
@@ -597,3 +604,36 @@ def test_a_function_that_asks_late(url: str) -> None:
 
     run(main())
     assert left[1] == "left" and booked(url) == {(f"k{number}", "book"): 1 for number in range(5)}
+
+
+def test_what_ends_at_once_leaves_its_connection(url: str) -> None:
+    """A function that asks for its connection and does nothing there, raises, or gives what is to be awaited: many of each, over two connections."""
+    prepare(url)
+    kind = sagas.Saga("one")
+
+    @kind.step(transaction=True, skip=0)
+    async def book(task: Task) -> Any:
+        async def row() -> str:
+            await task.connection.execute("INSERT INTO book(key, step, token) VALUES(%s, 'book', '')", (task.key,))
+            return "late"
+
+        if task.input == "asks":
+            assert not task.connection.closed
+        elif task.input == "raises":
+            raise sagas.Fail("at once")
+        elif task.input == "asks and raises":
+            raise sagas.Fail(str(task.connection.closed))
+        elif task.input == "gives":
+            return row()
+        return task.input
+
+    async def main() -> None:
+        async with sagas.open(url, [kind], concurrency=2) as store:
+            for way in ("asks", "raises", "asks and raises", "nothing", "gives"):
+                ends = await asyncio.gather(*(ended(store, kind, f"{way} {number}", way) for number in range(20)))
+                states = {end.states["book"] for end in ends}
+                assert states == ({"failed"} if "raises" in way else {"committed"}), way
+                assert way != "gives" or {end.of(book) for end in ends} == {"late"}
+
+    run(main())
+    assert booked(url) == {(f"gives {number}", "book"): 1 for number in range(20)}

@@ -1,4 +1,4 @@
-"""The program that the kill tests kill: four sagas, each of whose calls is told to a witness outside.
+"""The program that the kill tests kill: four sagas, each of whose calls is told to a witness outside, and over PostgreSQL a fifth whose steps are inside.
 
     python3 tests/world.py STORE SOCKET COUNT [--concurrency N] [--small] [--wrong NAME] [--eye URL] [--node NAME] [--lease SECONDS]
 
@@ -100,28 +100,54 @@ class Eye:
 class World:
     """The sagas, over a witness and an eye."""
 
-    def __init__(self, witness: Witness, eye: Eye) -> None:
+    def __init__(self, witness: Witness, eye: Eye, inside: bool = False) -> None:
         self.witness, self.eye = witness, eye
-        self.sagas = [self.chain(), self.trip(), self.must(), self.late()]
+        self.sagas = [self.chain(), self.trip(), self.must(), self.late(), *([self.desk()] if inside else [])]
 
     def act(self, task: Any, failing: float, unknown: float = 0.0) -> Any:
         """A call: begins, fails or has its effect, and perhaps does not hear of it."""
+        said = self.begins(task)
+        if chance(self.named(task)) < failing:
+            self.fail(task, failing)
+        self.witness.note(what="effect", **said, **self.handed(task))
+        if self.is_hazy(said, unknown):
+            raise ConnectionError("nobody knows")
+        return expected(task.key, task.step)
+
+    async def write(self, task: Any, failing: float) -> Any:
+        """As `act`, of a step inside: its effect is a row, and half of its failures are for the server to find in the commit."""
+        said = self.begins(task)
+        fails = chance(self.named(task)) < failing
+        if fails and chance(f"{self.named(task)}/where") < 0.5:
+            self.fail(task, failing)
+        note = json.dumps({"what": "effect", **said, **self.handed(task)})
+        await task.connection.execute("INSERT INTO public.book(token, note, kind) VALUES(%s, %s, %s)", (task.token, note, "bad" if fails else "good"))
+        return expected(task.key, task.step)
+
+    def begins(self, task: Any) -> dict[str, Any]:
+        """It is called."""
         kind = "undo" if task.undo else "run"
         said = {"key": task.key, "step": task.step, "kind": kind, "attempt": task.attempt, "token": task.token}
         name, number, _ = task.token.split("-", 2)
         steps = [step.name for saga in self.sagas if saga.name == task.saga for step in saga.steps]
         begins = self.eye.begins(name, int(number), steps.index(task.step), kind)
         self.witness.note(what="begin", input=task.input, begun=begins, effect_token=task.effect_token, **said)
-        draw = chance(f"{task.key}/{task.step}/{kind}/{task.attempt}")
-        if draw < failing:
-            raise sagas.Fail("for good") if draw < failing / 4 else ValueError("fails")
+        return said
+
+    def named(self, task: Any) -> str:
+        """What is drawn by."""
+        return f"{task.key}/{task.step}/{'undo' if task.undo else 'run'}/{task.attempt}"
+
+    def fail(self, task: Any, failing: float) -> None:
+        """It fails, some for good."""
+        raise sagas.Fail("for good") if chance(self.named(task)) < failing / 4 else ValueError("fails")
+
+    def handed(self, task: Any) -> dict[str, Any]:
+        """What it was given."""
         more: dict[str, Any] = {"results": task.results}
-        if kind == "undo":
+        if task.undo:
             more |= {"of": task.action_token, "result": task.result}
-        self.witness.note(what="effect", **said, **more)
-        if self.is_hazy(said, unknown):
-            raise ConnectionError("nobody knows")
-        return expected(task.key, task.step)
+        return more
 
     def is_hazy(self, said: dict[str, Any], unknown: float) -> bool:
         """Whether the caller does not hear of the effect, this time."""
@@ -225,6 +251,33 @@ class World:
         return late
 
 
+    def desk(self) -> sagas.Saga:
+        """Three steps inside the database, in a row."""
+        desk = sagas.Saga("desk")
+
+        @desk.step(transaction=True, tries=2, backoff=QUICK, keep=9, undo=1)
+        async def enter(task: Any) -> Any:
+            return await self.write(task, 0.2)
+
+        @enter.compensation(tries=3, backoff=QUICK)
+        async def strike(task: Any) -> None:
+            await self.write(task, 0.2)
+
+        @desk.step(transaction=True, needs=[enter], tries=3, timeout=30, backoff=QUICK, keep=9, undo=1)
+        async def stamp(task: Any) -> Any:
+            return await self.write(task, 0.3)
+
+        @stamp.compensation(backoff=QUICK)
+        async def unstamp(task: Any) -> None:
+            await self.write(task, 0.05)
+
+        @desk.step(transaction=True, needs=[stamp], tries=2, backoff=QUICK)
+        async def file(task: Any) -> Any:
+            return await self.write(task, 0.4)
+
+        return desk
+
+
 async def approve_all(world: World, store: sagas.Store) -> None:
     """Somebody who says yes to whatever is asked."""
     while True:
@@ -248,7 +301,7 @@ async def started(store: sagas.Store, saga: sagas.Saga, key: str, given: Any) ->
 async def one(world: World, store: sagas.Store, number: int) -> None:
     """A saga from its start to its end, each thing told to the witness once the program was told it."""
     key, note, eye = f"k{number}", world.witness.note, world.eye
-    run = await started(store, world.sagas[number % 4], key, {"i": number})
+    run = await started(store, world.sagas[number % len(world.sagas)], key, {"i": number})
     note(what="started", key=key, there=eye.phase(key)[0])
     if number % 17 == 0:
         await asyncio.sleep(0.01)
@@ -258,6 +311,19 @@ async def one(world: World, store: sagas.Store, number: int) -> None:
     end = await run.wait()
     told = {"phase": end.phase, "states": end.states, "results": end.results, "cost": end.cost, "aborted": end.aborted}
     note(what="over", key=key, there=eye.phase(key)[1], **told)
+
+
+async def every(world: World, store: sagas.Store, count: int) -> None:
+    """All of them at once; of those with steps inside each by itself, before the others or behind them, so that they are alone as well."""
+    inside = [number for number in range(count) if number % len(world.sagas) == 4]
+    others = [number for number in range(count) if number not in inside]
+    is_first = random.random() < 0.5
+    if not is_first:
+        await asyncio.gather(*(one(world, store, number) for number in others))
+    for number in inside:
+        await one(world, store, number)
+    if is_first:
+        await asyncio.gather(*(one(world, store, number) for number in others))
 
 
 async def opened(stack: contextlib.AsyncExitStack, make: Callable[[], sagas.Store]) -> sagas.Store:
@@ -273,7 +339,7 @@ async def opened(stack: contextlib.AsyncExitStack, make: Callable[[], sagas.Stor
 
 async def main(words: argparse.Namespace) -> None:
     """Starts what is not there, waits for all, and closes; SIGTERM closes it earlier."""
-    world = World(Witness(words.socket), Eye(words.eye or words.store))
+    world = World(Witness(words.socket), Eye(words.eye or words.store), inside=words.node is not None)
     if words.wrong:
         package = "wrong_stores" if words.node else "wrong"
         importlib.import_module(f"{package}.{words.wrong}").apply()
@@ -285,7 +351,7 @@ async def main(words: argparse.Namespace) -> None:
             words.store, world.sagas, concurrency=words.concurrency, children=children, node=words.node, lease=words.lease
         ))
         approving = asyncio.create_task(approve_all(world, store))
-        work = asyncio.gather(*(one(world, store, number) for number in range(words.count)))
+        work = asyncio.create_task(every(world, store, words.count))
         asyncio.get_running_loop().add_signal_handler(signal.SIGTERM, work.cancel)
         print("open", flush=True)
         try:

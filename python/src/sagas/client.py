@@ -11,7 +11,7 @@ from weakref import WeakSet
 
 import psycopg
 
-from . import checks, given, histories, links, moving, news, postgresql, postgresql_schema, requests, room, values, waiting
+from . import checks, given, histories, links, moving, news, postgresql, postgresql_schema, questions, requests, room, values, waiting
 from .calling import Outcome, failure
 from .databases import FORM
 from .definition import Saga, Step
@@ -246,6 +246,7 @@ class Client:
         """As `Store.list`; what no log has taken yet is not in it."""
         query, given = histories.list_query(phase, saga.name if isinstance(saga, Saga) else saga, after, most)
         words = {f"w{number}": word for number, word in enumerate(given)}
+        query = questions.for_postgresql(query, "?")
         for name in words:
             query = query.replace("?", f"%({name})s", 1)
         return [histories.summary(SagaRow(*row)) for row in await self._ask(query, **words)]

@@ -12,6 +12,7 @@ from concurrent.futures import ThreadPoolExecutor
 
 from . import auditing, moving
 from .anywhere import Anywhere
+from .carrying import Carrying
 from .children import Children
 from .doing import Doing
 from .database import Database
@@ -60,9 +61,10 @@ class Coordinator:
         self.placing: list[Live] = []  # sagas that go into a log in this turn of the loop
         self._queue: list[Batch] = []
         self._writing = self._feeding = False
-        self.reading = False  # an answer is read, behind which the store is settled
+        self.reading = False  # an answer was read, and nothing else is in the middle of something: what follows a commit that is made here is done at once
         self.has_told = False  # who waited for a start or an end goes on in the loop's next turn
         self.holding = Holding()
+        self.carrying = Carrying(self)
         self._opening: asyncio.Future[None] | None = None
         self._loading: set[Pump] = set()
         self._rested: asyncio.Event = asyncio.Event()
@@ -161,43 +163,51 @@ class Coordinator:
 
     def enqueue(self, batch: Batch) -> None:
         """Goes into the next transaction."""
-        self._queue.append(batch)
         if self.store.takes:
             self.holding.came()
-        self._write()
+        self._queue.append(batch)
+        self.write()
 
     def empty_batch(self, log: int, then: Callable[[BaseException | None], None]) -> Batch:
         """One of no pump's."""
         return Batch(log, self.clock(), then=then)
 
-    def _write(self) -> None:
-        if self._queue and not self._writing and not self._holds_back():
-            batches, self._queue = self._queue, []
+    def write(self) -> None:
+        """What is to be written is, unless it waits for what is under way, or for more."""
+        if self.carrying.now and not self._writing:
             self._writing = True
-            self.store.commit(batches, self._written)
-            if not self.reading:
-                self.settle_soon()
+            self._queue = self.carrying.write(self._queue, self._written)
+        else:
+            self._write()
+
+    def _write(self) -> None:
+        if self._queue and not self._writing and not (self.store.takes and self._holds_back()):
+            batches, self._queue = self._queue, []
+            now, self.reading, self._writing = self.reading, False, True
+            try:
+                self.store.commit(batches, self._written, now)
+            except BaseException:
+                self._settle_soon()
+                raise
+            if not now:
+                self._settle_soon()
 
     @property
     def is_writing(self) -> bool:
         """Whether a commit is under way, or more than the next batch waits for one."""
         return self._writing or bool(self._queue)
 
-    def settle_soon(self) -> None:
+    def _settle_soon(self) -> None:
         """What is over is told in the loop's next turn."""
         if not self.store.shared:  # a server's answer comes in a turn of its own
             self.loop.call_soon(self.store.settle)
 
     def _written(self, batches: Sequence[Batch], fault: BaseException | None, lost: frozenset[int]) -> None:
         self._writing = False
-        logs = {batch.log for batch in batches} if fault else lost
-        if fault is not None:
-            self.teller.tell("commit_failed", detail=str(fault))
-        if logs:  # what stands behind these in their logs cannot be written either
-            batches = [*batches, *(batch for batch in self._queue if batch.log in logs)]
-            self._queue = [batch for batch in self._queue if batch.log not in logs]
+        if fault is not None or lost:
+            batches = self._with_those_behind(batches, fault, lost)
         takes = self.store.takes
-        if fault is None and self._queue and not (takes and self.holding.is_soon(rows_of(batches), rows_of(self._queue), takes)):
+        if self._queue and fault is None and not (takes and self.holding.is_soon(rows_of(batches), rows_of(self._queue), takes)):
             self._write()
         for batch in batches:
             assert batch.then
@@ -210,6 +220,15 @@ class Coordinator:
         if self._queue:
             self._write()
 
+    def _with_those_behind(self, batches: Sequence[Batch], fault: BaseException | None, lost: frozenset[int]) -> list[Batch]:
+        """Those that were not written, and what stands behind them in their logs, which cannot be written either."""
+        if fault is not None:
+            self.teller.tell("commit_failed", detail=str(fault))
+        logs = {batch.log for batch in batches} if fault else lost
+        behind = [batch for batch in self._queue if batch.log in logs]
+        self._queue = [batch for batch in self._queue if batch.log not in logs]
+        return [*batches, *behind]
+
     def lot(self, ready: int) -> int:
         """How many of so many functions that are called now are told of at once: half, where the server would have nothing to do until all were over."""
         return half(ready) if self.store.takes and not self.is_writing else ready
@@ -221,9 +240,9 @@ class Coordinator:
 
     def _holds_back(self) -> bool:
         """Whether what waits to be written waits for what is on its way to it."""
-        takes = self.store.takes
-        if not takes:
+        if not self.slots.running and len(self.lives) == 1:  # of a saga that is alone nothing else is
             return False
+        takes = self.store.takes
         coming = self.doing.about_to_call() + sum(pump.asked() for pump in self.children.up()) + self.store.sought + len(self.placing)
         return self.holding.is_worth(coming, rows_of(self._queue), takes, self._write)
 

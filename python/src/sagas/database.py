@@ -17,8 +17,9 @@ from typing import TYPE_CHECKING, Any, Protocol
 from .records import Batch, Grant, Loaded, LogRow, Opened, Request, Result, SagaRow, Start
 
 if TYPE_CHECKING:
+    from .callers import Inside
     from .calling import Outcome
-    from .definition import Bounds, Function, Manner
+    from .definition import Bounds, Manner
     from .live import Attempt
     from .task import Task
 
@@ -93,19 +94,19 @@ class Database(Protocol):
 
     # -- writing
 
-    def commit(self, batches: Sequence[Batch], then: Then) -> None:
-        """One transaction for all; `then` is called in the loop. One at a time: not again before `then`."""
+    def commit(self, batches: Sequence[Batch], then: Then, now: bool) -> None:
+        """One transaction for all; `then` is called in the loop. One at a time: not again before `then`. `now`: it may be called before this returns."""
 
     def expect(self, opened: Sequence[Opened], results: Sequence[Result]) -> None:
         """The next batch will have just these rows of sagas and results, unless `forget` is called before: they may be put already. Where it has others,
-        these were never there."""
+        these were never there. Not called of a database that is shared: all rows of a commit go to the server at once."""
 
     def forget(self) -> None:
         """Nothing is expected any more."""
 
     def settle(self) -> None:
-        """Calls `then` of a commit that was over when `commit` returned. Of a database that is not shared it is called behind each `commit`, by who is in
-        the middle of nothing, or in the loop's next turn."""
+        """Calls `then` of a commit that was over when `commit` returned, and did not call it. Of a database that is not shared it is called in the loop's next
+        turn behind each such `commit`."""
 
     def new_log(self) -> int:
         """The number of a log that is to be born (`Batch.born`)."""
@@ -116,8 +117,9 @@ class Database(Protocol):
     async def call(self, attempt: Attempt, manner: Manner, task: Task[Any], executor: Executor | None, late: Callable[[], object] | None) -> Outcome | None:
         """Calls a function in a transaction that holds its result. Raises `Lost` where nobody knows whether that was committed."""
 
-    async def within(self, attempt: Attempt, function: Function, task: Task[Any]) -> Any:
-        """Calls an async function so, and raises what it raises. `attempt.record` tells what became of the transaction."""
+    @property
+    def inside(self) -> Inside | None:
+        """How async functions are called in transactions: `attempt.record` tells what became of one. None where there are none."""
 
     async def admit(self, name: str, bounds: Bounds, want: int, have: Sequence[int]) -> Grant:
         """Takes up to `want` places of a step for calls that begin now, over all nodes; of those of its limit this node `have`s just these, and gives

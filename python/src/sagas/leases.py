@@ -47,7 +47,7 @@ SELECT {LINE}, EXISTS (SELECT 1 FROM said UNION ALL SELECT 1 FROM entered), EXIS
 PLACES = f"ARRAY(SELECT DISTINCT def FROM sagas WHERE id >= l.log * {ROOM} AND id < (l.log + 1) * {ROOM} AND phase IS NULL)"
 """Of the definitions of a log, those with open sagas."""
 CANDIDATES = f"""
-SELECT l.log, s.texts, {PLACES}
+SELECT json_build_array(l.log, s.texts, {PLACES})::text
 FROM logs l JOIN shelves s USING (shelf) WHERE {ORPHAN} AND l.log <> ALL(%(left)s::bigint[]) ORDER BY l.log LIMIT {LOT}
 """
 TAKE = f"""
@@ -55,10 +55,12 @@ UPDATE logs SET owner = %(node)s, epoch = epoch + 1 WHERE log IN (
   SELECT l.log FROM logs l WHERE l.log = ANY(%(logs)s::bigint[]) AND {ORPHAN} ORDER BY l.log FOR UPDATE SKIP LOCKED) RETURNING log
 """
 TAKEN = f"""
-SELECT log, name, shelf, texts, ({OPENED}), ({OPENED} AND phase IS NULL), epoch, {PLACES} FROM logs l JOIN shelves USING (shelf)
+SELECT json_build_array(log, name, shelf, texts, ({OPENED}), ({OPENED} AND phase IS NULL), epoch, {PLACES})::text FROM logs l JOIN shelves USING (shelf)
 WHERE log = ANY(%(logs)s::bigint[]) AND owner = %(node)s ORDER BY log
 """
-"""What is in the logs that were taken. By a statement behind the taking: one that counted as it took would not see the last commit of a node that still wrote."""
+"""What is in the logs that were taken. By a statement behind the taking: one that counted as it took would not see the last commit of a node that still wrote.
+
+Each row is one text, which psycopg reads in less time than several cells."""
 LEAVE = "UPDATE logs SET owner = NULL, epoch = epoch + 1 WHERE log = ANY(%(logs)s::bigint[]) AND owner = %(node)s"
 GONE = """
 WITH old AS (DELETE FROM nodes WHERE name = %(name)s AND node <> %(node)s),
@@ -129,7 +131,7 @@ class Lease:
         """Some logs that nobody has, of those whose functions this program has; none where there are no more."""
         while True:
             found = await self._asker.read(CANDIDATES, left=list(self.left), node=self.node, mine=mine, own=True)
-            fit = await self._fit(drives, found)
+            fit = await self._fit(drives, [json.loads(text) for (text,) in found])
             taken = await self._asker.ask(TAKE, node=self.node, logs=fit, mine=mine, own=True) if fit else []
             rows = await self._has(drives, [log for (log,) in taken]) if taken else []
             if rows or (fit and not taken) or not found:  # else others took them, or there are none
@@ -147,7 +149,7 @@ class Lease:
 
     async def _has(self, drives: Drives, taken: list[int]) -> list[LogRow]:
         """What is in the logs that were just taken: a saga of theirs, which was opened meanwhile, may need a function that is not here."""
-        found = await self._asker.read(TAKEN, node=self.node, logs=taken)
+        found = [json.loads(text) for (text,) in await self._asker.read(TAKEN, node=self.node, logs=taken)]
         fit = await self._fit(drives, [(row[0], row[3], row[7]) for row in found])
         return [LogRow(log, name, shelf, json.loads(texts), opened, open, epoch) for log, name, shelf, texts, opened, open, epoch, _ in found if log in fit]
 

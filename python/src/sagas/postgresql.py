@@ -17,6 +17,7 @@ from .database import Drives, Then, Watcher
 from .definition import Bounds
 from .errors import NoSuchSaga, StoreUnwritable
 from .leases import UNTAKEN, Lease
+from .loads_postgresql import Loads
 from .places_postgresql import Places
 from .postgresql_commit import Commit
 from .postgresql_writer import Writer
@@ -41,8 +42,6 @@ SELECT NOT EXISTS (SELECT 1 FROM logs WHERE log = %(log)s AND (owner IS DISTINCT
 FROM (SELECT) one LEFT JOIN lines l ON l.log = %(log)s ORDER BY l.first
 """
 """Beside each chunk of a log, whether the log is this node's under this epoch, or is not born yet: as of one moment."""
-TAKE_UP = "UPDATE logs SET epoch = epoch + 1 WHERE log = %(log)s AND owner = %(node)s AND closed = 0 RETURNING epoch"
-"""Whatever its epoch is: this node may not have heard of the last one that it made."""
 REQUESTS = """
 SELECT r.id, r.key, r.what, r.value FROM requests r JOIN sagas s USING (key) JOIN logs l ON l.log = s.id / 1000
 WHERE r.answer IS NULL AND (l.owner = %(node)s OR l.closed <> 0) ORDER BY r.id
@@ -73,12 +72,13 @@ class PostgreSQL(questions.Questions):
         self.asker = links.Asker(url, self.path, 3)
         self.lease = Lease(self.asker, node, lease, version)
         self._sagas = list(sagas)
-        self._transactions = Transactions(url, self.path, self.lease.node, lambda: self._line, most)
-        self.call, self.within = self._transactions.call, self._transactions.within
         self._places = Places(self.asker, self.lease.node)
+        self._loads = Loads(self.asker, self.lease.node, self._spawn)
         self._line = ""
         self._numbers: deque[int] = deque()
         self._writer = Writer(url, self.path, self.lease.node, self._check_server, self._kept)
+        self._transactions = Transactions(url, self.path, self.lease.node, lambda: self._line, self._writer, most)
+        self.call, self.inside = self._transactions.call, self._transactions
         self._finder = wire.Kept(url, self.path)
         self._reader = self.reader()
         self._wanted: dict[str, list[asyncio.Future[SagaRow | None]]] = {}
@@ -229,7 +229,7 @@ class PostgreSQL(questions.Questions):
         """How many transactions were written."""
         return self._writer.commits
 
-    def commit(self, batches: Sequence[Batch], then: Then) -> None:
+    def commit(self, batches: Sequence[Batch], then: Then, now: bool) -> None:
         """One statement for all; `then` is called in the loop. What others are to hear goes behind it: the server is at work anyway."""
         self._writer.commit(batches, then)
         if self._telling:
@@ -251,10 +251,12 @@ class PostgreSQL(questions.Questions):
 
     def _kept(self, commit: Commit) -> None:
         """A commit is in the store: the others hear of it."""
-        begun, answered = [id for _, rare in commit.rare for id in rare.begun], [id for _, rare in commit.rare for _, id in rare.answers]
-        for what, ids in (("ended", commit.ended), ("begun", begun), ("answered", answered)):
-            if ids:
-                self._say(news.payloads(what, ids))
+        if ended := commit.ended:
+            self._say(news.payloads("ended", ended))
+        for _, rare in commit.rare:
+            for what, ids in (("begun", rare.begun), ("answered", [id for _, id in rare.answers])):
+                if ids:
+                    self._say(news.payloads(what, ids))
 
     def _say(self, words: list[str]) -> None:
         """Tells the other nodes and the clients, behind the commit: a commit that tells takes a lock over the whole server."""
@@ -331,24 +333,12 @@ class PostgreSQL(questions.Questions):
 
     async def load(self, log: int, epoch: int, unborn: bool) -> Loaded | None:
         """A log as a pump takes it up, under a new epoch: what was on its way to the server is fenced. None where it is another node's, or is not there."""
-        low, high = questions.bounds(log)
         line = self._line
-        words = {"low": low, "high": high, "log": log, "node": self.lease.node}
-
-        async def rows(query: str) -> list[Any]:
-            return await (await link.execute(_named(query), words)).fetchall()
-
-        with links.faults(self.path):
-            async with asyncio.timeout(links.PATIENCE), self.asker.pool.connection() as link, link.transaction():
-                taken = await (await link.execute(TAKE_UP, words)).fetchall()
-                if not taken and (not unborn or await (await link.execute("SELECT 1 FROM logs WHERE log = %s", (log,))).fetchall()):
-                    return None
-                text, events = questions.joined(await (await link.execute("SELECT first, text FROM lines WHERE log = %s ORDER BY first", (log,))).fetchall())
-                ((opened,),) = await rows(questions.COUNT)
-                open, results, held = [await rows(query) for query in (questions.OPEN_SAGAS, questions.OPEN_RESULTS, questions.OPEN_HELD)]
-                self._check_line(line)  # else nothing was taken up
-        self._writer.events[log] = events
-        return questions.loaded(text, events, opened, open, results, held, taken[0][0] if taken else epoch)
+        loaded = await self._loads.load(log, epoch, unborn)
+        self._check_line(line)
+        if loaded:
+            self._writer.events[log] = loaded.events
+        return loaded
 
     async def take_up(self, log: int, epoch: int) -> tuple[str, int] | None:
         """A log's lines and how many events they are; None where it is not this node's any more, since another wrote behind them."""
@@ -405,7 +395,7 @@ class Reader:
                 with links.faults(self._path):
                     if self._link is None or self._link.closed:
                         self._link = links.connect_now(self._url)
-                    return self._link.execute(query.replace("?", "%s"), told).fetchall()
+                    return self._link.execute(questions.for_postgresql(query), told).fetchall()
             except StoreUnwritable:
                 if turn or (self._link and not self._link.closed):
                     raise
@@ -421,11 +411,6 @@ def saga_row(values: wire.Values) -> SagaRow:
     id, key, saga, place, input, at, phase, end, ended, note = (None if value is None else value.decode() for value in values)
     assert id and key and saga and place and input is not None and at
     return SagaRow(int(id), key, saga, int(place), input, float(at), phase, end, None if ended is None else float(ended), note)
-
-
-def _named(query: str) -> str:
-    """A query between two ids, by their names."""
-    return query.replace("?", "%(low)s", 1).replace("?", "%(high)s", 1)
 
 
 async def ask(asker: links.Asker, heard: news.News, key: str, what: str, value: str, token: str | None) -> Any:

@@ -129,31 +129,37 @@ class Commit:
         self.epochs = {batch.log: batch.epoch for batch in batches if batch.log >= 0}
         self.events: dict[int, int] = {}
         self._before = events
-        self._rows: dict[str, list[Any]] = {}
+        self._rows: dict[str, Sequence[Any]] = {}
         self._lines()
+        one = batches[0] if len(batches) == 1 else None
         for part in USUAL:
-            rows = [row for batch in batches for row in getattr(batch, part)]
+            rows = getattr(one, part) if one else [row for batch in batches for row in getattr(batch, part)]
             if rows:
                 self._rows[part] = rows
         self.rare = [(batch.log, batch.rare) for batch in batches if batch.rare]
-        if self.rare or any(batch.born or batch.guessed for batch in batches):
-            self._others()
+        for batch in batches:
+            if batch.rare or batch.born or batch.guessed:
+                self._others()
+                break
 
     @property
     def ended(self) -> list[int]:
         """The sagas that end in it."""
-        return [end[3] for batch in self.batches for end in batch.ended]
+        return [id for _, _, _, id in self._rows.get("ended", ())]
 
     def _lines(self) -> None:
         chunks: dict[int, tuple[int, float, list[str]]] = {}
         for batch in self.batches:
             if batch.text:
-                had = self.events.get(batch.log)
-                had = self._before(batch.log) if had is None else had
+                log = batch.log
+                had = self.events[log] if log in self.events else self._before(log)
                 if batch.first != had:
-                    raise ValueError(f"log {batch.log}: event {batch.first} behind {had}")
-                self.events[batch.log] = had + batch.text.count("\n")
-                chunks.setdefault(batch.log, (had, batch.at, []))[2].append(batch.text)
+                    raise ValueError(f"log {log}: event {batch.first} behind {had}")
+                self.events[log] = had + batch.text.count("\n")
+                if len(self.batches) == 1:
+                    self._rows["lines"] = [(log, had, batch.at, batch.text)]
+                    return
+                chunks.setdefault(log, (had, batch.at, []))[2].append(batch.text)
         if chunks:
             self._rows["lines"] = [(log, first, at, "".join(texts)) for log, (first, at, texts) in chunks.items()]
 
@@ -198,12 +204,21 @@ class Commit:
     def words(self, node: str) -> tuple[str, list[bytes | None]]:
         """The statement and its words."""
         parts, alone = tuple(sorted(self._rows)), len(self.epochs) == 1
-        logs, epochs = ",".join(map(str, self.epochs)), ",".join(map(str, self.epochs.values()))
-        mine = [node.encode(), *(told.encode() if alone else f"{{{told}}}".encode() for told in (logs, epochs))]
-        if parts and all(len(rows) == 1 for rows in self._rows.values()):
-            cells = [None if cell is None else str(cell).encode() for part in parts for cell in self._rows[part][0]]
-            told = b"".join(cell for cell in cells if cell)
-            if len(told) < MOST and b"\0" not in told:  # a word would end there; the form below has it refused
-                return statement(parts, WORDS, alone), [cells[0], *mine, *cells[1:]]
+        if alone:
+            ((log, epoch),) = self.epochs.items()
+            mine = [node.encode(), b"%d" % log, b"%d" % epoch]
+        else:
+            mine = [node.encode(), *(f"{{{','.join(map(str, numbers))}}}".encode() for numbers in (self.epochs, self.epochs.values()))]
+        if parts and max(map(len, self._rows.values())) == 1 and (words := self._cells(parts)):
+            return statement(parts, WORDS, alone), [words[0], *mine, *words[1:]]
         rows = dumps(self._rows).encode()
         return statement(parts, "jsonb" if len(rows) < MOST else "json", alone), [rows, *mine]
+
+    def _cells(self, parts: Iterable[str]) -> list[bytes | None] | None:
+        """The cells of one row of each part. None where one would be cut, at a zero, or there is too much of them: the other form has that refused, or takes it."""
+        cells = [*itertools.chain.from_iterable([self._rows[part][0] for part in parts])]
+        told = "\0".join(map(str, cells)).encode()
+        words: list[bytes | None] = [*told.split(b"\0")]
+        if len(words) != len(cells) or len(told) >= MOST:
+            return None
+        return words if None not in cells else [None if cell is None else word for cell, word in zip(cells, words)]

@@ -6,7 +6,7 @@ import asyncio
 import contextlib
 import functools
 import time
-from collections.abc import Callable, Coroutine, Sequence
+from collections.abc import Callable, Coroutine, Sequence, Set
 from typing import Any, Optional
 
 from psycopg import errors
@@ -119,10 +119,14 @@ class Writer:
                 self.cut()
             return NONE, fault
         mine = {int(log) for (log,) in rows if log is not None}
+        self.keep(commit, mine)
+        return frozenset(commit.epochs.keys() - mine), None
+
+    def keep(self, commit: Commit, mine: Set[int]) -> None:
+        """It is in the store, of these logs."""
         self.commits += 1
         self.events.update((log, events) for log, events in commit.events.items() if log in mine)
         self._kept(commit)
-        return frozenset(commit.epochs.keys() - mine), None
 
     def _came(self, batches: Sequence[Batch], then: Then, lost: frozenset[int], fault: Exception | None) -> None:
         if isinstance(fault, errors.UniqueViolation):

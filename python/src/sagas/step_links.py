@@ -26,6 +26,32 @@ JOINS = pq.version() >= 140000
 """Whether libpq can send one statement behind another, without waiting."""
 
 
+class Prepares:
+    """What is prepared over each connection, for the transaction's end. `works`: until the server says otherwise."""
+
+    def __init__(self, text: str) -> None:
+        self.text, self.works = text, True
+
+
+class Heard:
+    """In place of a future, who is told at once."""
+
+    def __init__(self, then: Callable[[Exception | None], object]) -> None:
+        self._then = then
+
+    def done(self) -> bool:
+        """It is not asked again once it was told."""
+        return False
+
+    def set_result(self, told: object) -> None:
+        """All was done."""
+        self._then(None)
+
+    def set_exception(self, error: Exception) -> None:
+        """It was refused, or nobody knows."""
+        self._then(error)
+
+
 class AsyncStepCursor(psycopg.AsyncCursor[Row]):
     """The begin of the transaction goes with the function's first statement, where that is one statement for sure."""
 
@@ -42,13 +68,16 @@ class AsyncStepLink(psycopg.AsyncConnection[Row]):
     begun: bool | None = None
     heard: Callable[[AsyncStepLink], None] | None = None
     """Who hears that something came while nobody waits for an answer."""
+    prepares: Prepares | None = None
+    """What is prepared."""
     joins = 0
     """The thread whose next statement may go with the begin."""
     halfway = False
     """Such a pair is under way: where it is left there, the connection is of no use."""
     _reads: int | None = None  # the socket, as far as the loop knows it
     _gen: PQGen[Any] | None = None  # what waits for the server
-    _answer: asyncio.Future[tuple[Any, Any]] | None = None  # what it gave, or what it waits for if that is not an answer
+    _answer: asyncio.Future[tuple[Any, Any]] | Heard | None = None  # what it gave, or what it waits for if that is not an answer
+    _ends: asyncio.Task[None] | None = None
 
     def __init__(self, *words: Any, **more: Any) -> None:
         super().__init__(*words, **more)
@@ -75,6 +104,18 @@ class AsyncStepLink(psycopg.AsyncConnection[Row]):
                 await self._shut()
         return value  # type: ignore[no-any-return]
 
+    async def prepare(self, prepares: Prepares) -> None:
+        """Before any step has it: prepares statements, if the server takes them, or what stands before it."""
+        try:
+            async with self.lock:
+                await self.wait(_done(self, prepares.text, encoding_of(self)))
+                self.prepares = prepares
+        except BaseException as error:
+            if isinstance(error, psycopg.Error) and not self.closed and self.pgconn.transaction_status == pq.TransactionStatus.IDLE:
+                return
+            await self._shut()
+            raise
+
     def watch(self) -> None:
         """The loop tells when something comes."""
         if self._reads is None:
@@ -84,8 +125,9 @@ class AsyncStepLink(psycopg.AsyncConnection[Row]):
     def _answered(self, gen: PQGen[Any]) -> asyncio.Future[tuple[Any, Any]]:
         """Steps of it for what comes, until it wants something else."""
         self.watch()
-        self._gen, self._answer = gen, self._home.create_future()
-        return self._answer
+        answer: asyncio.Future[tuple[Any, Any]] = self._home.create_future()
+        self._gen, self._answer = gen, answer
+        return answer
 
     def _step(self, gen: PQGen[Any], ready: Any) -> tuple[Any, Any]:
         """One step of it: what it gave at its end, or what it waits for."""
@@ -121,6 +163,11 @@ class AsyncStepLink(psycopg.AsyncConnection[Row]):
             if told[1] != waiting.WAIT_R:
                 self._gen = None
                 answer.set_result(told)
+
+    @property
+    def is_unheard(self) -> bool:
+        """Whether something may have come of which the loop does not tell."""
+        return self._reads is None
 
     def is_there(self) -> bool:
         """Whether it can be used, as far as is known without asking the server."""
@@ -160,11 +207,43 @@ class AsyncStepLink(psycopg.AsyncConnection[Row]):
             raise errors.ProgrammingError(FORBIDDEN.format("rollback"))
         await super().rollback()
 
-    async def end(self, text: str, *words: str, then: Callable[[], object]) -> None:
-        """A last statement, with braces for its words, and the commit, in one go; `then` is called before they are sent. Raises what the server says of either
-        that it refuses."""
+    async def end(self, text: str, then: Callable[[], object]) -> None:
+        """The last statements and the commit, in one text; `then` is called before they are sent. Raises what the server says of the first that it refuses."""
         async with self.lock:
-            await self.wait(_end(self, text, words, then))
+            then()
+            await self.wait(_done(self, text, encoding_of(self)))
+
+    def end_soon(self, text: str, then: Callable[[Exception | None], object]) -> None:
+        """As `end`, by who has its lock: `then` is called in the loop, with what the server says where it refuses one, or what else is raised."""
+        gen = _done(self, text, encoding_of(self))
+        try:
+            _, state = self._step(gen, None)
+        except Exception as error:
+            self._home.call_soon(then, error)
+            return
+        if state == waiting.WAIT_R:
+            self.watch()
+            self._gen, self._answer = gen, Heard(then)
+        else:  # it takes longer to be sent
+            self._ends = self._home.create_task(self._end(gen, state, then))
+
+    async def _end(self, gen: PQGen[Any], state: Any, then: Callable[[Exception | None], object]) -> None:
+        fault: Exception | None = None
+        try:
+            if state is not None:
+                self.silence()
+                await super().wait(_on(gen, state))
+        except Exception as error:
+            fault = error
+        then(fault)
+
+    def give_up(self) -> None:
+        """Nobody waits for an answer any more, and the connection is of no use."""
+        self.silence()
+        self._gen = self._answer = None
+        if self._ends:
+            self._ends.cancel()
+        self.pgconn.finish()
 
 
 class StepCursor(psycopg.Cursor[Row]):
@@ -179,12 +258,26 @@ class StepLink(psycopg.Connection[Row]):
     """The same for functions in threads."""
 
     begun: bool | None = None
+    prepares: Prepares | None = None
     joins = 0
     halfway = False
+    is_unheard = True
 
     def __init__(self, *words: Any, **more: Any) -> None:
         super().__init__(*words, **more)
         self.cursor_factory = StepCursor
+
+    def prepare(self, prepares: Prepares) -> None:
+        """As `AsyncStepLink.prepare`."""
+        try:
+            with self.lock:
+                self.wait(_done(self, prepares.text, encoding_of(self)))
+                self.prepares = prepares
+        except BaseException as error:
+            if isinstance(error, psycopg.Error) and not self.closed and self.pgconn.transaction_status == pq.TransactionStatus.IDLE:
+                return
+            self.close()
+            raise
 
     def wait(self, gen: PQGen[RV], *words: Any, **more: Any) -> RV:
         """All that psycopg does over a connection goes by here."""
@@ -221,17 +314,23 @@ class StepLink(psycopg.Connection[Row]):
             raise errors.ProgrammingError(FORBIDDEN.format("rollback"))
         super().rollback()
 
-    def end(self, text: str, *words: str, then: Callable[[], object]) -> None:
+    def end(self, text: str, then: Callable[[], object]) -> None:
         """As `AsyncStepLink.end`."""
         with self.lock:
-            self.wait(_end(self, text, words, then))
+            then()
+            self.wait(_done(self, text, encoding_of(self)))
+
+
+def is_prepared(link: AsyncStepLink | StepLink) -> bool:
+    """Whether the statements of the transaction's end are."""
+    return link.prepares is not None and link.prepares.works
 
 
 def check_whole(link: AsyncStepLink | StepLink) -> None:
     """Whether the transaction is there to be ended; nothing of its end was sent. Raises what psycopg raises where the connection broke, as while the
     function did something else, or where the function ended the transaction."""
     try:
-        for _ in range(2):  # what the server said last, and that it is gone
+        for _ in range(2 if link.is_unheard else 0):  # what the server said last, and that it is gone
             if not link.closed:
                 link.pgconn.consume_input()
     except psycopg.Error as error:
@@ -268,7 +367,7 @@ def _raising(error: BaseException) -> PQGen[None]:
     yield
 
 
-def _encoding(link: Any) -> str:
+def encoding_of(link: Any) -> str:
     """As psycopg writes texts: PostgreSQL's SQL_ASCII takes whatever it is given."""
     encoding: str = link.info.encoding
     return "utf-8" if encoding == "ascii" else encoding
@@ -277,13 +376,29 @@ def _encoding(link: Any) -> str:
 def _done(link: Any, text: str, encoding: str) -> PQGen[None]:
     """Statements in one text. Raises what the server says of the first that fails."""
     link.pgconn.send_query(text.encode(encoding))
-    _raise_first(link, (yield from generators.execute(link.pgconn)))
+    yield from generators.send(link.pgconn)
+    _raise_first(link, (yield from _results(link.pgconn)))
+
+
+def _results(pgconn: Any) -> PQGen[list[Any]]:
+    """What the server says of what was sent last: as `generators.fetch_many`, which asks twice as much of libpq."""
+    found: list[Any] = []
+    while True:
+        while pgconn.is_busy():
+            yield waiting.WAIT_R
+            pgconn.consume_input()
+        result = pgconn.get_result()
+        if result is None:
+            return found
+        found.append(result)
+        if result.status == pq.ExecStatus.PIPELINE_SYNC:  # nothing follows it
+            return found
 
 
 def _raise_first(link: Any, results: Sequence[Any]) -> None:
     for result in results:
         if result.status == pq.ExecStatus.FATAL_ERROR:
-            raise errors.error_from_result(result, encoding=_encoding(link))
+            raise errors.error_from_result(result, encoding=encoding_of(link))
 
 
 def _behind_begin(link: Any, gen: PQGen[RV]) -> PQGen[RV]:
@@ -291,7 +406,7 @@ def _behind_begin(link: Any, gen: PQGen[RV]) -> PQGen[RV]:
     joins, link.joins, link.begun = link.joins == threading.get_ident(), 0, True
     if joins and link.pgconn.transaction_status == pq.TransactionStatus.IDLE:
         return (yield from _with_begin(link, gen))
-    yield from _done(link, "BEGIN", _encoding(link))
+    yield from _done(link, "BEGIN", encoding_of(link))
     return (yield from gen)
 
 
@@ -307,7 +422,7 @@ def _with_begin(link: Any, gen: PQGen[RV]) -> PQGen[RV]:
         fault = error
     pgconn.pipeline_sync()
     yield from generators.send(pgconn)
-    begun = yield from generators.fetch_many(pgconn)
+    begun = yield from _results(pgconn)
     try:
         if fault is None:
             value = yield from _from(gen)
@@ -315,7 +430,7 @@ def _with_begin(link: Any, gen: PQGen[RV]) -> PQGen[RV]:
         if pgconn.status == pq.ConnStatus.BAD:  # nothing more comes
             raise
         fault = error
-    yield from generators.fetch_many(pgconn)  # where both end
+    yield from _results(pgconn)  # where both end
     pgconn.exit_pipeline_mode()
     link.halfway = False
     _raise_first(link, begun)
@@ -331,10 +446,3 @@ def _from(gen: PQGen[RV]) -> PQGen[RV]:
     except StopIteration as end:
         return end.value  # type: ignore[no-any-return]
     return (yield from _on(gen, state))
-
-
-def _end(link: Any, text: str, words: Sequence[str], then: Callable[[], object]) -> PQGen[None]:
-    encoding, escaping = _encoding(link), pq.Escaping(link.pgconn)
-    last = text.format(*(bytes(escaping.escape_literal(word.encode(encoding))).decode(encoding) for word in words))
-    then()
-    yield from _done(link, f"{last}; COMMIT", encoding)

@@ -15,7 +15,7 @@ import psycopg
 from psycopg import errors, pq
 
 from . import links
-from .step_links import AsyncStepLink, StepLink
+from .step_links import AsyncStepLink, Prepares, StepLink
 
 REST = 600.0
 """Seconds that a connection may rest before it is closed."""
@@ -37,8 +37,8 @@ class Pool:
     A function that may want one has one reserved, which rests until it is wanted; the loop watches those that rest, so that one which breaks is
     dropped before somebody has it."""
 
-    def __init__(self, url: str, most: int) -> None:
-        self._url, self._most, self._count = url, most, 0
+    def __init__(self, url: str, most: int, prepares: Prepares | None = None) -> None:
+        self._url, self._most, self._count, self._prepares = url, most, 0, prepares
         self._reserved = 0  # of those that rest
         self._rests: list[tuple[AsyncStepLink, float]] = []  # since when; who came last is the last
         self._waiting: deque[asyncio.Future[AsyncStepLink]] = deque()
@@ -47,16 +47,18 @@ class Pool:
         self._drops: set[asyncio.Task[None]] = set()
         self._is_over = False
 
-    def reserve(self) -> bool:
-        """Whether one rests that nobody has reserved: then it is the caller's, who calls `reserved` or `release`."""
-        if len(self._rests) <= self._reserved:
-            return False
-        self._reserved += 1
-        return True
+    def is_at_hand(self) -> bool:
+        """Whether one rests that nobody has reserved."""
+        return len(self._rests) > self._reserved
 
-    async def reserve_next(self) -> None:
-        """As `reserve`, as soon as one is there. Raises `psycopg.OperationalError` where that takes too long."""
-        self._rest(await self.take())
+    async def reserve(self) -> None:
+        """One is the caller's, at once where one is at hand, who calls `reserved` or `release`. Raises `psycopg.OperationalError` where it takes too long."""
+        if not self.is_at_hand():
+            self._rest(await self.take())
+        self.reserve_now()
+
+    def reserve_now(self) -> None:
+        """As `reserve`, where one is at hand."""
         self._reserved += 1
 
     def reserved(self) -> AsyncStepLink:
@@ -67,6 +69,13 @@ class Pool:
         self._reserved -= 1
         return link
 
+    def now(self) -> AsyncStepLink:
+        """One that is at hand. Raises as `reserved`."""
+        link = self.at_hand()
+        if link is None:
+            raise errors.OperationalError(BROKE)
+        return link
+
     def release(self) -> None:
         """What the caller has reserved is for others: nothing was wanted of it."""
         self._reserved -= 1
@@ -75,7 +84,7 @@ class Pool:
 
     def at_hand(self) -> AsyncStepLink | None:
         """One that rests, and that nobody has reserved."""
-        return self._resting() if len(self._rests) > self._reserved else None
+        return self._resting() if self.is_at_hand() else None
 
     def _resting(self) -> AsyncStepLink | None:
         while self._rests:
@@ -158,6 +167,8 @@ class Pool:
                 try:
                     made = await AsyncStepLink.connect(links.address(self._url))
                     assert isinstance(made, AsyncStepLink)
+                    if self._prepares and self._prepares.works:
+                        await made.prepare(self._prepares)
                     link = made
                 except links.FAULTS as error:
                     self._fault = error
@@ -190,8 +201,8 @@ class Pool:
 class ThreadPool:
     """For functions in threads. A connection is made by whoever wants one, where none rests and there are fewer than `most`: one at a time."""
 
-    def __init__(self, url: str, most: int) -> None:
-        self._url, self._most, self._count = url, most, 0
+    def __init__(self, url: str, most: int, prepares: Prepares | None = None) -> None:
+        self._url, self._most, self._count, self._prepares = url, most, 0, prepares
         self._rests: list[tuple[StepLink, float]] = []
         self._room = threading.Condition()
         self._grows = self._is_over = False
@@ -207,6 +218,8 @@ class ThreadPool:
             try:
                 made = StepLink.connect(links.address(self._url))
                 assert isinstance(made, StepLink)
+                if self._prepares and self._prepares.works:
+                    made.prepare(self._prepares)
                 link = made
             except links.FAULTS as error:
                 fault = error

@@ -8,34 +8,51 @@ from __future__ import annotations
 import asyncio
 import dataclasses
 import functools
-from collections.abc import Callable, Coroutine
+from collections.abc import Awaitable, Callable, Coroutine
 from typing import TYPE_CHECKING, Any
 
 import psycopg
 
-from . import calling, links
+from . import calling, links, step_commit
 from .calling import Outcome
+from .carried import Carried
 from .definition import Function, Manner
 from .errors import Lost, Unknown
-from .step_links import AsyncStepLink, check_whole
+from .step_commit import UNPREPARED, Fence, recorded
+from .step_links import AsyncStepLink, Prepares, StepLink, check_whole
 from .step_pool import REST, Pool, ThreadPool
 from .task import Task
 
 if TYPE_CHECKING:
     from concurrent.futures import Executor
 
+    from .callers import Take
     from .live import Attempt
+    from .postgresql_writer import Writer
 
-RECORD = f"""
-INSERT INTO sagas.results VALUES (%(id)s, %(step)s, '%(kind)s', %(attempt)s, (SELECT 'ok' FROM sagas.logs
-  WHERE log = %(log)s AND owner = {{}} AND epoch = %(epoch)s AND {links.LINE} = '%(line)s' FOR SHARE), {{}}, extract(epoch FROM clock_timestamp()))
-"""
-"""Its outcome would be null where the log is not this node's any more: that is refused, and nothing is committed. In braces: the node, the value."""
+PLAIN = frozenset((type(None), bool, int, float, str, dict, list))
+"""What is not to be awaited, most of the time."""
 LOOK = REST / 10
 """Seconds between two looks for connections that rest too long."""
 ROLLED_BACK = ("23", "25P02", "25P03", "40001", "40P01", "P0")
 """A constraint, also one that is looked at in the commit; a statement that failed before, unnoticed; a transaction that rested for too long; others in the
 way; a trigger's own word."""
+OURS = [("sagas", table) for table in ("results", "lines", "sagas", "logs")]
+"""The tables that the end of a step writes."""
+
+
+def as_raised(error: psycopg.Error) -> Exception:
+    """What is raised where the transaction raised that: a connection that is lost is an outcome that nobody knows."""
+    if not isinstance(error, psycopg.OperationalError):
+        return error
+    unknown = Unknown(str(error))
+    unknown.__cause__ = error
+    return unknown
+
+
+async def _called(function: Function, task: Task[Any]) -> Any:
+    value = await function(task)
+    return value if type(value) in PLAIN else await calling.whole(value)
 
 
 @dataclasses.dataclass(slots=True)
@@ -46,54 +63,62 @@ class Record:
     where: str
     node: str
     line: str
+    prepares: Prepares
     begun: bool = False
     done: bool = False
+    carried: Carried | None = None
+    """Its function is over and its transaction is not: that is for who reports it."""
 
     def lost(self) -> Lost | None:
         """What to say where nobody knows whether it was committed."""
         return Lost(f"{self.where}: nobody knows whether {self.attempt.token()} was committed") if self.begun and not self.done else None
 
     def refused(self, error: psycopg.Error) -> None:
-        """The server's own answer may say that all is rolled back: then the function had no effect. What it says of the record means that the log,
-        or the attempt, is another run's."""
-        if (error.sqlstate or "").startswith(ROLLED_BACK) and (error.diag.schema_name, error.diag.table_name) != ("sagas", "results"):
+        """The server's own answer may say that all is rolled back: then the function had no effect. What it says of the record, or of the log's lines, means
+        that the log, or the attempt, is another run's."""
+        if (error.sqlstate or "").startswith(ROLLED_BACK) and (error.diag.schema_name, error.diag.table_name) not in OURS:
             self.begun = False
+        elif self.begun and error.sqlstate in UNPREPARED:
+            self.prepares.works = False
 
     def judged(self, error: psycopg.Error) -> Exception:
-        """What is raised where the transaction raised that: what the server says of it is looked at, and a connection that is lost is an outcome that
-        nobody knows."""
+        """As `as_raised`; what the server says of the transaction is looked at."""
         self.refused(error)
-        if not isinstance(error, psycopg.OperationalError):
-            return error
-        unknown = Unknown(str(error))
-        unknown.__cause__ = error
-        return unknown
+        return as_raised(error)
 
     def sending(self) -> None:
         """It is about to be sent: until then nothing can be committed."""
         self.begun = True
 
-    def words(self, value: Any) -> tuple[str, str, str]:
-        """What is written of a result: the statement, the node and the value."""
+    def fence(self) -> Fence:
+        """Of whom the log has to be."""
         pump = self.attempt.live.pump
         assert pump
-        id, step, kind, attempt = self.attempt.row
-        words = {"id": id, "step": step, "kind": kind, "attempt": attempt, "log": pump.log, "line": self.line, "epoch": pump.epoch}
-        return RECORD % words, self.node, calling.done(value).value
+        return Fence(pump.log, self.node, pump.epoch, self.line)
+
+    def text(self, link: AsyncStepLink | StepLink, value: str) -> str:
+        """What is written of a result, and the commit."""
+        return recorded(link, self.attempt.row, self.fence(), value)
 
 
 class Transactions:
     """The connections of steps: apart from the store's own, with the user's settings."""
 
-    def __init__(self, url: str, where: str, node: str, line: Callable[[], str], most: int) -> None:
-        self._where, self._node, self._line = where, node, line
-        self._pool, self._threads = Pool(url, most), ThreadPool(url, most)
+    def __init__(self, url: str, where: str, node: str, line: Callable[[], str], writer: Writer, most: int) -> None:
+        self._where, self._node, self._line, self._writer = where, node, line, writer
+        self._prepares = Prepares(step_commit.PREPARED)
+        self._pool, self._threads = Pool(url, most, self._prepares), ThreadPool(url, most, self._prepares)
         self._timer: asyncio.TimerHandle | None = None
+        self._leaving: set[asyncio.Task[None]] = set()
+        self._entered: Attempt | None = None
+        self._take: Take = self._taken_at_once
 
     async def close(self) -> None:
         """Ends their connections."""
         if self._timer:
             self._timer.cancel()
+        if self._leaving:
+            await asyncio.wait(list(self._leaving), timeout=links.CONNECT)
         await self._pool.close()
         await asyncio.to_thread(self._threads.close)
 
@@ -106,52 +131,120 @@ class Transactions:
         """As `calling.call`; where the function did nothing over its connection, there is nothing to commit, and no record.
 
         Raises `Lost` where nobody knows whether it was committed, or where the log is another node's: then it is looked up."""
-        function, record = manner.function, self._record(attempt)
+        function = manner.function
         assert function
-        within = functools.partial(self._in_loop if calling.is_async(function) else self._in_thread, function, record)
+        in_loop = calling.is_async(function)
+        within = functools.partial(self.within, attempt, function) if in_loop else functools.partial(self._in_thread, self._record(attempt), function)
         outcome = await calling.call(manner, task, executor, late, within)
-        if lost := record.lost():
+        record = attempt.record
+        if record and (lost := record.lost()):
             raise lost
         return outcome
 
-    def within(self, attempt: Attempt, function: Function, task: Task[Any]) -> Coroutine[Any, Any, Any]:
-        """As `Database.within`."""
-        record = attempt.record = self._record(attempt)
-        return self._in_loop(function, record, task)
+    def enter(self, attempt: Attempt) -> Take | None:
+        """As `callers.Inside`: one that asks for no connection before it first waits costs little more than without a transaction."""
+        if not self._pool.is_at_hand():
+            return None
+        self._entered = attempt
+        return self._take
+
+    def _taken_at_once(self) -> AsyncStepLink:
+        """By the one that was entered last, since no other one goes on before that waits."""
+        assert self._entered
+        return self._taken(self._entered, self._pool.now)
+
+    async def end(self, attempt: Attempt, task: Task[Any], work: Awaitable[Any]) -> Any:
+        """As `callers.Inside`: it may ask for a connection still, so one is reserved."""
+        is_reserved = task.leave() is None and self._pool.is_at_hand()
+        if is_reserved:
+            self._pool.reserve_now()
+        task.enter_by(functools.partial(self._taken, attempt, self._pool.reserved if is_reserved else self._pool.now))
+        return await self._ended(attempt, task, work, is_reserved)
+
+    def raised(self, error: BaseException) -> BaseException:
+        """As `callers.Inside`."""
+        return as_raised(error) if isinstance(error, psycopg.Error) else error
+
+    async def within(self, attempt: Attempt, function: Function, task: Task[Any]) -> Any:
+        """As `callers.Inside`."""
+        if self._timer is None:
+            self._look()
+        try:
+            await self._pool.reserve()
+        except psycopg.Error as error:
+            raise as_raised(error)
+        task.enter_by(functools.partial(self._taken, attempt, self._pool.reserved))
+        return await self._ended(attempt, task, _called(function, task), True)
+
+    async def _ended(self, attempt: Attempt, task: Task[Any], work: Awaitable[Any], is_reserved: bool) -> Any:
+        """What is left of a function that has a connection, or one reserved for it."""
+        try:
+            try:
+                value = await work
+            except BaseException:
+                if (link := task.leave()) is not None:
+                    await self._left(link)
+                elif is_reserved:
+                    self._pool.release()
+                raise
+            if (link := task.leave()) is not None:
+                await self._end(attempt, link, value)
+            elif is_reserved:
+                self._pool.release()
+        except psycopg.Error as error:
+            raise attempt.record.judged(error) if attempt.record else as_raised(error)
+        return value
+
+    async def _end(self, attempt: Attempt, link: AsyncStepLink, value: Any) -> None:
+        """What the function did is committed with its record, or is left to who reports it."""
+        record = attempt.record
+        assert record
+        try:
+            if link.begun:
+                check_whole(link)
+                text = calling.done(value).value
+                if not (self._is_alone(record) and await self._is_carried(record, link)):
+                    await link.end(record.text(link, text), record.sending)
+                    record.done = True
+        finally:
+            if record.carried is None:
+                await self._left(link)
+
+    def _taken(self, attempt: Attempt, take: Callable[[], AsyncStepLink]) -> AsyncStepLink:
+        link = take()
+        link.begun = False
+        self._record(attempt)
+        return link
 
     def _record(self, attempt: Attempt) -> Record:
         if self._timer is None:
             self._look()
-        return Record(attempt, self._where, self._node, self._line())
+        record = attempt.record = Record(attempt, self._where, self._node, self._line(), self._prepares)
+        return record
 
-    async def _in_loop(self, function: Function, record: Record, task: Task[Any]) -> Any:
-        """It has a connection from when it asks for one; one that asks for none costs little more than without a transaction."""
-        try:
-            if not self._pool.reserve():
-                await self._pool.reserve_next()
-            task.enter_by(self._taken)
-            try:
-                value = await function(task)
-                if hasattr(value, "__await__"):
-                    value = await calling.whole(value)
-                link = task.leave()
-                if link is not None and link.begun:
-                    check_whole(link)
-                    await link.end(*record.words(value), then=record.sending)
-                    record.done = True
-            finally:
-                if (link := task.leave()) is None:
-                    self._pool.release()
-                else:
-                    await self._left(link)
-        except psycopg.Error as error:
-            raise record.judged(error)
-        return value
+    def _is_alone(self, record: Record) -> bool:
+        """Whether its transaction carries what its report comes to."""
+        pump = record.attempt.live.pump
+        return pump is not None and pump.owner.carrying.may(record.attempt)
 
-    def _taken(self) -> AsyncStepLink:
-        link = self._pool.reserved()
-        link.begun = False
-        return link
+    async def _is_carried(self, record: Record, link: AsyncStepLink) -> bool:
+        """Leaves the end of the transaction to who reports it, if it is alone still."""
+        await link.lock.acquire()  # at once, unless the function left something behind that uses the connection
+        if self._is_alone(record):
+            record.carried = Carried(record, link, self._writer, self._line, self._leave)
+        else:
+            link.lock.release()
+        return record.carried is not None
+
+    def _leave(self, link: AsyncStepLink, is_kept: bool) -> None:
+        """As `_left`, by who does not wait for it."""
+        if is_kept:
+            link.begun = None
+            self._pool.give(link)
+        else:
+            job = asyncio.get_running_loop().create_task(self._left(link))
+            self._leaving.add(job)
+            job.add_done_callback(self._leaving.discard)
 
     async def _left(self, link: AsyncStepLink) -> None:
         try:
@@ -162,7 +255,7 @@ class Transactions:
         finally:
             self._pool.give(link)
 
-    def _in_thread(self, function: Function, record: Record, task: Task[Any]) -> Any:
+    def _in_thread(self, record: Record, function: Function, task: Task[Any]) -> Any:
         try:
             link = self._threads.take()
             task.enter(link)
@@ -171,7 +264,7 @@ class Transactions:
                 value = calling.whole_now(function(task))
                 if link.begun:
                     check_whole(link)
-                    link.end(*record.words(value), then=record.sending)
+                    link.end(record.text(link, calling.done(value).value), record.sending)
                     record.done = True
             finally:
                 try:

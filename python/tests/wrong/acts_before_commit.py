@@ -4,16 +4,18 @@ from __future__ import annotations
 
 from typing import Any
 
-from sagas import sqlite_writer
 from sagas.pump import Pump
 from sagas.records import Batch
+
+from . import slow_disk
 
 FINDS = "begun-early"
 STRIKES = "program"
 
 
 def apply() -> None:
-    """Acts first, and commits then: in the thread, since what the loop calls next would find a commit of the loop's done."""
+    """Acts first, and commits then."""
+    slow_disk()
     right = Pump.commit
 
     def commit(self: Pump, batch: Batch, acts: list[Any]) -> None:
@@ -21,4 +23,3 @@ def apply() -> None:
         right(self, batch, [])
 
     setattr(Pump, "commit", commit)
-    setattr(sqlite_writer, "AT_ONCE", 0.0)

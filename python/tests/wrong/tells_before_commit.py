@@ -9,12 +9,15 @@ from sagas.live import Live
 from sagas.pump import Pump
 from sagas.records import Batch
 
+from . import slow_disk
+
 FINDS = "told-early"
 STRIKES = "program"
 
 
 def apply() -> None:
     """Tells of an opening as soon as the child has answered."""
+    slow_disk()
     right = Pump._told_opens
 
     def told_opens(self: Pump, batch: Batch, acts: list[Any], lives: Sequence[Live], replies: Sequence[str]) -> None:

@@ -18,7 +18,7 @@ def apply() -> None:
     """Says of each log that it was written."""
     right = PostgreSQL.commit
 
-    def commit(self: PostgreSQL, batches: Sequence[Batch], then: Then) -> None:
-        right(self, batches, lambda batches, fault, lost: then(batches, fault, NONE))
+    def commit(self: PostgreSQL, batches: Sequence[Batch], then: Then, now: bool) -> None:
+        right(self, batches, lambda batches, fault, lost: then(batches, fault, NONE), now)
 
     setattr(PostgreSQL, "commit", commit)

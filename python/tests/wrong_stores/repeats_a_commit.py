@@ -19,7 +19,7 @@ def apply() -> None:
     """Puts the same lines behind what is there."""
     right, jobs = PostgreSQL.commit, set[asyncio.Task[None]]()
 
-    def commit(self: PostgreSQL, batches: Sequence[Batch], then: Then) -> None:
+    def commit(self: PostgreSQL, batches: Sequence[Batch], then: Then, now: bool) -> None:
         async def again() -> None:
             for log in {batch.log for batch in batches if batch.text}:
                 mine = [batch for batch in batches if batch.log == log and batch.text]
@@ -27,7 +27,7 @@ def apply() -> None:
                 at = taken[1] if taken else mine[0].first
                 for batch in mine:
                     batch.first, at = at, at + batch.text.count("\n")
-            right(self, batches, then)
+            right(self, batches, then, now)
 
         def told(batches: Sequence[Batch], fault: BaseException | None, lost: frozenset[int]) -> None:
             if isinstance(fault, StoreUnwritable):
@@ -37,6 +37,6 @@ def apply() -> None:
             else:
                 then(batches, fault, lost)
 
-        right(self, batches, told)
+        right(self, batches, told, now)
 
     setattr(PostgreSQL, "commit", commit)

@@ -2,7 +2,7 @@
 
 from __future__ import annotations
 
-from sagas import leases, postgresql, postgresql_commit
+from sagas import leases, loads_postgresql, postgresql_commit
 
 FINDS = {"illegal", "audit", "results", "end", "gap", "no-effect", "told-early", "begun-early", "effect-lost", "wrong-attempt"}
 STRIKES = "sleep"
@@ -12,7 +12,8 @@ MOMENT = "another_node_has_the_log"
 def apply() -> None:
     """Epochs stay what they are, and owners are not compared."""
     setattr(leases, "TAKE", leases.TAKE.replace("epoch = epoch + 1", "epoch = epoch"))
-    setattr(postgresql, "TAKE_UP", postgresql.TAKE_UP.replace("SET epoch = epoch + 1", "SET epoch = epoch"))
+    for name in ("TOGETHER", "ALONE"):
+        setattr(loads_postgresql, name, getattr(loads_postgresql, name).replace("SET epoch = epoch + 1", "SET epoch = epoch"))
     for name in ("ALONE", "LISTED"):
         setattr(postgresql_commit, name, getattr(postgresql_commit, name).replace("owner = $2", "$2::text IS NOT NULL"))
     postgresql_commit.PARTS["lines"] += " ON CONFLICT DO NOTHING"

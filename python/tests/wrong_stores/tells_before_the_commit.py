@@ -18,11 +18,11 @@ def apply() -> None:
     """Says that it is written, and writes it then."""
     right = PostgreSQL.commit
 
-    def commit(self: PostgreSQL, batches: Sequence[Batch], then: Then) -> None:
+    def commit(self: PostgreSQL, batches: Sequence[Batch], then: Then, now: bool) -> None:
         for batch in batches:
             if batch.then:
                 batch.then(None)
                 batch.then = lambda fault: None
-        right(self, batches, lambda batches, fault, lost: then(batches, None, NONE))
+        right(self, batches, lambda batches, fault, lost: then(batches, None, NONE), now)
 
     setattr(PostgreSQL, "commit", commit)

@@ -1,0 +1,159 @@
+"""How logs are taken up from PostgreSQL: those that are wanted at once go together, by one message to the server and its answer."""
+
+from __future__ import annotations
+
+import asyncio
+import json
+from collections.abc import Callable, Coroutine, Sequence
+from typing import Any, NamedTuple
+
+import psycopg
+
+from . import links, questions
+from .errors import StoreUnwritable
+from .records import HeldRow, Loaded, Result
+from .schema import ROOM
+
+MOST = 64
+"""Logs that are taken up at once."""
+
+LOGS = "log = ANY(%(logs)s::bigint[])"
+MINE = "owner = %(node)s AND closed = 0"
+SAGAS = f"sagas s WHERE s.id >= l.log * {ROOM} AND s.id < (l.log + 1) * {ROOM}"
+TOGETHER = f"""
+UPDATE logs SET epoch = epoch + 1 WHERE log IN (SELECT log FROM logs WHERE {LOGS} AND {MINE} FOR NO KEY UPDATE SKIP LOCKED) RETURNING log, epoch;
+SELECT log, {MINE},
+  (SELECT string_agg(text, '' ORDER BY first) FROM lines WHERE lines.log = l.log),
+  (SELECT count(*) FROM {SAGAS}),
+  (SELECT json_agg(json_build_array(s.id, s.key, s.def, s.input,
+    (SELECT json_agg(json_build_array({questions.RESULT}) ORDER BY r.step, r.kind, r.attempt) FROM results r WHERE r.id = s.id),
+    (SELECT json_agg(json_build_array({questions.HELD})) FROM held h WHERE h.id = s.id)) ORDER BY s.id)::text FROM {SAGAS} AND s.phase IS NULL)
+FROM logs l WHERE {LOGS}
+"""
+"""One transaction: the second part sees all that was written under the epochs before, and meanwhile nothing is. A log of which a commit is under way is passed
+over. A log's sagas are one text, since psycopg takes longer for some thousand cells than the server for all."""
+ALONE = f"UPDATE logs SET epoch = epoch + 1 WHERE {LOGS} AND {MINE} RETURNING epoch"
+"""Whatever its epoch is, here as above: this node may not have heard of the last one that it made."""
+
+
+class Want(NamedTuple):
+    """A log that is to be taken up."""
+
+    log: int
+    epoch: int
+    unborn: bool
+    came: asyncio.Future[Loaded | None]
+
+    def tell(self, loaded: Loaded | None, fault: Exception | None = None) -> None:
+        """To who wants it, and waits for it still."""
+        if not self.came.done():
+            self.came.set_exception(fault) if fault else self.came.set_result(loaded)
+
+
+class Loads:
+    """Takes up logs for one node."""
+
+    def __init__(self, asker: links.Asker, node: str, spawn: Callable[[Coroutine[Any, Any, None]], object]) -> None:
+        self._asker, self._node, self._spawn = asker, node, spawn
+        self._wanted: list[Want] = []
+        self._is_loading = False
+
+    async def load(self, log: int, epoch: int, unborn: bool) -> Loaded | None:
+        """As `Database.load`."""
+        want = Want(log, epoch, unborn, asyncio.get_running_loop().create_future())
+        self._wanted.append(want)
+        if not self._is_loading:
+            self._is_loading = True
+            self._spawn(self._load())
+        return await want.came
+
+    async def _load(self) -> None:
+        """All that is wanted, one lot behind the other."""
+        try:
+            while self._wanted:
+                lot, self._wanted = self._wanted[:MOST], self._wanted[MOST:]
+                await self._tell(lot)
+        finally:
+            self._is_loading = False
+
+    async def _tell(self, lot: Sequence[Want]) -> None:
+        """Tells who wants them. One of which a commit is under way comes alone; and so does each where the server refused, which may be because of one."""
+        try:
+            rest = await self._together(lot)
+        except Exception as fault:
+            rest = [want for want in lot if not want.came.done()]
+            if not _was_heard(fault):
+                for want in rest:
+                    want.tell(None, fault)
+                return
+        for want in rest:
+            self._spawn(self._tell_alone(want))
+
+    async def _tell_alone(self, want: Want) -> None:
+        try:
+            loaded = await self._alone(want)
+        except Exception as fault:
+            want.tell(None, fault)
+        else:
+            want.tell(loaded)
+
+    async def _together(self, lot: Sequence[Want]) -> list[Want]:
+        """Tells of those that were taken up, one behind the other, so that others have their turns; gives those that are locked."""
+        words = {"logs": f"{{{','.join(str(want.log) for want in lot)}}}", "node": self._node}
+        waits, locked = list(lot), list[Want]()
+        with links.faults(self._asker.where):
+            async with asyncio.timeout(links.PATIENCE), self._asker.pool.connection() as link:
+                cursor = await psycopg.AsyncClientCursor(link).execute(TOGETHER, words)
+                epochs: dict[int, int] = {log: epoch for log, epoch in await cursor.fetchall()}
+                cursor.nextset()
+                while row := await cursor.fetchone():
+                    log, is_mine, text, opened, sagas = row
+                    these, waits = [want for want in waits if want.log == log], [want for want in waits if want.log != log]
+                    if log not in epochs and is_mine:
+                        locked += these
+                        continue
+                    loaded = _loaded(text or "", opened, json.loads(sagas or "[]"), epochs[log]) if log in epochs else None
+                    for want in these:
+                        want.tell(loaded)
+                    await asyncio.sleep(0)
+        for want in waits:
+            want.tell(_loaded("", 0, [], want.epoch) if want.unborn else None)
+        return locked
+
+    async def _alone(self, want: Want) -> Loaded | None:
+        """Row by row, however large it is."""
+        low, high = questions.bounds(want.log)
+        words = {"low": low, "high": high, "log": want.log, "logs": [want.log], "node": self._node}
+
+        async def rows(query: str) -> list[Any]:
+            return await (await link.execute(query.replace("?", "%(low)s", 1).replace("?", "%(high)s", 1), words)).fetchall()
+
+        with links.faults(self._asker.where):
+            async with asyncio.timeout(links.PATIENCE), self._asker.pool.connection() as link, link.transaction():
+                taken = await rows(ALONE)
+                if not taken and (not want.unborn or await rows(f"SELECT 1 FROM logs WHERE {LOGS}")):
+                    return None
+                text, events = questions.joined(await rows(f"SELECT first, text FROM lines WHERE {LOGS} ORDER BY first"))
+                ((opened,),) = await rows(questions.COUNT)
+                open, results, held = [await rows(query) for query in (questions.OPEN_SAGAS, questions.OPEN_RESULTS, questions.OPEN_HELD)]
+        return questions.loaded(text, events, opened, open, results, held, taken[0][0] if taken else want.epoch)
+
+
+def _was_heard(fault: Exception) -> bool:
+    """Whether the server was there, and refused, or took too long."""
+    cause = fault.__cause__ if isinstance(fault, StoreUnwritable) else fault
+    return isinstance(cause, TimeoutError) or getattr(cause, "sqlstate", None) is not None
+
+
+def _loaded(text: str, opened: int, sagas: Sequence[Any], epoch: int) -> Loaded:
+    """From its cells. Seconds are written as whole numbers there, where they are."""
+    results: list[Result] = [
+        (id, step, kind, attempt, outcome, value, float(at)) for saga in sagas for id, step, kind, attempt, outcome, value, at in saga[4] or ()
+    ]
+    held: list[HeldRow] = [
+        (id, step, kind, attempt, why, count, float(since), None if until is None else float(until), error)
+        for saga in sagas
+        for id, step, kind, attempt, why, count, since, until, error in saga[5] or ()
+    ]
+    open = [(id, key, place, text) for id, key, place, text, _, _ in sagas]
+    return Loaded(text, text.count("\n"), opened, open, results, held, epoch)

@@ -1,0 +1,141 @@
+"""How logs are taken up from PostgreSQL: many at once, and none of them holds back the others."""
+
+from __future__ import annotations
+
+import asyncio
+import contextlib
+import json
+from collections.abc import AsyncIterator
+
+import psycopg
+import pytest
+
+import sagas
+from cases import Task, run, until
+from sagas import links
+from sagas.errors import StoreUnwritable
+from sagas.loads_postgresql import Loads
+from sagas.records import Loaded
+
+LOGS, ROOM = 6, 3
+REFUSES = """
+CREATE FUNCTION refuses() RETURNS trigger LANGUAGE plpgsql AS $$ BEGIN RAISE 'it is not read'; END $$;
+CREATE TRIGGER refuses BEFORE UPDATE ON sagas.logs FOR EACH ROW WHEN (NEW.log = {}) EXECUTE FUNCTION refuses();
+"""
+
+
+@pytest.fixture
+def logs(url: str, monkeypatch: pytest.MonkeyPatch) -> list[int]:
+    """Logs of a node `me`, with sagas whose first step is over, at a whole second, and whose second one waits for a person."""
+    monkeypatch.setattr("sagas.kinds.ROOM", ROOM)
+    kind, events = sagas.Saga("signed"), list[sagas.Event]()
+
+    @kind.step
+    async def write(task: Task) -> str:
+        return 'a "word"'
+
+    @kind.approval(needs=[write], within=3600)
+    async def sign(task: Task) -> None: ...
+
+    async def main() -> None:
+        async with sagas.open(url, [kind], clock=lambda: 1000.0, on_event=events.append) as store:
+            for number in range(LOGS * ROOM):
+                await store.start(kind, f"k{number}", {"n": number})
+            await until(lambda: sum(event.name == "step_waits" for event in events) == LOGS * ROOM)
+
+    run(main())
+    with psycopg.connect(url, autocommit=True) as link:
+        link.execute("UPDATE sagas.logs SET owner = 'me', epoch = 1")
+        return [int(str(log)) for (log,) in link.execute("SELECT log FROM sagas.logs ORDER BY log").fetchall()]
+
+
+@contextlib.asynccontextmanager
+async def loading(url: str) -> AsyncIterator[Loads]:
+    """As the node `me` does it."""
+    asker = links.Asker(url, url, 3)
+    await asker.open()
+    yield Loads(asker, "me", asyncio.get_running_loop().create_task)
+    await asker.close()
+
+
+def is_whole(loaded: Loaded | None, place: int, epoch: int) -> bool:
+    """Whether this is all that this log has, under a new epoch."""
+    assert loaded
+    ids = [id for id, _, _, _ in loaded.open]
+    numbers = [*range(place * ROOM, place * ROOM + ROOM)]
+    assert [(key, json.loads(text)) for _, key, _, text in loaded.open] == [(f"k{number}", {"n": number}) for number in numbers]
+    assert {(id, step, outcome, value) for id, step, _, _, outcome, value, _ in loaded.results} == {(id, 0, "commit", '"a \\"word\\""') for id in ids}
+    assert {(id, step, why, until) for id, step, _, _, why, _, _, until, _ in loaded.held} == {(id, 1, "approval", 4600.0) for id in ids}
+    assert all(type(at) is float for *_, at in loaded.results) and all(type(row[6]) is type(row[7]) is float for row in loaded.held)
+    return loaded.opened == ROOM and loaded.events == loaded.text.count("\n") > ROOM and loaded.epoch == epoch
+
+
+def test_all_that_are_wanted_go_together(url: str, logs: list[int]) -> None:
+    """What is there comes whole; what is another's, closed, or not there does not; and what is not born yet is empty."""
+
+    async def main() -> None:
+        with psycopg.connect(url, autocommit=True) as link:
+            link.execute("UPDATE sagas.logs SET owner = 'other' WHERE log = %s", (logs[0],))
+            link.execute("UPDATE sagas.logs SET closed = 1 WHERE log = %s", (logs[1],))
+        async with loading(url) as loads:
+            for epoch in (2, 3):
+                others, closed, *mine = await asyncio.gather(*(loads.load(log, 0, unborn=False) for log in logs))
+                assert others is None and closed is None
+                assert all(is_whole(loaded, place, epoch) for place, loaded in enumerate(mine, 2))
+            gone, unborn, there, born = await asyncio.gather(
+                loads.load(10**6, 7, False), loads.load(10**6 + 1, 7, True), loads.load(logs[2], 7, True), loads.load(logs[0], 7, True)
+            )
+            assert gone is None and unborn == Loaded("", 0, 0, [], [], [], 7) and is_whole(there, 2, 4) and born is None
+
+    run(main())
+
+
+def test_a_log_whose_commit_is_under_way(url: str, logs: list[int]) -> None:
+    """It is taken up behind that; those that are wanted with it and after it are there before."""
+
+    async def main() -> None:
+        with psycopg.connect(url) as commit:
+            async with loading(url) as loads:
+                commit.execute("SELECT 1 FROM sagas.logs WHERE log = %s FOR SHARE", (logs[2],))
+                waits = asyncio.create_task(loads.load(logs[2], 1, False))
+                rest = [log for log in logs if log != logs[2]]
+                async with asyncio.timeout(links.PATIENCE / 2):  # else they came only once the server had given the first statement up
+                    assert all(await asyncio.gather(*(loads.load(log, 1, False) for log in rest)))
+                    assert await loads.load(logs[0], 2, False)
+                assert not waits.done()
+                commit.execute("INSERT INTO sagas.lines SELECT log, 1000, 0, text FROM sagas.lines WHERE log = %s AND first = 0", (logs[2],))
+                commit.commit()
+                loaded = await waits
+                assert loaded and loaded.epoch == 2 and loaded.text.count('"open"') == ROOM + 1
+
+    run(main())
+
+
+def test_a_log_that_cannot_be_taken_up(url: str, logs: list[int]) -> None:
+    """The others come."""
+
+    async def main() -> None:
+        with psycopg.connect(url, autocommit=True) as link:
+            link.execute(REFUSES.format(logs[3]))
+        async with loading(url) as loads:
+            found = await asyncio.gather(*(loads.load(log, 1, False) for log in logs), return_exceptions=True)
+            assert isinstance(found[3], StoreUnwritable) and "it is not read" in str(found[3])
+            assert all(is_whole(loaded, place, 2) for place, loaded in enumerate(found) if place != 3)
+            with psycopg.connect(url, autocommit=True) as link:
+                link.execute("DROP TRIGGER refuses ON sagas.logs")
+            assert is_whole(await loads.load(logs[3], 1, False), 3, 2)
+
+    run(main())
+
+
+def test_the_server_does_not_answer(url: str, logs: list[int]) -> None:
+    """Each who waits hears it, and who asks again has it."""
+
+    async def main() -> None:
+        async with loading(url) as loads, loading(url) as others:
+            await others._asker.close()
+            faults = await asyncio.gather(*(others.load(log, 1, False) for log in logs), return_exceptions=True)
+            assert [type(fault) for fault in faults] == [StoreUnwritable] * LOGS
+            assert all([is_whole(await loads.load(log, 1, False), place, 2) for place, log in enumerate(logs)])
+
+    run(main())
