@@ -148,13 +148,13 @@ async def another_node_has_the_log(stage: Stage) -> int:
     return 2
 
 
-async def the_answer_to_a_commit_is_lost(stage: Stage) -> int:
+async def the_answer_to_a_commit_is_lost(stage: Stage, mark: bytes = COMMIT, inside: bool = False) -> int:
     """The statement that keeps a step's end is done, and its connection cut before the answer."""
     with relaying(stage.server.port) as relay:
-        async with stage.node("one", url=through(stage, relay)) as (node, store):
+        async with stage.node("one", url=through(stage, relay), inside=inside) as (node, store):
             work = asyncio.create_task(node.one(store, 0))
             await until(lambda: node.called)
-            relay.mark = COMMIT
+            relay.mark = mark
             node.gates["k0", "a"].set()
             await until(lambda: relay.cuts["marked"])
             node.open_all()
@@ -265,19 +265,8 @@ async def the_commit_of_a_step_inside_takes_long(stage: Stage) -> int:
 
 
 async def the_answer_to_a_step_inside_is_lost(stage: Stage) -> int:
-    """Its commit is done, and its connection cut before the answer."""
-    with relaying(stage.server.port) as relay:
-        async with stage.node("one", url=through(stage, relay), inside=True) as (node, store):
-            work = asyncio.create_task(node.one(store, 0))
-            await until(lambda: node.called)
-            relay.mark = b"EXECUTE sagas_carry("
-            node.gates["k0", "a"].set()
-            await until(lambda: relay.cuts["marked"])
-            node.open_all()
-            await stage.over(work)
-            if not stage.wrong:
-                assert node.called == [("k0", "a"), ("k0", "b")]
-    return 1
+    """The same, of a step's own transaction."""
+    return await the_answer_to_a_commit_is_lost(stage, b"EXECUTE sagas_carry(", inside=True)
 
 
 MOMENTS = {

@@ -3,6 +3,7 @@
 from __future__ import annotations
 
 import asyncio
+import contextlib
 import os
 import pathlib
 import signal
@@ -10,6 +11,8 @@ import subprocess
 import sys
 import textwrap
 from collections import Counter, defaultdict
+from collections.abc import AsyncIterator
+from typing import Any
 
 import psycopg
 import pytest
@@ -249,41 +252,6 @@ def test_a_limit_is_left_behind_the_commit(url: str) -> None:
     assert seen == [(number,) for number in range(6)]
 
 
-def test_another_node_has_the_log(url: str) -> None:
-    """It is alone where it was, and the log is another's by now: nothing is committed there."""
-    prepare(url)
-    gates, inside = (asyncio.Event(), asyncio.Event()), []
-
-    def kind_of(number: int) -> sagas.Saga:
-        kind = sagas.Saga("one")
-
-        @kind.step(transaction=True)
-        async def book(task: Task) -> int:
-            await task.connection.execute(BOOK, (task.key, "book", str(number)))
-            inside.append(number)
-            await gates[number].wait()
-            return number
-
-        return kind
-
-    async def main() -> None:
-        kinds = [kind_of(0), kind_of(1)]
-        async with sagas.open(url, [kinds[0]], node="same", lease=600) as first:
-            await first.start(kinds[0], "k")
-            await until(lambda: inside == [0])
-            async with sagas.open(url, [kinds[1]], node="same", lease=600) as second:
-                await until(lambda: inside == [0, 1])
-                gates[0].set()
-                await until(lambda: first._coordinator and not first._coordinator.pumps)
-                assert booked(url) == {} and not records.read(url).results
-                gates[1].set()
-                assert (await first.wait("k")).results == {"book": 1} == (await second.wait("k")).results
-                await audited(second)
-
-    run(main())
-    assert booked(url) == {("k", "book"): 1}
-
-
 def test_the_child_dies_as_the_step_is_over(url: str) -> None:
     """The transaction is ended with its record alone, which is reported to the next child: the step is not called again."""
     prepare(url)
@@ -502,25 +470,32 @@ def gated(gate: asyncio.Event) -> sagas.Saga:
     return kind
 
 
-def test_a_store_closes_while_it_is_under_way(url: str) -> None:
-    """It waits for the commit's answer, and keeps what it came to."""
+@contextlib.asynccontextmanager
+async def under_way(url: str) -> AsyncIterator[tuple[sagas.Saga, sagas.Store, sagas.Run, psycopg.Connection[Any]]]:
+    """A saga in a store, of whose first step the commit waits for a lock: who has it is a connection, to be rolled back."""
     prepare(url)
     gate = asyncio.Event()
     kind = gated(gate)
+    async with sagas.open(url, [kind]) as store:
+        going = await store.start(kind, "k")
+        await until(lambda: ("k", "one") in booked(url))
+        with psycopg.connect(url) as link:
+            link.execute("LOCK TABLE sagas.lines IN EXCLUSIVE MODE")
+            gate.set()
+            await until(lambda: waits(url))
+            yield kind, store, going, link
+
+
+def test_a_store_closes_while_it_is_under_way(url: str) -> None:
+    """It waits for the commit's answer, and keeps what it came to."""
 
     async def main() -> None:
-        async with sagas.open(url, [kind]) as store:
-            await store.start(kind, "k")
-            await until(lambda: ("k", "one") in booked(url))
-            with psycopg.connect(url) as link:
-                link.execute("LOCK TABLE sagas.lines IN EXCLUSIVE MODE")
-                gate.set()
-                await until(lambda: waits(url))
-                closing = asyncio.create_task(store.close())
-                await asyncio.sleep(0.1)
-                assert not closing.done()
-                link.rollback()
-                await asyncio.wait_for(closing, 60)
+        async with under_way(url) as (kind, store, _, link):
+            closing = asyncio.create_task(store.close())
+            await asyncio.sleep(0.1)
+            assert not closing.done()
+            link.rollback()
+            await asyncio.wait_for(closing, 60)
         assert booked(url) == {("k", "one"): 1, ("k", "two"): 1}
         assert [row.outcome for row in records.read(url).results.values()] == ["commit", "commit"]
         async with sagas.open(url, [kind]) as store:
@@ -533,23 +508,14 @@ def test_a_store_closes_while_it_is_under_way(url: str) -> None:
 
 def test_what_comes_meanwhile_waits(url: str) -> None:
     """Starts and an abort that are asked while the commit is under way are behind it, and nothing is told before."""
-    prepare(url)
-    gate = asyncio.Event()
-    kind = gated(gate)
 
     async def main() -> None:
-        async with sagas.open(url, [kind]) as store:
-            going = await store.start(kind, "k")
-            await until(lambda: ("k", "one") in booked(url))
-            with psycopg.connect(url) as link:
-                link.execute("LOCK TABLE sagas.lines IN EXCLUSIVE MODE")
-                gate.set()
-                await until(lambda: waits(url))
-                abort = asyncio.create_task(going.abort())
-                others = [asyncio.create_task(ended(store, kind, f"k{number}")) for number in range(3)]
-                await asyncio.sleep(0.2)
-                assert not abort.done() and set(booked(url)) == {("k", "one")}
-                link.rollback()
+        async with under_way(url) as (kind, store, going, link):
+            abort = asyncio.create_task(going.abort())
+            others = [asyncio.create_task(ended(store, kind, f"k{number}")) for number in range(3)]
+            await asyncio.sleep(0.2)
+            assert not abort.done() and set(booked(url)) == {("k", "one")}
+            link.rollback()
             assert await abort and all(end.ok for end in await asyncio.gather(*others))
             end = await going.wait()
             assert end.aborted and end.states == {name: "committed" for name in ("one", "two", "three")}  # the last had begun with that commit

@@ -122,7 +122,8 @@ def test_exactly_once_while_connections_are_cut(postgresql: Server, url: str, in
     assert booked(url) == wanted
 
 
-def test_a_step_of_a_lost_log_is_rolled_back(url: str) -> None:
+@pytest.mark.parametrize("limit", [None, 1], ids=["carries its lines", "by itself"])
+def test_a_step_of_a_lost_log_is_rolled_back(url: str, limit: int | None) -> None:
     """Two nodes of one name are at the same step: the one that has the log commits, and of the other's nothing stays."""
     prepare(url)
     gates = asyncio.Event(), asyncio.Event()
@@ -131,7 +132,7 @@ def test_a_step_of_a_lost_log_is_rolled_back(url: str) -> None:
     def kind_of(number: int) -> sagas.Saga:
         kind = sagas.Saga("one")
 
-        @kind.step(transaction=True)
+        @kind.step(transaction=True, limit=limit)
         async def book(task: Task) -> int:
             await task.connection.execute("INSERT INTO book(key, step, token) VALUES(%s, 'book', %s)", (task.key, str(number)))
             inside.append(number)
@@ -149,9 +150,10 @@ def test_a_step_of_a_lost_log_is_rolled_back(url: str) -> None:
                 await until(lambda: inside == [0, 1])
                 gates[0].set()
                 await until(lambda: first._coordinator and not first._coordinator.pumps)
-                assert booked(url) == {}
+                assert booked(url) == {} and not records.read(url).results
                 gates[1].set()
                 assert (await first.wait("k")).results == {"book": 1} == (await second.wait("k")).results
+                assert all(said.startswith("yes") for said in (await second.audit()).values())
 
     run(main())
     assert booked(url) == {("k", "book"): 1}
