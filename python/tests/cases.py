@@ -35,6 +35,15 @@ async def ended(store: sagas.Store, saga: sagas.Saga, key: str = "k", given: Any
     return await (await store.start(saga, key=key, input=given)).wait()
 
 
+async def surely_ended(store: sagas.Store, saga: sagas.Saga, key: str = "k", given: Any = None) -> sagas.End:
+    """The same, asked again while the store is away."""
+    while True:
+        try:
+            return await ended(store, saga, key, given)
+        except sagas.StoreUnwritable:
+            await asyncio.sleep(0.02)
+
+
 async def until(found: Callable[[], Any], seconds: float = 120) -> Any:
     """Waits for something that another part of the program does."""
     async with asyncio.timeout(seconds):

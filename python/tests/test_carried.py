@@ -19,7 +19,7 @@ import pytest
 
 import records
 import sagas
-from cases import QUICK, Task, ended, run, simple, until
+from cases import QUICK, Task, ended, run, simple, surely_ended, until
 from driving import program
 from relay import relaying
 from sagas import carried
@@ -211,19 +211,12 @@ def test_lone_sagas_while_connections_are_cut(postgresql: Server, url: str) -> N
     prepare(url)
     kind = three()
 
-    async def one(store: sagas.Store, number: int) -> sagas.End:
-        while True:
-            try:
-                return await ended(store, kind, f"k{number}", "three" if number % 3 == 0 else None)
-            except sagas.StoreUnwritable:
-                await asyncio.sleep(0.02)
-
     async def main() -> None:
         with relaying(postgresql.port, 3) as relay:
             async with sagas.open(postgresql.url(url.rpartition("/")[2], port=relay.port), [kind], lease=30) as store:
                 relay.before = relay.after = 0.03
                 for number in range(15):
-                    assert (await one(store, number)).phase == "ended"
+                    assert (await surely_ended(store, kind, f"k{number}", "three" if number % 3 == 0 else None)).phase == "ended"
                 relay.before = relay.after = 0.0
                 await audited(store)
             assert relay.cuts["after"] > 0 and relay.cuts["before"] > 0

@@ -20,7 +20,7 @@ import pytest
 
 import records
 import sagas
-from cases import QUICK, Task, ended, run, simple, until
+from cases import QUICK, Task, ended, run, simple, surely_ended, until
 from driving import program
 from sagas import leases, links, news, postgresql_commit
 from server import Server
@@ -578,7 +578,7 @@ def test_a_start_without_a_server_is_refused(url: str, monkeypatch: pytest.Monke
             told = await asyncio.gather(*(ended(store, kind, f"k{number}") for number in range(200)), return_exceptions=True)
             refused = [number for number, one in enumerate(told) if isinstance(one, sagas.StoreUnwritable)]
             assert refused and len(refused) + sum(isinstance(one, sagas.End) for one in told) == 200
-            assert (await started(store, kind, f"k{refused[0]}")).ok
+            assert (await surely_ended(store, kind, f"k{refused[0]}")).ok
 
     run(main())
 
@@ -590,7 +590,7 @@ def test_sessions_are_ended_by_the_server(url: str) -> None:
     async def main() -> None:
         with psycopg.connect(url, autocommit=True) as stranger:
             async with sagas.open(url, [kind], lease=60) as store:
-                work = [asyncio.create_task(started(store, kind, f"k{number}")) for number in range(40)]
+                work = [asyncio.create_task(surely_ended(store, kind, f"k{number}")) for number in range(40)]
                 for _ in range(4):
                     await asyncio.sleep(0.05)
                     stranger.execute("SELECT pg_terminate_backend(pid) FROM pg_stat_activity WHERE datname = current_database() AND pid <> pg_backend_pid()")
@@ -598,15 +598,6 @@ def test_sessions_are_ended_by_the_server(url: str) -> None:
 
     run(main())
     assert len(records.read(url).sagas) == 40
-
-
-async def started(store: sagas.Store, kind: sagas.Saga, key: str) -> sagas.End:
-    """A saga from its start, which is asked for until it is there, to its end."""
-    while True:
-        try:
-            return await ended(store, kind, key)
-        except sagas.StoreUnwritable:
-            await asyncio.sleep(0.02)
 
 
 def test_a_stranger_locks_a_table(url: str) -> None:
@@ -618,7 +609,7 @@ def test_a_stranger_locks_a_table(url: str) -> None:
             assert (await ended(store, kind, "before")).ok
             with psycopg.connect(url) as stranger:
                 stranger.execute("LOCK TABLE sagas.results, sagas.nodes IN ACCESS EXCLUSIVE MODE")
-                work = asyncio.create_task(started(store, kind, "meanwhile"))
+                work = asyncio.create_task(surely_ended(store, kind, "meanwhile"))
                 await asyncio.sleep(10.0)
                 assert not work.done()
                 stranger.rollback()

@@ -18,7 +18,7 @@ import pytest
 
 import records
 import sagas
-from cases import QUICK, Task, ended, run, simple, until
+from cases import QUICK, Task, ended, run, simple, surely_ended, until
 from driving import program
 from relay import relaying
 from sagas.step_pool import Pool
@@ -101,18 +101,11 @@ def test_exactly_once_while_connections_are_cut(postgresql: Server, url: str, in
     prepare(url)
     kind = bank(in_thread)
 
-    async def one(store: sagas.Store, number: int) -> sagas.End:
-        while True:
-            try:
-                return await ended(store, kind, f"k{number}", "fails" if number % 3 == 0 else None)
-            except sagas.StoreUnwritable:
-                await asyncio.sleep(0.02)
-
     async def main() -> None:
         with relaying(postgresql.port, 7) as relay:
             async with sagas.open(postgresql.url(url.rpartition("/")[2], port=relay.port), [kind], lease=30) as store:
                 relay.before = relay.after = 0.02
-                ends = await asyncio.gather(*(one(store, number) for number in range(40)))
+                ends = await asyncio.gather(*(surely_ended(store, kind, f"k{number}", "fails" if number % 3 == 0 else None) for number in range(40)))
                 relay.before = relay.after = 0.0
                 assert all(end.phase == "ended" for end in ends)
             assert relay.cuts["after"] > 0 and relay.cuts["before"] > 0
