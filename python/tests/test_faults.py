@@ -8,6 +8,7 @@ import datetime
 import os
 import pathlib
 import resource
+import shutil
 import signal
 import sqlite3
 import subprocess
@@ -23,10 +24,11 @@ import pytest
 
 import records
 import sagas
-from sagas import coordinator, lines, restoring, sqlite
+from sagas import coordinator, lines, restoring, sources, sqlite
 from cases import QUICK, Task, ended, in_child, run, simple, until
 from driving import program
 from kills import children
+from world import started
 
 HERE = pathlib.Path(__file__).resolve().parent
 
@@ -94,8 +96,13 @@ def test_serves_without_async_until_it_is_told_to_end(tmp_path: pathlib.Path) ->
 # -- two programs, forks, the child --------------------------------------------------------------------------------
 
 
-def test_two_programs_open_one_store(tmp_path: pathlib.Path) -> None:
+@pytest.mark.parametrize("is_link", [False, True], ids=["by its path", "by a link"])
+def test_two_programs_open_one_store(tmp_path: pathlib.Path, is_link: bool) -> None:
     """The second gets StoreLocked, from the same process and from another; when the first is killed, it gets the store."""
+    path = tmp_path / "store.db"
+    if is_link:
+        path = tmp_path / "link.db"
+        path.symlink_to("store.db")
 
     other = f"""
         import asyncio, sagas, sys
@@ -114,11 +121,13 @@ def test_two_programs_open_one_store(tmp_path: pathlib.Path) -> None:
     async def main() -> None:
         saga = simple(lambda task: 1)
         with pytest.raises(sagas.StoreLocked, match=rf"another program \(process {process.pid}\)"):
-            async with sagas.open(tmp_path / "store.db", [saga]):
+            async with sagas.open(path, [saga]):
                 pass
+        with contextlib.closing(sources.File(str(path), "ro")) as file:
+            assert file.is_driven()
         process.kill()
         process.wait()
-        async with sagas.open(tmp_path / "store.db", [saga]) as store:
+        async with sagas.open(path, [saga]) as store:
             with pytest.raises(sagas.StoreLocked, match="this program has this store open"):
                 async with sagas.open(tmp_path / "store.db", [saga]):
                     pass
@@ -130,6 +139,25 @@ def test_two_programs_open_one_store(tmp_path: pathlib.Path) -> None:
         process.kill()
         process.wait()
         process.stdout.close()
+
+
+def test_a_store_of_two_names(tmp_path: pathlib.Path) -> None:
+    """It is not opened: SQLite would have a WAL for each. A copy is."""
+    saga = simple(lambda task: 1)
+
+    async def main() -> None:
+        async with sagas.open(tmp_path / "store.db", [saga]) as store:
+            await ended(store, saga)
+        (tmp_path / "name.db").hardlink_to(tmp_path / "store.db")
+        for name in ("store.db", "name.db"):
+            with pytest.raises(sagas.StoreFault, match="2 names"):
+                async with sagas.open(tmp_path / name, [saga]):
+                    pass
+        shutil.copy(tmp_path / "name.db", tmp_path / "copy.db")
+        async with sagas.open(tmp_path / "copy.db", [saga]) as store:
+            assert (await store.wait("k")).ok
+
+    run(main())
 
 
 MONTH = datetime.timedelta(days=30)
@@ -418,6 +446,44 @@ def test_the_child_is_killed_again_and_again(place: str) -> None:
 
     run(main())
     assert len(tokens) == 120 and set(tokens.values()) == {1}  # this program lived: each function was called once
+
+
+@contextlib.contextmanager
+def no_descriptors() -> Iterator[None]:
+    """This process can open no further file, until the block ends."""
+    limits = resource.getrlimit(resource.RLIMIT_NOFILE)
+    resource.setrlimit(resource.RLIMIT_NOFILE, (3, limits[1]))
+    try:
+        yield
+    finally:
+        resource.setrlimit(resource.RLIMIT_NOFILE, limits)
+
+
+@pytest.mark.parametrize("idle", [0.01, 60], ids=["let go", "killed"])
+def test_the_child_cannot_be_started_for_a_while(place: str, idle: float) -> None:
+    """Who starts a saga meanwhile is told; once it can be started, its log goes on."""
+
+    async def main() -> None:
+        saga, others = simple(lambda task: task.key), set(children(os.getpid()))
+        saga.approval(name="ok", needs=["a"])(lambda task: None)
+        async with sagas.open(place, [saga], idle=idle) as store:
+            first = await store.start(saga, "first")
+            await until(lambda: "ok" in (one.step for one in store.begun("first")))
+            if idle < 1:
+                await until(lambda: not set(children(os.getpid())) - others)
+            own = set(children(os.getpid())) - others
+            with no_descriptors():
+                for child in own:
+                    os.kill(child, signal.SIGKILL)
+                with pytest.raises(sagas.StoreUnwritable, match="Too many open files"):
+                    await store.start(saga, "second")
+            second = await asyncio.wait_for(started(store, saga, "second", None), 60)
+            await until(lambda: "ok" in (one.step for one in store.begun("second")))
+            for going in (first, second):
+                await asyncio.wait_for(going.finish("ok"), 60)
+                assert (await asyncio.wait_for(going.wait(), 60)).ok
+
+    run(main())
 
 
 BETWEEN = """#!/usr/bin/env python3

@@ -3,6 +3,7 @@
 from __future__ import annotations
 
 import asyncio
+import contextlib
 import copy
 import dataclasses
 import datetime
@@ -231,13 +232,15 @@ def test_raises(place: str, caplog: pytest.LogCaptureFixture) -> None:
     assert info and info[2] and info[2].tb_frame.f_code.co_name == "fails"
 
 
-def test_raises_fail(place: str) -> None:
+@pytest.mark.parametrize("group", [False, True], ids=["alone", "in a group"])
+def test_raises_fail(place: str, group: bool) -> None:
     """No more tries: those that are left are reported without a call."""
     attempts: list[int] = []
 
-    def fails(task: Task) -> None:
+    async def fails(task: Task) -> None:
         attempts.append(task.attempt)
-        raise sagas.Fail("for good")
+        async with asyncio.TaskGroup() if group else contextlib.nullcontext():
+            raise sagas.Fail("for good")
 
     async def main() -> sagas.End:
         saga = simple(fails, tries=9, backoff=sagas.Backoff(first=3600))
@@ -250,7 +253,10 @@ def test_raises_fail(place: str) -> None:
     assert sorted(outcomes) == ["fail"] + 8 * ["missed"]
 
 
-@pytest.mark.parametrize("error", [sagas.Unknown("?"), TimeoutError("?"), ConnectionResetError("?"), KeyError("?")])
+GROUP = ExceptionGroup("unhandled errors in a TaskGroup", [ValueError("no"), ExceptionGroup("within", [TimeoutError("?"), sagas.Fail("for good")])])
+
+
+@pytest.mark.parametrize("error", [sagas.Unknown("?"), TimeoutError("?"), ConnectionResetError("?"), KeyError("?"), GROUP], ids=lambda error: type(error).__name__)
 def test_raises_unknown(place: str, error: Exception) -> None:
     """Nobody knows: the same attempt again, with the same token, and nothing is reported; by default for timeouts and lost connections. The log says how often."""
     tokens: list[str] = []
@@ -271,6 +277,31 @@ def test_raises_unknown(place: str, error: Exception) -> None:
     assert run(main()).ok and len(tokens) == 3 and len(set(tokens)) == 1
     assert len(told) == 2 and told[1] == f"{told[0]}; 2 times by now"
     assert len(records.read(place).results) == 1
+
+
+def test_a_failure_that_came_from_a_timeout(place: str) -> None:
+    """As clients raise it, from their own exceptions: it is a failure, and the log says what to declare where nobody knows."""
+    told: list[str] = []
+
+    class Late(Exception):
+        """A client's own."""
+
+    def asks(task: Task) -> None:
+        try:
+            raise TimeoutError("the read timed out")
+        except TimeoutError as error:
+            if task.input == "while":
+                raise Late("no answer")
+            raise Late("no answer") from (error if task.input == "from" else None)
+
+    async def main() -> None:
+        saga = simple(asks)
+        async with sagas.open(place, [saga], on_event=lambda event: told.append(event.detail or "") if event.name == "step_failed" else None) as store:
+            for given in ("from", "while", "from None"):
+                assert (await ended(store, saga, given, given)).states == {"a": "failed"}
+
+    run(main())
+    assert [text.count("it came from TimeoutError") for text in told] == [1, 1, 0] and "unknown=(test_outcomes." in told[0]
 
 
 def test_a_function_that_holds_the_loop(tmp_path: pathlib.Path, caplog: pytest.LogCaptureFixture, monkeypatch: pytest.MonkeyPatch) -> None:

@@ -1284,3 +1284,19 @@ def test_another_loop(tmp_path: pathlib.Path) -> None:
             assert store.list() == []
 
     run(main())
+
+
+def test_a_step_calls_a_store_without_async(tmp_path: pathlib.Path) -> None:
+    """A plain function may, since it runs in a thread; an async one would hold up the loop that it waits for, and hears so."""
+    saga, other = simple(lambda task: store.start(inner, "inner").wait(60).results["a"]), sagas.Saga("other")
+    inner = sagas.Saga("inner")
+    inner.step(name="a")(lambda task: 1)
+
+    @other.step
+    async def a(task: Task) -> None:
+        store.list()
+
+    with sagas.open_sync(tmp_path / "store.db", [saga, inner, other]) as store:
+        assert store.start(saga, "outer").wait(60).results == {"a": 1}
+        assert "make the function a plain def" in (store.start(other, "k").wait(60).errors["a"] or "")
+

@@ -290,7 +290,7 @@ async def approve_all(world: World, store: sagas.Store) -> None:
 
 
 async def started(store: sagas.Store, saga: sagas.Saga, key: str, given: Any) -> sagas.Run:
-    """Starts a saga, again and again while the disk is full."""
+    """Starts a saga, again and again while the store is away."""
     while True:
         try:
             return await store.start(saga, key=key, input=given)

@@ -14,7 +14,7 @@ from concurrent.futures import Executor
 from typing import Any, NamedTuple, cast
 
 from . import values
-from .definition import Manner
+from .definition import Manner, Unknowns
 from .errors import Fail, NotJson, Unknown
 from .events import quoted
 from .task import Task
@@ -46,6 +46,15 @@ def failure(text: str, final: bool = False, called: bool = True) -> Outcome:
     if not called:
         told["called"] = False
     return Outcome("final" if final else "failed", json.dumps(told), called)
+
+
+def outcome_of(result: Any, failed: str | None, final: bool = True) -> Outcome:
+    """What somebody says of an attempt: it is done, with its result, or `failed`, and why. Raises `NotJson`; `TypeError` where why is no text."""
+    if failed is None:
+        return Outcome("done", values.write(result))
+    if not isinstance(failed, str):
+        raise TypeError(f"failed={failed!r}: it is a text: why it failed")
+    return failure(failed, final)
 
 
 class Unawaited(Exception):
@@ -97,12 +106,41 @@ async def ended(work: Awaitable[Any], task: Task[Any]) -> Outcome:
 
 def raised(error: BaseException, manner: Manner) -> Outcome:
     """The function raised: it had no effect, or nobody knows."""
-    text = "".join(traceback.format_exception_only(type(error), error)).strip()
-    if isinstance(error, Fail):
-        return failure(text, final=True)
-    if isinstance(error, (Unknown, *manner.unknown)) or not isinstance(error, Exception):  # sys.exit() in the middle, say
+    kind, text = sorted_by(error, manner.unknown), said(error)
+    if kind == "unknown":
         return Outcome("unknown", text[:MOST_TEXT])
-    return failure(text)._replace(error=error)
+    return failure(text, final=True) if kind == "final" else failure(text)._replace(error=error)
+
+
+def sorted_by(error: BaseException, unknown: Unknowns) -> str:
+    """`unknown`, `final` or `failed`. Of a group, as `asyncio.TaskGroup` raises one, what most is at stake by: nobody knows before it has failed."""
+    if isinstance(error, Fail):
+        return "final"
+    if isinstance(error, (Unknown, *unknown)):
+        return "unknown"
+    if isinstance(error, BaseExceptionGroup):
+        kinds = {sorted_by(one, unknown) for one in error.exceptions}
+        return next(kind for kind in ("unknown", "final", "failed") if kind in kinds)
+    return "failed" if isinstance(error, Exception) else "unknown"  # sys.exit() in the middle, say
+
+
+def said(error: BaseException) -> str:
+    """What was raised, as a line; of a group each one."""
+    if isinstance(error, BaseExceptionGroup):
+        return "; ".join(said(one) for one in error.exceptions)
+    return "".join(traceback.format_exception_only(type(error), error)).strip()
+
+
+def doubt(error: BaseException | None, manner: Manner) -> str:
+    """What is added in the log to a failure that was raised from what leaves open what was done, as clients raise their own exceptions from a timeout."""
+    seen, cause = set[int](), error
+    while cause is not None and id(cause) not in seen:
+        seen.add(id(cause))
+        cause = cause.__cause__ or (None if cause.__suppress_context__ else cause.__context__)
+        if isinstance(cause, (Unknown, *manner.unknown)):
+            name = f"{type(error).__module__}.{type(error).__qualname__}"
+            return f"; it came from {type(cause).__name__}: where nobody knows then what was done, declare the step with unknown=({name},)"
+    return ""
 
 
 is_async = functools.lru_cache(maxsize=4096)(inspect.iscoroutinefunction)

@@ -47,6 +47,14 @@ def calls(word: str, value: Any, what: str) -> None:
         raise TypeError(f"{word}={shown(value)}: it is a plain function {what}: an async one would never be awaited")
 
 
+def text(word: str, value: Any, what: str) -> None:
+    """A text that says something."""
+    if not isinstance(value, str):
+        raise TypeError(f"{word}={shown(value)}: it is a text: {what}")
+    if not value.strip():
+        raise ValueError(f"{word}={shown(value)}: it is a text, which says {what}")
+
+
 def node(value: Any) -> None:
     """A node's name."""
     if value is not None and not isinstance(value, str):

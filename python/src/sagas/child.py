@@ -47,8 +47,9 @@ class Child:
 
     def _start(self, program: str, definitions: Sequence[str], text: str) -> None:
         files: list[int] = []
-        self._words = os.memfd_create("words", os.MFD_CLOEXEC)
+        self._words = -1
         try:
+            self._words = os.memfd_create("words", os.MFD_CLOEXEC)
             files += [memory_file("definition", definition) for definition in definitions]
             words = [f"/proc/self/fd/{fd}" for fd in files]
             if text:
@@ -59,7 +60,8 @@ class Child:
                 pass_fds=files, start_new_session=True,
             )  # fmt: skip
         except OSError as error:
-            os.close(self._words)
+            if self._words >= 0:
+                os.close(self._words)
             raise ChildError(f"{program}: it cannot be started: {error.strerror}") from error
         finally:
             for fd in files:

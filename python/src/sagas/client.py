@@ -12,7 +12,7 @@ from weakref import WeakSet
 import psycopg
 
 from . import checks, given, histories, links, moving, news, postgresql, postgresql_schema, questions, requests, room, values, waiting
-from .calling import Outcome, failure
+from .calling import outcome_of
 from .databases import FORM
 from .definition import Saga, Step
 from .errors import Closed, NoSuchSaga, NotWaiting, StoreFault, StoreUnwritable, TooLarge
@@ -230,11 +230,11 @@ class Client:
 
     async def finish(self, key: str, step: Step[Any] | str, result: Any = None, *, failed: str | None = None, undo: bool = False) -> None:
         """As `Store.finish`. Raises `NotWaiting`, `NoSuchSaga`, `NotJson`."""
-        outcome = Outcome("done", values.write(result)) if failed is None else failure(failed, final=True)
+        outcome = outcome_of(result, failed)
         if (await self._row(key)).phase is not None:
             raise NotWaiting(f"saga {key!r} is over")
-        told = requests.finish_of(step if isinstance(step, str) else step.name, "undo" if undo else "run", outcome)
-        requests.told(await postgresql.ask(self._asker, self._heard, key, "finish", values.write(told), None))
+        wanted = requests.finish_of(step if isinstance(step, str) else step.name, "undo" if undo else "run", outcome)
+        requests.told(await postgresql.ask(self._asker, self._heard, key, "finish", values.write(wanted), None))
 
     # -- questions
 

@@ -429,14 +429,7 @@ class Coordinator:
             pump.opens.clear()
         await self.doing.callers.settled()
         await self.doing.inside.settled()
-        running = {attempt.job for attempt in self.doing.running if attempt.job}
-        late: set[asyncio.Task[None]] = set()
-        if running:
-            _, late = await asyncio.wait(running, timeout=QUIET if grace is None else min(grace, QUIET))
-            if late and (grace is None or grace > QUIET):
-                names = sorted(f"{attempt.name} of {attempt.live.key!r}" for attempt in self.doing.running if attempt.job in late)
-                logger.warning("closing waits for %d functions%s: %s", len(names), f", {grace:g} s at most" if grace else "", ", ".join(names[:8]))
-                _, late = await asyncio.wait(late, timeout=None if grace is None else grace - QUIET)
+        late = await self._functions_end(grace)
         for job in late:
             job.cancel()
         await self._drain()
@@ -459,6 +452,18 @@ class Coordinator:
         self.threads.shutdown(wait=not late, cancel_futures=True)
         if children:
             await asyncio.wait([child.buried for child in children], timeout=QUIET)
+
+    async def _functions_end(self, grace: float | None) -> set[asyncio.Task[None]]:
+        """Waits for the functions that run; gives those that are not over in time. Which ones it waits for is logged, after a while."""
+        running = {attempt.job for attempt in self.doing.running if attempt.job}
+        if not running:
+            return set()
+        _, late = await asyncio.wait(running, timeout=QUIET if grace is None else min(grace, QUIET))
+        if late and (grace is None or grace > QUIET):
+            names = sorted(f"{attempt.name} of {attempt.live.key!r}" for attempt in self.doing.running if attempt.job in late)
+            logger.warning("closing waits for %d functions%s: %s", len(names), f", {grace:g} s at most" if grace else "", ", ".join(names[:8]))
+            _, late = await asyncio.wait(late, timeout=None if grace is None else grace - QUIET)
+        return late
 
     def _tell_closed(self, pump: Pump) -> None:
         """Who waits for an abort or for a step's end to be kept hears that it was not."""

@@ -262,7 +262,8 @@ class Saga:
           for what leaves nothing to undo.
         - `tries`: 1 to 9. `backoff`: the seconds between them.
         - `timeout`: seconds, or a timedelta; whoever takes longer has an outcome that nobody knows (see `Unknown`). A thread cannot be stopped: it is waited for.
-        - `unknown`: exceptions after which nobody knows; by default timeouts and lost connections. `unknown_most`: after more than so many of them,
+        - `unknown`: exceptions after which nobody knows; by default timeouts and lost connections, `(TimeoutError, ConnectionError)`. Exceptions that
+          clients raise in their place have to be named: `unknown=(httpx.TransportError,)`. `unknown_most`: after more than so many of them,
           or so long a time since the first, the saga waits for a person (`Store.unknown`, `Store.finish`).
         - `limit`: how many of this step may run at once in this program, over all sagas. `fleet_limit`: over all nodes of the store.
         - `rate=(100, 60)`, or with a timedelta: in any 60 seconds 100 calls of it at most begin, tries too, over all nodes. Who is over a limit or a rate waits, and holds

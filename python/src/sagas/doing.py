@@ -492,7 +492,8 @@ class Doing:
             return
         name = "step_failed" if final else MISSED.get(attempt.event, "step_failed")
         level = None if outcome.called else logging.INFO
-        self._tell(attempt, name, str(json.loads(outcome.value).get("error")), level, outcome.error if name == "step_failed" else None)
+        detail = str(json.loads(outcome.value).get("error")) + calling.doubt(outcome.error, attempt.manner)
+        self._tell(attempt, name, detail, level, outcome.error if name == "step_failed" else None)
 
     def _tell(self, attempt: Attempt, name: str, detail: str | None = None, level: int | None = None, error: BaseException | None = None) -> None:
         live, undo = attempt.live, attempt.kind == "undo"

@@ -57,6 +57,7 @@ class Loads:
         self._asker, self._node, self._spawn = asker, node, spawn
         self._wanted: list[Want] = []
         self._is_loading = False
+        self._one = asyncio.Lock()  # logs that are locked go one by one: each may hold a connection for long, which others need as well
 
     async def load(self, log: int, epoch: int, unborn: bool) -> Loaded | None:
         """As `Database.load`."""
@@ -91,7 +92,8 @@ class Loads:
 
     async def _tell_alone(self, want: Want) -> None:
         try:
-            loaded = await self._alone(want)
+            async with self._one:
+                loaded = await self._alone(want)
         except Exception as fault:
             want.tell(None, fault)
         else:

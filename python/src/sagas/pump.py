@@ -14,7 +14,7 @@ from . import lines, restoring
 from .answers import Abort, Act, Answers, Disagrees
 from .callers import LOT
 from .child import Child, Reply
-from .errors import Lost, SagasError
+from .errors import Lost
 from .kinds import Kind
 from .live import Attempt, Live
 from .records import Batch
@@ -130,8 +130,8 @@ class Pump(Answers):
                 return
             text, self.events = taken
             self.child = Child(self.owner.program, self.texts, text, self._died)
-        except SagasError as error:
-            self.fail(error)
+        except Exception as error:
+            self.fail(restoring.known(self, error))
             return
         self.state, self.used = "up", time.monotonic()
         self.woke = self.used

@@ -73,9 +73,9 @@ async def load(pump: Pump) -> None:
             return
         _doubtful(pump, there)
         pump.child = child = Child(owner.program, pump.texts, loaded.text, lambda child, last: _ended(pump, child, last))
-    except SagasError as error:
-        owner.trouble(pump, error)
-        pump.fault = error
+    except Exception as error:
+        pump.fault = fault = known(pump, error)
+        owner.trouble(pump, fault)
         _doubtful(pump, set())
         stale(pump)
         return
@@ -85,6 +85,14 @@ async def load(pump: Pump) -> None:
     requests = [lines.BUSY, *(lines.show_line(number) for number in shown)]
     whole = loaded
     child.ask(requests, lambda replies, _: _restored(pump, whole, shown, replies))
+
+
+def known(pump: Pump, error: Exception) -> SagasError:
+    """Why a log could not be taken up: what nobody expected is logged with where it was."""
+    if isinstance(error, SagasError):
+        return error
+    logger.error("log %s: it could not be taken up", pump.name, exc_info=error)
+    return SagasError(f"log {pump.name}: it could not be taken up: {error!r}")
 
 
 async def _elsewhere(pump: Pump, there: set[str]) -> None:

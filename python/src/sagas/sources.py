@@ -141,7 +141,7 @@ class File:
 
     def is_driven(self) -> bool:
         try:
-            lock = os.open(f"{self.path}.lock", os.O_RDONLY)
+            lock = os.open(sqlite.lock_of(self.path), os.O_RDONLY)
         except FileNotFoundError:
             return False
         except OSError:  # another user's: a program may have it

@@ -53,6 +53,9 @@ def check_file(path: str) -> None:
         raise StoreFault(f"{path}: it is a folder: give a file in it")
     if not os.path.isfile(path):
         return
+    if (names := os.stat(path).st_nlink) > 1:
+        remedy = "what is written by one of them is not seen by the others: remove the others (`find -samefile` finds them), or open a copy"
+        raise StoreFault(f"{path}: the file has {names} names (hard links), and {remedy}")
     if not os.access(path, os.R_OK, effective_ids=True):
         raise StoreUnwritable(f"{path}: unable to open database file: {RIGHTS}")
     try:
@@ -62,6 +65,11 @@ def check_file(path: str) -> None:
     except sqlite3.Error as error:  # of anything else, as a page that another program writes just now, the opening itself tells
         if getattr(error, "sqlite_errorcode", None) == sqlite3.SQLITE_NOTADB:
             raise StoreFault(f"{path}: {error}: give a store's own path, or one where no file is yet") from error
+
+
+def lock_of(path: str | os.PathLike[str]) -> str:
+    """The file that the program that has a store open holds: one for all links to the store, as SQLite has one WAL for them."""
+    return f"{os.path.realpath(path)}.lock"
 
 
 def owner_of(path: str) -> str | None:
@@ -199,17 +207,18 @@ class Sqlite(questions.Questions):
 
     def _take_lock(self) -> None:
         check_file(self.path)
+        path = lock_of(self.path)
         try:
-            self._lock = os.open(self.path + ".lock", os.O_RDWR | os.O_CREAT | os.O_CLOEXEC, 0o644)
+            self._lock = os.open(path, os.O_RDWR | os.O_CREAT | os.O_CLOEXEC, 0o644)
         except FileNotFoundError as error:
-            raise StoreUnwritable(f"{os.path.dirname(self.path)}: there is no such folder: make it first") from error
+            raise StoreUnwritable(f"{os.path.dirname(path)}: there is no such folder: make it first") from error
         except PermissionError as error:
-            owner = owner_of(self.path + ".lock")
+            owner = owner_of(path)
             theirs = f"it belongs to {owner}: open the store as {owner}, or have {owner} give it, and the store's files, to this user (chown)"
             remedy = theirs if owner else f"{error.strerror}: this user has to be able to write in its folder"
-            raise StoreUnwritable(f"{self.path}.lock: {remedy}") from error
+            raise StoreUnwritable(f"{path}: {remedy}") from error
         except OSError as error:
-            raise StoreUnwritable(f"{self.path}.lock: {error.strerror}") from error
+            raise StoreUnwritable(f"{path}: {error.strerror}") from error
         private.add(self._lock)
         try:
             fcntl.flock(self._lock, fcntl.LOCK_EX | fcntl.LOCK_NB)

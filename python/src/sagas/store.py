@@ -18,7 +18,7 @@ from typing import TYPE_CHECKING, Any
 
 from . import auditing, checks, databases, histories, moving, program, requests, retention, starting, under_way, values, waiting
 from .anywhere import Anywhere
-from .calling import MOST_TEXT, Outcome, failure
+from .calling import MOST_TEXT, Outcome, outcome_of
 from .coordinator import Coordinator
 from .database import Reader
 from .definition import Saga, Seconds, Step
@@ -345,10 +345,11 @@ class Store:
         `by`: who says so; then that is kept, with the note and the time (`sagas.looks`).
         Raises `NotWaiting` where nobody has to say anything about the step, `NoSuchSaga`, `NotJson`, `Closed`."""
         self._here()
+        outcome = outcome_of(result, failed)
         name = step if isinstance(step, str) else step.name
         said: dict[str, Any] = {"result": result} if failed is None else {"failed": failed}
         asked = self._asked(key, "finish", by, note, step=name, kind="undo" if undo else "run", **said)
-        await self._finish(key, name, Outcome("done", values.write(result)) if failed is None else failure(failed, final=True), undo, asked)
+        await self._finish(key, name, outcome, undo, asked)
 
     async def _finish(self, key: str, step: str, outcome: Outcome, undo: bool, request: Wanted) -> None:
         kind = "undo" if undo else "run"
@@ -422,7 +423,7 @@ class Store:
         if unknown is not None:
             outcome = Outcome("unknown", unknown[:MOST_TEXT])
         else:
-            outcome = Outcome("done", values.write(result)) if failed is None else failure(failed, final)
+            outcome = outcome_of(result, failed, final)
         return await self._inside.anywhere.report(token, lease, outcome)
 
     def queues(self) -> builtins.list[Queue]:
@@ -482,9 +483,11 @@ class Store:
         return histories.stuck(self._inside)
 
     async def resolve(self, key: str, note: str, *, by: str | None = None) -> None:
-        """Marks a stuck saga as looked after, with a note. Raises `NoSuchSaga`, and `NotWaiting` where it is not stuck.
+        """Marks a stuck saga as looked after, with a note, which takes the place of an earlier one. Raises `NoSuchSaga`, and `NotWaiting` where it is not
+        stuck; `ValueError` where the note says nothing.
 
         `by`: who did; then that is kept, with the time (`sagas.looks`)."""
+        checks.text("note", note, "what was done about it")
         await histories.resolve(self._inside, key, note, self._asked(key, "resolve", by, note))
 
     def unknown(self) -> builtins.list[Held]:

@@ -49,7 +49,8 @@ class SyncRun:
 
 
 class SyncStore:
-    """Made by `sagas.open_sync`; use it by `with`. Its calls are those of `Store`, from any thread but its own."""
+    """Made by `sagas.open_sync`; use it by `with`. Its calls are those of `Store`, from any thread; but in an async step, which is in the store's own thread,
+    they raise `RuntimeError`: make that a plain function."""
 
     def __init__(self, store: Store) -> None:
         self._store = store

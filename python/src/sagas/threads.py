@@ -47,11 +47,15 @@ class Loop:
         self._opened.end()
 
     def do(self, work: Coroutine[Any, Any, T], timeout: float | None = None) -> T:
-        """Does it, and gives what it gives, or raises what it raises; `TimeoutError` after so many seconds."""
+        """Does it, and gives what it gives, or raises what it raises; `TimeoutError` after so many seconds. Raises `RuntimeError` in the loop's own thread,
+        which would wait for itself."""
         if not self.runs or self._loop is None:
             work.close()
             self._opened.check(self.where)
             raise Closed(f"{self.where}: {self._closed}")
+        if threading.current_thread() is self._thread:
+            work.close()
+            raise RuntimeError(f"{self.where}: called in its own loop, which would wait for itself: make the function a plain def, or open it with async")
         future = asyncio.run_coroutine_threadsafe(work, self._loop)
         try:
             return future.result(timeout)

@@ -30,7 +30,7 @@ WHY = {
 
 def said(name: str, undo: bool, why: str, until: float | None) -> str:
     """A step that is held, and why."""
-    told = "waits for a person to say what it did (finish)" if why == "unknown" and until is None else WHY.get(why, "waits")
+    told = f"waits for a person to say what it did (finish{' with undo=True' if undo else ''})" if why == "unknown" and until is None else WHY.get(why, "waits")
     return f"{'the compensation of ' if undo else ''}{name} {told}"
 
 

@@ -25,7 +25,6 @@ import random
 import socket
 import threading
 import time
-import traceback
 import urllib.parse
 from collections import deque
 from collections.abc import Callable, Sequence
@@ -33,7 +32,7 @@ from typing import Any
 
 from . import calling, faults, values
 from .definition import UNKNOWN, Unknowns
-from .errors import DefinitionError, Fail, NotJson, SagasError, Unknown
+from .errors import DefinitionError, NotJson, SagasError
 from .task import Task, Told
 
 logger = logging.getLogger("sagas.worker")
@@ -382,18 +381,14 @@ def outcome(manner: _Manner, task: Task[Any]) -> tuple[str, dict[str, Any]]:
         result = manner.function(task)
         if inspect.isawaitable(result):
             result = asyncio.run(calling.whole(result))
-    except Fail as error:
-        return "failed", {"error": said(error), "final": True}
     except Exception as error:
-        if isinstance(error, (Unknown, *manner.unknown)):
-            return "unknown", {"error": said(error)}
-        return "failed", {"error": said(error)}
+        kind = calling.sorted_by(error, manner.unknown)
+        told: dict[str, Any] = {"error": calling.said(error)[:MOST_TEXT]}
+        if kind == "final":
+            told["final"] = True
+        return ("unknown" if kind == "unknown" else "failed"), told
     try:
         return "done", {"result": json.loads(values.write(result))}
     except NotJson as error:
         logger.warning("a result is kept as unstorable: %s", error)
         return "done", {"result": {"unstorable": str(error)[:MOST_TEXT]}}
-
-
-def said(error: BaseException) -> str:
-    return "".join(traceback.format_exception_only(type(error), error)).strip()[:MOST_TEXT]

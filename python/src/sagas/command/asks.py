@@ -111,6 +111,8 @@ def resolve(path: str, words: argparse.Namespace) -> int:
     """Marks stuck sagas as seen to by a person, with a note."""
     if bool(words.key) == words.all:
         raise Trouble("resolve takes the keys of the sagas, or --all for each stuck one that nobody has resolved", 2)
+    if not words.note.strip():
+        raise Trouble("--note: say what was done about it", 2)
     with sources.writing(path) as link:
         keys: list[str] = words.key or stuck_keys(link, words.saga)
         done = [key for key in keys if link.changed("UPDATE sagas SET note = ? WHERE key = ? AND phase = 'stuck'", words.note, key)]

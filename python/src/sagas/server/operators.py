@@ -3,7 +3,7 @@
 from __future__ import annotations
 
 from fastapi import APIRouter, Depends, Request
-from pydantic import Field
+from pydantic import constr
 from starlette.responses import Response
 
 from .access import Json, allow, service_of, unslashed
@@ -17,7 +17,7 @@ router = APIRouter(default_response_class=Json)
 class Resolve(Strict):
     """What was done about it; it is kept with who and when."""
 
-    note: str = Field(min_length=1, max_length=2000)
+    note: constr(strip_whitespace=True, min_length=1, max_length=2000)  # type: ignore[valid-type]
 
 
 @router.get("/health", summary="Whether it lives")
