@@ -16,6 +16,7 @@ from typing import Any
 
 import psycopg
 import pytest
+from psycopg.rows import dict_row
 
 import records
 import sagas
@@ -23,7 +24,7 @@ from cases import QUICK, Task, ended, run, simple, surely_ended, until
 from driving import program
 from relay import relaying
 from sagas import carried
-from server import Server, paired
+from server import Server, paired, serving
 
 BOOK = "INSERT INTO book(key, step, token) VALUES(%s, %s, %s)"
 ORDERS = "CREATE TABLE orders(key text PRIMARY KEY)", "CREATE TABLE items(key text REFERENCES orders DEFERRABLE INITIALLY DEFERRED)"
@@ -299,7 +300,7 @@ def test_a_lock_is_not_waited_for_by_all(url: str) -> None:
 
 
 def test_settings_as_the_commit_has_them(url: str) -> None:
-    """It is on the disk, whatever the function set; all else is as the user has it, and stays so behind the commit."""
+    """It is on the disk, whatever the function set; all else is as the user has it, and behind the step as the connection was made."""
     saw = "(current_setting('synchronous_commit') || ' ' || current_setting('search_path'))"
     look = f"CREATE FUNCTION look() RETURNS trigger LANGUAGE plpgsql AS $$ BEGIN INSERT INTO mine.saw VALUES ({saw}); RETURN NULL; END $$"
     trigger = "CREATE CONSTRAINT TRIGGER looks AFTER INSERT ON book DEFERRABLE INITIALLY DEFERRED FOR EACH ROW EXECUTE FUNCTION look()"
@@ -324,8 +325,79 @@ def test_settings_as_the_commit_has_them(url: str) -> None:
 
     run(main())
     with psycopg.connect(url) as link:
-        assert link.execute("TABLE mine.saw").fetchall() == [("on mine, public",), ("on mine, public",)]
-    assert behind == [("on", "0", "mine, public")]
+        assert link.execute("TABLE mine.saw").fetchall() == [("on mine, public",), ('on "$user", public',)]
+    assert behind == [("on", "0", '"$user", public')]
+
+
+@pytest.mark.parametrize("in_thread", [False, True])
+def test_what_a_step_does_to_its_connection(url: str, in_thread: bool) -> None:
+    """The next one has a connection as it was made; where one ends its transaction and goes on in another, that is an error."""
+    prepare(url)
+    kind, seen = sagas.Saga("one"), list[Any]()
+    look = "SELECT pg_backend_pid() AS process, current_setting('statement_timeout') AS timeout"
+
+    def before(task: Task) -> list[str]:
+        if task.input == "sets":
+            task.connection.row_factory = dict_row
+        return {"sets": ["SET statement_timeout = 777", "SELECT 1"], "chains": ["COMMIT AND CHAIN"]}.get(task.input, [])
+
+    if in_thread:
+
+        @kind.step(transaction=True)
+        def book(task: Task) -> None:
+            for text in before(task):
+                task.connection.execute(text)
+            seen.append(task.connection.execute(look).fetchone())
+    else:
+
+        @kind.step(name="book", transaction=True)
+        async def book_in_loop(task: Task) -> None:
+            for text in before(task):
+                await task.connection.execute(text)
+            seen.append(await (await task.connection.execute(look)).fetchone())
+
+    async def main() -> None:
+        async with sagas.open(url, [kind]) as store:
+            for given in ("", "sets", ""):
+                assert (await ended(store, kind, f"k{len(seen)}", given)).ok
+            assert "may end it" in ((await ended(store, kind, "chains", "chains")).errors["book"] or "")
+            assert (await ended(store, kind, "behind", "")).ok
+
+    run(main())
+    first, sets, second, behind = seen
+    assert sets == {"process": first[0], "timeout": "777ms"}
+    assert first == second and first[1] == behind[1] == "0" and first[0] != behind[0]
+
+
+def test_connections_that_rest_are_let_go() -> None:
+    """Where the server has none left for the store itself, which lost its own."""
+    kind, barrier = sagas.Saga("one"), asyncio.Barrier(4)
+
+    @kind.step(transaction=True)
+    async def book(task: Task) -> None:
+        await write(task, "book")
+        if task.input == "together":
+            await barrier.wait()
+
+    async def main(url: str) -> None:
+        async with sagas.open(url, [kind], lease=60) as store:
+            assert all(end.ok for end in await asyncio.gather(*(ended(store, kind, f"k{number}", "together") for number in range(4))))
+            coordinator = store._coordinator
+            with contextlib.ExitStack() as strangers:
+                while coordinator:
+                    try:
+                        strangers.enter_context(psycopg.connect(url))
+                    except psycopg.OperationalError:
+                        if coordinator.store._writer._wire is None:  # type: ignore[attr-defined]
+                            break
+                        coordinator.store._writer.cut()  # type: ignore[attr-defined]
+                        await asyncio.sleep(0.1)  # the server lets it go, and a stranger has it
+                assert (await asyncio.wait_for(surely_ended(store, kind, "behind"), 60)).ok
+
+    with serving({"max_connections": "20", "superuser_reserved_connections": "0", "max_wal_senders": "0"}) as server:
+        url = server.create()
+        prepare(url)
+        run(main(url))
 
 
 @pytest.mark.parametrize("in_thread", [False, True])

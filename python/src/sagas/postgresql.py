@@ -76,7 +76,7 @@ class PostgreSQL(questions.Questions):
         self._loads = Loads(self.asker, self.lease.node, self._spawn)
         self._line = ""
         self._numbers: deque[int] = deque()
-        self._writer = Writer(url, self.path, self.lease.node, self._check_server, self._kept)
+        self._writer = Writer(url, self.path, self.lease.node, self._check_server, self._kept, lambda: self._transactions.let_go())
         self._transactions = Transactions(url, self.path, self.lease.node, lambda: self._line, self._writer, most)
         self.call, self.inside = self._transactions.call, self._transactions
         self._finder = wire.Kept(url, self.path)
@@ -98,6 +98,7 @@ class PostgreSQL(questions.Questions):
         self._drives = drives
         await asyncio.to_thread(self._migrate)
         await self.asker.open()
+        await self._finder.open()  # at once: later there may be no connection for it
         self._line = await self.lease.begin()
         rows: list[LogRow] = []
         while taken := await self.lease.take(drives, [row.log for row in rows]):

@@ -24,12 +24,14 @@ Came = Callable[[frozenset[int], Optional[Exception]], object]
 
 
 class Writer:
-    """`events`: how many each log has, by what the server said. `check`: called with a new connection, and raises where it is not to be used."""
+    """`events`: how many each log has, by what the server said. `check`: called with a new connection, and raises where it is not to be used; `refused`: called
+    where there is none to be had."""
 
     def __init__(
-        self, url: str, where: str, node: str, check: Callable[[links.Link], Coroutine[Any, Any, None]], kept: Callable[[Commit], object]
-    ) -> None:
-        self._url, self._where, self._node, self._check, self._kept = url, where, node, check, kept
+        self, url: str, where: str, node: str, check: Callable[[links.Link], Coroutine[Any, Any, None]], kept: Callable[[Commit], object],
+        refused: Callable[[], object],
+    ) -> None:  # fmt: skip
+        self._url, self._where, self._node, self._check, self._kept, self._refused = url, where, node, check, kept, refused
         self.commits = 0
         self.takes = 0.0
         """Seconds that a commit takes, in the middle of the last ones."""
@@ -89,6 +91,7 @@ class Writer:
         except asyncio.CancelledError:
             fault = self._closed()
         if fault:
+            self._refused()
             self._over(batches, then, fault, NONE)
         else:
             self._write(wire, batches, functools.partial(self._came, batches, then))

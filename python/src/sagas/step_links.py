@@ -18,6 +18,8 @@ if TYPE_CHECKING:
     from psycopg.abc import PQGen
 
 RV = TypeVar("RV")
+AS_MADE = "RESET ALL; RESET ROLE; RESET SESSION AUTHORIZATION"
+"""What a step set on its connection is not the next one's."""
 FORBIDDEN = "Explicit {}() forbidden: the transaction is the step's, and ends with it"
 ENDED = "the transaction was over before its step: it is the step's, and no statement of the function (COMMIT, ROLLBACK ..) may end it"
 BROKE = "the connection of the step broke before its function was over, so what it did there is rolled back: {}"
@@ -57,7 +59,9 @@ class AsyncStepCursor(psycopg.AsyncCursor[Row]):
 
     async def execute(self, query: Any, params: Any = None, **more: Any) -> Any:
         """As psycopg's."""
-        return await super().execute(query, params, **_joined(self.connection, query, params, more))
+        await super().execute(query, params, **_joined(self.connection, query, params, more))
+        _note(self)
+        return self
 
 
 class AsyncStepLink(psycopg.AsyncConnection[Row]):
@@ -70,6 +74,10 @@ class AsyncStepLink(psycopg.AsyncConnection[Row]):
     """Who hears that something came while nobody waits for an answer."""
     prepares: Prepares | None = None
     """What is prepared."""
+    ended = False
+    """A statement ended the transaction, and may have begun another."""
+    is_set = False
+    """A statement set something on it."""
     joins = 0
     """The thread whose next statement may go with the begin."""
     halfway = False
@@ -189,11 +197,15 @@ class AsyncStepLink(psycopg.AsyncConnection[Row]):
         await super().close()
 
     async def leave(self) -> None:
-        """The step is over: what it did and did not commit is rolled back."""
+        """The step is over: what it did and did not commit is rolled back, and what it set is put back."""
         self.begun = None
-        if self.pgconn.transaction_status in OPEN:
-            with contextlib.suppress(psycopg.Error):  # then the pool lets it go
+        with contextlib.suppress(psycopg.Error):  # then the pool lets it go
+            if self.pgconn.transaction_status in OPEN:
                 await self.rollback()
+            if self.is_set and not self.closed:
+                async with self.lock:
+                    await self.wait(_done(self, AS_MADE, encoding_of(self)))
+                self.is_set = False
 
     async def commit(self) -> None:
         """Not within a step."""
@@ -251,7 +263,9 @@ class StepCursor(psycopg.Cursor[Row]):
 
     def execute(self, query: Any, params: Any = None, **more: Any) -> Any:
         """As psycopg's."""
-        return super().execute(query, params, **_joined(self.connection, query, params, more))
+        super().execute(query, params, **_joined(self.connection, query, params, more))
+        _note(self)
+        return self
 
 
 class StepLink(psycopg.Connection[Row]):
@@ -259,6 +273,7 @@ class StepLink(psycopg.Connection[Row]):
 
     begun: bool | None = None
     prepares: Prepares | None = None
+    ended = is_set = False
     joins = 0
     halfway = False
     is_unheard = True
@@ -290,11 +305,15 @@ class StepLink(psycopg.Connection[Row]):
                 super().close()
 
     def leave(self) -> None:
-        """The step is over: what it did and did not commit is rolled back."""
+        """As `AsyncStepLink.leave`."""
         self.begun = None
-        if self.pgconn.transaction_status in OPEN:
-            with contextlib.suppress(psycopg.Error):  # then the pool lets it go
+        with contextlib.suppress(psycopg.Error):
+            if self.pgconn.transaction_status in OPEN:
                 self.rollback()
+            if self.is_set and not self.closed:
+                with self.lock:
+                    self.wait(_done(self, AS_MADE, encoding_of(self)))
+                self.is_set = False
 
     def close(self) -> None:
         """Not within a step."""
@@ -337,7 +356,17 @@ def check_whole(link: AsyncStepLink | StepLink) -> None:
         raise errors.OperationalError(BROKE.format(error)) from error
     if link.closed:
         raise errors.OperationalError(BROKE.format("it is closed"))
-    if link.pgconn.transaction_status == pq.TransactionStatus.IDLE:
+    if link.ended or link.pgconn.transaction_status == pq.TransactionStatus.IDLE:
+        raise errors.ProgrammingError(ENDED)
+
+
+def _note(cursor: Any) -> None:
+    """What a statement of the function's did to its connection, by the word that the server has for it."""
+    said = cursor.pgresult.command_status if cursor.pgresult else None
+    if said == b"SET":
+        cursor.connection.is_set = True
+    elif said == b"COMMIT":
+        cursor.connection.ended = True
         raise errors.ProgrammingError(ENDED)
 
 

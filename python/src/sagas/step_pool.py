@@ -13,6 +13,7 @@ from collections import deque
 
 import psycopg
 from psycopg import errors, pq
+from psycopg.rows import tuple_row
 
 from . import links
 from .step_links import AsyncStepLink, Prepares, StepLink
@@ -27,8 +28,9 @@ BROKE = "the connection broke before the function asked for it"
 
 
 def is_good(link: AsyncStepLink | StepLink) -> bool:
-    """Whether it may be handed out again."""
-    return not link.closed and link.pgconn.transaction_status == pq.TransactionStatus.IDLE
+    """Whether it may be handed out again, as it was made."""
+    link.row_factory = tuple_row
+    return not (link.closed or link.is_set or link.ended) and link.pgconn.transaction_status == pq.TransactionStatus.IDLE
 
 
 class Pool:
@@ -142,9 +144,9 @@ class Pool:
                 return
         self._rest(link)
 
-    def look(self) -> None:
-        """Closes those that rested long."""
-        while len(self._rests) > self._reserved and time.monotonic() - self._rests[0][1] >= REST:
+    def look(self, rest: float = REST) -> None:
+        """Closes those that rested so long."""
+        while len(self._rests) > self._reserved and time.monotonic() - self._rests[0][1] >= rest:
             self._drop(self._rests.pop(0)[0])
 
     def _drop(self, link: AsyncStepLink) -> None:
@@ -261,10 +263,10 @@ class ThreadPool:
                 self._rests.append((link, time.monotonic()))
             self._room.notify()
 
-    def look(self) -> None:
-        """Closes those that rested long."""
+    def look(self, rest: float = REST) -> None:
+        """Closes those that rested so long."""
         with self._room:
-            while self._rests and time.monotonic() - self._rests[0][1] >= REST:
+            while self._rests and time.monotonic() - self._rests[0][1] >= rest:
                 self._drop(self._rests.pop(0)[0])
 
     def _drop(self, link: StepLink) -> None:

@@ -122,6 +122,11 @@ class Transactions:
         await self._pool.close()
         await asyncio.to_thread(self._threads.close)
 
+    def let_go(self) -> None:
+        """Closes all that rest: the server may have none left for the store itself."""
+        self._pool.look(0.0)
+        self._threads.look(0.0)
+
     def _look(self) -> None:
         self._pool.look()
         self._threads.look()
@@ -238,7 +243,7 @@ class Transactions:
 
     def _leave(self, link: AsyncStepLink, is_kept: bool) -> None:
         """As `_left`, by who does not wait for it."""
-        if is_kept:
+        if is_kept and not link.is_set:
             link.begun = None
             self._pool.give(link)
         else:

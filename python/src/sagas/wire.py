@@ -198,6 +198,11 @@ class Kept:
         self._making = asyncio.Lock()
         self._is_over = False
 
+    async def open(self) -> None:
+        """Connects. Raises `StoreUnwritable`."""
+        with links.faults(self._where):
+            await self._made()
+
     async def ask(self, text: str, *words: bytes | None) -> list[Values]:
         """A statement's rows. Raises `StoreUnwritable`; then nobody knows whether it was done."""
         with links.faults(self._where):
