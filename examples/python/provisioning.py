@@ -6,7 +6,8 @@
 Three days are half a second here. The first request is approved and goes well. The second is refused, and its address is given back.
 The third cannot be billed after its days: the server is removed and then its address given back, since the server needs that.
 
-While it runs, or later, an operator sees the same by `python3 -m sagas store PATH list`, and answers by `.. finish KEY approve`.
+With a path behind it, as `servers.db`, the store stays: an operator sees the same by `python3 -m sagas store servers.db list`, also while it runs,
+and says of a step that waits `python3 -m sagas store servers.db finish KEY approve`.
 """
 
 from __future__ import annotations
@@ -14,6 +15,7 @@ from __future__ import annotations
 import asyncio
 import datetime
 import pathlib
+import sys
 import tempfile
 from typing import Any
 
@@ -102,4 +104,4 @@ async def main(path: pathlib.Path) -> None:
 
 if __name__ == "__main__":
     with tempfile.TemporaryDirectory() as folder:
-        asyncio.run(main(pathlib.Path(folder) / "servers.db"))
+        asyncio.run(main(pathlib.Path(sys.argv[1] if len(sys.argv) > 1 else f"{folder}/servers.db")))

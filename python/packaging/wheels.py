@@ -9,11 +9,16 @@ import base64
 import hashlib
 import io
 import pathlib
+import sys
 import tarfile
-import tomllib
 import zipfile
 from collections.abc import Iterator
 from typing import Any
+
+if sys.version_info < (3, 11):
+    raise SystemExit(f"sagas needs Python 3.11 or later, and this is {sys.version.split()[0]}")
+
+import tomllib  # of Python 3.11
 
 HERE = pathlib.Path(__file__).resolve().parent.parent
 SOURCE = HERE / "src" / "sagas"

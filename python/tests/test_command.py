@@ -407,6 +407,7 @@ def test_many_stuck_sagas_are_resolved_at_once(place: str, capsys: pytest.Captur
 
     asyncio.run(main())
     assert shell("resolve", "bad-0", "good", "bad-1", "--note", "paid in cash", status=1) == "bad-0: resolved\nbad-1: resolved\n"
+    assert shell("resolve", "--all", "--note", " ", status=2) == ""
     assert shell("resolve", "--all", "--saga", "another", "--note", "x") == ""
     assert shell.json("resolve", "--all", "--saga", "shop", "--note", "the terminal was broken") == [
         {"key": f"bad-{number}", "note": "the terminal was broken"} for number in (2, 3, 4)

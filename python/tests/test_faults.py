@@ -160,6 +160,55 @@ def test_a_store_of_two_names(tmp_path: pathlib.Path) -> None:
     run(main())
 
 
+@pytest.mark.parametrize("times", [1, 2])
+def test_ctrl_c(tmp_path: pathlib.Path, times: int) -> None:
+    """One closes the store behind what runs, which is kept; a second one ends the program, and what ran runs again under its token."""
+    path, go = tmp_path / "store.db", tmp_path / "go"
+    text = f"""
+        import asyncio, os, sagas, signal
+        signal.signal(signal.SIGINT, signal.default_int_handler)  # which a job in the background ignores
+        saga = sagas.Saga("simple")
+        @saga.step
+        async def a(task):
+            print(task.token, flush=True)
+            while not os.path.exists({str(go)!r}):
+                await asyncio.sleep(0.01)
+            return "kept"
+        async def main():
+            async with sagas.open({str(path)!r}, [saga]) as store:
+                try:
+                    await (await store.start(saga, "k")).wait()
+                finally:
+                    print("closing", flush=True)
+        asyncio.run(main())
+    """
+    tokens: list[str] = []
+
+    async def main() -> None:
+        saga = simple(lambda task: tokens.append(task.token))
+        async with sagas.open(path, [saga]) as store:
+            end = await store.wait("k")
+            assert end.results == {"a": "kept" if times == 1 else None}
+
+    with script(tmp_path / "program.py", text) as process, contextlib.ExitStack() as behind:
+        behind.callback(process.kill)
+        assert process.stdout
+        token = process.stdout.readline().strip()
+        process.send_signal(signal.SIGINT)
+        assert process.stdout.readline() == "closing\n"
+        if times == 1:
+            go.touch()
+            process.wait(60)
+        for _ in range(60 if times == 2 else 0):  # one that comes while the function has its turn is raised there
+            process.send_signal(signal.SIGINT)
+            with contextlib.suppress(subprocess.TimeoutExpired):
+                process.wait(1)
+                break
+        assert process.poll() is not None
+    run(main())
+    assert tokens == [token] * (times - 1)
+
+
 MONTH = datetime.timedelta(days=30)
 
 

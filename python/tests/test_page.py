@@ -105,6 +105,12 @@ def test_the_commands(folder: pathlib.Path) -> None:
     assert shell(folder, "echo 'nothing' | sagas; echo $?").strip().endswith("3")
 
 
+def test_the_help(folder: pathlib.Path) -> None:
+    """Also where what PostgreSQL and Celery need is not installed."""
+    told = shell(folder, "python -m pydoc sagas; python -c 'from sagas import *; import inspect, sagas; print(len(inspect.getmembers(sagas)), open_sync)'")
+    assert "NAME\n    sagas" in told and "SyncStore" in told and "Error" not in told.splitlines()[-1] and "<function open_sync" in told.splitlines()[-1]
+
+
 def test_a_wheel_and_an_archive(folder: pathlib.Path, tmp_path: pathlib.Path) -> None:
     """`pip wheel` needs no network; the archive builds the same wheel; the same sources give the same bytes."""
     sys.path.insert(0, str(PACKAGE / "packaging"))

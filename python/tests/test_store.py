@@ -194,12 +194,15 @@ def test_abort(place: str) -> None:
     run(main())
 
 
-def test_a_held_step_takes_no_slot_and_keeps_nothing_from_draining(place: str) -> None:
-    """While a step waits an hour for its next try, another saga runs at concurrency 1; an abort does not wait for it."""
+@pytest.mark.parametrize("error", [ValueError, TimeoutError], ids=["backoff", "unknown"])
+def test_a_held_step_takes_no_slot_and_keeps_nothing_from_draining(place: str, error: type[Exception]) -> None:
+    """While a step waits an hour for its next try, or is called again then, another saga runs at concurrency 1; an abort does not wait for it."""
+    calls: list[str] = []
 
     def fails(task: Task) -> int:
-        if task.input:
-            raise ValueError("later")
+        calls.append(task.key)
+        if calls == ["slow"]:
+            raise error("later")
         return 1
 
     saga = simple(fails, tries=3, backoff=HOUR)
@@ -207,11 +210,11 @@ def test_a_held_step_takes_no_slot_and_keeps_nothing_from_draining(place: str) -
     async def main() -> None:
         async with sagas.open(place, [saga], concurrency=1) as store:
             slow = await store.start(saga, key="slow", input=1)
-            await until(lambda: any(event.event == "missed" for event in slow.log()))
+            await until(lambda: store.unknown() or any(event.event == "missed" for event in slow.log()))
             assert (await ended(store, saga, "quick")).ok
             assert await slow.abort()
             end = await slow.wait()
-            assert end.aborted and end.phase == "ended"
+            assert end.aborted and end.phase == "ended" and calls == ["slow", "quick"] + ["slow"] * (error is TimeoutError)
 
     run(main())
 
@@ -509,6 +512,36 @@ def test_a_step_that_is_done_elsewhere(place: str) -> None:
             return await going.wait()
 
     assert run(main()).states == {"print": "undone", "check": "failed"}
+
+
+def test_a_compensation_of_which_nobody_knows(place: str) -> None:
+    """A person says how it ended, by `undo=True`; who forgets that hears it."""
+    saga = sagas.Saga("row")
+
+    @saga.step
+    async def a(task: Task) -> int:
+        return 1
+
+    @a.compensation(unknown_most=0)
+    async def not_a(task: Task) -> None:
+        raise sagas.Unknown("was it undone?")
+
+    @saga.step(needs=[a])
+    async def b(task: Task) -> None:
+        raise sagas.Fail("no")
+
+    async def main() -> sagas.End:
+        async with sagas.open(place, [saga]) as store:
+            going = await store.start(saga, key="k")
+            await until(lambda: any(held.asked and held.undo for held in store.unknown()))
+            with pytest.raises(TimeoutError, match="with undo=True"):
+                await going.wait(timeout=0.01)
+            with pytest.raises(sagas.NotWaiting, match="undo=True"):
+                await going.finish(a)
+            await going.finish(a, undo=True)
+            return await going.wait()
+
+    assert run(main()).states == {"a": "undone", "b": "failed"}
 
 
 # -- logs and definitions ------------------------------------------------------------------------------------------------
@@ -1126,7 +1159,16 @@ def test_questions(place: str) -> None:
             assert [one.planned for one in store.list()] == [False, True, False, False, False, False]
             page = store.list(most=2)
             assert [one.key for one in store.list(most=2, after=page[-1].id)] == ["g2", "g3"]
+            wrong: list[Any] = [{"after": "g1"}, {"most": "all"}, {"most": 0}, {"phase": "over"}]
+            for words in wrong:
+                with pytest.raises((TypeError, ValueError), match=f"{[*words][0]}="):
+                    store.list(**words)
             assert [one.key for one in store.stuck()] == ["b"]
+            for note in ("", " ", None):
+                with pytest.raises((TypeError, ValueError), match="what was done about it"):
+                    await store.resolve("b", note)  # type: ignore[arg-type]
+            with pytest.raises(TypeError, match="why it failed"):
+                await store.finish("b", "a", failed=5)  # type: ignore[arg-type]
             await store.resolve("b", "seen to")
             assert store.stuck() == [] and [one.note for one in store.list(phase="resolved")] == ["seen to"]
             events = store.log("g1")

@@ -26,7 +26,12 @@ The package's README.md has the rest; the modules below that are not named here 
 """
 
 import importlib
+import importlib.util
+import sys
 from typing import TYPE_CHECKING, Any
+
+if sys.version_info < (3, 11):
+    raise ImportError(f"sagas needs Python 3.11 or later, and this is {sys.version.split()[0]}")
 
 from . import databases
 from .definition import NEVER, Backoff, Price, Saga, Step
@@ -92,8 +97,8 @@ def __getattr__(name: str) -> Any:
 
 
 def __dir__() -> list[str]:
-    """What is for users: the modules inside are not."""
-    return sorted([*__all__, *MODULES, "__version__"])
+    """What is for users: the modules inside are not, nor is what needs something that is not installed."""
+    return sorted([*__all__, *(name for name in MODULES if name != "celery" or importlib.util.find_spec("celery")), "__version__"])
 
 
 __all__ = [
@@ -155,3 +160,8 @@ __all__ = [
     "open_sync",
     "plan",
 ]
+
+if not importlib.util.find_spec("psycopg"):  # who asks for one by its name hears what to install
+    for _name in LATER:
+        __all__.remove(_name)
+    del _name

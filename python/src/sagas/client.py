@@ -11,7 +11,7 @@ from weakref import WeakSet
 
 import psycopg
 
-from . import checks, given, histories, links, moving, news, postgresql, postgresql_schema, questions, requests, room, values, waiting
+from . import checks, faults, given, histories, links, moving, news, postgresql, postgresql_schema, questions, requests, room, values, waiting
 from .calling import outcome_of
 from .databases import FORM
 from .definition import Saga, Step
@@ -43,6 +43,7 @@ BACK = "DELETE FROM sagas.inbox WHERE id = ANY(%(own)s::bigint[])"
 
 def start_words(saga: Saga, key: str, input: Any) -> dict[str, Any]:
     """What a start writes."""
+    faults.check_given(saga)
     checks.key(key)
     return {"key": key, "saga": saga.name, "version": saga.version, "input": values.write(input, "input")}
 

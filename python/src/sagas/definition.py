@@ -151,6 +151,7 @@ class Step(Generic[R]):
 
     @property
     def has_compensation(self) -> bool:
+        """Whether something undoes it: a function here, or whoever does it elsewhere."""
         return self.undo.function is not None or self.undo.elsewhere
 
     def price(self, word: str) -> Price:
@@ -308,16 +309,13 @@ class Saga:
         return Decorator(self, f"{self.name}.wait", name, declare)
 
     @overload
-    def approval(self, function: Callable[[Any], Awaitable[R]], /) -> Step[R]: ...
-
-    @overload
-    def approval(self, function: Callable[[Any], R], /) -> Step[R]: ...
+    def approval(self, function: Callable[[Any], Any], /) -> Step[Any]: ...
 
     @overload
     def approval(
         self, function: None = None, /, *, name: str | None = None, needs: Iterable[Step[Any] | str] = (), undo: Price | None = None, skip: Price = 0,
         within: Seconds | None = None, tries: int = MANY_TRIES, timeout: Seconds | None = None, backoff: Backoff = Backoff(),
-    ) -> Declare: ...
+    ) -> Callable[[Callable[[Any], Any]], Step[Any]]: ...
 
     def approval(
         self, function: Callable[[Any], Any] | None = None, /, *, name: str | None = None, needs: Iterable[Step[Any] | str] = (),

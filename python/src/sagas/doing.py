@@ -181,7 +181,12 @@ class Doing:
         elif attempt.why == "wait":
             attempt.live.rare.due[attempt.word] = 0.0
             self._put_row(attempt, "wait", 0.0, then=lambda: self._enter(attempt))
-        elif attempt.why == "backoff":
+        else:
+            self._again(attempt)
+
+    def _again(self, attempt: Attempt) -> None:
+        """Behind its back-off: its next try, or the same one where nobody knows what it did."""
+        if attempt.why == "backoff":
             self._first(attempt)
         else:
             self._go(attempt)
@@ -520,9 +525,9 @@ class Doing:
                 self.slots.cancel(attempt)
                 attempt.drop_timer()
                 self._give_up(attempt, "not called: the saga is being undone")
-            elif attempt.state == "held" and attempt.why == "backoff" and attempt.kind == "run":
+            elif attempt.state == "held" and attempt.why in COUNTED and attempt.until is not None and attempt.kind == "run":
                 attempt.drop_timer()
-                self._first(attempt)  # its last try: to give it up would be a failure that was none
+                self._again(attempt)  # its last try, or one of which nobody knows: to give it up would be a failure that was none
 
     def _may_leave(self, attempt: Attempt) -> bool:
         if not attempt.fresh or attempt.kind == "undo":

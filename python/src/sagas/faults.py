@@ -43,6 +43,14 @@ def of_step(step: Step[Any], text: str, where: str | None = None) -> DefinitionE
     return DefinitionError(f"{where or step.where}: saga {step.saga.name!r}, step {step.name!r}: {text}")
 
 
+def check_given(saga: object) -> None:
+    """Raises `DefinitionError` where what is to be started is no saga."""
+    from .definition import Saga
+
+    if not isinstance(saga, Saga):
+        raise DefinitionError(f"{saga!r} is no saga: give what sagas.Saga(..) made")
+
+
 def is_count(value: object) -> bool:
     return isinstance(value, int) and not isinstance(value, bool)
 
@@ -130,6 +138,8 @@ def check_manner(step: Step[Any], manner: Manner, what: str, where: str) -> None
         raise of_step(step, f"unknown_most={most!r} of its {what}: it is a whole number or a timedelta", where)
     if not isinstance(manner.unknown, tuple) or not all(isinstance(e, type) and issubclass(e, BaseException) for e in manner.unknown):
         raise of_step(step, f"unknown={manner.unknown!r} of its {what}: it is a tuple of exceptions: unknown=(TimeoutError,)", where)
+    if not isinstance(manner.transaction, bool):
+        raise of_step(step, f"transaction={manner.transaction!r} of its {what}: it is True or False", where)
     if manner.function is None:
         if manner.run_on:
             raise of_step(step, f"its {what} is done elsewhere (handler=None), and run_on says where it is called: give one of them", where)

@@ -9,7 +9,7 @@ import tomllib
 from collections.abc import Iterable
 from typing import Any
 
-from . import misfits, room, values
+from . import faults, misfits, room, values
 from .definition import Function, Saga, Step
 from .errors import BadInput, DefinitionError, TooLarge
 from .schema import ROOM
@@ -176,8 +176,7 @@ class Shelf:
 
     def place(self, saga: Saga) -> int:
         """Where its definition stands; raises `DefinitionError` where the store was not opened with this very saga."""
-        if not isinstance(saga, Saga):
-            raise DefinitionError(f"{saga!r} is no saga: give what sagas.Saga(..) made")
+        faults.check_given(saga)
         place = self._places.get(saga)
         if place is None:
             raise DefinitionError(f"{saga.where}: saga {saga.name!r}: the store was not opened with it; name it in open(.., [..])")

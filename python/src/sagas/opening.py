@@ -36,7 +36,8 @@ def open(
     - `keep_ended`: how long sagas are kept behind their end. They go with their log, once all in it ended before; then their keys are free. None: for
       ever. `export_ended`: a folder to which each log is written first.
 
-    Definitions are checked at once (`DefinitionError`), and so is all that is given here (`TypeError`, `ValueError`)."""
+    Definitions are checked at once (`DefinitionError`), and so is all that is given here (`TypeError`, `ValueError`); the file or the server, and the
+    program, as the store is entered."""
     return Store(
         path, sagas, concurrency=concurrency, new=new, children=children, threads=threads, grace=grace, idle=idle, on_event=on_event, clock=clock,
         program=program, node=node, lease=lease, keep_ended=keep_ended, export_ended=export_ended,

@@ -165,6 +165,7 @@ class Held:
 
     @property
     def asked(self) -> bool:
+        """Whether a person has to say what it did: it is not made again by itself."""
         return self.until is None
 
 

@@ -20,7 +20,7 @@ import subprocess
 from collections import Counter
 from typing import Any
 
-from . import calling, lines, program, values
+from . import calling, faults, lines, program, values
 from .calling import Outcome
 from .definition import Manner, Saga, Step, Until
 from .errors import ChildError, DefinitionError, Fail
@@ -139,8 +139,7 @@ async def run_async(
     connection: Any = None,
 ) -> Trial:
     """As `run`, in a loop that is running."""
-    if not isinstance(saga, Saga):
-        raise DefinitionError(f"{saga!r} is no saga: give what sagas.Saga(..) made")
+    faults.check_given(saga)
     saga.check()
     scripts = {
         ("failed", "run"): script(saga, "fail", fail),
