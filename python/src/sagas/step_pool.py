@@ -28,8 +28,7 @@ BROKE = "the connection broke before the function asked for it"
 
 
 def is_good(link: AsyncStepLink | StepLink) -> bool:
-    """Whether it may be handed out again, as it was made."""
-    link.row_factory = tuple_row
+    """Whether it may be handed out again."""
     return not (link.closed or link.is_set or link.ended) and link.pgconn.transaction_status == pq.TransactionStatus.IDLE
 
 
@@ -134,6 +133,7 @@ class Pool:
 
     def give(self, link: AsyncStepLink) -> None:
         """Nobody uses it any more."""
+        link.row_factory = tuple_row  # as it was made
         if self._is_over or not is_good(link):
             self._drop(link)
             return
@@ -256,6 +256,7 @@ class ThreadPool:
 
     def give(self, link: StepLink) -> None:
         """Nobody uses it any more."""
+        link.row_factory = tuple_row
         with self._room:
             if self._is_over or not is_good(link):
                 self._drop(link)
