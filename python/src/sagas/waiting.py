@@ -3,7 +3,6 @@
 from __future__ import annotations
 
 import asyncio
-import contextlib
 from collections.abc import Awaitable, Callable, Coroutine, Iterable, Sequence
 from typing import TYPE_CHECKING, Any, TypeVar
 
@@ -68,8 +67,11 @@ async def in_time(key: str, work: Coroutine[Any, Any, T], timeout: float, waits:
     except TimeoutError:
         if not scope.expired():
             raise
-    found: list[str] = []
-    with contextlib.suppress(SagasError, TimeoutError):
+    try:
         async with asyncio.timeout(SOON):
             found = await waits()
+    except TimeoutError:
+        found = ["its store does not answer"]
+    except SagasError as error:
+        found = [str(error)]
     raise still_open(key, timeout, found)
