@@ -96,9 +96,14 @@ def __getattr__(name: str) -> Any:
     return getattr(module, name)
 
 
+def _is_installed(name: str) -> bool:
+    """Whether there is such a module. One that is loaded may have no spec, as Celery's."""
+    return sys.modules.get(name) is not None or importlib.util.find_spec(name) is not None
+
+
 def __dir__() -> list[str]:
     """What is for users: the modules inside are not, nor is what needs something that is not installed."""
-    return sorted([*__all__, *(name for name in MODULES if name != "celery" or importlib.util.find_spec("celery")), "__version__"])
+    return sorted([*__all__, *(name for name in MODULES if name != "celery" or _is_installed(name)), "__version__"])
 
 
 __all__ = [
@@ -161,7 +166,7 @@ __all__ = [
     "plan",
 ]
 
-if not importlib.util.find_spec("psycopg"):  # who asks for one by its name hears what to install
+if not _is_installed("psycopg"):  # who asks for one by its name hears what to install
     for _name in LATER:
         __all__.remove(_name)
     del _name
