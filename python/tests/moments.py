@@ -11,7 +11,7 @@ import importlib
 import pathlib
 import tempfile
 from collections import defaultdict
-from collections.abc import AsyncIterator, Awaitable, Callable, Iterator
+from collections.abc import AsyncIterator, Awaitable, Callable, Iterator, Sequence
 from typing import Any
 
 import psycopg
@@ -21,7 +21,8 @@ from cases import until
 from judge import judge
 from relay import Relay, relaying
 from kills_nodes import BOOK, noted
-from sagas import carried, leases, postgresql, postgresql_commit, step_commit
+from sagas import carried, leases, loads_postgresql, postgresql, postgresql_commit, step_commit
+from sagas.coordinator import Coordinator
 from server import Server
 from witness import Witness, witness_at
 from world import Eye, World, started
@@ -31,28 +32,42 @@ COMMIT = b'"event":"commit"'  # as a word of its own: there is one row of each k
 
 
 class Node(World):
-    """The sagas of one node: two steps in a row, each call of which is told to the witness and then waits for its gate; those `inside` are transactions."""
+    """The sagas of one node: two steps in a row, each call of which is told to the witness and then waits for its gate; those `inside` are transactions,
+    of async functions or, in the second saga, of plain ones."""
 
     def __init__(self, witness: Witness, url: str, gates: bool, inside: bool = False) -> None:
         self.called: list[tuple[str, str]] = []
         self.gates: dict[tuple[str, str], asyncio.Event] = defaultdict(asyncio.Event)
-        self.gated, self.wrong = gates, False
+        self.gated, self.loop = gates, asyncio.get_running_loop()
         super().__init__(witness, Eye(url))
-        self.sagas = [self.pair(inside)]
+        self.sagas = [self.pair(inside), self.plain()] if inside else [self.pair(inside)]
 
     def pair(self, inside: bool) -> sagas.Saga:
         """Two steps."""
-        pair = sagas.Saga("pair")
 
         async def call(task: Any) -> Any:
             self.called.append((task.key, task.step))
             value = await self.write(task, 0.0) if inside else self.act(task, 0.0)
-            if self.gated:
-                await self.gates[task.key, task.step].wait()
+            await self.passes(task)
             return value
 
-        pair.step(name="b", transaction=inside, needs=[pair.step(name="a", transaction=inside)(call)])(call)
-        return pair
+        return in_a_row("pair", call, inside)
+
+    def plain(self) -> sagas.Saga:
+        """Two steps inside, each in a thread."""
+
+        def call(task: Any) -> Any:
+            self.called.append((task.key, task.step))
+            value = self.write_in_thread(task, 0.0)
+            asyncio.run_coroutine_threadsafe(self.passes(task), self.loop).result()
+            return value
+
+        return in_a_row("plain", call, True)
+
+    async def passes(self, task: Any) -> None:
+        """Waits for its gate."""
+        if self.gated:
+            await self.gates[task.key, task.step].wait()
 
     def open_all(self) -> None:
         """No call waits any more."""
@@ -60,14 +75,21 @@ class Node(World):
         for gate in self.gates.values():
             gate.set()
 
-    async def one(self, store: sagas.Store, number: int) -> None:
+    async def one(self, store: sagas.Store, number: int, saga: int = 0) -> None:
         """A saga from its start to its end, both told to the witness once they were told here."""
         key, note, eye = f"k{number}", self.witness.note, self.eye
-        run = await started(store, self.sagas[0], key, {"i": number})
+        run = await started(store, self.sagas[saga], key, {"i": number})
         note(what="started", key=key, there=eye.phase(key)[0])
         end = await run.wait()
         told = {"phase": end.phase, "states": end.states, "results": end.results, "cost": end.cost, "aborted": end.aborted}
         note(what="over", key=key, there=eye.phase(key)[1], **told)
+
+
+def in_a_row(name: str, call: Callable[[Any], Any], inside: bool) -> sagas.Saga:
+    """A saga of two steps."""
+    saga = sagas.Saga(name)
+    saga.step(name="b", transaction=inside, needs=[saga.step(name="a", transaction=inside)(call)])(call)
+    return saga
 
 
 class Stage:
@@ -79,11 +101,15 @@ class Stage:
         self.found: set[str] = set()
 
     @contextlib.asynccontextmanager
-    async def node(self, name: str, *, gates: bool = True, url: str | None = None, inside: bool = False) -> AsyncIterator[tuple[Node, sagas.Store]]:
-        """A node, until the block ends."""
+    async def node(
+        self, name: str, *, gates: bool = True, url: str | None = None, inside: bool = False, room: int | None = None
+    ) -> AsyncIterator[tuple[Node, sagas.Store]]:
+        """A node, until the block ends. `room`: how many sagas it puts into a log."""
         node = Node(Witness(self._socket), self.url, gates, inside)
         store = sagas.open(url or self.url, node.sagas, node=name, lease=600, idle=600)
         await store.__aenter__()
+        if room:
+            inner(store).shelf.room = room
         try:
             yield node, store
         finally:
@@ -108,9 +134,21 @@ class Stage:
         with psycopg.connect(self.url, options="-csearch_path=sagas") as link:
             return link.execute(text).fetchall()  # type: ignore[arg-type]
 
-    def waiting(self) -> int:
-        """How many statements wait for a lock."""
-        return len(self.ask("SELECT 1 FROM pg_stat_activity WHERE datname = current_database() AND wait_event_type = 'Lock'"))
+    def waiting(self) -> list[tuple[Any, ...]]:
+        """The server's processes whose statements wait for a lock."""
+        return self.ask("SELECT pid FROM pg_stat_activity WHERE datname = current_database() AND wait_event_type = 'Lock'")
+
+    async def gone(self, processes: list[tuple[Any, ...]]) -> None:
+        """Waits until they are no more: what they had to do is done."""
+        await until(lambda: not {*processes} & {*self.ask("SELECT pid FROM pg_stat_activity")})
+
+    def give(self, key: str, name: str) -> None:
+        """The log of a saga is another node's from now on, who hears of it; who had it does not."""
+        of = "log = (SELECT id / 1000 FROM sagas.sagas WHERE key = %s)"
+        with psycopg.connect(self.url) as link:
+            taken = link.execute(f"UPDATE sagas.logs SET owner = node, epoch = epoch + 1 FROM sagas.nodes n WHERE {of} AND n.name = %s", (key, name))
+            assert taken.rowcount == 1
+            link.execute("NOTIFY sagas, 'logs'")
 
     @contextlib.contextmanager
     def locked(self, table: str) -> Iterator[None]:
@@ -118,6 +156,12 @@ class Stage:
         with psycopg.connect(self.url) as link:
             link.execute(f"LOCK TABLE sagas.{table} IN EXCLUSIVE MODE")  # type: ignore[arg-type]
             yield
+
+
+def inner(store: sagas.Store) -> Coordinator:
+    """The inside of a store."""
+    assert store._coordinator
+    return store._coordinator
 
 
 async def nothing_happens(stage: Stage) -> int:
@@ -136,8 +180,7 @@ async def another_node_has_the_log(stage: Stage) -> int:
         async with stage.node("same") as (second, other):
             await until(lambda: len(second.called) == 2)
             first.gates["k0", "a"].set()
-            assert store._coordinator
-            await stage.happens(lambda: ("k0", "b") in first.called or not store._coordinator.pumps)  # type: ignore[union-attr]
+            await stage.happens(lambda: ("k0", "b") in first.called or not inner(store).pumps)
             for key in ("k0", "k1"):
                 second.gates[key, "a"].set()
             await stage.happens(lambda: len(second.called) == 4)
@@ -145,6 +188,79 @@ async def another_node_has_the_log(stage: Stage) -> int:
             await stage.happens(lambda: all(phase for (phase,) in stage.ask("SELECT phase FROM sagas")))
             first.open_all()
             await stage.over(*work)
+    return 2
+
+
+async def in_one_commit(stage: Stage, node: Node, store: sagas.Store, keys: Sequence[str], number: int) -> asyncio.Task[None]:
+    """Of these sagas, each of another log, the first steps end while a further saga is being started: what they come to is one commit, behind that."""
+    with stage.locked("sagas"):
+        work = asyncio.create_task(node.one(store, number))
+        await until(stage.waiting)
+        for key in keys:
+            node.gates[key, "a"].set()
+        await until(lambda: len(inner(store)._queue) == len(keys))
+    return work
+
+
+async def another_node_has_one_of_two_logs(stage: Stage) -> int:
+    """A node reports into both by one commit: of the one that another has nothing is written, and of the other all."""
+    async with stage.node("one", room=1) as (first, store), stage.node("two") as (second, _):
+        work = [asyncio.create_task(first.one(store, number)) for number in range(2)]
+        await until(lambda: len(first.called) == 2)
+        stage.give("k1", "two")
+        await until(lambda: second.called)
+        before = store.commits
+        work.append(await in_one_commit(stage, first, store, ("k0", "k1"), 2))
+        await until(lambda: ("k0", "b") in first.called)
+        await until(lambda: ("k1", "b") in first.called or len(inner(store).pumps) == 2)
+        assert store.commits == before + 2
+        if stage.ask("SELECT 1 FROM results JOIN sagas USING (id) WHERE key = 'k1'"):
+            stage.found.add("not-its-own")
+        second.open_all()
+        first.open_all()
+        await stage.over(*work)
+    return 3
+
+
+async def a_commit_of_two_logs_comes_late(stage: Stage) -> int:
+    """The server comes to it when its connection is cut, and its logs are under other epochs, as where their node has taken them up again."""
+    with relaying(stage.server.port) as relay:
+        async with stage.node("one", url=through(stage, relay), room=1) as (node, store):
+            work = [asyncio.create_task(node.one(store, number)) for number in range(4)]
+            await until(lambda: len(node.called) == 4)
+            work.append(await in_one_commit(stage, node, store, ("k0", "k1"), 4))  # the statement is prepared behind it, and not parsed when it is cut
+            await until(lambda: len(node.called) == 7)
+            with stage.locked("results"):
+                work.append(await in_one_commit(stage, node, store, ("k2", "k3"), 5))
+                late = await until(lambda: not inner(store)._queue and stage.waiting())
+                relay.before = 1.0
+                relay.cut()
+                with psycopg.connect(stage.url) as link:
+                    link.execute("UPDATE sagas.logs SET epoch = epoch + 1")
+            await stage.gone(late)
+            if stage.ask("SELECT 1 FROM results JOIN sagas USING (id) WHERE key IN ('k2', 'k3')"):
+                stage.found.add("came-late")
+            relay.before = 0.0
+            node.open_all()
+            await stage.over(*work)
+    return 6
+
+
+async def a_refused_start_comes_late(stage: Stage) -> int:
+    """The server comes to it when its connection is cut, its log is taken up again, and the caller has heard that nothing was begun."""
+    with relaying(stage.server.port) as relay:
+        async with stage.node("one", gates=False, url=through(stage, relay)) as (node, store):
+            for number in range(2):
+                await node.one(store, number)
+            with stage.locked("sagas"):
+                start = asyncio.create_task(store.start(node.sagas[0], key="late", input={}))
+                late = await until(stage.waiting)
+                relay.cut()
+                with contextlib.suppress(sagas.StoreUnwritable):
+                    await start
+                    stage.found.add("not-refused")
+                await until(lambda: stage.ask("SELECT epoch FROM logs") > [(1,)])
+            await stage.gone(late)
     return 2
 
 
@@ -201,7 +317,7 @@ async def at_once(stage: Stage, looks: bool) -> int:
             one._guessing.told(was_there=looks)  # so that its next keys are looked for, or are not
         with stage.locked("sagas"):
             work = [asyncio.create_task(first.one(store, 0)), asyncio.create_task(second.one(other, 0))]
-            await until(lambda: stage.waiting() == 2)
+            await until(lambda: len(stage.waiting()) == 2)
         await stage.over(*work)
     return 1
 
@@ -238,13 +354,30 @@ async def another_node_has_the_log_of_a_step_inside(stage: Stage) -> int:
         async with stage.node("same", inside=True) as (second, other):
             await until(lambda: second.called)
             first.gates["k0", "a"].set()
-            assert store._coordinator
-            await stage.happens(lambda: ("k0", "b") in first.called or not store._coordinator.pumps)  # type: ignore[union-attr]
+            await stage.happens(lambda: ("k0", "b") in first.called or not inner(store).pumps)
             second.open_all()
             await stage.happens(lambda: all(phase for (phase,) in stage.ask("SELECT phase FROM sagas")))
             first.open_all()
             await stage.over(work)
     return 1
+
+
+async def another_node_has_the_logs_of_steps_inside(stage: Stage) -> int:
+    """Two steps inside, and one in a thread, end at once when their logs are another's, who has called them too: each by its own record."""
+    async with stage.node("same", inside=True, room=1) as (first, store):
+        work = [asyncio.create_task(first.one(store, number, number // 2)) for number in range(3)]
+        await until(lambda: len(first.called) == 3)
+        async with stage.node("same", inside=True) as (second, _):
+            await until(lambda: len(second.called) == 3)
+            for number in range(3):
+                first.gates[f"k{number}", "a"].set()
+            await until(lambda: not inner(store).pumps)
+            if stage.ask("SELECT id FROM results UNION ALL SELECT 0 FROM public.book"):
+                stage.found.add("not-its-own")
+            second.open_all()
+            first.open_all()
+            await stage.over(*work)
+    return 3
 
 
 async def the_commit_of_a_step_inside_takes_long(stage: Stage) -> int:
@@ -272,9 +405,10 @@ async def the_answer_to_a_step_inside_is_lost(stage: Stage) -> int:
 MOMENTS = {
     moment.__name__: moment
     for moment in (
-        nothing_happens, another_node_has_the_log, the_answer_to_a_commit_is_lost, the_commit_takes_long, two_nodes_start_a_key_at_once,
-        two_nodes_guess_a_key_at_once, a_node_lives, steps_are_inside, another_node_has_the_log_of_a_step_inside,
-        the_commit_of_a_step_inside_takes_long, the_answer_to_a_step_inside_is_lost,
+        nothing_happens, another_node_has_the_log, another_node_has_one_of_two_logs, a_commit_of_two_logs_comes_late, a_refused_start_comes_late,
+        the_answer_to_a_commit_is_lost, the_commit_takes_long, two_nodes_start_a_key_at_once, two_nodes_guess_a_key_at_once, a_node_lives, steps_are_inside,
+        another_node_has_the_log_of_a_step_inside, another_node_has_the_logs_of_steps_inside, the_commit_of_a_step_inside_takes_long,
+        the_answer_to_a_step_inside_is_lost,
     )
 }
 
@@ -282,7 +416,9 @@ MOMENTS = {
 @contextlib.contextmanager
 def applied(name: str | None) -> Iterator[None]:
     """A wrong store in place of the right one, until the block ends."""
-    owners: list[Any] = [postgresql, postgresql.PostgreSQL, postgresql_commit, postgresql_commit.Commit, leases, carried.Carried, step_commit]
+    owners: list[Any] = [
+        postgresql, postgresql.PostgreSQL, postgresql_commit, postgresql_commit.Commit, leases, loads_postgresql, carried.Carried, step_commit,
+    ]  # fmt: skip
     before = [dict(vars(owner)) for owner in owners]
     parts = dict(postgresql_commit.PARTS)
     postgresql_commit.statement.cache_clear()

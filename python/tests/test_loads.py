@@ -111,6 +111,23 @@ def test_a_log_whose_commit_is_under_way(url: str, logs: list[int]) -> None:
     run(main())
 
 
+def test_locked_logs_hold_up_nobody(url: str, logs: list[int]) -> None:
+    """More of them than there are connections are wanted at once: whoever asks something else has one."""
+
+    async def main() -> None:
+        with psycopg.connect(url) as stranger, psycopg.connect(url, autocommit=True) as eye:
+            async with loading(url) as loads:
+                stranger.execute("SELECT 1 FROM sagas.logs FOR UPDATE")
+                waits = [asyncio.create_task(loads.load(log, 1, False)) for log in logs]
+                await until(lambda: eye.execute("SELECT 1 FROM pg_stat_activity WHERE datname = current_database() AND wait_event_type = 'Lock'").fetchall())
+                assert await loads._asker.ask("SELECT 1") == [(1,)]  # else it is behind them, and the pool gives up
+                assert not any(wait.done() for wait in waits)
+                stranger.rollback()
+                assert all([is_whole(await wait, place, 2) for place, wait in enumerate(waits)])
+
+    run(main())
+
+
 def test_a_log_that_cannot_be_taken_up(url: str, logs: list[int]) -> None:
     """The others come."""
 

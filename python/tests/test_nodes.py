@@ -28,8 +28,10 @@ from server import Server
 HERE = pathlib.Path(__file__).resolve().parent
 
 
-def pair(gate: asyncio.Event | None = None, calls: list[str] | None = None, name: str = "pair") -> sagas.Saga:
-    """Two steps; the second waits for a gate, and each call of it is noted."""
+def pair(
+    gate: asyncio.Event | None = None, calls: list[str] | None = None, name: str = "pair", tokens: list[tuple[str, str]] | None = None
+) -> sagas.Saga:
+    """Two steps; the second waits for a gate, and each call of it is noted, with its token."""
     pair = sagas.Saga(name)
 
     @pair.step
@@ -43,6 +45,8 @@ def pair(gate: asyncio.Event | None = None, calls: list[str] | None = None, name
     async def b(task: Task) -> int:
         if calls is not None:
             calls.append(task.key)
+        if tokens is not None:
+            tokens.append((task.key, task.effect_token))
         if gate:
             await gate.wait()
         return task.of(a) + 1
@@ -59,7 +63,7 @@ NODE = """
     async def not_a(task): pass
     @pair.step(needs=[a])
     async def b(task):
-        print("called", task.key, flush=True)
+        print("called", task.key, task.effect_token, flush=True)
         await asyncio.sleep({seconds})
         return task.of(a) + 1
     async def main():
@@ -90,14 +94,17 @@ def node(path: pathlib.Path, url: str, name: str, count: int, *, lease: float = 
         process.stdout.close()
 
 
-async def is_open(process: subprocess.Popen[str], called: int = 0) -> None:
-    """Returns once it has started its sagas, and so many second steps of them run."""
+async def is_open(process: subprocess.Popen[str], called: int = 0) -> dict[str, str]:
+    """Returns once it has started its sagas, and so many second steps of them run: gives the tokens of those."""
     assert process.stdout
-    lines = Counter[str]()
+    opened, tokens = False, dict[str, str]()
     while line := await asyncio.to_thread(process.stdout.readline):
-        lines[line.split()[0]] += 1
-        if lines["open"] and lines["called"] >= called:
-            return
+        word, *told = line.split()
+        if word == "called":
+            tokens[told[0]] = told[1]
+        opened = opened or word == "open"
+        if opened and len(tokens) >= called:
+            return tokens
     raise AssertionError("it ended")
 
 
@@ -158,18 +165,21 @@ def test_who_waits_elsewhere_hears_of_the_end(url: str) -> None:
 def test_a_killed_nodes_sagas_go_on(tmp_path: pathlib.Path, url: str) -> None:
     """After its lease another node calls its open steps again, with the same tokens."""
     calls: list[str] = []
+    tokens: list[tuple[str, str]] = []
 
-    async def main() -> None:
+    async def main() -> dict[str, str]:
         with node(tmp_path, url, "first", 20) as process:
-            await is_open(process)
-            async with sagas.open(url, [pair(calls=calls)], lease=2.0) as store:
+            before = await is_open(process, called=16)  # as many as run at once
+            async with sagas.open(url, [pair(calls=calls, tokens=tokens)], lease=2.0) as store:
                 assert calls == []
                 process.kill()
                 ends = await asyncio.gather(*(store.wait(f"first-{number}") for number in range(20)))
                 assert all(end.ok for end in ends)
+            return before
 
-    run(main())
+    before = run(main())
     assert Counter(calls) == Counter(f"first-{number}" for number in range(20))
+    assert before.items() <= dict(tokens).items() and len({token for _, token in tokens}) == 20
 
 
 def test_a_node_that_slept_past_its_lease_writes_nothing(tmp_path: pathlib.Path, url: str) -> None:
@@ -392,6 +402,69 @@ def test_no_function_begins_behind_the_lease(url: str) -> None:
 
     run(main())
     assert calls == ["a", "b"]
+
+
+OTHER = "INSERT INTO sagas.nodes(node, name, version, since, lease) VALUES ('other', 'other', '', now(), now() + interval '1 hour')"
+TAKEN = "UPDATE sagas.logs SET owner = 'other', epoch = epoch + 1 WHERE log = (SELECT id / 1000 FROM sagas.sagas WHERE key = 'taken') RETURNING name"
+
+
+def test_behind_its_lease_a_node_keeps_what_is_still_its_own(url: str, monkeypatch: pytest.MonkeyPatch) -> None:
+    """Another node has taken one of its two logs meanwhile: it ends the children of both, lets go of that one, and goes on with the other."""
+    monkeypatch.setattr("sagas.kinds.ROOM", 1)
+    gate, calls, said = asyncio.Event(), list[str](), list[tuple[str, str | None]]()
+    kind = pair(gate, calls)
+
+    async def main() -> None:
+        async with sagas.open(url, [kind], lease=1.5, grace=0.0, on_event=lambda event: said.append((event.name, event.detail))) as store:
+            for key in ("kept", "taken"):
+                await store.start(kind, key)
+            await until(lambda: len(calls) == 2)
+            inside = store._coordinator
+            assert inside
+            before = {pump.child for pump in inside.pumps.values()}
+            with psycopg.connect(url) as stranger:
+                stranger.execute("LOCK TABLE sagas.nodes IN EXCLUSIVE MODE")
+                await until(lambda: not inside.store.holds())
+                stranger.execute(OTHER)
+                taken = stranger.execute(TAKEN).fetchall()
+            await until(lambda: "log_lost" in dict(said))
+            assert [(detail,) for name, detail in said if name == "log_lost"] == taken and ("lease_lapsed", None) in said
+            assert len(before) == 2 and all(child and child.buried.done() for child in before)
+            gate.set()
+            assert (await store.wait("kept")).ok
+            assert records.read(url).sagas["taken"].phase is None and "taken" not in inside.lives
+            with psycopg.connect(url) as stranger:
+                stranger.execute("DELETE FROM sagas.nodes WHERE node = 'other'")
+            assert (await store.wait("taken")).ok
+
+    run(main())
+    assert calls == ["kept", "taken", "taken"]
+
+
+def test_new_sagas_go_to_a_log_of_the_nodes_own(url: str) -> None:
+    """Those of two nodes go apart; and where one has taken over what the other had, its new ones are still in logs that it owns."""
+    gate = asyncio.Event()
+    kind = pair(gate)
+
+    def owners(*keys: str) -> set[str]:
+        text = "SELECT owner FROM sagas.logs JOIN sagas.sagas ON log = id / 1000 WHERE key = ANY(%s)"
+        with psycopg.connect(url) as link:
+            return {str(owner) for (owner,) in link.execute(text, (list(keys),)).fetchall()}
+
+    async def main() -> None:
+        async with sagas.open(url, [kind], node="one", lease=600) as one:
+            async with sagas.open(url, [kind], node="two", lease=600, grace=0.0) as two:
+                for number in range(3):
+                    await asyncio.gather(one.start(kind, f"one {number}"), two.start(kind, f"two {number}"))
+                mine, others = [owners(*(f"{name} {number}" for number in range(3))) for name in ("one", "two")]
+                assert [owner.partition("/")[0] for of in (mine, others) for owner in of] == ["one", "two"]
+            await until(lambda: owners("two 0") == mine)
+            await asyncio.gather(*(one.start(kind, f"later {number}") for number in range(3)))
+            assert owners("later 0", "later 1", "later 2") == mine
+            gate.set()
+            assert all(end.ok for end in await asyncio.gather(*(one.wait(f"{name} {number}") for name in ("one", "two", "later") for number in range(3))))
+
+    run(main())
 
 
 def test_takeover_in_lots_goes_past_a_locked_log(url: str, monkeypatch: pytest.MonkeyPatch) -> None:

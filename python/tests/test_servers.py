@@ -8,8 +8,9 @@ import pathlib
 import secrets
 import subprocess
 import tempfile
-from collections import Counter
-from collections.abc import Iterator
+from collections import Counter, defaultdict
+from collections.abc import Callable, Coroutine, Iterator, Sequence
+from typing import Any
 
 import psycopg
 import pytest
@@ -19,7 +20,7 @@ import sagas
 from cases import Task, ended, run, simple, until
 from judge import judge
 from moments import Node
-from server import paired, serving
+from server import Pair, Server, paired, serving
 from witness import Witness, witness_at
 
 
@@ -98,6 +99,114 @@ async def started_again(store: sagas.Store, kind: sagas.Saga, key: str) -> sagas
             await asyncio.sleep(0.02)
 
 
+class Parted:
+    """A saga of three steps, and a server and its standby, which takes over while that lives. Two steps wait for their gates; the second is inside, by an
+    async function or a plain one."""
+
+    def __init__(self, pair: Pair, in_thread: bool) -> None:
+        self.pair, self.database = pair, pair.primary.create().rpartition("/")[2]
+        self.gates: dict[str, asyncio.Event] = defaultdict(asyncio.Event)
+        self.calls: list[str] = []
+        self.said: list[str] = []
+        self.ask(pair.primary, "CREATE TABLE book(key text)")
+        self.kind, text = sagas.Saga("booking"), "INSERT INTO public.book VALUES (%s)"
+
+        async def passes(step: str) -> None:
+            await self.gates[step].wait()
+
+        @self.kind.step
+        async def a(task: Task) -> None:
+            self.calls.append("a")
+            await passes("a")
+
+        async def b(task: Task) -> None:
+            self.calls.append("b")
+            await task.connection.execute(text, (task.key,))
+            await passes("b")
+
+        def b_in_thread(task: Task) -> None:
+            self.calls.append("b")
+            task.connection.execute(text, (task.key,))
+            asyncio.run_coroutine_threadsafe(passes("b"), self.loop).result()
+
+        self.kind.step(name="b", transaction=True, needs=[a])(b_in_thread if in_thread else b)
+
+        @self.kind.step(needs=["b"])
+        async def c(task: Task) -> None:
+            self.calls.append("c")
+
+    def ask(self, server: Server, text: str) -> list[tuple[Any, ...]]:
+        """A statement at one of the two."""
+        with psycopg.connect(server.url(self.database), autocommit=True) as link:
+            cursor = link.execute(text)  # type: ignore[arg-type]
+            return cursor.fetchall() if cursor.description else []
+
+    def part(self) -> None:
+        """The standby takes over: who is connected to the primary goes on there, and who connects from now on is at the other one."""
+        self.pair.hold_back()
+        self.pair.standby.promote()
+        self.ask(self.pair.primary, f"ALTER DATABASE {self.database} SET default_transaction_read_only = on")
+
+    def end_sessions(self, but: Sequence[int] = ()) -> None:
+        """The primary ends those of the node."""
+        kept = f"pid <> pg_backend_pid() AND pid <> ALL(ARRAY{[*but]}::int[])"
+        self.ask(self.pair.primary, f"SELECT pg_terminate_backend(pid) FROM pg_stat_activity WHERE datname = current_database() AND {kept}")
+
+    async def play(self, moment: Callable[[Parted], Coroutine[Any, Any, None]]) -> None:
+        """A node over both."""
+        self.loop = asyncio.get_running_loop()
+        async with sagas.open(self.pair.url(self.database), [self.kind], lease=600, on_event=lambda event: self.said.append(event.name)) as store:
+            going = await store.start(self.kind, "k")
+            await moment(self)
+            assert (await going.wait()).ok
+            assert all(said.startswith("yes") for said in (await store.audit()).values())
+        assert self.ask(self.pair.standby, "SELECT key FROM book") == [("k",)]
+        assert self.calls.count("c") == 1 and self.calls[-1] == "c" and self.calls.count("b") >= 2
+
+
+@pytest.mark.parametrize("in_thread", [False, True])
+def test_a_step_inside_ends_at_a_server_that_took_over(in_thread: bool) -> None:
+    """Its node does not know that server yet, which lacks what the node wrote meanwhile: nothing is kept there before the node has begun again from it."""
+
+    async def moment(two: Parted) -> None:
+        await until(lambda: two.calls)
+        await asyncio.to_thread(two.part)
+        for step in "ab":
+            two.gates[step].set()
+        await until(lambda: "commit_failed" in two.said or "saga_ended" in two.said)
+        assert two.ask(two.pair.standby, "SELECT key FROM book UNION ALL SELECT value FROM sagas.results") == []
+        two.end_sessions()
+
+    with paired(synchronous=False) as pair:
+        two = Parted(pair, in_thread)
+        run(two.play(moment))
+        assert two.calls.count("a") == 2
+
+
+def test_a_step_inside_that_is_alone_ends_at_the_server_that_was_there_before() -> None:
+    """Its commit is done there when its node has begun again from the server that took over, which does not have it: it is called again there."""
+    with paired(synchronous=False) as pair:
+        two = Parted(pair, in_thread=False)
+        run(two.play(ends_at_the_one_before))
+        assert two.calls.count("a") == 1
+
+
+async def ends_at_the_one_before(two: Parted) -> None:
+    """The commit waits for a lock while the node goes over; and that server is gone once it is done."""
+    two.gates["a"].set()
+    await until(lambda: "b" in two.calls)
+    await asyncio.to_thread(two.part)
+    with psycopg.connect(two.pair.primary.url(two.database), options="-c default_transaction_read_only=off") as stranger:
+        stranger.execute("LOCK TABLE sagas.results IN EXCLUSIVE MODE")
+        two.gates["b"].set()
+        waits = "SELECT pid FROM pg_stat_activity WHERE datname = current_database() AND wait_event_type = 'Lock'"
+        ((process,),) = await until(lambda: two.ask(two.pair.primary, waits))
+        two.end_sessions(but=[process, stranger.info.backend_pid])
+        await until(lambda: "lease_lapsed" in two.said)
+    await until(lambda: two.ask(two.pair.primary, "SELECT key FROM book"))
+    await asyncio.to_thread(two.pair.primary.stop)
+
+
 def test_all_connections_are_taken() -> None:
     """Strangers have all that the server gives: what is open goes on or waits, what is to be opened is refused by name; nothing is called twice."""
     calls: Counter[str] = Counter()
@@ -138,7 +247,7 @@ def small_disk(size: str) -> Iterator[pathlib.Path]:
     try:
         done = subprocess.run(["mount", "-t", "tmpfs", "-o", f"size={size},mode=755", "tmpfs", str(folder)], capture_output=True, text=True, check=False)
         if done.returncode:
-            pytest.skip(f"no file system can be mounted here: {done.stderr.strip()}")
+            pytest.fail(f"no file system can be mounted: run the tests as root, in a container with --cap-add SYS_ADMIN ({done.stderr.strip()})")
         try:
             yield folder
         finally:

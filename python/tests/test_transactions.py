@@ -4,6 +4,7 @@ from __future__ import annotations
 
 import asyncio
 import contextlib
+import logging
 import os
 import pathlib
 import subprocess
@@ -23,6 +24,7 @@ from driving import program
 from relay import relaying
 from sagas.step_pool import Pool
 from server import Server
+from test_store import ODD, TEXTS
 
 
 def bank(in_thread: bool) -> sagas.Saga:
@@ -66,9 +68,11 @@ def bank(in_thread: bool) -> sagas.Saga:
 
 
 def prepare(url: str) -> None:
-    """A table of the user's own."""
+    """Tables of the user's own; that an item is of an order is looked at in the commit."""
     with psycopg.connect(url) as link:
         link.execute("CREATE TABLE book(key text, step text, token text)")
+        link.execute("CREATE TABLE orders(key text PRIMARY KEY)")
+        link.execute("CREATE TABLE items(key text REFERENCES orders DEFERRABLE INITIALLY DEFERRED)")
 
 
 def booked(url: str) -> Counter[tuple[str, str]]:
@@ -115,6 +119,52 @@ def test_exactly_once_while_connections_are_cut(postgresql: Server, url: str, in
     assert booked(url) == wanted
 
 
+@pytest.mark.parametrize("way", ["alone", "among others", "in a thread"])
+def test_texts_of_steps_inside_are_no_statements(url: str, caplog: pytest.LogCaptureFixture, way: str) -> None:
+    """Keys, inputs, results, what is raised and the node's name, with whatever a database could take for something else: all come back whole."""
+    caplog.set_level(logging.CRITICAL, "sagas")  # the tests' runner takes no halves of pairs
+    prepare(url)
+    good, bad = sagas.Saga("good"), sagas.Saga("bad")
+    row = "INSERT INTO book(key, step, token) VALUES(%s, 'book', '')"
+
+    def came(task: Task) -> Any:
+        if task.saga == "bad":
+            raise sagas.Fail(task.input)
+        return task.input
+
+    async def book(task: Task) -> Any:
+        await task.connection.execute(row, (task.key,))
+        return came(task)
+
+    def book_in_thread(task: Task) -> Any:
+        task.connection.execute(row, (task.key,))
+        return came(task)
+
+    for kind in (good, bad):
+        kind.step(name="a", transaction=True)(book_in_thread if way == "in a thread" else book)
+
+    async def main() -> None:
+        async with sagas.open(url, [good, bad], node="".join(TEXTS)) as store:
+
+            async def each(text: str) -> None:
+                assert (await ended(store, good, text, text)).results == {"a": text}
+                assert (await ended(store, good, f"odd {text}", {text: ODD})).results == {"a": {text: ODD}}
+                assert (await ended(store, bad, f"bad {text}", ODD + text)).errors == {"a": f"sagas.Fail: {ODD}{text}"}
+
+            if way == "among others":
+                await asyncio.gather(*map(each, TEXTS))
+            else:
+                for text in TEXTS:
+                    await each(text)
+            assert all(said.startswith("yes") for said in (await store.audit()).values())
+
+    run(main())
+    assert booked(url) == {(f"{word}{text}", "book"): 1 for text in TEXTS for word in ("", "odd ")}
+    with psycopg.connect(url) as link:
+        carried = link.execute("SELECT 1 FROM book b, sagas.sagas s WHERE b.key = s.key AND b.xmin = s.xmin").fetchall()
+    assert (len(carried) == 2 * len(TEXTS)) is (way == "alone")
+
+
 @pytest.mark.parametrize("limit", [None, 1], ids=["carries its lines", "by itself"])
 def test_a_step_of_a_lost_log_is_rolled_back(url: str, limit: int | None) -> None:
     """Two nodes of one name are at the same step: the one that has the log commits, and of the other's nothing stays."""
@@ -139,7 +189,7 @@ def test_a_step_of_a_lost_log_is_rolled_back(url: str, limit: int | None) -> Non
         async with sagas.open(url, [kinds[0]], node="same", lease=600) as first:
             await first.start(kinds[0], "k")
             await until(lambda: inside == [0])
-            async with sagas.open(url, [kinds[1]], node="same", lease=600) as second:
+            async with sagas.open(url, [kinds[1]], node="same", lease=600, grace=0.0) as second:
                 await until(lambda: inside == [0, 1])
                 gates[0].set()
                 await until(lambda: first._coordinator and not first._coordinator.pumps)
@@ -150,6 +200,33 @@ def test_a_step_of_a_lost_log_is_rolled_back(url: str, limit: int | None) -> Non
 
     run(main())
     assert booked(url) == {("k", "book"): 1}
+
+
+@pytest.mark.parametrize("way", ["alone", "by itself", "in a thread"])
+def test_nobody_takes_a_log_while_a_step_of_it_is_committed(url: str, way: str) -> None:
+    """Its commit waits for a lock behind the look whose the log is: until that is over the log's row is locked."""
+    prepare(url)
+    kind, text = sagas.Saga("shop"), "INSERT INTO items VALUES (%s)"
+
+    async def item(task: Task) -> None:
+        await task.connection.execute(text, (task.key,))
+
+    def item_in_thread(task: Task) -> None:
+        task.connection.execute(text, (task.key,))
+
+    kind.step(name="item", transaction=True, limit=1 if way == "by itself" else None)(item_in_thread if way == "in a thread" else item)
+
+    async def main() -> None:
+        async with sagas.open(url, [kind]) as store:
+            with psycopg.connect(url) as stranger, psycopg.connect(url, autocommit=True) as eye:
+                eye.execute("INSERT INTO orders VALUES ('k')")
+                stranger.execute("SELECT 1 FROM orders FOR UPDATE")
+                going = await store.start(kind, "k")
+                await until(lambda: eye.execute("SELECT 1 FROM pg_stat_activity WHERE datname = current_database() AND wait_event_type = 'Lock'").fetchall())
+                assert eye.execute("SELECT 1 FROM sagas.logs FOR UPDATE SKIP LOCKED").fetchall() == []
+            assert (await going.wait()).ok
+
+    run(main())
 
 
 @pytest.mark.parametrize("in_thread", [False, True])
@@ -246,9 +323,7 @@ def test_a_file_has_no_transactions(tmp_path: pathlib.Path) -> None:
 @pytest.mark.parametrize("in_thread", [False, True])
 def test_what_the_server_refuses_is_a_miss(url: str, in_thread: bool) -> None:
     """A constraint that is looked at in the commit, a failed statement that the function passes over, and its own commit: rolled back, and tried again."""
-    with psycopg.connect(url, autocommit=True) as link:
-        link.execute("CREATE TABLE orders(key text PRIMARY KEY)")
-        link.execute("CREATE TABLE items(key text REFERENCES orders DEFERRABLE INITIALLY DEFERRED)")
+    prepare(url)
     shop = sagas.Saga("shop")
     text = "INSERT INTO items VALUES (%s)"
 

@@ -30,6 +30,7 @@ import sagas.kinds
 from witness import Witness
 
 QUICK = sagas.Backoff(first=0.01, most=0.05)
+ROW = "INSERT INTO public.book(token, note, kind) VALUES(%s, %s, %s)"
 SILENT = {("approve", "run"), ("approve", "undo"), ("pause", "undo")}
 """What has no effect that the witness sees."""
 
@@ -116,13 +117,21 @@ class World:
 
     async def write(self, task: Any, failing: float) -> Any:
         """As `act`, of a step inside: its effect is a row, and half of its failures are for the server to find in the commit."""
+        await task.connection.execute(ROW, self.row(task, failing))
+        return expected(task.key, task.step)
+
+    def write_in_thread(self, task: Any, failing: float) -> Any:
+        """The same of a plain function."""
+        task.connection.execute(ROW, self.row(task, failing))
+        return expected(task.key, task.step)
+
+    def row(self, task: Any, failing: float) -> tuple[str, str, str]:
+        """What it writes, if it does not fail before."""
         said = self.begins(task)
         fails = chance(self.named(task)) < failing
         if fails and chance(f"{self.named(task)}/where") < 0.5:
             self.fail(task, failing)
-        note = json.dumps({"what": "effect", **said, **self.handed(task)})
-        await task.connection.execute("INSERT INTO public.book(token, note, kind) VALUES(%s, %s, %s)", (task.token, note, "bad" if fails else "good"))
-        return expected(task.key, task.step)
+        return task.token, json.dumps({"what": "effect", **said, **self.handed(task)}), "bad" if fails else "good"
 
     def begins(self, task: Any) -> dict[str, Any]:
         """It is called."""
@@ -252,7 +261,7 @@ class World:
 
 
     def desk(self) -> sagas.Saga:
-        """Three steps inside the database, in a row."""
+        """Three steps inside the database, in a row, the second of plain functions."""
         desk = sagas.Saga("desk")
 
         @desk.step(transaction=True, tries=2, backoff=QUICK, keep=9, undo=1)
@@ -263,15 +272,15 @@ class World:
         async def strike(task: Any) -> None:
             await self.write(task, 0.2)
 
-        @desk.step(transaction=True, needs=[enter], tries=3, timeout=30, backoff=QUICK, keep=9, undo=1)
-        async def stamp(task: Any) -> Any:
-            return await self.write(task, 0.3)
+        @desk.step(transaction=True, needs=[enter], tries=3, backoff=QUICK, keep=9, undo=1)
+        def stamp(task: Any) -> Any:
+            return self.write_in_thread(task, 0.3)
 
         @stamp.compensation(backoff=QUICK)
-        async def unstamp(task: Any) -> None:
-            await self.write(task, 0.05)
+        def unstamp(task: Any) -> None:
+            self.write_in_thread(task, 0.05)
 
-        @desk.step(transaction=True, needs=[stamp], tries=2, backoff=QUICK)
+        @desk.step(transaction=True, needs=[stamp], tries=2, timeout=30, backoff=QUICK)
         async def file(task: Any) -> Any:
             return await self.write(task, 0.4)
 

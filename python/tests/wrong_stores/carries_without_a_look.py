@@ -15,7 +15,8 @@ def apply() -> None:
     for name in ("CARRY", "CARRY_END"):
         right: step_commit.Statement = getattr(step_commit, name)
         text = right.text.replace(" FOR SHARE)", ")").replace("{made}, {text})", "{made}, {text}) ON CONFLICT DO NOTHING")
-        text = text.replace("owner = {node} AND epoch = {epoch} AND", "{node}::text > '' AND {epoch}::bigint > 0 AND").replace("{value}, {at})", "{value}, {at}) ON CONFLICT DO NOTHING")
+        text = text.replace("owner = {node} AND epoch = {epoch} AND", "{node}::text > '' AND {epoch}::bigint > 0 AND")
+        text = text.replace("{value}, {at})", "{value}, {at}) ON CONFLICT DO NOTHING")
         assert len(re.findall("ON CONFLICT", text)) == 2 and "FOR SHARE" not in text
         setattr(step_commit, name, right._replace(text=text))
     setattr(step_commit, "PREPARED", "; ".join(one.prepared() for one in (step_commit.RECORD, step_commit.CARRY, step_commit.CARRY_END)))

@@ -1,0 +1,14 @@
+"""As `epoch_of_a_log_not_compared`, of a commit of several logs."""
+
+from __future__ import annotations
+
+from sagas import postgresql_commit
+
+FINDS = {"came-late"}
+MOMENT = "a_commit_of_two_logs_comes_late"
+
+
+def apply() -> None:
+    """The owner alone is compared."""
+    right = postgresql_commit.LISTED
+    setattr(postgresql_commit, "LISTED", right.replace("epoch = ($4::bigint[])[array_position($3, log)]", "$4::bigint[] IS NOT NULL"))

@@ -1,0 +1,13 @@
+"""A commit of several logs writes whatever it is given, whoever has them now."""
+
+from __future__ import annotations
+
+from sagas import postgresql_commit
+
+FINDS = {"not-its-own"}
+MOMENT = "another_node_has_one_of_two_logs"
+
+
+def apply() -> None:
+    """Takes each log for this node's."""
+    setattr(postgresql_commit, "LISTED", "log = ANY($3::bigint[]) AND $2::text IS NOT NULL AND $4::bigint[] IS NOT NULL")
