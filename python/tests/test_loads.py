@@ -18,6 +18,7 @@ from sagas.loads_postgresql import Loads
 from sagas.records import Loaded
 
 LOGS, ROOM = 6, 3
+BORN = "another", "shelf", "[]"
 REFUSES = """
 CREATE FUNCTION refuses() RETURNS trigger LANGUAGE plpgsql AS $$ BEGIN RAISE 'it is not read'; END $$;
 CREATE TRIGGER refuses BEFORE UPDATE ON sagas.logs FOR EACH ROW WHEN (NEW.log = {}) EXECUTE FUNCTION refuses();
@@ -79,13 +80,13 @@ def test_all_that_are_wanted_go_together(url: str, logs: list[int]) -> None:
             link.execute("UPDATE sagas.logs SET closed = 1 WHERE log = %s", (logs[1],))
         async with loading(url) as loads:
             for epoch in (2, 3):
-                others, closed, *mine = await asyncio.gather(*(loads.load(log, 0, unborn=False) for log in logs))
+                others, closed, *mine = await asyncio.gather(*(loads.load(log, 0, None) for log in logs))
                 assert others is None and closed is None
                 assert all(is_whole(loaded, place, epoch) for place, loaded in enumerate(mine, 2))
             gone, unborn, there, born = await asyncio.gather(
-                loads.load(10**6, 7, False), loads.load(10**6 + 1, 7, True), loads.load(logs[2], 7, True), loads.load(logs[0], 7, True)
+                loads.load(10**6, 7, None), loads.load(10**6 + 1, 7, BORN), loads.load(logs[2], 7, BORN), loads.load(logs[0], 7, BORN)
             )
-            assert gone is None and unborn == Loaded("", 0, 0, [], [], [], 7) and is_whole(there, 2, 4) and born is None
+            assert gone is None and unborn == Loaded("", 0, 0, [], [], [], 8) and is_whole(there, 2, 4) and born is None
 
     run(main())
 
@@ -97,11 +98,11 @@ def test_a_log_whose_commit_is_under_way(url: str, logs: list[int]) -> None:
         with psycopg.connect(url) as commit:
             async with loading(url) as loads:
                 commit.execute("SELECT 1 FROM sagas.logs WHERE log = %s FOR SHARE", (logs[2],))
-                waits = asyncio.create_task(loads.load(logs[2], 1, False))
+                waits = asyncio.create_task(loads.load(logs[2], 1, None))
                 rest = [log for log in logs if log != logs[2]]
                 async with asyncio.timeout(links.PATIENCE / 2):  # else they came only once the server had given the first statement up
-                    assert all(await asyncio.gather(*(loads.load(log, 1, False) for log in rest)))
-                    assert await loads.load(logs[0], 2, False)
+                    assert all(await asyncio.gather(*(loads.load(log, 1, None) for log in rest)))
+                    assert await loads.load(logs[0], 2, None)
                 assert not waits.done()
                 commit.execute("INSERT INTO sagas.lines SELECT log, 1000, 0, text FROM sagas.lines WHERE log = %s AND first = 0", (logs[2],))
                 commit.commit()
@@ -118,7 +119,7 @@ def test_locked_logs_hold_up_nobody(url: str, logs: list[int]) -> None:
         with psycopg.connect(url) as stranger, psycopg.connect(url, autocommit=True) as eye:
             async with loading(url) as loads:
                 stranger.execute("SELECT 1 FROM sagas.logs FOR UPDATE")
-                waits = [asyncio.create_task(loads.load(log, 1, False)) for log in logs]
+                waits = [asyncio.create_task(loads.load(log, 1, None)) for log in logs]
                 await until(lambda: eye.execute("SELECT 1 FROM pg_stat_activity WHERE datname = current_database() AND wait_event_type = 'Lock'").fetchall())
                 assert await loads._asker.ask("SELECT 1") == [(1,)]  # else it is behind them, and the pool gives up
                 assert not any(wait.done() for wait in waits)
@@ -135,12 +136,12 @@ def test_a_log_that_cannot_be_taken_up(url: str, logs: list[int]) -> None:
         with psycopg.connect(url, autocommit=True) as link:
             link.execute(REFUSES.format(logs[3]))
         async with loading(url) as loads:
-            found = await asyncio.gather(*(loads.load(log, 1, False) for log in logs), return_exceptions=True)
+            found = await asyncio.gather(*(loads.load(log, 1, None) for log in logs), return_exceptions=True)
             assert isinstance(found[3], StoreUnwritable) and "it is not read" in str(found[3])
             assert all(is_whole(loaded, place, 2) for place, loaded in enumerate(found) if place != 3)
             with psycopg.connect(url, autocommit=True) as link:
                 link.execute("DROP TRIGGER refuses ON sagas.logs")
-            assert is_whole(await loads.load(logs[3], 1, False), 3, 2)
+            assert is_whole(await loads.load(logs[3], 1, None), 3, 2)
 
     run(main())
 
@@ -151,8 +152,8 @@ def test_the_server_does_not_answer(url: str, logs: list[int]) -> None:
     async def main() -> None:
         async with loading(url) as loads, loading(url) as others:
             await others._asker.close()
-            faults = await asyncio.gather(*(others.load(log, 1, False) for log in logs), return_exceptions=True)
+            faults = await asyncio.gather(*(others.load(log, 1, None) for log in logs), return_exceptions=True)
             assert [type(fault) for fault in faults] == [StoreUnwritable] * LOGS
-            assert all([is_whole(await loads.load(log, 1, False), place, 2) for place, log in enumerate(logs)])
+            assert all([is_whole(await loads.load(log, 1, None), place, 2) for place, log in enumerate(logs)])
 
     run(main())

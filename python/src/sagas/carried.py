@@ -115,9 +115,10 @@ class Carried:
             return
         assert self._timer
         self._timer.cancel()
-        self._is_over(fault is None)
         if fault is None and self._line() != self.record.line:  # this was the server that was there before
             fault = Lost("another server has taken over meanwhile")
+        self._link.spent = fault is not None
+        self._is_over(fault is None)
         if fault is None:
             self.record.done = True
             if self._commit:

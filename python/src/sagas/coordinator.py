@@ -93,13 +93,11 @@ class Coordinator:
         self._timer = self.loop.call_later(1.0, self._tick)
 
     def adopt(self, rows: list[LogRow]) -> list[Pump]:
-        """Makes the pumps of logs that are this program's."""
+        """Makes the pumps of logs that are this program's. They take no more sagas: the store may be an older copy, and a later saga's tokens in use."""
         pumps = []
         for row in rows:
             pump = self.pumps[row.log] = Pump(self, row.log, row.name, row.shelf, row.texts, "stale" if row.open else "asleep", row.epoch)
             pump.opened = pump.reserved = row.opened
-            if row.shelf == self.shelf.shelf and row.opened < self.shelf.room:
-                self.current = pump
             pumps.append(pump)
         return pumps
 
@@ -120,9 +118,9 @@ class Coordinator:
             for listener in self.listeners:
                 listener()
 
-    def lapsed(self) -> None:
-        """The lease ran out meanwhile."""
-        moving.lapsed(self)
+    def lapsed(self, is_older: bool = False) -> None:
+        """The lease ran out meanwhile; or another server has taken over, which may know less (`is_older`)."""
+        moving.lapsed(self, is_older)
 
     def taken(self, rows: list[LogRow]) -> None:
         """Logs that another node had are this one's."""
@@ -282,7 +280,7 @@ class Coordinator:
                 pump.poke(now=True)
 
     def _put(self, live: Live) -> Pump | None:
-        """Into the newest log of the present definitions, or a new one, if that can be."""
+        """Into the newest log that was begun since the opening, or a new one, if that can be."""
         pump = self.current
         if pump is None or pump.full or pump.reserved >= self.shelf.room or pump.opened >= self.shelf.room or pump.state == "closed":
             try:

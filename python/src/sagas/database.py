@@ -14,7 +14,7 @@ from collections.abc import Callable, Sequence
 from concurrent.futures import Executor
 from typing import TYPE_CHECKING, Any, Protocol
 
-from .records import Batch, Grant, Loaded, LogRow, Opened, Request, Result, SagaRow, Start
+from .records import Batch, Born, Grant, Loaded, LogRow, Opened, Request, Result, SagaRow, Start
 
 if TYPE_CHECKING:
     from .callers import Inside
@@ -46,8 +46,9 @@ class Watcher(Protocol):
     def look(self) -> None:
         """There may be requests or starts."""
 
-    def lapsed(self) -> None:
-        """The lease ran out meanwhile, or another server took over: whatever this node has may be another's now, or be otherwise."""
+    def lapsed(self, is_older: bool = False) -> None:
+        """The lease ran out meanwhile, or another server took over: whatever this node has may be another's now, or be otherwise. `is_older`: what was told
+        may be missing there."""
 
     def taken(self, rows: list[LogRow]) -> None:
         """Logs that are this node's from now on."""
@@ -132,8 +133,9 @@ class Database(Protocol):
     async def find(self, key: str) -> SagaRow | None:
         """The saga with this key."""
 
-    async def load(self, log: int, epoch: int, unborn: bool) -> Loaded | None:
-        """A log as a pump takes it up; None where it is another node's, or is not there and not `unborn`, which a log is until a commit holds it. What of it was on its way to the database is written now, or never will be."""
+    async def load(self, log: int, epoch: int, born: Born | None) -> Loaded | None:
+        """A log as a pump takes it up; None where it is another node's, or is not there. What of it was on its way to the database is written now, or never
+        will be. `born`: its row, until a commit is known to hold it: then it may not be there, and is empty."""
 
     async def take_up(self, log: int, epoch: int) -> tuple[str, int] | None:
         """A log's lines and how many events they are, for who goes on behind them; None where it is not this program's under that epoch.

@@ -322,6 +322,7 @@ class Doing:
         except Lost as error:
             outcome, fault = None, error
         record, attempt.record = attempt.record, None
+        attempt.recorded = record is not None and record.done
         if record and record.carried:
             self.owner.carrying.carry(attempt, began, outcome, record.carried)
         elif self.over(attempt, began):
@@ -368,6 +369,7 @@ class Doing:
     def _called_inside(self, attempt: Attempt, began: float, outcome: Outcome | None) -> None:
         """A simple one was called in a transaction."""
         record, attempt.record = attempt.record, None
+        attempt.recorded = record is not None and record.done
         fault = record.lost() if record else None
         if record and record.carried:
             self.owner.carrying.carry(attempt, began, outcome, record.carried)

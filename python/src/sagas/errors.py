@@ -16,7 +16,8 @@ class StoreLocked(SagasError):
 
 
 class StoreUnwritable(SagasError):
-    """The store could not be written (the disk is full, say), and nothing was begun. Make room, then call again with the same key."""
+    """The store could not be written (the disk is full, say), and nothing was begun; or its server did not answer, and the text says that this is not
+    known. Make room, or wait, then call again with the same key."""
 
 
 class StoreFault(SagasError):

@@ -182,7 +182,7 @@ class Asker:
     """Short statements over a pool."""
 
     def __init__(self, url: str, where: str, most: int) -> None:
-        self.where, self._url = where, url
+        self.where, self._url, self._most = where, url, most
         self.pool = pool(url, most)
         self._under_way: set[asyncio.Task[list[Row]]] = set()
 
@@ -194,6 +194,12 @@ class Asker:
             except PoolTimeout:
                 await (await connect(self._url)).close()  # raises what the pool keeps to itself
                 raise
+
+    async def renew(self) -> None:
+        """Others are connected from now on: those that are there end, each once nothing is asked over it."""
+        old, self.pool = self.pool, pool(self._url, self._most)
+        await self.pool.open()
+        await old.close(timeout=CONNECT)
 
     async def close(self) -> None:
         if self._under_way:

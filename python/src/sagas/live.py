@@ -128,7 +128,7 @@ class Attempt:
 
     `why` it is held: backoff, unknown, wait, approval, elsewhere, limit. `fresh`: it cannot have been called, by this program or an earlier one."""
 
-    __slots__ = ("live", "step", "kind", "attempt", "action", "word", "state", "why", "fresh", "outcome", "at", "timer", "job", "since", "count", "has_row", "request", "told", "until", "pending", "awaited", "lease", "took", "event", "record", "results")
+    __slots__ = ("live", "step", "kind", "attempt", "action", "word", "state", "why", "fresh", "outcome", "at", "timer", "job", "since", "count", "has_row", "request", "told", "until", "pending", "awaited", "lease", "took", "event", "record", "recorded", "results")
 
     def __init__(self, live: Live, step: int, kind: str, attempt: int, fresh: bool) -> None:
         self.live = live
@@ -155,6 +155,7 @@ class Attempt:
         self.took: float | None = None  # seconds, of its last call
         self.event = ""  # that its report came to
         self.record: Record | None = None  # of the transaction that it is called in
+        self.recorded = False  # its result is in the store, with what it wrote
         self.results = live.results  # of the steps that stand as it begins, and stay in it
 
     @property

@@ -11,7 +11,7 @@ import psycopg
 
 from . import links, questions
 from .errors import StoreUnwritable
-from .records import HeldRow, Loaded, Result
+from .records import Born, HeldRow, Loaded, Result
 from .schema import ROOM
 
 MOST = 64
@@ -32,6 +32,11 @@ FROM logs l WHERE {LOGS}
 """
 """One transaction: the second part sees all that was written under the epochs before, and meanwhile nothing is. A log of which a commit is under way is passed
 over. A log's sagas are one text, since psycopg takes longer for some thousand cells than the server for all."""
+BORN = """
+WITH new AS (INSERT INTO shelves VALUES (%(shelf)s, %(texts)s) ON CONFLICT DO NOTHING)
+INSERT INTO logs(log, name, shelf, owner, epoch) VALUES (%(log)s, %(name)s, %(shelf)s, %(node)s, %(epoch)s) ON CONFLICT DO NOTHING
+"""
+"""A log that is not in the store, as far as this node knows: the commit that was to hold it may come late, and then meets it, of a later epoch."""
 ALONE = f"UPDATE logs SET epoch = epoch + 1 WHERE {LOGS} AND {MINE} RETURNING epoch"
 """Whatever its epoch is, here as above: this node may not have heard of the last one that it made."""
 
@@ -41,7 +46,7 @@ class Want(NamedTuple):
 
     log: int
     epoch: int
-    unborn: bool
+    born: Born | None
     came: asyncio.Future[Loaded | None]
 
     def tell(self, loaded: Loaded | None, fault: Exception | None = None) -> None:
@@ -59,9 +64,12 @@ class Loads:
         self._is_loading = False
         self._one = asyncio.Lock()  # logs that are locked go one by one: each may hold a connection for long, which others need as well
 
-    async def load(self, log: int, epoch: int, unborn: bool) -> Loaded | None:
+    async def load(self, log: int, epoch: int, born: Born | None) -> Loaded | None:
         """As `Database.load`."""
-        want = Want(log, epoch, unborn, asyncio.get_running_loop().create_future())
+        want = Want(log, epoch, born, asyncio.get_running_loop().create_future())
+        if born:
+            self._spawn(self._tell_alone(want))
+            return await want.came
         self._wanted.append(want)
         if not self._is_loading:
             self._is_loading = True
@@ -119,7 +127,7 @@ class Loads:
                         want.tell(loaded)
                     await asyncio.sleep(0)
         for want in waits:
-            want.tell(_loaded("", 0, [], want.epoch) if want.unborn else None)
+            want.tell(None)
         return locked
 
     async def _alone(self, want: Want) -> Loaded | None:
@@ -132,13 +140,16 @@ class Loads:
 
         with links.faults(self._asker.where):
             async with asyncio.timeout(links.PATIENCE), self._asker.pool.connection() as link, link.transaction():
+                if want.born:
+                    name, shelf, texts = want.born
+                    await link.execute(BORN, words | {"name": name, "shelf": shelf, "texts": texts, "epoch": want.epoch})
                 taken = await rows(ALONE)
-                if not taken and (not want.unborn or await rows(f"SELECT 1 FROM logs WHERE {LOGS}")):
+                if not taken:
                     return None
                 text, events = questions.joined(await rows(f"SELECT first, text FROM lines WHERE {LOGS} ORDER BY first"))
                 ((opened,),) = await rows(questions.COUNT)
                 open, results, held = [await rows(query) for query in (questions.OPEN_SAGAS, questions.OPEN_RESULTS, questions.OPEN_HELD)]
-        return questions.loaded(text, events, opened, open, results, held, taken[0][0] if taken else want.epoch)
+        return questions.loaded(text, events, opened, open, results, held, taken[0][0])
 
 
 def _was_heard(fault: Exception) -> bool:

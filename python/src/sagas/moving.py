@@ -39,9 +39,14 @@ def taken(owner: Coordinator, rows: list[LogRow]) -> None:
             owner.close_if_over(pump)
 
 
-def lapsed(owner: Coordinator) -> None:
-    """Another node may have taken any log: each is looked at in the store before anything begins in it."""
+def lapsed(owner: Coordinator, is_older: bool) -> None:
+    """Another node may have taken any log: each is looked at in the store before anything begins in it. Where the store is older than what was told, no
+    log takes further sagas: their tokens would be those of the sagas that are lost."""
     owner.teller.tell("lease_lapsed")
+    if is_older:
+        owner.current = None
+        for pump in owner.pumps.values():
+            pump.full = True
     for pump in list(owner.pumps.values()):
         if pump.state in ("up", "waking", "asleep"):
             pump.fail(None)

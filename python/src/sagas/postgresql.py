@@ -21,7 +21,7 @@ from .loads_postgresql import Loads
 from .places_postgresql import Places
 from .postgresql_commit import Commit
 from .postgresql_writer import Writer
-from .records import Batch, Grant, Loaded, LogRow, Opened, Request, Result, SagaRow, Start
+from .records import Batch, Born, Grant, Loaded, LogRow, Opened, Request, Result, SagaRow, Start
 from .transactions import Transactions
 from .values import clean, cleaned
 
@@ -190,8 +190,11 @@ class PostgreSQL(questions.Questions):
         logger.warning("%s: another server has taken over: its logs are taken up again", self.path)
         self._line = line
         self._writer.events.clear()  # so that what was decided before is not written
+        self._finder.cut()
+        self._transactions.let_go()
+        self._spawn(self.asker.renew())
         if self._watcher:
-            self._watcher.lapsed()
+            self._watcher.lapsed(is_older=True)
         return False
 
     def _check_line(self, line: str) -> None:
@@ -332,10 +335,10 @@ class PostgreSQL(questions.Questions):
         if self._finding:
             self._find()
 
-    async def load(self, log: int, epoch: int, unborn: bool) -> Loaded | None:
+    async def load(self, log: int, epoch: int, born: Born | None) -> Loaded | None:
         """A log as a pump takes it up, under a new epoch: what was on its way to the server is fenced. None where it is another node's, or is not there."""
         line = self._line
-        loaded = await self._loads.load(log, epoch, unborn)
+        loaded = await self._loads.load(log, epoch, born)
         self._check_line(line)
         if loaded:
             self._writer.events[log] = loaded.events

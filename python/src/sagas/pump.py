@@ -17,7 +17,7 @@ from .child import Child, Reply
 from .errors import Lost
 from .kinds import Kind
 from .live import Attempt, Live
-from .records import Batch
+from .records import Batch, Born
 
 if TYPE_CHECKING:
     from .coordinator import Coordinator
@@ -37,7 +37,7 @@ class Pump(Answers):
         self.owner, self.log, self.name, self.shelf, self.texts, self.state = owner, log, name, shelf, texts, state
         self.kinds: list[Kind] = [owner.shelf.kind(text) for text in texts]
         self.child: Child | None = None
-        self.born: tuple[str, str, str] | None = None  # its row, until it is in the store
+        self.born: Born | None = None  # its row, until it is in the store
         self.live: dict[int, Live] = {}
         self.opens: deque[Live] = deque()
         self.sent: dict[Live, None] = {}  # asked to be opened, and not known to be kept

@@ -9,6 +9,8 @@ from typing import NamedTuple, Optional, Union
 Key = tuple[int, str, int]
 """A step's number, `run` or `undo`, and the attempt."""
 
+Born = tuple[str, str, str]
+"""name, shelf, texts: of a log"""
 Opened = tuple[int, str, str, int, str, float]
 """id, key, saga, def, input, at"""
 Result = tuple[int, int, str, int, str, Optional[str], float]
@@ -62,7 +64,7 @@ class Batch:
         self.epoch = epoch
         self.then = then
         self.text = ""
-        self.born: tuple[str, str, str] | None = None
+        self.born: Born | None = None
         self.opened: list[Opened] = []
         self.results: list[Result] = []
         self.ended: list[Ended] = []

@@ -59,7 +59,7 @@ async def load(pump: Pump) -> None:
     """Reads the log from the store, and starts a child on it."""
     owner = pump.owner
     try:
-        loaded = await owner.store.load(pump.log, pump.epoch, pump.born is not None)
+        loaded = await owner.store.load(pump.log, pump.epoch, pump.born)
         if pump.state != "loading":
             return
         if loaded is None:
@@ -76,7 +76,7 @@ async def load(pump: Pump) -> None:
     except Exception as error:
         pump.fault = fault = known(pump, error)
         owner.trouble(pump, fault)
-        _doubtful(pump, set())
+        _doubtful(pump, set(), is_known=not owner.store.shared)
         stale(pump)
         return
     numbers = [id % ROOM for id, _, _, _ in loaded.open]
@@ -239,6 +239,8 @@ def _busy(pump: Pump, loaded: Loaded, old: Old, told: list[dict[str, Any]]) -> l
                 attempt.outcome = Outcome("unknown", error or "") if attempt.why == "unknown" else None
         attempt.live = live
         live.busy[attempt.word] = attempt
+        if attempt.recorded and attempt.row not in done:  # by a server that was there before
+            attempt.state, attempt.outcome, attempt.recorded = "taken", None, False
         if attempt.row in done and attempt.state != "done":
             attempt.state, attempt.at, attempt.outcome = "done", done[attempt.row][6], Outcome("done", done[attempt.row][5] or "null")
         found.append(attempt)
@@ -256,23 +258,32 @@ def _leased(attempt: Attempt, more: str | None) -> None:
     attempt.count, attempt.since, attempt.until = told.get("unknown", 0), told.get("first", 0.0), None
 
 
-def _doubtful(pump: Pump, there: set[str]) -> None:
-    """Sagas that were asked to be opened: they are there, or are asked again, or their callers hear that they are not."""
+def _doubtful(pump: Pump, there: set[str], is_known: bool = True) -> None:
+    """Sagas that were asked to be opened: they are there, or are asked again, or their callers hear that they are not, or that this is not known, since
+    what was sent to a server may come late until its log is taken up."""
     own = pump.owner.lives
     again = [live for live in pump.sent if not live.committed and live.key not in there and own.get(live.key) is live]
     pump.sent = {}
     for live in again:
         live.number, live.pump = -1, None
-    again += pump.opens
+    new = [*pump.opens]
     pump.opens.clear()
     if pump.fault is None:
-        pump.opens.extend(again)
+        if not pump.full:
+            pump.opens.extend(again + new)
+        else:
+            for live in again + new:
+                live.pump = None
+                pump.owner.place(live)
         return
     where, fault = str(pump.owner.store.path), str(pump.fault)
     told = fault if fault.startswith(where) else f"{where}: {fault}"
-    error = StoreUnwritable(f"{told}; nothing was begun: start it again once that is over (where a disk is full, make room)")
+    nothing = StoreUnwritable(f"{told}; nothing was begun: start it again once that is over (where a disk is full, make room)")
+    open = StoreUnwritable(f"{told}; whether it was begun is not known: start it again once that is over, with the same key")
     for live in again:
-        pump.owner.refuse(live, error)
+        pump.owner.refuse(live, nothing if is_known else open)
+    for live in new:
+        pump.owner.refuse(live, nothing)
 
 
 def _abort_again(pump: Pump, live: Live, future: Any, request: Wanted) -> None:

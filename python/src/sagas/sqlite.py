@@ -20,7 +20,7 @@ from .database import Drives, Watcher
 from .definition import Bounds
 from .errors import MissingHandler, StoreFault, StoreLocked, StoreNewer, StoreUnwritable
 from .forks import private
-from .records import Grant, Loaded, LogRow, Request, SagaRow, Start
+from .records import Born, Grant, Loaded, LogRow, Request, SagaRow, Start
 from .schema import MIGRATIONS, VERSION
 from .sqlite_writer import BUSY, CHECKPOINT, LONG, Writer
 from .values import cleaned
@@ -314,7 +314,7 @@ class Sqlite(questions.Questions):
         text, self._writer.events[log] = self.text(log)
         return text, self._writer.events[log]
 
-    async def load(self, log: int, epoch: int, unborn: bool) -> Loaded:
+    async def load(self, log: int, epoch: int, born: Born | None) -> Loaded:
         """A log as a pump takes it up. No batch of it may be on its way."""
         within = questions.bounds(log)
         text, events = await self.take_up(log, epoch)

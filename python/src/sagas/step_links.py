@@ -74,8 +74,8 @@ class AsyncStepLink(psycopg.AsyncConnection[Row]):
     """Who hears that something came while nobody waits for an answer."""
     prepares: Prepares | None = None
     """What is prepared."""
-    ended = False
-    """A statement ended the transaction, and may have begun another."""
+    spent = False
+    """It is not handed out again: a statement of the function's ended the transaction, or its end was refused, as by a server that was there before."""
     is_set = False
     """A statement set something on it."""
     joins = 0
@@ -223,7 +223,9 @@ class AsyncStepLink(psycopg.AsyncConnection[Row]):
         """The last statements and the commit, in one text; `then` is called before they are sent. Raises what the server says of the first that it refuses."""
         async with self.lock:
             then()
+            self.spent = True
             await self.wait(_done(self, text, encoding_of(self)))
+            self.spent = False
 
     def end_soon(self, text: str, then: Callable[[Exception | None], object]) -> None:
         """As `end`, by who has its lock: `then` is called in the loop, with what the server says where it refuses one, or what else is raised."""
@@ -273,7 +275,7 @@ class StepLink(psycopg.Connection[Row]):
 
     begun: bool | None = None
     prepares: Prepares | None = None
-    ended = is_set = False
+    spent = is_set = False
     joins = 0
     halfway = False
     is_unheard = True
@@ -337,7 +339,9 @@ class StepLink(psycopg.Connection[Row]):
         """As `AsyncStepLink.end`."""
         with self.lock:
             then()
+            self.spent = True
             self.wait(_done(self, text, encoding_of(self)))
+            self.spent = False
 
 
 def is_prepared(link: AsyncStepLink | StepLink) -> bool:
@@ -356,7 +360,7 @@ def check_whole(link: AsyncStepLink | StepLink) -> None:
         raise errors.OperationalError(BROKE.format(error)) from error
     if link.closed:
         raise errors.OperationalError(BROKE.format("it is closed"))
-    if link.ended or link.pgconn.transaction_status == pq.TransactionStatus.IDLE:
+    if link.spent or link.pgconn.transaction_status == pq.TransactionStatus.IDLE:
         raise errors.ProgrammingError(ENDED)
 
 
@@ -366,7 +370,7 @@ def _note(cursor: Any) -> None:
     if said == b"SET":
         cursor.connection.is_set = True
     elif said == b"COMMIT":
-        cursor.connection.ended = True
+        cursor.connection.spent = True
         raise errors.ProgrammingError(ENDED)
 
 

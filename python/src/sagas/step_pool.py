@@ -29,7 +29,7 @@ BROKE = "the connection broke before the function asked for it"
 
 def is_good(link: AsyncStepLink | StepLink) -> bool:
     """Whether it may be handed out again."""
-    return not (link.closed or link.is_set or link.ended) and link.pgconn.transaction_status == pq.TransactionStatus.IDLE
+    return not (link.closed or link.is_set or link.spent) and link.pgconn.transaction_status == pq.TransactionStatus.IDLE
 
 
 class Pool:

@@ -123,7 +123,7 @@ class Transactions:
         await asyncio.to_thread(self._threads.close)
 
     def let_go(self) -> None:
-        """Closes all that rest: the server may have none left for the store itself."""
+        """Closes all that rest: the server may have none left for the store itself, or another one has taken over."""
         self._pool.look(0.0)
         self._threads.look(0.0)
 
@@ -210,10 +210,15 @@ class Transactions:
                 text = calling.done(value).value
                 if not (self._is_alone(record) and await self._is_carried(record, link)):
                     await link.end(record.text(link, text), record.sending)
-                    record.done = True
+                    self._answered(record, link)
         finally:
             if record.carried is None:
                 await self._left(link)
+
+    def _answered(self, record: Record, link: AsyncStepLink | StepLink) -> None:
+        """It was committed, which counts unless that was the server that was there before."""
+        record.done = record.line == self._line()
+        link.spent = not record.done
 
     def _taken(self, attempt: Attempt, take: Callable[[], AsyncStepLink]) -> AsyncStepLink:
         link = take()
@@ -270,7 +275,7 @@ class Transactions:
                 if link.begun:
                     check_whole(link)
                     link.end(record.text(link, calling.done(value).value), record.sending)
-                    record.done = True
+                    self._answered(record, link)
             finally:
                 try:
                     link.leave()

@@ -231,8 +231,12 @@ class Kept:
                 self._wire = Wire(link, patience=links.PATIENCE + 1)  # the server gives up first
             return self._wire
 
+    def cut(self) -> None:
+        """Ends it: the next one is made when it is wanted."""
+        if self._wire:
+            self._wire.close()
+
     def close(self) -> None:
         """Ends it, for good."""
         self._is_over = True
-        if self._wire:
-            self._wire.close()
+        self.cut()
