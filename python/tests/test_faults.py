@@ -16,7 +16,7 @@ import sys
 import textwrap
 import threading
 import time
-from collections import Counter
+from collections import Counter, defaultdict
 from collections.abc import Iterator
 from typing import Any
 
@@ -158,6 +158,37 @@ def test_a_store_of_two_names(tmp_path: pathlib.Path) -> None:
             assert (await store.wait("k")).ok
 
     run(main())
+
+
+def test_an_older_copy_in_place_of_the_store(tmp_path: pathlib.Path) -> None:
+    """What was open goes on under its tokens; those of sagas that are lost are given to no other."""
+    saga, whose, waits = sagas.Saga("row"), defaultdict[str, set[str]](set), ["open"]
+
+    @saga.step
+    async def a(task: Task) -> None:
+        whose[task.effect_token].add(task.key)
+        if task.key in waits:
+            await asyncio.Event().wait()
+
+    async def before(path: pathlib.Path) -> None:
+        async with sagas.open(path, [saga], grace=0.0) as store:
+            await store.start(saga, "open")
+            await ended(store, saga, "first")
+            with contextlib.closing(sqlite3.connect(path)) as link, contextlib.closing(sqlite3.connect(tmp_path / "copy.db")) as copy:
+                link.backup(copy)
+            for number in range(3):
+                await ended(store, saga, f"lost-{number}")
+
+    async def after(path: pathlib.Path) -> None:
+        async with sagas.open(path, [saga]) as store:
+            for number in range(3):
+                await ended(store, saga, f"new-{number}")
+            assert (await store.wait("open")).ok
+
+    run(before(tmp_path / "store.db"))
+    waits.clear()
+    run(after(tmp_path / "copy.db"))
+    assert {frozenset(keys) for keys in whose.values()} == {frozenset({key}) for keys in whose.values() for key in keys} and len(whose) == 8
 
 
 @pytest.mark.parametrize("times", [1, 2])

@@ -141,7 +141,7 @@ def test_old_logs_go_as_a_whole_and_their_keys_are_free(place: str, capsys: pyte
 
     run(again())
     assert command.main([place, "prune", "--older-than", "0s"]) == 0
-    assert f"{2 * ROOM} sagas in 2 logs" in capsys.readouterr().out
+    assert f"{2 * ROOM + 2} sagas in 3 logs" in capsys.readouterr().out
 
 
 def test_what_a_person_has_to_see_stays(place: str) -> None:

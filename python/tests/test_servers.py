@@ -53,15 +53,17 @@ def test_a_synchronous_standby_takes_over(tmp_path: pathlib.Path) -> None:
 @pytest.mark.parametrize("room", [1, 1000])
 def test_an_asynchronous_standby_may_lack_the_last_commits(monkeypatch: pytest.MonkeyPatch, room: int) -> None:
     """A saga of which the standby knows goes back to what it knows, and its step is called again with its token; one that it lacks is not there, and is
-    started again. The store goes on, also where a whole log is lacking."""
+    started again. The store goes on, also where a whole log is lacking, and gives no saga another's tokens."""
     monkeypatch.setattr("sagas.kinds.ROOM", room)
     calls: Counter[tuple[str, str]] = Counter()
+    whose: dict[str, set[str]] = defaultdict(set)
     late = asyncio.Event()
     kind = sagas.Saga("pair")
 
     @kind.step
     async def a(task: Task) -> str:
         calls[task.key, "a"] += 1
+        whose[task.effect_token].add(task.key)
         if task.key == "there":
             await late.wait()
         return task.effect_token
@@ -81,10 +83,12 @@ def test_an_asynchronous_standby_may_lack_the_last_commits(monkeypatch: pytest.M
             await asyncio.to_thread(pair.fail_over)
             after = await store.wait("there")
             assert after == before and calls["there", "a"] == 2
+            assert (await started_again(store, kind, "another")).ok
             again = await started_again(store, kind, "lacking")
             assert again.ok and calls["lacking", "a"] == 2
             assert all((await asyncio.gather(*(ended(store, kind, f"new-{number}") for number in range(5)))))
             assert all(said.startswith("yes") for said in (await store.audit()).values())
+            assert all(len(keys) == 1 for keys in whose.values()), whose
 
     with paired(synchronous=False) as pair:
         run(main(pair.url(pair.primary.create().rpartition("/")[2])))

@@ -642,7 +642,8 @@ def test_functions_and_times_change_at_any_start(place: str) -> None:
 
     run(begin(kinds(0)))
     run(go_on(kinds(1)))
-    assert len(tokens) == 2 and len(set(tokens)) == 1 and len(records.read(place).logs) == 1
+    (texts,) = {tuple(log.texts) for log in records.read(place).logs.values()}
+    assert len(tokens) == 2 and len(set(tokens)) == 1 and len(texts) == 2
 
 
 def test_versions(place: str) -> None:
