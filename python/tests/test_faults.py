@@ -5,6 +5,7 @@ from __future__ import annotations
 import asyncio
 import contextlib
 import datetime
+import logging
 import os
 import pathlib
 import resource
@@ -158,6 +159,32 @@ def test_a_store_of_two_names(tmp_path: pathlib.Path) -> None:
             assert (await store.wait("k")).ok
 
     run(main())
+
+
+def test_a_log_handler_raises(place: str, capsys: pytest.CaptureFixture[str]) -> None:
+    """It stops no saga: each is told of, and what was raised goes to standard error."""
+
+    class Raising(logging.Handler):
+        """A filter that looks for what is there within a request alone, say."""
+
+        def emit(self, record: logging.LogRecord) -> None:
+            raise LookupError("no request here")
+
+    def fails(task: Task) -> None:
+        raise ValueError("no")
+
+    async def main() -> None:
+        saga, handler = simple(fails, tries=2), Raising()
+        logging.getLogger("sagas").addHandler(handler)
+        try:
+            async with sagas.open(place, [saga], concurrency=2) as store:
+                ends = await asyncio.gather(*(ended(store, saga, f"k{number}") for number in range(8)))
+                assert {end.states["a"] for end in ends} == {"failed"}
+        finally:
+            logging.getLogger("sagas").removeHandler(handler)
+
+    run(main())
+    assert "LookupError: no request here" in capsys.readouterr().err
 
 
 def test_an_older_copy_in_place_of_the_store(tmp_path: pathlib.Path) -> None:

@@ -9,7 +9,6 @@ from __future__ import annotations
 import asyncio
 import contextlib
 import json
-import logging
 import secrets
 from collections.abc import Awaitable, Callable, Coroutine, Iterable, Sequence
 from typing import TYPE_CHECKING, Any
@@ -18,12 +17,12 @@ import psycopg
 
 from . import links
 from .errors import NotHere, SagasError, StoreUnwritable
+from .guarded import logger
 from .requests import told as told_of
 
 if TYPE_CHECKING:
     from .postgresql import PostgreSQL
 
-logger = logging.getLogger("sagas")
 CHANNEL = "sagas_between"
 LOOK = 1.0
 """Seconds between two looks."""

@@ -6,7 +6,6 @@ import asyncio
 import functools
 import inspect
 import json
-import logging
 import os
 import traceback
 from collections.abc import Awaitable, Callable
@@ -17,9 +16,9 @@ from . import values
 from .definition import Manner, Unknowns
 from .errors import Fail, NotJson, Unknown
 from .events import quoted
+from .guarded import logger
 from .task import Task
 
-logger = logging.getLogger("sagas")
 MOST_TEXT = 4000
 
 

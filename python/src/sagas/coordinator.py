@@ -4,7 +4,6 @@ from __future__ import annotations
 
 import asyncio
 import json
-import logging
 import secrets
 import time
 from collections.abc import Callable, Coroutine, Sequence
@@ -20,6 +19,7 @@ from .elsewhere import Elsewhere
 from .errors import ChildError, Closed, Lost, SagasError
 from .events import Teller
 from .forks import private
+from .guarded import logger
 from .holding import Holding, half
 from .kinds import Kind, Shelf
 from .live import Live
@@ -27,7 +27,6 @@ from .pump import Pump
 from .records import Batch, LogRow
 from .reports import Reports
 
-logger = logging.getLogger("sagas")
 QUIET = 1.0
 """Seconds that closing may wait before it says for what."""
 AGAIN = 1.0
@@ -211,8 +210,10 @@ class Coordinator:
             assert batch.then
             try:
                 batch.then(fault or (Lost(f"log {batch.log}") if batch.log in lost else None))
-            except Exception:  # a fault of this package: the others have to hear of theirs
+            except Exception as error:  # a fault of this package: the others have to hear of theirs, and its log is taken up again
                 logger.exception("log %d: what follows a commit", batch.log)
+                if pump := self.pumps.get(batch.log):
+                    pump.fail(error)
         if takes:
             self.holding.committed(self.doing.about_to_call())
         if self._queue:

@@ -21,6 +21,7 @@ from .definition import Manner, Step
 from .errors import Fail, Lost
 from .fleet import Fleet, Gate
 from .forks import private
+from .guarded import logger
 from .live import Attempt, Live
 from .slots import Slots
 
@@ -28,7 +29,6 @@ if TYPE_CHECKING:
     from .coordinator import Coordinator
     from .pump import Pump
 
-logger = logging.getLogger("sagas")
 LOOK = 30.0  # seconds: a clock may jump, so nobody sleeps longer without a look at it
 ASKED = ("approval", "elsewhere", "unknown", "wait")
 WAITS = ("approval", "unknown", "wait")

@@ -11,7 +11,8 @@ from collections.abc import Callable
 from types import TracebackType
 from typing import Any
 
-logger = logging.getLogger("sagas")
+from .guarded import logger
+
 PLAIN = re.compile(r'[^\s"=\\]+\Z')
 HERE = os.path.dirname(os.path.abspath(__file__)) + os.sep
 

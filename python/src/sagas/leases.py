@@ -6,7 +6,6 @@ his writes nothing any more, since the logs' epochs are others."""
 from __future__ import annotations
 
 import json
-import logging
 import os
 import secrets
 import socket
@@ -14,6 +13,7 @@ import time
 from collections.abc import Sequence
 from typing import TYPE_CHECKING, Any
 
+from .guarded import logger
 from .links import LINE, Asker
 from .questions import OPENED
 from .records import LogRow
@@ -22,7 +22,6 @@ from .schema import ROOM
 if TYPE_CHECKING:
     from .database import Drives
 
-logger = logging.getLogger("sagas")
 BEAT = 1.0
 """Seconds between two words of a node that it lives, at most."""
 OWN = 64

@@ -5,7 +5,6 @@ from __future__ import annotations
 import asyncio
 import contextlib
 import json
-import logging
 from collections import deque
 from collections.abc import Sequence
 from typing import Any
@@ -16,6 +15,7 @@ from . import links, news, postgresql_schema, questions, requests, wire
 from .database import Drives, Then, Watcher
 from .definition import Bounds
 from .errors import NoSuchSaga, StoreUnwritable
+from .guarded import logger
 from .leases import UNTAKEN, Lease
 from .loads_postgresql import Loads
 from .places_postgresql import Places
@@ -25,7 +25,6 @@ from .records import Batch, Born, Grant, Loaded, LogRow, Opened, Request, Result
 from .transactions import Transactions
 from .values import clean, cleaned
 
-logger = logging.getLogger("sagas")
 NUMBERS = 64  # of logs to be born, that are kept at hand
 SOON = 0.001  # seconds behind a commit in which others hear of it, or sooner behind the next one: what is to be done here goes first
 MANY = 64  # starts of clients that are taken at once

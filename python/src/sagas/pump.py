@@ -4,7 +4,6 @@ from __future__ import annotations
 
 import itertools
 import json
-import logging
 import time
 from collections import deque
 from collections.abc import Callable, Iterable, Sequence
@@ -15,6 +14,7 @@ from .answers import Abort, Act, Answers, Disagrees
 from .callers import LOT
 from .child import Child, Reply
 from .errors import Lost
+from .guarded import logger
 from .kinds import Kind
 from .live import Attempt, Live
 from .records import Batch, Born
@@ -22,7 +22,6 @@ from .records import Batch, Born
 if TYPE_CHECKING:
     from .coordinator import Coordinator
 
-logger = logging.getLogger("sagas")
 MOST_NEXT = 1000
 FEW = 64
 """Requests whose answer comes soon."""

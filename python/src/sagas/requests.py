@@ -5,7 +5,6 @@ from __future__ import annotations
 import asyncio
 import functools
 import json
-import logging
 from typing import TYPE_CHECKING, Any
 
 from . import values
@@ -13,11 +12,11 @@ from .calling import Outcome, failure
 from . import errors
 from .database import Database
 from .errors import Closed, Moved, SagasError, StoreUnwritable
+from .guarded import logger
 
 if TYPE_CHECKING:
     from .store import Store
 
-logger = logging.getLogger("sagas")
 WITHDRAW = """
 WITH gone AS (DELETE FROM inbox WHERE key = ? AND node IS NULL RETURNING id, key),
 unheard AS (DELETE FROM requests r USING gone WHERE r.key = gone.key AND r.answer IS NULL RETURNING r.id)

@@ -4,7 +4,6 @@ from __future__ import annotations
 
 import asyncio
 import json
-import logging
 import re
 import time
 from typing import TYPE_CHECKING, Any
@@ -13,6 +12,7 @@ from . import lines, moving
 from .calling import Outcome
 from .child import Child, Reply
 from .errors import SagasError, StoreUnwritable
+from .guarded import logger
 from .live import Attempt, Lease, Live
 from .records import Loaded, Wanted
 from .schema import ROOM
@@ -20,7 +20,6 @@ from .schema import ROOM
 if TYPE_CHECKING:
     from .pump import Pump
 
-logger = logging.getLogger("sagas")
 FIRST_PAUSE, MOST_PAUSE = 0.02, 2.0  # seconds
 ODD = re.compile(r'"event":"(?:missed|fail|start_undo|undone|undo_missed|undo_fail|abort|adopt)","saga":(\d+)')
 Old = dict[tuple[int, int, str, int], Attempt]

@@ -8,7 +8,6 @@ from __future__ import annotations
 
 import asyncio
 import dataclasses
-import logging
 import os
 import pathlib
 import sqlite3
@@ -19,6 +18,7 @@ from typing import TYPE_CHECKING
 
 from . import archives, sources
 from .errors import SagasError
+from .guarded import logger
 from .schema import ROOM
 from .sources import Source
 from .spoken import number
@@ -26,7 +26,6 @@ from .spoken import number
 if TYPE_CHECKING:
     from .coordinator import Coordinator
 
-logger = logging.getLogger("sagas")
 MOST = 100_000
 """Sagas that one run lets go."""
 HOUR, SOON = 3600.0, 60.0  # seconds between two runs: where nothing more was to do, and where there was

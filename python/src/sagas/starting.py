@@ -3,16 +3,15 @@
 from __future__ import annotations
 
 import asyncio
-import logging
 from typing import TYPE_CHECKING
 
 from .errors import StoreUnwritable
+from .guarded import logger
 from .records import Start
 
 if TYPE_CHECKING:
     from .coordinator import Coordinator
 
-logger = logging.getLogger("sagas")
 MANY = 64
 """Starts that are taken at once: other nodes take theirs meanwhile."""
 

@@ -24,9 +24,10 @@ from .database import Reader
 from .definition import Saga, Seconds, Step
 from .elsewhere import Leased, Queue, Word
 from .errors import Closed, KeyConflict, Moved, NoSuchSaga, NotWaiting, SagasError, StoreUnwritable
-from .events import Hook, Teller, logger
+from .events import Hook, Teller
 from .faults import meant
 from .forks import Opened, private
+from .guarded import logger
 from .guessing import Guessing
 from .kinds import Shelf
 from .live import Attempt, Live

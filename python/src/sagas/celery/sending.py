@@ -4,16 +4,15 @@ from __future__ import annotations
 
 import asyncio
 import contextlib
-import logging
 import os
 import queue
 import threading
 from typing import Any, NamedTuple
 
+from ..guarded import logger
 from ..remote import Unsent
 from .sharing import unreached
 
-logger = logging.getLogger("sagas")
 POLICY = {"max_retries": 1, "interval_start": 0, "interval_step": 0, "interval_max": 0}
 """A connection that broke is made again once; further tries are the caller's."""
 

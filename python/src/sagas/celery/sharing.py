@@ -3,7 +3,6 @@
 from __future__ import annotations
 
 import asyncio
-import logging
 import os
 import pathlib
 import platform
@@ -14,12 +13,12 @@ from celery.worker.control import inspect_command
 
 from ..databases import is_url
 from ..errors import WrongStore
+from ..guarded import logger
 
 if TYPE_CHECKING:
     from ..database import Database
     from . import Queue
 
-logger = logging.getLogger("sagas")
 ASKED = "sagas_store"
 PATIENCE = 1.0  # seconds that workers have to answer
 FRESH = 1.0  # seconds that their answer, which is of all queues of the app, will do for the next queue

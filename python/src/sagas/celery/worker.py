@@ -5,7 +5,6 @@ from __future__ import annotations
 import asyncio
 import functools
 import inspect
-import logging
 import time
 from collections.abc import Callable
 from typing import TYPE_CHECKING, Any, TypeVar
@@ -17,6 +16,7 @@ from ..calling import Outcome
 from ..definition import Function, Manner, Step
 from ..desks import Begun, Settled
 from ..errors import StoreUnwritable
+from ..guarded import logger
 from ..remote import Order
 from ..task import Task, Told
 
@@ -24,7 +24,6 @@ if TYPE_CHECKING:
     from . import Queue
 
 T = TypeVar("T")
-logger = logging.getLogger("sagas")
 FIRST_PAUSE, MOST_PAUSE = 0.05, 2.0  # seconds
 
 

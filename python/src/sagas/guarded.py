@@ -1,0 +1,34 @@
+"""The log `sagas`, as the package writes it: what a handler or a filter raises stops no saga."""
+
+from __future__ import annotations
+
+import contextlib
+import logging
+import sys
+import traceback
+from collections.abc import MutableMapping
+from typing import TYPE_CHECKING, Any
+
+if TYPE_CHECKING:
+    Adapter = logging.LoggerAdapter[logging.Logger]
+else:
+    Adapter = logging.LoggerAdapter
+
+
+class Guarded(Adapter):
+    """A logger. What is raised as it writes goes to standard error, as far as that can be."""
+
+    def process(self, msg: Any, kwargs: MutableMapping[str, Any]) -> tuple[Any, MutableMapping[str, Any]]:
+        """As it is given."""
+        return msg, kwargs
+
+    def log(self, level: int, msg: object, *args: object, **kwargs: Any) -> None:
+        """As `logging.Logger.log`."""
+        try:
+            super().log(level, msg, *args, stacklevel=2, **kwargs)
+        except Exception:
+            with contextlib.suppress(Exception):
+                print(f"sagas: the log could not be written, by a handler or a filter:\n{traceback.format_exc()}", end="", file=sys.stderr)
+
+
+logger = Guarded(logging.getLogger("sagas"), {})
