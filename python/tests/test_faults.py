@@ -187,6 +187,40 @@ def test_a_log_handler_raises(place: str, capsys: pytest.CaptureFixture[str]) ->
     assert "LookupError: no request here" in capsys.readouterr().err
 
 
+@pytest.mark.parametrize("name", ["store.db", "store.db-wal"])
+def test_a_file_that_is_deleted_under_the_program(tmp_path: pathlib.Path, name: str, caplog: pytest.LogCaptureFixture) -> None:
+    """Nothing is told any more that nobody would find: who starts a saga hears why, and the log says it once."""
+    saga = simple(lambda task: 1)
+
+    async def main() -> None:
+        async with sagas.open(tmp_path / "store.db", [saga]) as store:
+            assert (await ended(store, saga, "before")).ok
+            (tmp_path / name).unlink()
+            await until(lambda: any(record.levelname == "CRITICAL" for record in caplog.records))
+            with pytest.raises(sagas.StoreUnwritable, match=f"{name} was deleted or replaced"):
+                await store.start(saga, "behind")
+
+    run(main())
+    assert [record.levelname for record in caplog.records].count("CRITICAL") == 1
+
+
+def test_the_program_goes_elsewhere(tmp_path: pathlib.Path, monkeypatch: pytest.MonkeyPatch) -> None:
+    """A store of a relative path stays where it was opened, also what it opens later."""
+    saga = sagas.Saga("row")
+    saga.step(name="a", rate=(100, 1))(lambda task: 1)
+    (tmp_path / "there").mkdir()
+    monkeypatch.chdir(tmp_path)
+
+    async def main() -> None:
+        async with sagas.open("store.db", [saga]) as store:
+            monkeypatch.chdir(tmp_path / "there")
+            assert (await ended(store, saga)).ok
+            store.reader().close()
+
+    run(main())
+    assert not [*(tmp_path / "there").iterdir()]
+
+
 def test_an_older_copy_in_place_of_the_store(tmp_path: pathlib.Path) -> None:
     """What was open goes on under its tokens; those of sagas that are lost are given to no other."""
     saga, whose, waits = sagas.Saga("row"), defaultdict[str, set[str]](set), ["open"]

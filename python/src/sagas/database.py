@@ -65,6 +65,8 @@ class Database(Protocol):
 
     path: str
     """Its name in messages: the file, or the URL without its password."""
+    file: str
+    """Its name for who opens it again: the file's whole path, or the URL."""
     shared: bool
     """Whether other nodes may have logs of it."""
 

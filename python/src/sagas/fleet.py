@@ -12,6 +12,7 @@ from typing import TYPE_CHECKING
 
 from .definition import Bounds
 from .errors import StoreUnwritable
+from .guarded import logger
 from .live import Attempt
 from .records import Grant
 
@@ -33,6 +34,7 @@ class Gate:
         self._waiting: deque[Attempt] = deque()
         self._places: dict[Attempt, int] = {}
         self._works = self._given_back = self._heard = False
+        self._fault = ""  # the last that was told
         self._timer: asyncio.TimerHandle | None = None
 
     def is_waited_for(self) -> bool:
@@ -86,7 +88,10 @@ class Gate:
                 gives_back, self._asking, self._given_back, self._heard = self._given_back, [], False, False
                 try:
                     grant = await self._owner.store.admit(self.name, self.bounds, len(asking), list(self._places.values()))
-                except StoreUnwritable:
+                except StoreUnwritable as fault:
+                    if str(fault) != self._fault:
+                        self._fault = str(fault)
+                        logger.warning("step %s waits, since its limits cannot be looked up: %s", self.name, fault)
                     grant = Grant(0, [], LOOK)
                     self._owner.loop.call_later(LOOK, self._again)
                     self._owner.loop.call_later(DOUBT, self._again)

@@ -67,7 +67,8 @@ class PostgreSQL(questions.Questions):
     shared = True
 
     def __init__(self, url: str, *, node: str | None = None, lease: float = 10.0, sagas: Sequence[str] = (), version: str = "", most: int = 16) -> None:
-        self.url, self.path = url, links.named(url)
+        self.url = self.file = url
+        self.path = links.named(url)
         self.asker = links.Asker(url, self.path, 3)
         self.lease = Lease(self.asker, node, lease, version)
         self._sagas = list(sagas)

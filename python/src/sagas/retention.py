@@ -111,6 +111,7 @@ async def keep(owner: Coordinator, name: str, seconds: float, export: str | os.P
         except asyncio.CancelledError:  # the store is closed behind the log that this is at
             stop.set()
             await asyncio.wait([work])
+            work.exception()  # a fault now is nobody's: the next opening goes on
             raise
         except (SagasError, sources.Trouble, OSError, sqlite3.Error) as error:
             logger.warning("%s: ended sagas are kept for now: %s", owner.store.path, error)

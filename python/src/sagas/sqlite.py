@@ -20,6 +20,7 @@ from .database import Drives, Watcher
 from .definition import Bounds
 from .errors import MissingHandler, StoreFault, StoreLocked, StoreNewer, StoreUnwritable
 from .forks import private
+from .guarded import logger
 from .records import Born, Grant, Loaded, LogRow, Request, SagaRow, Start
 from .schema import MIGRATIONS, VERSION
 from .sqlite_writer import BUSY, CHECKPOINT, LONG, Writer
@@ -70,6 +71,15 @@ def check_file(path: str) -> None:
 def lock_of(path: str | os.PathLike[str]) -> str:
     """The file that the program that has a store open holds: one for all links to the store, as SQLite has one WAL for them."""
     return f"{os.path.realpath(path)}.lock"
+
+
+def there(path: str) -> tuple[int, int]:
+    """Which file has this name; none where there is no such."""
+    try:
+        found = os.stat(path)
+    except OSError:
+        return 0, 0
+    return found.st_dev, found.st_ino
 
 
 def owner_of(path: str) -> str | None:
@@ -161,7 +171,9 @@ class Sqlite(questions.Questions):
 
     def __init__(self, path: str | os.PathLike[str]) -> None:
         self.path = os.fspath(path)
+        self.file = os.path.abspath(path)
         self._lock: int | None = None
+        self._there: dict[str, tuple[int, int]] = {}  # its files, as they were at the opening
         self._timer: asyncio.Handle | None = None
         self._next_log = 0
         self._writer = writer = Writer()
@@ -179,6 +191,7 @@ class Sqlite(questions.Questions):
         self._take_lock()
         self._make()
         lengthen(self._db)
+        self._there = {name: there(name) for name in (self.file, f"{self.file}-wal")}
         self._writer.open(self._db)
         self._next_log = int(self.rows("SELECT coalesce(max(log) + 1, 0) FROM logs")[0][0])
         rows = self.open_logs()
@@ -192,10 +205,10 @@ class Sqlite(questions.Questions):
 
     def _make(self) -> None:
         try:
-            self._db = connect(self.path)
+            self._db = connect(self.file)
             self._db.execute("PRAGMA journal_mode=WAL")
             migrate(self._db, self.path)
-            self._reader = connect(self.path)
+            self._reader = connect(self.file)
         except sqlite3.DatabaseError as error:
             self._drop_lock()
             if isinstance(error, sqlite3.OperationalError):
@@ -207,7 +220,7 @@ class Sqlite(questions.Questions):
 
     def _take_lock(self) -> None:
         check_file(self.path)
-        path = lock_of(self.path)
+        path = lock_of(self.file)
         try:
             self._lock = os.open(path, os.O_RDWR | os.O_CREAT | os.O_CLOEXEC, 0o644)
         except FileNotFoundError as error:
@@ -245,6 +258,7 @@ class Sqlite(questions.Questions):
         def look() -> None:
             nonlocal version
             self._timer = loop.call_later(LOOK, look)
+            self._look_for_files()
             with contextlib.suppress(StoreUnwritable):
                 now = self.rows("PRAGMA data_version")[0][0]
                 if now != version:
@@ -252,6 +266,14 @@ class Sqlite(questions.Questions):
                     watcher.look()
 
         self._timer = loop.call_soon(look)
+
+    def _look_for_files(self) -> None:
+        """Where one was deleted or replaced, SQLite would write on into what nobody will find: from then on nothing is."""
+        for name, was in self._there.items():
+            if there(name) != was and not self._writer.fault:
+                remedy = "what was told since is lost with it: close the store, put the file right (a copy with its -wal, or a backup), and open it again"
+                self._writer.fault = StoreUnwritable(f"{self.path}: {name} was deleted or replaced while the store was open, and {remedy}")
+                logger.critical("%s", self._writer.fault)
 
     async def close(self) -> None:
         """Ends the writer behind what it was given."""
@@ -281,7 +303,7 @@ class Sqlite(questions.Questions):
         places = places_sqlite.free(bounds.limit, want, have) if bounds.limit else []
         count, pause = len(places) if bounds.limit else want, MOST_LOOK
         if bounds.rate and count:
-            connected = functools.partial(connect, self.path, "NORMAL")  # a program that is killed has counted
+            connected = functools.partial(connect, self.file, "NORMAL")  # a program that is killed has counted
             count, pause = await asyncio.to_thread(places_sqlite.take, connected, self.path, name, bounds.rate, count, time.time())
         return Grant(count, places[:count], pause)
 
@@ -307,7 +329,7 @@ class Sqlite(questions.Questions):
 
     def reader(self) -> Reader:
         """Another connection, for a thread that only reads."""
-        return Reader(self.path)
+        return Reader(self.file)
 
     async def take_up(self, log: int, epoch: int) -> tuple[str, int]:
         """As `text`, for who will write behind it: nobody else writes this file. No lines of it may be on their way."""

@@ -72,6 +72,8 @@ class Writer:
         self._pages = 0  # that the loop wrote into the WAL, about
         self._over: tuple[Then, Sequence[Batch], BaseException | None, frozenset[int]] | None = None  # a commit of the loop's, whose `then` is to be called
         self._early: Rows | None = None  # put already, in a transaction that is begun
+        self.fault: Exception | None = None
+        """Why nothing is written any more."""
 
     def open(self, db: sqlite3.Connection) -> None:
         """Begins to write."""
@@ -96,6 +98,8 @@ class Writer:
         if rows > FEW_ROWS:
             self.forget()
         try:
+            if self.fault:
+                raise self.fault
             put = self._put_here(batches) if rows <= FEW_ROWS else None
             if put is None or not self._sync_here(put[0], rows):
                 self._pages, self._lent = 0, True

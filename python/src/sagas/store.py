@@ -103,7 +103,7 @@ class Store:
             coordinator.listeners.append(starting.Starts(coordinator).look)
         database.watch(coordinator)
         if self._keep_ended is not None:
-            coordinator.spawn(retention.keep(coordinator, self._name, self._keep_ended.total_seconds(), self._export_ended))
+            coordinator.spawn(retention.keep(coordinator, database.file, self._keep_ended.total_seconds(), self._export_ended))
 
     if not TYPE_CHECKING:  # a checker says so by itself
 
