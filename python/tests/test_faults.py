@@ -187,6 +187,31 @@ def test_a_log_handler_raises(place: str, capsys: pytest.CaptureFixture[str]) ->
     assert "LookupError: no request here" in capsys.readouterr().err
 
 
+KILLED_ONCE = """#!/bin/sh
+if [ "$1" = audit ] && rm {once} 2>/dev/null; then kill -9 $$; fi
+exec {program} "$@"
+"""
+
+
+def test_an_audit_is_killed(tmp_path: pathlib.Path, place: str, monkeypatch: pytest.MonkeyPatch) -> None:
+    """It has said nothing of the log, which is audited again, and is closed as a good one."""
+    monkeypatch.setattr("sagas.kinds.ROOM", 2)
+    killed, once, told = tmp_path / "killed", tmp_path / "once", list[str]()
+    killed.write_text(KILLED_ONCE.format(once=once, program=program()))
+    killed.chmod(0o755)
+    once.touch()
+    saga = simple(lambda task: 1)
+
+    async def main() -> None:
+        async with sagas.open(place, [saga], program=str(killed), on_event=lambda event: told.append(event.name)) as store:
+            for number in range(3):
+                assert (await ended(store, saga, f"k{number}")).ok
+            await until(lambda: "log_closed" in told)
+
+    run(main())
+    assert [log.closed for log in records.read(place).logs.values()] == [True, False] and "audit_failed" not in told and not once.exists()
+
+
 @pytest.mark.parametrize("name", ["store.db", "store.db-wal"])
 def test_a_file_that_is_deleted_under_the_program(tmp_path: pathlib.Path, name: str, caplog: pytest.LogCaptureFixture) -> None:
     """Nothing is told any more that nobody would find: who starts a saga hears why, and the log says it once."""

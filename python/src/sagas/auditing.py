@@ -7,36 +7,68 @@ import json
 from typing import TYPE_CHECKING
 
 from . import lines, program
-from .errors import StoreUnwritable
+from .errors import ChildError, Lost, SagasError, StoreUnwritable
 from .records import Batch
 
 if TYPE_CHECKING:
     from .coordinator import Coordinator
     from .pump import Pump
 
+FIRST_PAUSE, MOST_PAUSE = 1.0, 300.0  # seconds
+CANNOT = 4
+"""Its status where the system refused something."""
+
 
 async def verdict(where: str, text: str, definitions: list[str]) -> tuple[bool, str]:
-    """Whether `sagas audit` says yes to a log (its lines, without the header), and what it says."""
+    """Whether `sagas audit` says yes to a log (its lines, without the header), and what it says. Raises `ChildError` where it could not say anything, as where it
+    was killed."""
     done = await asyncio.to_thread(program.run, "audit", [lines.HEADER + text, *definitions], where)
-    return done.returncode == 0, (done.stdout + done.stderr).strip()
+    said = (done.stdout + done.stderr).strip()
+    if done.returncode < 0 or done.returncode == CANNOT:
+        raise ChildError(f"sagas audit ended with {done.returncode}: {said or 'it was killed'}")
+    return done.returncode == 0, said
 
 
 async def close(owner: Coordinator, pump: Pump) -> None:
-    """Audits a settled log and marks it closed. Where it cannot be read or written now, the next opening does it."""
+    """Audits a settled log and marks it closed. Where it cannot be read, audited or written now, that is done again after a while, or by the next opening."""
     try:
-        async with owner.auditing:  # one at a time: nobody waits for it
-            text, _ = owner.store.text(pump.log)
-            yes, said = await verdict(owner.program, text, pump.texts)
-    except StoreUnwritable as fault:
+        await _close(owner, pump)
+    finally:
         owner.ending.discard(pump.log)
-        owner.teller.tell("commit_failed", detail=f"log {pump.name} is not closed yet: {fault}")
-        return
-    if not yes:
-        owner.teller.tell("audit_failed", detail=f"log {pump.name}: {said}")
-    batch = Batch(pump.log, owner.clock(), epoch=pump.epoch, then=lambda fault: owner.ending.discard(pump.log))
+
+
+async def _close(owner: Coordinator, pump: Pump) -> None:
+    pause = FIRST_PAUSE
+    while True:
+        try:
+            async with owner.auditing:  # one at a time: nobody waits for it
+                text, _ = owner.store.text(pump.log)
+                yes, said = await verdict(owner.program, text, pump.texts)
+            if not yes:
+                owner.teller.tell("audit_failed", detail=f"log {pump.name}: {said}")
+            await _mark(owner, pump, yes, said)
+        except Lost:  # it is another node's
+            return
+        except (SagasError, OSError) as fault:
+            owner.teller.tell("commit_failed", detail=f"log {pump.name} is not closed yet: {fault}")
+            await asyncio.sleep(pause)
+            pause = min(MOST_PAUSE, 2 * pause)
+        else:
+            owner.teller.tell("log_closed", detail=pump.name)
+            return
+
+
+async def _mark(owner: Coordinator, pump: Pump, yes: bool, said: str) -> None:
+    over: asyncio.Future[None] = owner.loop.create_future()
+
+    def then(fault: BaseException | None) -> None:
+        if not over.done():
+            over.set_exception(fault if isinstance(fault, SagasError) else StoreUnwritable(str(fault))) if fault else over.set_result(None)
+
+    batch = Batch(pump.log, owner.clock(), epoch=pump.epoch, then=then)
     batch.more.closed = 1 if yes else 2, said
     owner.enqueue(batch)
-    owner.teller.tell("log_closed", detail=pump.name)
+    await over
 
 
 async def all_logs(owner: Coordinator) -> dict[str, str]:
