@@ -400,6 +400,24 @@ def test_connections_that_rest_are_let_go() -> None:
         run(main(url))
 
 
+def test_few_statements_are_kept(url: str, monkeypatch: pytest.MonkeyPatch) -> None:
+    """Commits of many forms go on over one connection, which lets go what it has prepared before that is too much for the server."""
+    monkeypatch.setattr("sagas.wire.MOST", 3)
+    prepare(url)
+    kind = three()
+
+    async def main() -> None:
+        async with sagas.open(url, [kind]) as store:
+            for number in range(6):
+                ends = await asyncio.gather(*(ended(store, kind, f"k{number}-{place}", "three" if place % 2 else None) for place in range(number)))
+                assert all(end.phase == "ended" for end in ends)
+            coordinator = store._coordinator
+            assert coordinator and 0 < len(coordinator.store._writer._wire._names) <= 3  # type: ignore[attr-defined]
+            await audited(store)
+
+    run(main())
+
+
 @pytest.mark.parametrize("in_thread", [False, True])
 def test_prepared_statements_are_gone(url: str, in_thread: bool) -> None:
     """The function lets all of its connection's go: it is called again, and all goes on without them."""

@@ -26,7 +26,7 @@ import pytest
 import records
 import sagas
 from sagas import coordinator, lines, restoring, sources, sqlite
-from cases import QUICK, Task, ended, in_child, run, simple, until
+from cases import QUICK, Task, ended, in_child, run, simple, surely_ended, until
 from driving import program
 from kills import children
 from world import started
@@ -648,6 +648,21 @@ def test_the_child_cannot_be_started_for_a_while(place: str, idle: float) -> Non
             for going in (first, second):
                 await asyncio.wait_for(going.finish("ok"), 60)
                 assert (await asyncio.wait_for(going.wait(), 60)).ok
+
+    run(main())
+
+
+def test_the_child_hangs(place: str, monkeypatch: pytest.MonkeyPatch) -> None:
+    """One that does not answer for long is ended, and another one goes on with its log."""
+    monkeypatch.setattr("sagas.child.HUNG", 0.5)
+    saga, others = simple(lambda task: 1), set(children(os.getpid()))
+
+    async def main() -> None:
+        async with sagas.open(place, [saga]) as store:
+            assert (await ended(store, saga, "before")).ok
+            (child,) = set(children(os.getpid())) - others
+            os.kill(child, signal.SIGSTOP)
+            assert (await asyncio.wait_for(surely_ended(store, saga, "behind"), 60)).ok
 
     run(main())
 

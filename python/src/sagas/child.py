@@ -8,7 +8,9 @@ import fcntl
 import os
 import select
 import subprocess
+import time
 from collections.abc import Callable, Sequence
+
 from . import lines
 from .errors import ChildError
 from .forks import private
@@ -17,6 +19,7 @@ from .program import memory_file
 PIPE = 1 << 20  # bytes
 READ = 1 << 16  # bytes that are read at once: what is larger is mapped, and given back, at each read
 WAIT = 1  # milliseconds
+HUNG = 60.0  # seconds
 AGAIN = 32
 """Questions after one whose answer was late, until answers are waited for again."""
 Reply = str
@@ -35,6 +38,7 @@ class Child:
         self._answered: Answered | None = None
         self.asked = 0
         """How many replies are to come: while there are any, nothing else is asked."""
+        self._since = 0.0
         self._replies: list[Reply] = []  # that came
         self._shown: list[str] = []  # lines of the log that came, each with its plus
         self._part = ""  # of a line that has not come whole
@@ -80,9 +84,13 @@ class Child:
     def ask(self, requests: Sequence[str], answered: Answered) -> None:
         """Sends a batch; `answered` is called with a reply for each request, in order, and the lines of the log."""
         assert not self.asked
-        self.asked, self._answered = len(requests), answered
+        self.asked, self._answered, self._since = len(requests), answered, time.monotonic()
         self._out += ("\n".join(requests) + "\n").encode()
         self._write()
+
+    def is_hung(self, now: float) -> bool:
+        """Whether it was asked so long ago that it will hardly answer."""
+        return self.asked > 0 and now - self._since > HUNG
 
     @property
     def is_prompt(self) -> bool:

@@ -378,6 +378,8 @@ class Coordinator:
     def _tick(self) -> None:
         now = time.monotonic()
         for pump in list(self.pumps.values()):
+            if pump.child and pump.child.is_hung(now):
+                pump.child.process.kill()  # what follows is as where it died by itself
             if pump.state == "up" and now - pump.used > self.idle and pump.rests() and not pump.due():
                 pump.sleep()
                 self.children.gone(pump)

@@ -22,6 +22,8 @@ Values = tuple[Optional[bytes], ...]
 """Of a row, as PostgreSQL writes them."""
 Then = Callable[[list[Values], Optional[Exception]], object]
 """What is called with the rows, or with what was raised."""
+MOST = 96
+"""Statements that are prepared at once: each takes the server some 270 kB."""
 GOOD = (pq.ExecStatus.TUPLES_OK, pq.ExecStatus.COMMAND_OK)
 
 
@@ -44,6 +46,7 @@ class Wire:
         self._names: dict[str, bytes] = {}
         self._jobs: deque[Job] = deque()
         self._preparing: bytes | None = None
+        self._lets_go = False  # all that was prepared, before it begins
         self._result: PGresult | None = None
         self._is_full = False  # more is to be sent than the socket takes
         self._timer: asyncio.TimerHandle | None = None  # one for all statements: it looks at `_until` when it rings
@@ -89,7 +92,10 @@ class Wire:
         job = self._jobs[0]
         try:
             name = self._names.get(job.text)
-            if name is None:
+            if name is None and len(self._names) >= MOST:
+                self._lets_go = True
+                self._pgconn.send_query(b"DEALLOCATE ALL")
+            elif name is None:
                 self._preparing = b"sagas%d" % len(self._names)
                 self._pgconn.send_prepare(self._preparing, job.text.encode())
             else:
@@ -141,6 +147,11 @@ class Wire:
         preparing, self._preparing = self._preparing, None
         assert result
         fault = None if result.status in GOOD else errors.error_from_result(result)
+        lets_go, self._lets_go = self._lets_go, False
+        if lets_go and not fault:
+            self._names.clear()
+            self._begin()
+            return
         if preparing and not fault:
             self._names[self._jobs[0].text] = preparing
             self._begin()

@@ -20,7 +20,7 @@ from .asks import abort, finish, resolve
 from .audits import audit
 from .looks import counts, draw, export, list_sagas, log, plan, show, stuck, waiting
 from .pruning import prune, words_of_prune
-from .tables import CANNOT, escape
+from .tables import CANNOT, INTERRUPTED, escape
 from .tending import init, migrate, nodes
 
 Command = Callable[[str, argparse.Namespace], int]
@@ -102,7 +102,7 @@ def add_patience(part: argparse.ArgumentParser) -> None:
 
 
 def main(words: list[str] | None = None) -> int:
-    """Runs `sagas store` with the words behind it, and gives the status: 0 good, 1 no, 2 usage, 4 a file."""
+    """Runs `sagas store` with the words behind it, and gives the status: 0 good, 1 no, 2 usage, 4 a file, 130 interrupted."""
     escape()
     given = parser().parse_args(words)
     command: Command = given.do
@@ -119,3 +119,6 @@ def main(words: list[str] | None = None) -> int:
         return CANNOT
     except BrokenPipeError:
         return CANNOT
+    except KeyboardInterrupt:
+        print("sagas store: interrupted; what was done before stays done", file=sys.stderr)
+        return INTERRUPTED

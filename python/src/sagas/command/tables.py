@@ -11,7 +11,7 @@ from typing import Any
 
 from ..values import clean
 
-GOOD, NO, CANNOT = 0, 1, 4
+GOOD, NO, CANNOT, INTERRUPTED = 0, 1, 4, 130
 """The statuses of the command; 2 is for its words."""
 
 
