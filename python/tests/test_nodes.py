@@ -22,6 +22,7 @@ import records
 import sagas
 from cases import QUICK, Task, ended, run, simple, surely_ended, until
 from driving import program
+from relay import relaying
 from sagas import leases, links, news, postgresql_commit
 from server import Server
 
@@ -528,6 +529,44 @@ def test_the_last_commit_before_a_takeover_counts(url: str, monkeypatch: pytest.
 
     run(main())
     assert calls.count("late") >= 1
+
+
+@pytest.mark.parametrize("is_born", [True, False], ids=["into a log", "with its log"])
+def test_a_start_that_comes_late(postgresql: Server, url: str, is_born: bool) -> None:
+    """Its statement waits at the server while its connection is cut. Who started it hears that this is not known, and starts it again: it is there once, and
+    driven, whether the first statement is done behind that or not."""
+    calls: list[str] = []
+    kind = simple(lambda task: calls.append(task.key))
+    waits = "SELECT pid FROM pg_stat_activity WHERE datname = current_database() AND wait_event_type = 'Lock'"
+    name = url.rpartition("/")[2]
+
+    async def main() -> None:
+        with relaying(postgresql.port) as relay:
+            async with sagas.open(postgresql.url(name, port=relay.port), [kind], lease=600, grace=0.0) as store:
+                for number in range(2):
+                    assert (await ended(store, kind, f"k{number}")).ok
+                inside = store._coordinator
+                assert inside
+                if not is_born:
+                    inside.current = None
+                with psycopg.connect(url) as stranger, psycopg.connect(url, autocommit=True) as eye:
+                    stranger.execute("LOCK TABLE sagas.sagas IN EXCLUSIVE MODE")
+                    start = asyncio.create_task(store.start(kind, "late"))
+                    ((late,),) = await until(lambda: eye.execute(waits).fetchall())
+                    relay.cut()
+                    with pytest.raises(sagas.StoreUnwritable, match="with the same key|nothing was begun"):
+                        await start
+                    again = asyncio.create_task(surely_ended(store, kind, "late"))
+                    stranger.rollback()
+                    await until(lambda: not eye.execute("SELECT 1 FROM pg_stat_activity WHERE pid = %s", (late,)).fetchall())
+                    assert (await asyncio.wait_for(again, 60)).ok
+                    await until(lambda: eye.execute("SELECT count(*), count(phase) FROM sagas.sagas").fetchone() == (3, 3))
+                    owners = "SELECT count(*) FROM sagas.logs WHERE closed = 0 AND log <> ALL(%s)"
+                    assert eye.execute(owners, ([*inside.pumps, *inside.ending],)).fetchone() == (0,)
+                assert all(said.startswith("yes") for said in (await store.audit()).values())
+
+    run(main())
+    assert sorted(set(calls)) == ["k0", "k1", "late"]
 
 
 def test_a_log_that_could_not_be_given_back(url: str, monkeypatch: pytest.MonkeyPatch) -> None:

@@ -81,7 +81,7 @@ class Teller:
 
     def wants(self, name: str) -> bool:
         """Whether anybody hears an event of this name; looked at where events are many."""
-        return self.listens or logger.isEnabledFor(LEVELS.get(name, logging.DEBUG))
+        return self.listens or logger.logger.isEnabledFor(LEVELS.get(name, logging.DEBUG))
 
     def tell(self, name: str, *, level: int | None = None, error: BaseException | None = None, **fields: Any) -> None:
         """An event with its fields; in the log at this level, and with the traceback of an error."""
@@ -89,7 +89,7 @@ class Teller:
             return
         event = Event(name, self._clock(), **fields)
         level = LEVELS.get(name, logging.DEBUG) if level is None else level
-        if logger.isEnabledFor(level):
+        if logger.logger.isEnabledFor(level):
             told = {field: value for field, value in dataclasses.asdict(event).items() if value is not None}
             words = " ".join(f"{field}={quoted(told[field])}" for field in ("key", "saga", "step", "undo", "attempt", "detail") if told.get(field))
             logger.log(level, "%s %s", name, words, extra={"sagas": told}, exc_info=traced(error) if error else None)
