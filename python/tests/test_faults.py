@@ -5,6 +5,7 @@ from __future__ import annotations
 import asyncio
 import contextlib
 import datetime
+import fcntl
 import logging
 import os
 import pathlib
@@ -227,6 +228,30 @@ def test_a_file_that_is_deleted_under_the_program(tmp_path: pathlib.Path, name: 
 
     run(main())
     assert [record.levelname for record in caplog.records].count("CRITICAL") == 1
+
+
+def test_the_lock_is_deleted(tmp_path: pathlib.Path, caplog: pytest.LogCaptureFixture) -> None:
+    """It is made again, and the store goes on; where another program was faster, nothing is written any more."""
+    saga, lock = simple(lambda task: 1), tmp_path / "store.db.lock"
+
+    async def main() -> None:
+        async with sagas.open(tmp_path / "store.db", [saga]) as store:
+            lock.unlink()
+            await until(lock.exists)
+            with pytest.raises(sagas.StoreLocked):
+                async with sagas.open(tmp_path / "store.db", [saga]):
+                    pass
+            assert (await ended(store, saga, "behind")).ok and not caplog.records
+            with (tmp_path / "faster").open("w") as other:
+                fcntl.flock(other, fcntl.LOCK_EX)
+                (tmp_path / "faster").replace(lock)
+                await until(lambda: caplog.records)
+                with pytest.raises(sagas.StoreUnwritable, match="its lock was deleted"):
+                    await store.start(saga, "late")
+
+    run(main())
+    with lock.open() as file:
+        fcntl.flock(file, fcntl.LOCK_EX | fcntl.LOCK_NB)
 
 
 def test_the_program_goes_elsewhere(tmp_path: pathlib.Path, monkeypatch: pytest.MonkeyPatch) -> None:

@@ -18,7 +18,7 @@ from typing import Any
 from . import places_sqlite, questions
 from .database import Drives, Watcher
 from .definition import Bounds
-from .errors import MissingHandler, StoreFault, StoreLocked, StoreNewer, StoreUnwritable
+from .errors import MissingHandler, SagasError, StoreFault, StoreLocked, StoreNewer, StoreUnwritable
 from .forks import private
 from .guarded import logger
 from .records import Born, Grant, Loaded, LogRow, Request, SagaRow, Start
@@ -73,8 +73,8 @@ def lock_of(path: str | os.PathLike[str]) -> str:
     return f"{os.path.realpath(path)}.lock"
 
 
-def there(path: str) -> tuple[int, int]:
-    """Which file has this name; none where there is no such."""
+def there(path: str | int) -> tuple[int, int]:
+    """Which file has this name, or descriptor; none where there is no such."""
     try:
         found = os.stat(path)
     except OSError:
@@ -259,6 +259,7 @@ class Sqlite(questions.Questions):
             nonlocal version
             self._timer = loop.call_later(LOOK, look)
             self._look_for_files()
+            self._look_for_lock()
             with contextlib.suppress(StoreUnwritable):
                 now = self.rows("PRAGMA data_version")[0][0]
                 if now != version:
@@ -270,10 +271,29 @@ class Sqlite(questions.Questions):
     def _look_for_files(self) -> None:
         """Where one was deleted or replaced, SQLite would write on into what nobody will find: from then on nothing is."""
         for name, was in self._there.items():
-            if there(name) != was and not self._writer.fault:
+            if there(name) != was:
                 remedy = "what was told since is lost with it: close the store, put the file right (a copy with its -wal, or a backup), and open it again"
-                self._writer.fault = StoreUnwritable(f"{self.path}: {name} was deleted or replaced while the store was open, and {remedy}")
-                logger.critical("%s", self._writer.fault)
+                self._give_up(f"{self.path}: {name} was deleted or replaced while the store was open, and {remedy}")
+
+    def _look_for_lock(self) -> None:
+        """Where it was deleted another program could open the store: it is made again."""
+        lock = self._lock
+        if lock is None or there(lock_of(self.file)) == there(lock):
+            return
+        self._lock = None
+        try:
+            self._take_lock()
+        except SagasError as error:
+            self._lock = lock
+            self._give_up(f"{error}; its lock was deleted while this one had it")
+        else:
+            private.discard(lock)
+            os.close(lock)
+
+    def _give_up(self, why: str) -> None:
+        if not self._writer.fault:
+            self._writer.fault = StoreUnwritable(why)
+            logger.critical("%s", why)
 
     async def close(self) -> None:
         """Ends the writer behind what it was given."""
