@@ -7,7 +7,7 @@ import json
 from typing import TYPE_CHECKING
 
 from . import lines, program
-from .errors import ChildError, Lost, SagasError, StoreUnwritable
+from .errors import ChildError, Lost, SagasError
 from .records import Batch
 
 if TYPE_CHECKING:
@@ -15,8 +15,6 @@ if TYPE_CHECKING:
     from .pump import Pump
 
 FIRST_PAUSE, MOST_PAUSE = 1.0, 300.0  # seconds
-CANNOT = 4
-"""Its status where the system refused something."""
 
 
 async def verdict(where: str, text: str, definitions: list[str]) -> tuple[bool, str]:
@@ -24,7 +22,7 @@ async def verdict(where: str, text: str, definitions: list[str]) -> tuple[bool, 
     was killed."""
     done = await asyncio.to_thread(program.run, "audit", [lines.HEADER + text, *definitions], where)
     said = (done.stdout + done.stderr).strip()
-    if done.returncode < 0 or done.returncode == CANNOT:
+    if done.returncode < 0 or done.returncode == program.CANNOT:
         raise ChildError(f"sagas audit ended with {done.returncode}: {said or 'it was killed'}")
     return done.returncode == 0, said
 
@@ -46,7 +44,9 @@ async def _close(owner: Coordinator, pump: Pump) -> None:
                 yes, said = await verdict(owner.program, text, pump.texts)
             if not yes:
                 owner.teller.tell("audit_failed", detail=f"log {pump.name}: {said}")
-            await _mark(owner, pump, yes, said)
+            batch = Batch(pump.log, owner.clock(), epoch=pump.epoch)
+            batch.more.closed = 1 if yes else 2, said
+            await owner.kept(batch)
         except Lost:  # it is another node's
             return
         except (SagasError, OSError) as fault:
@@ -56,19 +56,6 @@ async def _close(owner: Coordinator, pump: Pump) -> None:
         else:
             owner.teller.tell("log_closed", detail=pump.name)
             return
-
-
-async def _mark(owner: Coordinator, pump: Pump, yes: bool, said: str) -> None:
-    over: asyncio.Future[None] = owner.loop.create_future()
-
-    def then(fault: BaseException | None) -> None:
-        if not over.done():
-            over.set_exception(fault if isinstance(fault, SagasError) else StoreUnwritable(str(fault))) if fault else over.set_result(None)
-
-    batch = Batch(pump.log, owner.clock(), epoch=pump.epoch, then=then)
-    batch.more.closed = 1 if yes else 2, said
-    owner.enqueue(batch)
-    await over
 
 
 async def all_logs(owner: Coordinator) -> dict[str, str]:

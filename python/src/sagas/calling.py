@@ -112,7 +112,7 @@ def raised(error: BaseException, manner: Manner) -> Outcome:
 
 
 def sorted_by(error: BaseException, unknown: Unknowns) -> str:
-    """`unknown`, `final` or `failed`. Of a group, as `asyncio.TaskGroup` raises one, what most is at stake by: nobody knows before it has failed."""
+    """`unknown`, `final` or `failed`. Of a group, as `asyncio.TaskGroup` raises one, the first of these that any of it is."""
     if isinstance(error, Fail):
         return "final"
     if isinstance(error, (Unknown, *unknown)):

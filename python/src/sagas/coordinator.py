@@ -16,7 +16,7 @@ from .children import Children
 from .doing import Doing
 from .database import Database
 from .elsewhere import Elsewhere
-from .errors import ChildError, Closed, Lost, SagasError
+from .errors import ChildError, Closed, Lost, SagasError, StoreUnwritable
 from .events import Teller
 from .forks import private
 from .guarded import logger
@@ -164,6 +164,22 @@ class Coordinator:
             self.holding.came()
         self._queue.append(batch)
         self.write()
+
+    async def kept(self, batch: Batch) -> None:
+        """As `enqueue`, until it is in the store. Raises `StoreUnwritable`, or `Lost` where its log is another node's."""
+        over: asyncio.Future[None] = self.loop.create_future()
+
+        def then(fault: BaseException | None) -> None:
+            if over.done():  # who waited was cancelled
+                return
+            if fault is None:
+                over.set_result(None)
+            else:
+                over.set_exception(fault if isinstance(fault, SagasError) else StoreUnwritable(f"{self.store.path}: {fault}"))
+
+        batch.then = then
+        self.enqueue(batch)
+        await over
 
     def empty_batch(self, log: int, then: Callable[[BaseException | None], None]) -> Batch:
         """One of no pump's."""

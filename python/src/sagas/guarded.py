@@ -7,15 +7,10 @@ import logging
 import sys
 import traceback
 from collections.abc import MutableMapping
-from typing import TYPE_CHECKING, Any
-
-if TYPE_CHECKING:
-    Adapter = logging.LoggerAdapter[logging.Logger]
-else:
-    Adapter = logging.LoggerAdapter
+from typing import Any
 
 
-class Guarded(Adapter):
+class Guarded(logging.LoggerAdapter[logging.Logger]):
     """A logger. What is raised as it writes goes to standard error, as far as that can be."""
 
     def process(self, msg: Any, kwargs: MutableMapping[str, Any]) -> tuple[Any, MutableMapping[str, Any]]:

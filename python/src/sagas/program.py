@@ -10,6 +10,8 @@ from collections.abc import Sequence
 from .errors import ChildError
 
 HERE = pathlib.Path(__file__).resolve().parent
+CANNOT = 4
+"""The status of a command that the system refused something."""
 
 
 def path() -> str:

@@ -278,9 +278,9 @@ def _doubtful(pump: Pump, there: set[str], is_known: bool = True) -> None:
     where, fault = str(pump.owner.store.path), str(pump.fault)
     told = fault if fault.startswith(where) else f"{where}: {fault}"
     nothing = StoreUnwritable(f"{told}; nothing was begun: start it again once that is over (where a disk is full, make room)")
-    open = StoreUnwritable(f"{told}; whether it was begun is not known: start it again once that is over, with the same key")
+    unsure = StoreUnwritable(f"{told}; whether it was begun is not known: start it again once that is over, with the same key")
     for live in again:
-        pump.owner.refuse(live, nothing if is_known else open)
+        pump.owner.refuse(live, nothing if is_known else unsure)
     for live in new:
         pump.owner.refuse(live, nothing)
 
