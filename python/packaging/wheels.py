@@ -42,6 +42,17 @@ def carried() -> Iterator[tuple[str, bytes]]:
         yield f"sagas/bin/{name}", found.read_bytes()
 
 
+def license_text() -> bytes:
+    """The license: the checkout's, or that of an unpacked source archive."""
+    places = (HERE / "LICENSE", HERE.parent / "LICENSE")
+    found = next((place for place in places if place.is_file()), None)
+    if found is None:
+        raise FileNotFoundError(
+            f"there is no {places[1]}. Build from a whole checkout, or from the source archive"
+        )
+    return found.read_bytes()
+
+
 def sources() -> Iterator[tuple[str, bytes]]:
     for path in sorted(SOURCE.rglob("*")):
         if path.is_file() and path.suffix in (".py", ".typed", ".html", ".css", ".js", ".svg"):
@@ -51,7 +62,11 @@ def sources() -> Iterator[tuple[str, bytes]]:
 def metadata() -> str:
     told = project()
     lines = ["Metadata-Version: 2.1", f"Name: {told['name']}", f"Version: {told['version']}", f"Summary: {told['description']}"]
-    lines += [f"Requires-Python: {told['requires-python']}", *(f"Classifier: {word}" for word in told["classifiers"])]
+    lines += [f"Author: {', '.join(author['name'] for author in told['authors'])}"]
+    lines += [f"License: {told['license']}", f"Keywords: {','.join(told['keywords'])}"]
+    lines += [f"License-File: {name}" for name in told["license-files"]]
+    lines += [f"Requires-Python: {told['requires-python']}"]
+    lines += [f"Classifier: {word}" for word in told["classifiers"]]
     for extra, wanted in told["optional-dependencies"].items():
         lines += [f"Provides-Extra: {extra}", *(f'Requires-Dist: {one}; extra == "{extra}"' for one in wanted)]
     return "\n".join([*lines, "Description-Content-Type: text/markdown", "", (HERE / told["readme"]).read_text()])
@@ -89,6 +104,7 @@ class Wheel:
     def end(self) -> str:
         for name, text in info().items():
             self.add(f"{named()}.dist-info/{name}", text.encode())
+        self.add(f"{named()}.dist-info/LICENSE", license_text())
         record = f"{named()}.dist-info/RECORD"
         self._zip.writestr(zipfile.ZipInfo(record, TIME), self._record + f"{record},,\n")
         self._zip.close()
@@ -117,6 +133,7 @@ def build_sdist(sdist_directory: str, config_settings: Any = None) -> str:
             *((f"src/{path}", data) for path, data in sources()),
             *((path, (HERE / path).read_bytes()) for path in ("pyproject.toml", "README.md", "packaging/wheels.py")),
             *((f"src/{path}", data) for path, data in carried()),
+            ("LICENSE", license_text()),
             ("PKG-INFO", metadata().encode()),
         ]:
             entry = tarfile.TarInfo(f"{named()}/{path}")

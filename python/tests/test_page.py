@@ -7,6 +7,7 @@ import pathlib
 import re
 import subprocess
 import sys
+import zipfile
 
 import pytest
 
@@ -130,3 +131,14 @@ def test_a_wheel_and_an_archive(folder: pathlib.Path, tmp_path: pathlib.Path) ->
     words = [sys.executable, "-m", "pip", "wheel", "--no-index", "-q", "-w", str(tmp_path / "again"), str(tmp_path / archive)]
     subprocess.run(words, check=True, env=clean(), capture_output=True)
     assert (tmp_path / "again" / name).read_bytes() == (first / name).read_bytes()
+    check_license(first / name)
+
+
+def check_license(wheel: pathlib.Path) -> None:
+    """The wheel has the license's text, and its metadata name the license and the authors."""
+    with zipfile.ZipFile(wheel) as archive:
+        told = "-".join(wheel.name.split("-")[:2]) + ".dist-info"
+        metadata = archive.read(f"{told}/METADATA").decode().partition("\n\n")[0].splitlines()
+        assert archive.read(f"{told}/LICENSE") == (PACKAGE.parent / "LICENSE").read_bytes()
+    wanted = {"License: Apache-2.0", "License-File: LICENSE", "Author: The sagas developers"}
+    assert wanted <= set(metadata)
