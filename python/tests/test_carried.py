@@ -10,6 +10,7 @@ import signal
 import subprocess
 import sys
 import textwrap
+import time
 from collections import Counter, defaultdict
 from collections.abc import AsyncIterator
 from typing import Any
@@ -23,7 +24,8 @@ import sagas
 from cases import QUICK, Task, ended, run, simple, surely_ended, until
 from driving import program
 from relay import relaying
-from sagas import carried
+from sagas import carried, step_commit
+from sagas.step_links import Prepares
 from server import Server, paired, serving
 
 BOOK = "INSERT INTO book(key, step, token) VALUES(%s, %s, %s)"
@@ -418,37 +420,124 @@ def test_few_statements_are_kept(url: str, monkeypatch: pytest.MonkeyPatch) -> N
     run(main())
 
 
+@pytest.mark.parametrize("text", ["DEALLOCATE ALL", "SELECT 1; DEALLOCATE ALL"])
 @pytest.mark.parametrize("in_thread", [False, True])
-def test_prepared_statements_are_gone(url: str, in_thread: bool) -> None:
-    """The function lets all of its connection's go: it is called again, and all goes on without them."""
+def test_prepared_statements_are_gone(url: str, in_thread: bool, text: str) -> None:
+    """The function lets all of its connection's go: all goes on without them, and no log is taken
+    up again. Where it could not be seen, the server says so, and the function is called again."""
     prepare(url)
-    kind, calls = sagas.Saga("one"), []
+    kind, calls, told = sagas.Saga("one"), [], list[str]()
 
     if in_thread:
 
-        @kind.step(name="book", transaction=True)
+        @kind.step(name="book", transaction=True, tries=1)
         def book_in_thread(task: Task) -> None:
             calls.append(task.token)
-            task.connection.execute("DEALLOCATE ALL")
+            task.connection.execute(text)
             task.connection.execute(BOOK, (task.key, "book", "it's"))
     else:
 
-        @kind.step(transaction=True)
+        @kind.step(transaction=True, tries=1)
         async def book(task: Task) -> str:
             calls.append(task.token)
-            await task.connection.execute("DEALLOCATE ALL")
+            await task.connection.execute(text)
             await write(task, "book")
             return "it's \\ ä"
 
     async def main() -> None:
-        async with sagas.open(url, [kind]) as store:
+        async with sagas.open(url, [kind], on_event=lambda event: told.append(event.name)) as store:
             for number in range(3):
                 end = await ended(store, kind, f"k{number}")
                 assert end.results == {"book": None if in_thread else "it's \\ ä"}
+            ends = (ended(store, kind, f"k{number}") for number in range(3, 6))
+            assert all(end.ok for end in await asyncio.gather(*ends))
             await audited(store)
 
     run(main())
-    assert booked(url) == {(f"k{number}", "book"): 1 for number in range(3)} and len(calls) == 4
+    assert booked(url) == {(f"k{number}", "book"): 1 for number in range(6)}
+    assert "commit_failed" not in told
+    assert len(calls) == 6 + (text != "DEALLOCATE ALL") and len({*calls}) == 6
+
+
+def test_what_is_prepared_is_used_again() -> None:
+    """It rests for a second at first, and for ten minutes at most, where servers do not know it."""
+    one, pauses = Prepares(""), list[float]()
+    assert one.works
+    for _ in range(12):
+        one.refused()
+        assert not one.works
+        pauses.append(round(one.until - time.monotonic()))
+    assert pauses == [1, 2, 4, 8, 16, 32, 64, 128, 256, 512, 600, 600]
+    one.until = time.monotonic()
+    assert one.works
+
+
+class Undone(Exception):
+    """What a part of a step is rolled back by."""
+
+
+KNOWN = "SELECT count(*) FROM pg_prepared_statements WHERE name LIKE %s"
+"""How many of a connection's statements have such a name. psycopg prepares it at its sixth use."""
+
+
+@pytest.mark.parametrize("way", ["rolls back", "a part rolls back", "drops"])
+@pytest.mark.parametrize("in_thread", [False, True])
+def test_a_rollback_leaves_what_is_prepared(url: str, in_thread: bool, way: str) -> None:
+    """Behind a rollback, or a DROP, psycopg lets all go that is prepared, if it has prepared
+    something itself. The record of the step is written all the same, once, no log is taken up
+    again, and the next step has it prepared."""
+    prepare(url)
+    kind, calls, found, told = sagas.Saga("one"), list[str](), list[int](), list[str]()
+    drops = "CREATE TABLE gone()", "DROP TABLE gone"
+
+    if in_thread:
+
+        @kind.step(name="book", transaction=True, tries=1)
+        def book_in_thread(task: Task) -> None:
+            calls.append(task.key)
+            for _ in range(8):
+                found.append(task.connection.execute(KNOWN, ("sagas%",)).fetchall()[0][0])
+            task.connection.execute(BOOK, (task.key, "book", ""))
+            if task.input == "rolls back":
+                raise Undone
+            if task.input == "a part rolls back":
+                with contextlib.suppress(Undone), task.connection.transaction():
+                    raise Undone
+            for text in drops if task.input == "drops" else ():
+                task.connection.execute(text)
+    else:
+
+        @kind.step(transaction=True, tries=1)
+        async def book(task: Task) -> None:
+            calls.append(task.key)
+            for _ in range(8):
+                rows = await (await task.connection.execute(KNOWN, ("sagas%",))).fetchall()
+                found.append(rows[0][0])
+            await write(task, "book")
+            if task.input == "rolls back":
+                raise Undone
+            if task.input == "a part rolls back":
+                with contextlib.suppress(Undone):
+                    async with task.connection.transaction():
+                        raise Undone
+            for text in drops if task.input == "drops" else ():
+                await task.connection.execute(text)
+
+    async def main() -> None:
+        async with sagas.open(url, [kind], on_event=lambda event: told.append(event.name)) as store:
+            for number, given in enumerate((None, way, None, way, None)):
+                end = await ended(store, kind, f"k{number}", given)
+                assert end.ok is not (given == "rolls back")
+            for key in ("first", "second"):  # beside another, each commits by itself
+                ends = [ended(store, kind, f"{key} {at}", way if at == 1 else None) for at in range(3)]
+                await asyncio.gather(*ends)
+            await audited(store)
+
+    run(main())
+    gone = {"k1", "k3", "first 1", "second 1"} if way == "rolls back" else set()
+    assert not {"commit_failed", "child_died", "log_lost"} & {*told}
+    assert len(calls) == len({*calls}) == 11 and {*found} == {len(step_commit.EACH)}
+    assert booked(url) == {(key, "book"): 1 for key in {*calls} - gone}
 
 
 def test_the_commit_is_not_answered(url: str, monkeypatch: pytest.MonkeyPatch) -> None:

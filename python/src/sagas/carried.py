@@ -12,7 +12,6 @@ from psycopg import errors
 from . import links
 from .errors import Lost
 from .postgresql_commit import Commit
-from .step_commit import carrying
 
 if TYPE_CHECKING:
     from .live import Attempt
@@ -68,8 +67,7 @@ class Carried:
             self._refuse(Lost(str(error)), then)
             return
         try:
-            fence = self.record.fence()._replace(log=batch.log, epoch=batch.epoch)
-            text = carrying(self._link, batch, fence)
+            text = self.record.carrying(self._link, batch)
         except Exception as error:
             self._refuse(error, then)
         else:
@@ -93,7 +91,9 @@ class Carried:
         if not isinstance(fault, psycopg.Error):
             return None if isinstance(fault, Lost) else fault
         raised = self.record.judged(fault)
-        return None if fault.sqlstate == LOCKED else self.record.lost() or raised
+        if fault.sqlstate == LOCKED or self.record.again:
+            return None
+        return self.record.lost() or raised
 
     def _refuse(self, error: Exception, then: Then) -> None:
         self._is_over(False)

@@ -328,8 +328,15 @@ class Doing:
         elif self.over(attempt, began):
             if fault is not None:
                 self.lose(attempt, fault)
+            elif record and record.again:
+                self._call_again(attempt)
             elif outcome is not None:
                 self.sort(attempt, outcome)
+
+    def _call_again(self, attempt: Attempt) -> None:
+        """It is known to have done nothing, by no fault of its own."""
+        attempt.state = "taken"
+        self._enter(attempt)
 
     def lose(self, attempt: Attempt, fault: Lost) -> None:
         """Nobody knows whether its transaction was committed: its log is taken up again, which tells."""
@@ -373,10 +380,10 @@ class Doing:
         fault = record.lost() if record else None
         if record and record.carried:
             self.owner.carrying.carry(attempt, began, outcome, record.carried)
-        elif fault is None:
+        elif fault is None and not (record and record.again):
             self._called(attempt, began, outcome)
         elif self.over(attempt, began):
-            self.lose(attempt, fault)
+            self.lose(attempt, fault) if fault else self._call_again(attempt)
 
     def over(self, attempt: Attempt, began: float) -> bool:
         """Its function is over; whether anything comes of that, since it was not forgotten meanwhile."""

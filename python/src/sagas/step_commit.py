@@ -18,7 +18,8 @@ if TYPE_CHECKING:
 
 COMMIT = "; COMMIT"
 UNPREPARED = ("26000", "42P05")
-"""What is said of a statement that is not prepared any more (`DEALLOCATE ALL`, or a pooler that hands out other connections), or is already."""
+"""What is said of a statement that is not prepared any more (a function let it go unseen, or a
+pooler hands out other sessions), or is already."""
 SETTINGS = """
   AND (current_setting('synchronous_commit') NOT IN ('off', 'local') OR set_config('synchronous_commit', 'on', true) > '')
   AND set_config('lock_timeout', '1s', true) > ''"""

@@ -5,8 +5,10 @@ from __future__ import annotations
 
 import asyncio
 import contextlib
+import enum
 import threading
-from collections.abc import Callable, Mapping, Sequence
+import time
+from collections.abc import Callable, Iterator, Mapping, Sequence
 from typing import TYPE_CHECKING, Any, TypeVar
 
 import psycopg
@@ -28,11 +30,41 @@ JOINS = pq.version() >= 140000
 """Whether libpq can send one statement behind another, without waiting."""
 
 
+LET_GO = "DEALLOCATE ALL"
+"""A statement, and the word that the server has for it; psycopg sends it behind a rollback."""
+FIRST_PAUSE, MOST_PAUSE = 1.0, 600.0
+"""Seconds without what is prepared, once a server did not know it: at first, and at most."""
+
+
 class Prepares:
-    """What is prepared over each connection, for the transaction's end. `works`: until the server says otherwise."""
+    """What is prepared over each connection, for the transaction's end."""
 
     def __init__(self, text: str) -> None:
-        self.text, self.works = text, True
+        self.text = text
+        self.until = 0.0
+        self._pause = FIRST_PAUSE
+
+    @property
+    def works(self) -> bool:
+        """Whether it is used, as far as is known: not for a while once a server did not know it."""
+        return not self.until or time.monotonic() >= self.until
+
+    def refused(self) -> None:
+        """A server did not know it: a function let it go, or a pooler changed the session."""
+        self.until = time.monotonic() + self._pause
+        self._pause = min(MOST_PAUSE, 2 * self._pause)
+
+
+class Statements(enum.Enum):
+    """What became of that over a connection."""
+
+    NONE = "none"
+    """It was not prepared."""
+    KEPT = "kept"
+    LET_GO = "let go"
+    """psycopg let all go, and knows of it: it is prepared anew."""
+    LOST = "lost"
+    """A statement of the function's did, and psycopg does not know it: no step has it again."""
 
 
 class Heard:
@@ -74,6 +106,7 @@ class AsyncStepLink(psycopg.AsyncConnection[Row]):
     """Who hears that something came while nobody waits for an answer."""
     prepares: Prepares | None = None
     """What is prepared."""
+    statements = Statements.NONE
     spent = False
     """It is not handed out again: a statement of the function's ended the transaction, or its end was refused, as by a server that was there before."""
     is_set = False
@@ -117,7 +150,7 @@ class AsyncStepLink(psycopg.AsyncConnection[Row]):
         try:
             async with self.lock:
                 await self.wait(_done(self, prepares.text, encoding_of(self)))
-                self.prepares = prepares
+                self.prepares, self.statements = prepares, Statements.KEPT
         except BaseException as error:
             if isinstance(error, psycopg.Error) and not self.closed and self.pgconn.transaction_status == pq.TransactionStatus.IDLE:
                 return
@@ -197,15 +230,16 @@ class AsyncStepLink(psycopg.AsyncConnection[Row]):
         await super().close()
 
     async def leave(self) -> None:
-        """The step is over: what it did and did not commit is rolled back, and what it set is put back."""
+        """The step is over: what it did not commit is rolled back, what it set is put back."""
         self.begun = None
         with contextlib.suppress(psycopg.Error):  # then the pool lets it go
-            if self.pgconn.transaction_status in OPEN:
-                await self.rollback()
-            if self.is_set and not self.closed:
+            for text in _put_back(self):
                 async with self.lock:
-                    await self.wait(_done(self, AS_MADE, encoding_of(self)))
-                self.is_set = False
+                    await self.wait(_done(self, text, encoding_of(self)))
+
+    def _exec_command(self, command: Any, *words: Any, **more: Any) -> Any:
+        _look(self, command)
+        return super()._exec_command(command, *words, **more)
 
     async def commit(self) -> None:
         """Not within a step."""
@@ -275,6 +309,7 @@ class StepLink(psycopg.Connection[Row]):
 
     begun: bool | None = None
     prepares: Prepares | None = None
+    statements = Statements.NONE
     spent = is_set = False
     joins = 0
     halfway = False
@@ -289,7 +324,7 @@ class StepLink(psycopg.Connection[Row]):
         try:
             with self.lock:
                 self.wait(_done(self, prepares.text, encoding_of(self)))
-                self.prepares = prepares
+                self.prepares, self.statements = prepares, Statements.KEPT
         except BaseException as error:
             if isinstance(error, psycopg.Error) and not self.closed and self.pgconn.transaction_status == pq.TransactionStatus.IDLE:
                 return
@@ -310,12 +345,13 @@ class StepLink(psycopg.Connection[Row]):
         """As `AsyncStepLink.leave`."""
         self.begun = None
         with contextlib.suppress(psycopg.Error):
-            if self.pgconn.transaction_status in OPEN:
-                self.rollback()
-            if self.is_set and not self.closed:
+            for text in _put_back(self):
                 with self.lock:
-                    self.wait(_done(self, AS_MADE, encoding_of(self)))
-                self.is_set = False
+                    self.wait(_done(self, text, encoding_of(self)))
+
+    def _exec_command(self, command: Any, *words: Any, **more: Any) -> Any:
+        _look(self, command)
+        return super()._exec_command(command, *words, **more)
 
     def close(self) -> None:
         """Not within a step."""
@@ -346,7 +382,32 @@ class StepLink(psycopg.Connection[Row]):
 
 def is_prepared(link: AsyncStepLink | StepLink) -> bool:
     """Whether the statements of the transaction's end are."""
-    return link.prepares is not None and link.prepares.works
+    return link.statements is Statements.KEPT and link.prepares is not None and link.prepares.works
+
+
+def is_as_made(link: AsyncStepLink | StepLink) -> bool:
+    """Whether nothing that a step did to it is to be put back."""
+    return not link.is_set and link.statements in (Statements.KEPT, Statements.NONE)
+
+
+def _put_back(link: AsyncStepLink | StepLink) -> Iterator[str]:
+    """The statements that make a connection as it was; each is done before the next is asked for.
+
+    The rollback is not psycopg's, which lets all go that is prepared."""
+    if link.pgconn.transaction_status in OPEN:
+        yield "ROLLBACK"
+    if link.is_set and not link.closed:
+        yield AS_MADE
+        link.is_set = False
+    if link.statements is Statements.LET_GO and link.prepares and not link.closed:
+        yield link.prepares.text
+        link.statements = Statements.KEPT
+
+
+def _look(link: AsyncStepLink | StepLink, command: object) -> None:
+    """psycopg is about to send this, of its own accord."""
+    if command == LET_GO.encode() and link.statements is Statements.KEPT:
+        link.statements = Statements.LET_GO
 
 
 def check_whole(link: AsyncStepLink | StepLink) -> None:
@@ -369,6 +430,8 @@ def _note(cursor: Any) -> None:
     said = cursor.pgresult.command_status if cursor.pgresult else None
     if said == b"SET":
         cursor.connection.is_set = True
+    elif said == LET_GO.encode():
+        cursor.connection.statements = Statements.LOST
     elif said == b"COMMIT":
         cursor.connection.spent = True
         raise errors.ProgrammingError(ENDED)

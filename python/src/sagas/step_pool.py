@@ -16,7 +16,7 @@ from psycopg import errors, pq
 from psycopg.rows import tuple_row
 
 from . import links
-from .step_links import AsyncStepLink, Prepares, StepLink
+from .step_links import AsyncStepLink, Prepares, StepLink, is_as_made
 
 REST = 600.0
 """Seconds that a connection may rest before it is closed."""
@@ -29,7 +29,8 @@ BROKE = "the connection broke before the function asked for it"
 
 def is_good(link: AsyncStepLink | StepLink) -> bool:
     """Whether it may be handed out again."""
-    return not (link.closed or link.is_set or link.spent) and link.pgconn.transaction_status == pq.TransactionStatus.IDLE
+    is_open = not (link.closed or link.spent) and is_as_made(link)
+    return is_open and link.pgconn.transaction_status == pq.TransactionStatus.IDLE
 
 
 class Pool:

@@ -19,7 +19,7 @@ from .carried import Carried
 from .definition import Function, Manner
 from .errors import Lost, Unknown
 from .step_commit import UNPREPARED, Fence, recorded
-from .step_links import AsyncStepLink, Prepares, StepLink, check_whole
+from .step_links import AsyncStepLink, Prepares, StepLink, check_whole, is_as_made, is_prepared
 from .step_pool import REST, Pool, ThreadPool
 from .task import Task
 
@@ -29,6 +29,7 @@ if TYPE_CHECKING:
     from .callers import Take
     from .live import Attempt
     from .postgresql_writer import Writer
+    from .records import Batch
 
 PLAIN = frozenset((type(None), bool, int, float, str, dict, list))
 """What is not to be awaited, most of the time."""
@@ -66,6 +67,10 @@ class Record:
     prepares: Prepares
     begun: bool = False
     done: bool = False
+    prepared: bool = False
+    """It is sent as a statement that is prepared."""
+    again: bool = False
+    """The server did not know that statement, so all is rolled back: it is called again."""
     carried: Carried | None = None
     """Its function is over and its transaction is not: that is for who reports it."""
 
@@ -78,8 +83,9 @@ class Record:
         that the log, or the attempt, is another run's."""
         if (error.sqlstate or "").startswith(ROLLED_BACK) and (error.diag.schema_name, error.diag.table_name) not in OURS:
             self.begun = False
-        elif self.begun and error.sqlstate in UNPREPARED:
-            self.prepares.works = False
+        elif self.begun and self.prepared and error.sqlstate in UNPREPARED:
+            self.begun, self.again = False, True
+            self.prepares.refused()
 
     def judged(self, error: psycopg.Error) -> Exception:
         """As `as_raised`; what the server says of the transaction is looked at."""
@@ -98,7 +104,14 @@ class Record:
 
     def text(self, link: AsyncStepLink | StepLink, value: str) -> str:
         """What is written of a result, and the commit."""
+        self.prepared = is_prepared(link)
         return recorded(link, self.attempt.row, self.fence(), value)
+
+    def carrying(self, link: AsyncStepLink, batch: Batch) -> str:
+        """All that its report came to, and the commit."""
+        self.prepared = is_prepared(link)
+        fence = self.fence()._replace(log=batch.log, epoch=batch.epoch)
+        return step_commit.carrying(link, batch, fence)
 
 
 class Transactions:
@@ -248,7 +261,7 @@ class Transactions:
 
     def _leave(self, link: AsyncStepLink, is_kept: bool) -> None:
         """As `_left`, by who does not wait for it."""
-        if is_kept and not link.is_set:
+        if is_kept and is_as_made(link):
             link.begun = None
             self._pool.give(link)
         else:
