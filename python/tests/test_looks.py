@@ -2,11 +2,14 @@
 
 from __future__ import annotations
 
+import time
 from typing import Any
 
+import records
 import sagas
-from cases import Task, run, until
+from cases import QUICK, Task, run, until
 from sagas.looks import Looks
+from sagas.server import shown
 
 
 def asking() -> sagas.Saga:
@@ -58,3 +61,63 @@ def test_looks_and_who_did_what(place: str) -> None:
 
     run(main())
 
+
+
+class Clock:
+    """It can be put forward and back."""
+
+    by = 0.0
+
+    def __call__(self) -> float:
+        return time.time() + self.by
+
+
+def test_a_log_is_told_in_its_own_order(place: str) -> None:
+    """Its times step back, as where a clock is put back: its events stay as the log has them, each
+    with what came of it, and what somebody did stands before what followed."""
+    kind, clock = sagas.Saga("order"), Clock()
+
+    @kind.step(tries=3, backoff=QUICK)
+    async def a(task: Task) -> int:
+        clock.by -= 1
+        if task.attempt < 3:
+            raise ValueError(f"try {task.attempt}")
+        return task.attempt
+
+    @kind.approval(needs=[a])
+    async def agreed(task: Task) -> None: ...
+
+    @kind.step(needs=[agreed])
+    async def b(task: Task) -> None:
+        clock.by -= 60
+
+    async def main() -> None:
+        async with sagas.open(place, [kind], clock=clock) as store:
+            run = await store.start(kind, "k")
+            looks = Looks(store.reader())
+            try:
+                await until(lambda: looks.asked()["approval"])
+                clock.by += 30
+                await store.finish("k", "agreed", "yes", by="ann")
+                assert (await run.wait()).ok
+                view = looks.saga("k")
+            finally:
+                looks.close()
+            assert view
+            names = [step.name for step in kind.steps]
+            (kept,) = records.read(place).logs.values()
+            steps = [names[one["step"]] if "step" in one else None for one in kept.events]
+            wanted = [*zip([one["event"] for one in kept.events], steps)]
+            times = [event.at for event in view.events]
+            assert times != sorted(times) and times[-1] < times[0]
+            assert [(one.event, one.step) for one in store.log("k")] == wanted
+            told = [(one["event"], one["step"]) for one in shown.log(view)]
+            note = told.index(("note", "agreed"))
+            assert told[note - 1] == ("start_run", "agreed")
+            assert told[note + 1] == ("commit", "agreed")
+            assert told[:note] + told[note + 1 :] == wanted
+            for events in (store.log("k"), view.events):
+                errors = [event.value["error"] for event in events if event.event == "missed"]
+                assert errors == ["ValueError: try 1", "ValueError: try 2"]
+
+    run(main())

@@ -301,7 +301,7 @@ class Client:
         return kind
 
     async def _results(self, row: SagaRow) -> builtins.list[Row]:
-        return await self._ask("SELECT step, kind, attempt, outcome, value, at FROM results WHERE id = %(id)s ORDER BY at", id=row.id)
+        return await self._ask(questions.RESULTS.replace("?", "%(id)s"), id=row.id)
 
     async def _lines(self, row: SagaRow) -> builtins.list[histories.Line]:
         return histories.lines_of(await self._ask(histories.CHUNKS.replace("?", "%(log)s"), log=row.id // ROOM), row.id % ROOM)

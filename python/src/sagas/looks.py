@@ -15,7 +15,7 @@ from typing import Any
 from .database import Reader
 from .histories import AFTER, CHUNKS, FAILED, MISSES, STANDS, follow, lines_of
 from .plans import Plan
-from .questions import ENDED_BY_PLAN, PHASE, SAGA
+from .questions import ENDED_BY_PLAN, PHASE, RESULTS, SAGA
 from .questions import PHASES as WHERE
 from .records import SagaRow
 from .runs import LogEvent, Summary
@@ -244,8 +244,8 @@ class Looks:
         return lines_of(self._rows(CHUNKS, log), number)
 
     def attempts(self, row: SagaRow, names: Sequence[str]) -> list[Attempted]:
-        """How each attempt of a saga ended, in the order of time."""
-        rows = self._rows("SELECT step, kind, attempt, outcome, value, at FROM results WHERE id = ? ORDER BY at", row.id)
+        """How each attempt of a saga ended: of each step its tries, then its compensation's."""
+        rows = self._rows(RESULTS, row.id)
         return [Attempted(names[step], kind == "undo", attempt, outcome, json.loads(value or "null"), at) for step, kind, attempt, outcome, value, at in rows]
 
     def notes(self, key: str) -> list[Note]:

@@ -44,6 +44,12 @@ PHASE = "CASE WHEN phase IS NULL THEN 'open' WHEN phase = 'stuck' AND note IS NO
 ENDED_BY_PLAN = f"CASE WHEN {UNDO_FAILED} THEN 2 WHEN {PLANNED} THEN 1 ELSE 0 END"
 """1 of a saga that ended by a plan, 2 where a compensation failed for good, too."""
 DEFINITION = f"SELECT texts, def FROM sagas JOIN logs ON log = id / {ROOM} JOIN shelves USING (shelf) WHERE id = ?"
+RESULTS = """
+SELECT step, kind, attempt, outcome, value, at FROM results WHERE id = ?
+ORDER BY step, kind, attempt
+"""
+"""What a saga's attempts came to: of each step its tries, then those of its compensation. Not by
+their times, since a clock may step back."""
 REQUESTS = "SELECT id, key, what, value FROM requests WHERE answer IS NULL ORDER BY id"
 
 
@@ -117,4 +123,4 @@ class Questions:
 
     def results(self, id: int) -> list[tuple[int, str, int, str, str | None, float]]:
         """What a saga's attempts came to: step, kind, attempt, outcome, value, at."""
-        return self.rows("SELECT step, kind, attempt, outcome, value, at FROM results WHERE id = ? ORDER BY at", id)  # type: ignore[return-value]
+        return self.rows(RESULTS, id)  # type: ignore[return-value]

@@ -3,9 +3,10 @@
 from __future__ import annotations
 
 import json
+from collections import deque
 from typing import Any
 
-from ..looks import SagaView, Waits
+from ..looks import Note, SagaView, Waits
 from ..plans import Plan
 from ..runs import Summary
 from .begun import state_of
@@ -53,10 +54,20 @@ def saga(view: SagaView) -> dict[str, Any]:
 
 
 def log(view: SagaView) -> list[dict[str, Any]]:
-    """A saga's events, and what people did to it."""
-    events: list[dict[str, Any]] = [{"event": event.event, "at": event.at, "step": event.step, "value": event.value} for event in view.events]
-    notes = [{"event": "note", "at": note.at, "step": note.told.get("step"), "value": {"what": note.what, **note.told, "answer": note.answer}} for note in view.notes]
-    return sorted(events + notes, key=lambda one: float(one["at"]))
+    """A saga's events in the order of its log, and what people did before the first later one."""
+    found: list[dict[str, Any]] = []
+    notes = deque(view.notes)
+    for one in view.events:
+        while notes and notes[0].at < one.at:
+            found.append(noted(notes.popleft()))
+        found.append({"event": one.event, "at": one.at, "step": one.step, "value": one.value})
+    return found + [noted(note) for note in notes]
+
+
+def noted(note: Note) -> dict[str, Any]:
+    """What somebody did, as an event."""
+    value = {"what": note.what, **note.told, "answer": note.answer}
+    return {"event": "note", "at": note.at, "step": note.told.get("step"), "value": value}
 
 
 def certificate(one: Plan) -> dict[str, Any]:
