@@ -23,6 +23,7 @@ import sagas
 from cases import Task, ended, run, until
 from driving import audit, program
 from sagas import command, retention, sources
+from sagas.looks import Looks
 
 HERE = pathlib.Path(__file__).resolve().parent
 ROOM = 4
@@ -300,5 +301,81 @@ def test_a_start_feels_no_lock_of_it(url: str) -> None:
                         await asyncio.gather(*(ended(store, kind, f"new-{number}") for number in range(10)))
                     assert retention.prune(url, MONTH).other
             assert log not in records.read(url).logs
+
+    run(main())
+
+
+def waits_for_a_lock(url: str) -> bool:
+    """Whether somebody does, in this database."""
+    text = (
+        "SELECT 1 FROM pg_locks JOIN pg_database d ON d.oid = database "
+        "WHERE NOT granted AND datname = current_database()"
+    )
+    with psycopg.connect(url) as link:
+        return bool(link.execute(text).fetchall())
+
+
+ASKS: dict[str, Callable[[Any], Any]] = {
+    "wait": lambda asked: asked.wait("k0"),
+    "log": lambda asked: asked.log("k0"),
+    "plan": lambda asked: asked.plan("k0"),
+}
+"""What is asked of a saga."""
+
+
+@pytest.mark.parametrize(
+    "table, ask", [("results", "wait"), ("results", "log"), ("lines", "log"), ("lines", "plan")]
+)
+def test_a_saga_that_goes_while_a_client_reads_it(url: str, table: str, ask: str) -> None:
+    """Its row was read, and its log is deleted before the rest is: it is said to be gone, and is
+    not told with results of None, without events or as one without a plan."""
+    kind = shop()
+
+    async def main() -> None:
+        (log,) = await fill(url, kind, ROOM, lambda number: "fails" if ask == "plan" else None)
+        age(url, log)
+        async with sagas.Client(url) as client:
+            with sources.writing(url) as link:
+                with link.transaction():
+                    link.changed(f"LOCK TABLE {table} IN ACCESS EXCLUSIVE MODE")
+                    asked = asyncio.ensure_future(ASKS[ask](client))
+                    await until(lambda: waits_for_a_lock(url))
+                    assert retention._delete(link, log)
+                with pytest.raises(sagas.NoSuchSaga, match="'k0' was let go meanwhile"):
+                    await asked
+
+    run(main())
+
+
+AS_BEFORE = """
+INSERT INTO sagas SELECT {id}, 'k0', saga, def, input, at, phase, "end", ended, note
+FROM sagas WHERE key = 'k1'
+"""
+
+
+def test_a_saga_that_goes_while_it_is_looked_at(url: str) -> None:
+    """As above, of all that is kept of it; another saga that has the key by then is seen."""
+    kind = shop()
+
+    async def main() -> None:
+        (log,) = await fill(url, kind, ROOM)
+        age(url, log)
+        async with sagas.open(url, [kind]) as store:
+            for other in (False, True):
+                looks = Looks(store.reader())
+                with contextlib.closing(looks), sources.writing(url) as link:
+                    with link.transaction():
+                        link.changed("LOCK TABLE results IN ACCESS EXCLUSIVE MODE")
+                        asked = asyncio.ensure_future(asyncio.to_thread(looks.saga, "k0"))
+                        await until(lambda: waits_for_a_lock(url))
+                        link.changed("DELETE FROM sagas WHERE key = ?", "k0")
+                        if other:
+                            link.changed("UPDATE sagas SET key = 'k0' WHERE key = 'k1'")
+                    view = await asked
+                assert (view is None) is not other
+                if view:
+                    assert view.results == {"take": {"of": "k1"}, "pay": 1}
+                else:
+                    change(url, AS_BEFORE.format(id=1000 * log))
 
     run(main())

@@ -257,16 +257,17 @@ class Client:
         row = await self._row(key)
         if row.id < 0:
             return None
+        lines = await self._lines(row)
         kind = await self._kind(row)
-        return histories.follow(row.saga, row.key, kind.text, kind.count, await self._lines(row))[2]
+        return histories.follow(row.saga, row.key, kind.text, kind.count, lines)[2]
 
     async def log(self, key: str) -> builtins.list[LogEvent]:
         """As `Store.log`: the saga's events so far, with times; of one that no log has taken yet none. Raises `NoSuchSaga`."""
         row = await self._row(key)
         if row.id < 0:
             return []
-        kind, lines = await self._kind(row), await self._lines(row)
-        return histories.log_of(kind.names, lines, await self._results(row))
+        lines, results = await self._lines(row), await self._results(row)
+        return histories.log_of((await self._kind(row)).names, lines, results)
 
     async def waits_for(self, key: str) -> builtins.list[str]:
         """What a saga waits for, in words, as far as the database knows: who runs is not in it. Raises `NoSuchSaga`."""
@@ -291,10 +292,12 @@ class Client:
         return row
 
     async def _kind(self, row: SagaRow) -> Kind:
+        """Its definition. It is asked for last: if the saga is there then, what was read before is
+        whole, since a log goes at once. Raises `NoSuchSaga` where it was let go meanwhile."""
         asked = f"SELECT texts, def FROM sagas JOIN logs ON log = id / {ROOM} JOIN shelves USING (shelf) WHERE id = %(id)s"
         found = await self._ask(asked, id=row.id)
-        if not found:  # it was pruned meanwhile
-            raise NoSuchSaga(f"no saga has the key {row.key!r} any more")
+        if not found:
+            raise NoSuchSaga(f"saga {row.key!r} was let go meanwhile")
         ((texts, place),) = found
         text = json.loads(texts)[place]
         kind = self._kinds[text] = self._kinds.get(text) or Kind(text, self._sagas.get((row.saga, version_of(text))))
@@ -307,7 +310,8 @@ class Client:
         return histories.lines_of(await self._ask(histories.CHUNKS.replace("?", "%(log)s"), log=row.id // ROOM), row.id % ROOM)
 
     async def _end(self, row: SagaRow) -> End:
-        return histories.end_of(await self._kind(row), row, await self._results(row))
+        results = await self._results(row)
+        return histories.end_of(await self._kind(row), row, results)
 
 
 async def _start(link: Connection, words: dict[str, Any], unfit: TooLarge | None) -> bool:

@@ -5,6 +5,7 @@ SQLite and PostgreSQL alike."""
 
 from __future__ import annotations
 
+import contextlib
 import dataclasses
 import json
 import re
@@ -13,9 +14,10 @@ from collections.abc import Callable, Sequence
 from typing import Any
 
 from .database import Reader
+from .errors import NoSuchSaga
 from .histories import AFTER, CHUNKS, FAILED, MISSES, STANDS, follow, lines_of
 from .plans import Plan
-from .questions import ENDED_BY_PLAN, PHASE, RESULTS, SAGA
+from .questions import DEFINITION, ENDED_BY_PLAN, PHASE, RESULTS, SAGA
 from .questions import PHASES as WHERE
 from .records import SagaRow
 from .runs import LogEvent, Summary
@@ -200,7 +202,10 @@ class Looks:
         found = []
         for id, key, saga, step, kind, attempt, why, count, since, until, error in self._rows(query, *words, most):
             said, count = worker_of(error) if why == "elsewhere" else (error, count)
-            found.append(Waits(id, key, saga, self._names_of(id)[step], kind == "undo", attempt, why, count, since, until, said))
+            with contextlib.suppress(NoSuchSaga):  # it is over, and was let go meanwhile
+                name, undo = self._names_of(id)[step], kind == "undo"
+                told = why, count, since, until, said
+                found.append(Waits(id, key, saga, name, undo, attempt, *told))
         return found
 
     def stuck(self, most: int = 100) -> list[tuple[Summary, list[str]]]:
@@ -209,8 +214,10 @@ class Looks:
         rows = self._rows(f'SELECT {SHORT}, "end" FROM sagas WHERE {STUCK} ORDER BY id LIMIT ?', most)
         for id, key, name, phase, at, ended, note, end in rows:
             chain = (json.loads(end).get("answer") or {}).get("chain", ()) if end else ()
-            names = self._names_of(id)
-            found.append((Summary(id, key, name, "stuck", at, ended, note), [names[step] for step in chain]))
+            with contextlib.suppress(NoSuchSaga):  # it was resolved, and let go meanwhile
+                names = self._names_of(id)
+                summary = Summary(id, key, name, "stuck", at, ended, note)
+                found.append((summary, [names[step] for step in chain]))
         return found
 
     # -- one of them
@@ -221,12 +228,18 @@ class Looks:
         return SagaRow(*rows[0]) if rows and rows[0][1] == key else None
 
     def definition(self, id: int) -> str:
-        """The text of a saga's definition."""
-        texts, place = self._rows("SELECT texts, def FROM sagas JOIN logs ON log = id / ? JOIN shelves ON shelves.shelf = logs.shelf WHERE id = ?", ROOM, id)[0]
+        """The text of a saga's definition. Raises `NoSuchSaga` where it was let go meanwhile."""
+        rows = self._rows(DEFINITION, id)
+        if not rows:
+            raise NoSuchSaga(f"the saga {id} is not kept any more")
+        ((texts, place),) = rows
         return str(json.loads(texts)[place])
 
     def _token(self, id: int) -> str:
-        return f"{self._rows('SELECT name FROM logs WHERE log = ?', id // ROOM)[0][0]}-{id % ROOM}"
+        rows = self._rows("SELECT name FROM logs WHERE log = ?", id // ROOM)
+        if not rows:
+            raise NoSuchSaga(f"the saga {id} is not kept any more")
+        return f"{rows[0][0]}-{id % ROOM}"
 
     def _names_of(self, id: int) -> list[str]:
         return self._names_in(self.definition(id))
@@ -255,9 +268,16 @@ class Looks:
 
     def saga(self, key: str) -> SagaView | None:
         """All of a saga, if there is one with this key."""
-        row = self.find(key)
-        if row is None:
-            return None
+        while (row := self.find(key)) is not None:
+            with contextlib.suppress(NoSuchSaga):  # it was let go: another may have the key
+                view = self._view(row)
+                if self._rows("SELECT 1 FROM sagas WHERE id = ?", row.id):  # so all is of it
+                    return view
+        return None
+
+    def _view(self, row: SagaRow) -> SagaView:
+        """All of a saga that is there. Raises `NoSuchSaga` where it was let go meanwhile."""
+        key = row.key
         definition = self.definition(row.id)
         names = self._names_in(definition)
         lines, attempts = self.lines(row), self.attempts(row, names)
