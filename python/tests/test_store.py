@@ -27,7 +27,7 @@ import sagas
 import sagas.testing
 from cases import HOUR, QUICK, Task, ended, hears, run, simple, until
 from kills import children
-from sagas import callers, child, holding, lines, program, pump, sqlite_writer
+from sagas import callers, child, holding, lines, program, pump, sources, sqlite_writer
 
 
 def row(gate: asyncio.Event | None = None) -> sagas.Saga:
@@ -1343,3 +1343,49 @@ def test_a_step_calls_a_store_without_async(tmp_path: pathlib.Path) -> None:
         assert store.start(saga, "outer").wait(60).results == {"a": 1}
         assert "make the function a plain def" in (store.start(other, "k").wait(60).errors["a"] or "")
 
+
+
+def held(place: str) -> list[tuple[Any, ...]]:
+    """What a store keeps of attempts that are held."""
+    with contextlib.closing(sources.connect(place)) as link:
+        return link.ask("SELECT id, step, kind, attempt, why FROM held")
+
+
+@pytest.mark.parametrize("reopened", [False, True])
+def test_nothing_is_kept_of_a_wait_behind_its_sagas_end(place: str, reopened: bool) -> None:
+    """A wait's function raises as another step fails for good: it is not tried again, and its time,
+    which was kept for that try, goes with the saga's end."""
+    saga, inside = sagas.Saga("two"), list[str]()
+    gate = asyncio.Event()
+
+    async def comes(task: Task) -> None:
+        inside.append(task.step)
+        await gate.wait()
+
+    @saga.wait(until=datetime.timedelta(seconds=0.01), tries=3, backoff=QUICK)
+    async def late(task: Task) -> None:
+        await comes(task)
+        raise ValueError("not yet")
+
+    @saga.step
+    async def bad(task: Task) -> None:
+        await until(lambda: "late" in inside)
+        await comes(task)
+        raise sagas.Fail("no")
+
+    async def main() -> None:
+        if reopened:
+            async with sagas.open(place, [saga], grace=0.0) as store:
+                await store.start(saga, "k")
+                await until(lambda: len(inside) == 2)
+            inside.clear()
+        async with sagas.open(place, [saga]) as store:
+            run = await store.start(saga, "k")
+            await until(lambda: len(inside) == 2)
+            assert held(place)
+            gate.set()
+            end = await run.wait()
+            assert end.states == {"late": "waiting", "bad": "failed"}
+
+    run(main())
+    assert held(place) == []

@@ -22,6 +22,8 @@ Act = tuple[Callable[[Any], object], Any]
 FULL = '{"refused":"full"}'
 LOG_FULL = '{"refused":"log-full"}'
 OVER = ("ended", "stuck")
+LAST = (1 << 31) - 1
+"""No attempt has a greater number."""
 WELL = {"run": "commit", "undo": "undone"}
 """The events that what is done comes to."""
 
@@ -127,6 +129,8 @@ class Answers:
         keeps = attempt.event == "missed" and attempt.is_wait and not attempt.live.draining
         if attempt.has_row and not keeps:
             batch.more.freed.append(attempt.row)
+            if attempt.is_wait:
+                attempt.live.rare.due.pop(attempt.word, None)
         elif attempt.has_row and attempt.why == "unknown":
             batch.more.held.append((*attempt.row, "wait", 0, attempt.since, 0.0, None))
         if attempt.request is not None:
@@ -234,5 +238,8 @@ class Answers:
     def _over(self, batch: Batch, live: Live, phase: str, end: str) -> None:
         live.over = True
         live.phase, live.end = phase, end
-        batch.ended.append((phase, end, batch.at, self.log * ROOM + live.number))
+        id = self.log * ROOM + live.number
+        batch.ended.append((phase, end, batch.at, id))
+        if live.has_due:  # a wait that missed kept its row for a try that never came
+            batch.more.freed += [(id, step, kind, LAST) for step, kind in live.rare.due]
         self._ended.append(live)

@@ -71,6 +71,11 @@ class Live:
         return self._rare
 
     @property
+    def has_due(self) -> bool:
+        """Whether the store has the time of a wait that is to be tried again."""
+        return self._rare is not None and bool(self._rare.due)
+
+    @property
     def id(self) -> int:
         assert self.pump
         return self.pump.log * ROOM + self.number
