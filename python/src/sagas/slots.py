@@ -88,6 +88,7 @@ class Slots:
             following = queue.popleft()
             if following.state == "held" and following.why == "limit":
                 inside.add(following)
+                following.state, following.why = "ready", ""
                 self.come(following)
                 return
 

@@ -1,0 +1,258 @@
+"""Each option of a step with each other one that it may be combined with.
+
+Whatever they come to together, each saga ends in time, and no limit is exceeded."""
+
+from __future__ import annotations
+
+import asyncio
+import dataclasses
+import datetime
+import itertools
+import random
+import time
+from collections import Counter
+from collections.abc import Iterator
+from typing import Any
+
+import pytest
+
+import sagas
+from cases import QUICK, Task, run
+
+SECONDS = 60
+"""In which all sagas of a store are over; they take about two."""
+TOO_LONG = 0.05
+WORDS: dict[str, dict[str, Any]] = {
+    "tries": {"tries": 3},
+    "backoff": {"backoff": sagas.Backoff(first=0.03, most=0.05)},
+    "timeout": {"timeout": TOO_LONG},
+    "unknown": {"unknown": (LookupError,)},
+    "unknown_most": {"unknown_most": 0},
+    "unknown_time": {"unknown_most": datetime.timedelta(seconds=0.05)},
+    "limit": {"limit": 1},
+    "fleet_limit": {"fleet_limit": 2},
+    "rate": {"rate": (2, 0.05)},
+    "transaction": {"transaction": True},
+}
+KINDS = ("wait", "approval", "elsewhere")
+UNDO = ("tries", "timeout", "unknown", "most", "plain", "elsewhere", "inside")
+OPTIONS = (*WORDS, "plain", *KINDS, *(f"undo_{word}" for word in UNDO))
+STEP = ("unknown", "unknown_most", "unknown_time", "fleet_limit", "rate", "transaction")
+"""What only a step takes that has a function here."""
+REFUSED: dict[str, tuple[str, ...]] = {
+    "wait": (*STEP, "approval", "elsewhere"),
+    "approval": (*STEP, "limit", "elsewhere"),
+    "elsewhere": (*STEP, "timeout", "plain"),
+    "unknown_most": ("unknown_time",),
+    "undo_elsewhere": ("undo_timeout", "undo_unknown", "undo_most", "undo_plain", "undo_inside"),
+}
+LOST = dict.fromkeys(("unknown", "unknown_most", "unknown_time"), "lost")
+UNDO_LOST = dict.fromkeys(("undo_unknown", "undo_most"), "lost")
+HAZARDS = {"tries": "misses", "timeout": "late", **LOST}
+UNDO_HAZARDS = {"undo_tries": "misses", "undo_timeout": "late", **UNDO_LOST}
+KEYS = ("well", "well-too", "well-as-well", "fails", "aborted")
+
+
+def fits(options: frozenset[str]) -> bool:
+    """Whether a step may have all of these."""
+    return not any(one in options and options & set(others) for one, others in REFUSED.items())
+
+
+def drawn(inside: bool) -> list[frozenset[str]]:
+    """Each alone, each with each, and some larger sets."""
+    known = [one for one in OPTIONS if inside or one not in ("transaction", "undo_inside")]
+    pairs = [frozenset(pair) for pair in itertools.combinations(known, 2)]
+    draw = random.Random(58)
+    larger = [frozenset(draw.sample(known, draw.randint(3, 6))) for _ in range(120)]
+    return [one for one in ([frozenset([one]) for one in known] + pairs + larger) if fits(one)]
+
+
+@dataclasses.dataclass
+class Case:
+    """A saga whose first step has these options, and meets each hazard of theirs once."""
+
+    name: str
+    options: frozenset[str]
+    now: int = 0
+    most: int = 0
+    calls: Counter[tuple[str, bool]] = dataclasses.field(default_factory=Counter)
+
+    def hazard(self, task: Task) -> str | None:
+        """What becomes of this call."""
+        number = self.calls[task.key, task.undo]
+        self.calls[task.key, task.undo] += 1
+        table = UNDO_HAZARDS if task.undo else HAZARDS
+        meets = [hazard for option, hazard in table.items() if option in self.options]
+        hazards = list(dict.fromkeys(meets))
+        return hazards[number] if number < len(hazards) else None
+
+    def strike(self, hazard: str | None) -> None:
+        if hazard == "misses":
+            raise ValueError("misses")
+        if hazard == "lost":
+            kind = LookupError if "unknown" in self.options else sagas.Unknown
+            raise kind("nobody knows")
+
+    def enter(self, task: Task) -> int:
+        """How many of the step run with this one; a compensation has no limit."""
+        here = 0 if task.undo else 1
+        self.now += here
+        self.most = max(self.most, self.now)
+        return here
+
+    async def act(self, task: Task) -> str:
+        """As an async function."""
+        hazard = self.hazard(task)
+        here = self.enter(task)
+        try:
+            await asyncio.sleep(20 * TOO_LONG if hazard == "late" else 0.001)
+            self.strike(hazard)
+        finally:
+            self.now -= here
+        return task.step
+
+    def act_in_thread(self, task: Task) -> str:
+        """As a plain one."""
+        hazard = self.hazard(task)
+        here = self.enter(task)
+        try:
+            time.sleep(1.5 * TOO_LONG if hazard == "late" else 0.001)
+            self.strike(hazard)
+        finally:
+            self.now -= here
+        return task.step
+
+    def saga(self) -> sagas.Saga:
+        """Its definition: `a` has the options, and `z` fails where the input says so."""
+        saga = sagas.Saga(self.name)
+        words: dict[str, Any] = {"backoff": QUICK, "name": "a"}
+        for option in self.options & WORDS.keys():
+            words |= WORDS[option]
+        function = self.act_in_thread if "plain" in self.options else self.act
+        wrapped = as_plain(function) if "plain" in self.options else as_async(function)
+        if "elsewhere" in self.options:
+            first = saga.step(handler=None, **words)
+        elif "wait" in self.options:
+            first = saga.wait(until=datetime.timedelta(seconds=0.02), **words)(wrapped)
+        elif "approval" in self.options:
+            first = saga.approval(**words)(wrapped)
+        else:
+            first = saga.step(**words)(wrapped)
+        self._compensate(first)
+
+        @saga.step(needs=[first])
+        async def z(task: Task) -> None:
+            if task.input == "fails":
+                raise sagas.Fail("no")
+
+        return saga
+
+    def _compensate(self, first: sagas.Step[Any]) -> None:
+        words: dict[str, Any] = {"backoff": QUICK, "transaction": "undo_inside" in self.options}
+        words |= {"tries": 3} if "undo_tries" in self.options else {}
+        words |= {"timeout": TOO_LONG} if "undo_timeout" in self.options else {}
+        words |= {"unknown_most": 0} if "undo_most" in self.options else {}
+        if "undo_elsewhere" in self.options:
+            first.compensation(handler=None, backoff=QUICK, tries=words.get("tries", 1))
+        elif "undo_plain" in self.options:
+            first.compensation(**words)(as_plain(self.act_in_thread))
+        else:
+            first.compensation(**words)(as_async(self.act))
+
+
+def as_async(function: Any) -> Any:
+    """A function of its own, which asks for its connection where it has one."""
+
+    async def act(task: Task) -> str:
+        if has_connection(task):
+            await task.connection.execute("SELECT 1")
+        return str(await function(task))
+
+    return act
+
+
+def as_plain(function: Any) -> Any:
+    """The same of a plain one."""
+
+    def act(task: Task) -> str:
+        if has_connection(task):
+            task.connection.execute("SELECT 1")
+        return str(function(task))
+
+    return act
+
+
+def has_connection(task: Task) -> bool:
+    """Whether it is called in a transaction. Half of them do nothing in it."""
+    try:
+        return not task.key.endswith("too") and task.connection is not None
+    except RuntimeError:
+        return False
+
+
+async def answer(store: sagas.Store, keys: list[str]) -> None:
+    """Somebody who says of whatever waits for a person or a worker that it is done."""
+    while True:
+        for key in keys:
+            for one in store.begun(key):
+                asks = one.waits == "unknown" and one.until is None
+                if asks or one.waits in ("approval", "worker"):
+                    try:
+                        await store.finish(key, one.step, "a", undo=one.undo)
+                    except (sagas.NotWaiting, sagas.NoSuchSaga):
+                        pass  # it is over meanwhile
+        await asyncio.sleep(0.01)
+
+
+def lots(cases: list[Case], most: int = 60) -> Iterator[list[Case]]:
+    """As many as a store takes."""
+    for at in range(0, len(cases), most):
+        yield cases[at : at + most]
+
+
+@pytest.mark.parametrize("concurrency", [6, 32])
+def test_options_in_pairs(place: str, concurrency: int, tmp_path: Any) -> None:
+    """Five sagas of each at once: three go well, one fails behind the step, one is aborted."""
+    inside = place.startswith("postgresql")
+    cases = [Case(f"s{number}", options) for number, options in enumerate(drawn(inside))]
+
+    async def one(store: sagas.Store, case: Case, saga: sagas.Saga, key: str) -> None:
+        run = await store.start(saga, key, "fails" if key.endswith("fails") else None)
+        if key.endswith("aborted"):
+            await run.abort()
+        end = await run.wait()
+        states = end.states
+        assert end.phase == "ended", (case.options, str(end))
+        if "well" in key:
+            assert end.ok, (case.options, str(end))
+        elif key.endswith("fails"):
+            assert states == {"a": "undone", "z": "failed"}, (case.options, str(end))
+
+    async def lot(number: int, some: list[Case]) -> None:
+        where = place if inside else str(tmp_path / f"store-{number}.db")
+        kinds = {case.name: case.saga() for case in some}
+        async with sagas.open(where, kinds.values(), concurrency=concurrency, grace=1) as store:
+            keys = {f"{case.name}-{key}": case for case in some for key in KEYS}
+            answering = asyncio.create_task(answer(store, list(keys)))
+            jobs = {
+                key: asyncio.create_task(one(store, case, kinds[case.name], key))
+                for key, case in keys.items()
+            }
+            _, late = await asyncio.wait(jobs.values(), timeout=SECONDS)
+            open = [key for key, job in jobs.items() if job in late]
+            still = [(sorted(keys[key].options), await store.waits_for(key)) for key in open]
+            for job in (answering, *late):
+                job.cancel()
+            await asyncio.wait([answering, *late])
+            assert not still
+            await asyncio.gather(*jobs.values())
+
+    async def main() -> None:
+        for number, some in enumerate(lots(cases)):
+            await lot(number, some)
+
+    run(main())
+    for case in cases:
+        limits = {"limit": 1, "fleet_limit": 2}
+        most = min((limits[one] for one in case.options & limits.keys()), default=case.most)
+        assert case.most <= most, case.options
