@@ -4,13 +4,15 @@ from __future__ import annotations
 
 import asyncio
 import contextlib
+import os
 import pathlib
 import secrets
+import shlex
 import subprocess
 import tempfile
 from collections import Counter, defaultdict
-from collections.abc import Callable, Coroutine, Iterator, Sequence
-from typing import Any
+from collections.abc import AsyncIterator, Callable, Coroutine, Iterator, Sequence
+from typing import Any, LiteralString
 
 import psycopg
 import pytest
@@ -20,6 +22,7 @@ import sagas
 from cases import Task, ended, run, simple, until
 from judge import judge
 from moments import Node
+from sagas import program
 from server import Pair, Server, paired, serving
 from witness import Witness, witness_at
 
@@ -92,6 +95,69 @@ def test_an_asynchronous_standby_may_lack_the_last_commits(monkeypatch: pytest.M
 
     with paired(synchronous=False) as pair:
         run(main(pair.url(pair.primary.create().rpartition("/")[2])))
+
+
+def test_a_log_that_is_about_to_be_closed(
+    monkeypatch: pytest.MonkeyPatch, tmp_path: pathlib.Path
+) -> None:
+    """An asynchronous standby takes over while a settled log is audited. The saga in it, which is
+    open on that server, goes on; the log is closed once that saga is over there too."""
+    monkeypatch.setattr("sagas.kinds.ROOM", 1)
+    held = HeldAudits(tmp_path)
+    monkeypatch.setenv("SAGAS_PROGRAM", str(held.program))
+    calls: list[str] = []
+    may_end = asyncio.Event()
+    kind = sagas.Saga("one")
+
+    @kind.step
+    async def a(task: Task) -> None:
+        calls.append(task.key)
+        await may_end.wait()
+
+    async def main(url: str) -> None:
+        async with sagas.open(url, [kind], lease=60) as store:
+            await store.start(kind, "there")
+            await until(lambda: calls)
+            await asyncio.to_thread(pair.hold_back)
+            may_end.set()
+            assert (await store.wait("there")).ok
+            await until(held.asked.exists)
+            await asyncio.to_thread(pair.fail_over)
+            await asyncio.to_thread(held.let_go)
+            assert (await store.wait("there")).ok and calls == ["there"] * 2
+            while [row async for row in rows(url, "SELECT closed FROM sagas.logs")] != [(1,)]:
+                await asyncio.sleep(0.02)
+
+    with paired(synchronous=False) as pair:
+        run(main(pair.url(pair.primary.create().rpartition("/")[2])))
+
+
+class HeldAudits:
+    """The program, whose audits wait until they are let go."""
+
+    def __init__(self, folder: pathlib.Path) -> None:
+        self.program, self.asked = folder / "held", folder / "asked"
+        self._gate, self._free = folder / "gate", folder / "free"
+        os.mkfifo(self._gate)
+        free, asked, gate = (shlex.quote(str(path)) for path in (self._free, self.asked, self._gate))
+        self.program.write_text(
+            "#!/bin/sh\n"
+            f'if [ "$1" = audit ] && ! [ -e {free} ]; then : >{asked}; read -r _ <{gate}; fi\n'
+            f'exec {shlex.quote(program.path())} "$@"\n'
+        )
+        self.program.chmod(0o755)
+
+    def let_go(self) -> None:
+        """The one that waits goes on, and later ones do not wait."""
+        self._free.touch()
+        self._gate.write_text("on\n")
+
+
+async def rows(url: str, text: LiteralString) -> AsyncIterator[tuple[object, ...]]:
+    """What a statement gives."""
+    async with await psycopg.AsyncConnection.connect(url) as link:
+        for row in await (await link.execute(text)).fetchall():
+            yield row
 
 
 async def started_again(store: sagas.Store, kind: sagas.Saga, key: str) -> sagas.End:

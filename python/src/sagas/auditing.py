@@ -32,7 +32,8 @@ async def close(owner: Coordinator, pump: Pump) -> None:
     try:
         await _close(owner, pump)
     finally:
-        owner.ending.discard(pump.log)
+        if owner.ending.get(pump.log) is asyncio.current_task():
+            del owner.ending[pump.log]
 
 
 async def _close(owner: Coordinator, pump: Pump) -> None:

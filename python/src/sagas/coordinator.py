@@ -69,7 +69,8 @@ class Coordinator:
         self._rested: asyncio.Event = asyncio.Event()
         self._change: asyncio.Future[None] | None = None
         self.auditing = asyncio.Semaphore(1)
-        self.ending: set[int] = set()  # logs that are settled, and not yet marked closed
+        self.ending: dict[int, asyncio.Task[None]] = {}
+        """Logs that are settled and not yet marked closed, each with what closes it."""
         self.listeners: list[Callable[[], None]] = []
         self.unopened = False  # starts of clients that are this node's may not be under way
 
@@ -413,16 +414,24 @@ class Coordinator:
             return
         pump.stop()
         self.pumps.pop(pump.log, None)
-        self.ending.add(pump.log)
         if self.current is pump:
             self.current = None
-        self.spawn(auditing.close(self, pump))
+        self.ending[pump.log] = self.spawn(auditing.close(self, pump))
 
-    def spawn(self, work: Coroutine[None, None, None]) -> None:
+    def reopen(self) -> None:
+        """The store may lack the last commits of logs that are about to be closed. They are this
+        program's no more, so that they are taken over like all that nobody drives."""
+        ending, self.ending = self.ending, {}
+        for job in ending.values():
+            job.cancel()
+        self._queue = [batch for batch in self._queue if batch.log not in ending]
+
+    def spawn(self, work: Coroutine[None, None, None]) -> asyncio.Task[None]:
         """Does it in the background; what it raises is logged."""
         job = self.loop.create_task(work)
         self.jobs.add(job)
         job.add_done_callback(self._done)
+        return job
 
     def _done(self, job: asyncio.Task[None]) -> None:
         self.jobs.discard(job)

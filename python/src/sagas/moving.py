@@ -45,6 +45,7 @@ def lapsed(owner: Coordinator, is_older: bool) -> None:
     owner.teller.tell("lease_lapsed")
     if is_older:
         owner.current = None
+        owner.reopen()
         for pump in owner.pumps.values():
             pump.full = True
     for pump in list(owner.pumps.values()):
