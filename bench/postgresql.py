@@ -349,7 +349,8 @@ async def ended(url: str, logs: int) -> None:
             await (await store.start(saga, f"old-{number}")).wait()
 
         await rate(go, 1000, 256)
-        while not any(said for (said,) in store._coordinator.store.rows("SELECT closed FROM logs")):  # type: ignore[union-attr]
+        database = store._inside.store
+        while not any(said for (said,) in await database.read("SELECT closed FROM logs")):
             await asyncio.sleep(0.05)
     with psycopg.connect(url, autocommit=True) as link:
         ((log,),) = link.execute("SELECT log FROM sagas.logs WHERE closed = 1").fetchall()

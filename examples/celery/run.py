@@ -65,7 +65,7 @@ async def book(store: sagas.Store, key: str, wish: str = "") -> None:
 
     run = await store.start(shop.trip, key, shop.Order("Rome", wish))
     print(await run.wait())
-    print(run.plan() or "all went well")
+    print(await run.plan() or "all went well")
 
 
 async def main(store: str) -> None:

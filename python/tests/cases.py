@@ -3,6 +3,7 @@
 from __future__ import annotations
 
 import asyncio
+import inspect
 import os
 import select
 import signal
@@ -45,11 +46,20 @@ async def surely_ended(store: sagas.Store, saga: sagas.Saga, key: str = "k", giv
 
 
 async def until(found: Callable[[], Any], seconds: float = 120) -> Any:
-    """Waits for something that another part of the program does."""
+    """Waits for something that another part of the program does. `found` may be a coroutine's."""
     async with asyncio.timeout(seconds):
-        while not (value := found()):
+        while True:
+            value = found()
+            if inspect.isawaitable(value):
+                value = await value
+            if value:
+                return value
             await asyncio.sleep(0.005)
-    return value
+
+
+async def asked_of(store: sagas.Store) -> list[sagas.Held]:
+    """The attempts of which a person has to say what they did."""
+    return [held for held in await store.unknown() if held.asked]
 
 
 def in_child(work: Callable[[], object], seconds: float = 60) -> str:

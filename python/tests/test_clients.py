@@ -424,7 +424,7 @@ def test_a_start_in_the_callers_transaction(url: str, commits: bool) -> None:
                 assert rows == [] and inbox(url) == 0
                 with pytest.raises(sagas.NoSuchSaga):
                     await started.wait()
-                assert store.list() == []
+                assert await store.list() == []
 
     run(main())
 
@@ -530,7 +530,8 @@ def test_what_a_clients_run_tells(url: str) -> None:
                 await run.wait(timeout=0.01)
             async with sagas.open(url, [kind]) as store:
                 assert (await run.wait(timeout=60)).states == {"reserve": "undone", "charge": "failed"}
-                assert await run.log() == store.log("bad") and await run.plan() == store.plan("bad") is not None
+                assert await run.log() == await store.log("bad")
+                assert await run.plan() == await store.plan("bad") is not None
                 with pytest.raises(sagas.NoSuchSaga):
                     await client.log("none")
 

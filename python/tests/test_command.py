@@ -320,10 +320,11 @@ def test_a_compensation_that_failed_is_seen(place: str, capsys: pytest.CaptureFi
         async with sagas.open(place, [row]) as store:
             end = await (await store.start(row, "bad", "gone")).wait()
             assert end.states["take"] == "fixed" and "\n  undo failed take: sagas.Fail: it is gone\n  failed      send:" in str(end)
-            assert re.search(r"take  undo failed +5  never  stands", str(store.plan("bad")))
+            assert re.search(r"take  undo failed +5  never  stands", str(await store.plan("bad")))
             await (await store.start(row, "undone")).wait()
-            assert [(one.key, one.planned, one.undo_failed) for one in store.list()] == [("bad", True, True), ("undone", True, False)]
-            assert [one.key for one in store.list(phase="undo-failed")] == ["bad"]
+            listed = [(one.key, one.planned, one.undo_failed) for one in await store.list()]
+            assert listed == [("bad", True, True), ("undone", True, False)]
+            assert [one.key for one in await store.list(phase="undo-failed")] == ["bad"]
 
     run(main())
     shell = Shell(place, capsys)

@@ -401,7 +401,7 @@ def test_nothing_to_undo(place: str) -> None:
     async def main() -> tuple[sagas.End, sagas.End, str, list[str | None]]:
         async with sagas.open(place, [kept, gone[0]]) as store:
             ends = await ended(store, kept, "kept"), await ended(store, gone[0], "gone")
-            plans = store.plan("kept"), store.plan("gone")
+            plans = await store.plan("kept"), await store.plan("gone")
             assert plans[0] and plans[1]
             return *ends, str(plans[0]), [choice.needed_by for choice in plans[1].choices]
 

@@ -488,10 +488,13 @@ def test_a_store_in_a_forked_child(place: str) -> None:
 
     async def main() -> None:
         async with sagas.open(place, [saga]) as store:
-            calls: list[Any] = [lambda: store.start(saga, "c"), lambda: store.wait("k"), lambda: store.abort("k"), store.__aenter__]
+            calls: list[Any] = [
+                lambda: store.start(saga, "c"), lambda: store.wait("k"), lambda: store.abort("k"),
+                store.__aenter__, store.list, lambda: store.get("k"), lambda: store.log("k"),
+            ]  # fmt: skip
             for call in calls:
                 assert text in in_child(lambda: asyncio.run(call()))
-            assert text in in_child(store.list)
+            assert text in in_child(lambda: store.begun("k"))
             assert in_child(lambda: asyncio.run(store.close())) == "None"
             assert (await ended(store, saga, "async")).ok
 
@@ -980,7 +983,8 @@ def test_the_wal_is_as_long_as_it_becomes(tmp_path: pathlib.Path, size: int | No
                 (tmp_path / "copy").mkdir()
                 subprocess.run(["cp", tmp_path / "store.db", wal, tmp_path / "copy"], check=True)  # as a machine that fails leaves them
         async with sagas.open(tmp_path / "copy" / "store.db", [saga]) as store:
-            assert len(store.list(phase="ended")) == 21 and not (await store.start(saga, "k7")).new
+            assert len(await store.list(phase="ended")) == 21
+            assert not (await store.start(saga, "k7")).new
 
     run(main())
 
@@ -1171,11 +1175,12 @@ def test_a_compensation_fails_for_good(place: str, must: bool) -> None:
             assert end.states == {"a": "fixed", "b": "failed"} and end.results == {"a": 1}
             if must:
                 assert end.phase == "stuck" and end.chain == ["a"] and end.cost is None
-                assert [one.key for one in store.stuck()] == ["k"]
+                assert [one.key for one in await store.stuck()] == ["k"]
                 await store.resolve("k", "undone by hand")
-                assert store.stuck() == [] and (await store.wait("k")).note == "undone by hand"
+                assert await store.stuck() == []
+                assert (await store.wait("k")).note == "undone by hand"
             else:
-                assert end.phase == "ended" and end.cost == 5 and store.stuck() == []
+                assert end.phase == "ended" and end.cost == 5 and await store.stuck() == []
 
     run(main())
 

@@ -110,13 +110,13 @@ def test_a_log_is_told_in_its_own_order(place: str) -> None:
             wanted = [*zip([one["event"] for one in kept.events], steps)]
             times = [event.at for event in view.events]
             assert times != sorted(times) and times[-1] < times[0]
-            assert [(one.event, one.step) for one in store.log("k")] == wanted
+            assert [(one.event, one.step) for one in await store.log("k")] == wanted
             told = [(one["event"], one["step"]) for one in shown.log(view)]
             note = told.index(("note", "agreed"))
             assert told[note - 1] == ("start_run", "agreed")
             assert told[note + 1] == ("commit", "agreed")
             assert told[:note] + told[note + 1 :] == wanted
-            for events in (store.log("k"), view.events):
+            for events in (await store.log("k"), view.events):
                 errors = [event.value["error"] for event in events if event.event == "missed"]
                 assert errors == ["ValueError: try 1", "ValueError: try 2"]
 

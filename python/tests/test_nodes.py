@@ -12,7 +12,7 @@ import sys
 import textwrap
 import time
 from collections import Counter
-from collections.abc import Iterator
+from collections.abc import Awaitable, Callable, Iterator
 from typing import Any
 
 import psycopg
@@ -728,6 +728,123 @@ def test_a_stranger_locks_a_table(url: str) -> None:
             assert (await work).ok
 
     run(main())
+
+
+def starved() -> float:
+    """For how many seconds this process's threads were ready and had no processor."""
+    total = 0
+    for thread in pathlib.Path("/proc/self/task").iterdir():
+        with contextlib.suppress(OSError):
+            total += int((thread / "schedstat").read_text().split()[1])
+    return total / 1e9
+
+
+class Turns:
+    """How long the event loop's longest turn was, without what others took of the processors."""
+
+    def __init__(self) -> None:
+        self.longest = 0.0
+
+    async def __aenter__(self) -> Turns:
+        self._job = asyncio.create_task(self._look())
+        return self
+
+    async def _look(self) -> None:
+        last = time.monotonic() - starved()
+        while True:
+            await asyncio.sleep(0.01)
+            now = time.monotonic() - starved()
+            self.longest, last = max(self.longest, now - last), now
+
+    async def __aexit__(self, *_: object) -> None:
+        self._job.cancel()
+
+
+def waits_in(url: str) -> bool:
+    """Whether somebody waits for a lock in this database."""
+    text = (
+        "SELECT 1 FROM pg_stat_activity "
+        "WHERE datname = current_database() AND wait_event_type = 'Lock'"
+    )
+    with psycopg.connect(url) as link:
+        return bool(link.execute(text).fetchall())
+
+
+READS: dict[str, Callable[[sagas.Store], Awaitable[Any]]] = {
+    "get": lambda store: store.get("k"), "list": lambda store: store.list(),
+    "log": lambda store: store.log("k"), "plan": lambda store: store.plan("k"),
+    "draw": lambda store: store.draw("k"), "stuck": lambda store: store.stuck(),
+    "unknown": lambda store: store.unknown(), "wait": lambda store: store.wait("other's"),
+    "audit": lambda store: store.audit(), "log of a run": lambda store: sagas.Run(store, "k").log(),
+    "plan of a run": lambda store: sagas.Run(store, "k").plan(),
+}  # fmt: skip
+"""All that reads."""
+FREE = {"results": ["audit"], "held": ["audit", "draw"]}
+"""What does not wait for a locked table, and starts a program, which takes the loop a while."""
+
+
+@pytest.mark.parametrize("table", ["sagas", "lines", "results", "held", "shelves"])
+def test_who_reads_holds_up_nobody(url: str, table: str) -> None:
+    """A stranger has a table for longer than a lease: the loop goes on while the store is asked for
+    whatever is in it, the node keeps its lease, and each answer comes once the table is free."""
+    kind, told = pair(), list[str]()
+
+    async def main() -> None:
+        async with sagas.open(url, [kind], node="other") as other:
+            assert (await ended(other, kind, "other's")).ok
+        lease, told_of = 1.5, lambda event: told.append(event.name)
+        async with sagas.open(url, [kind], lease=lease, on_event=told_of) as store:
+            assert (await ended(store, kind, "k")).ok
+            await until(lambda: "log_closed" in told)
+            node = store._inside.store.lease  # type: ignore[attr-defined]
+            with psycopg.connect(url) as stranger:
+                stranger.execute(f"LOCK TABLE sagas.{table} IN ACCESS EXCLUSIVE MODE")
+                free = FREE.get(table, ())
+                reads = {name: ask for name, ask in READS.items() if name not in free}
+                async with Turns() as turns:
+                    answers = asyncio.gather(*(ask(store) for ask in reads.values()))
+                    await until(lambda: asyncio.to_thread(waits_in, url))
+                    since = node._until
+                    await until(lambda: node._until > since + lease + 0.5)
+                    assert store.holds() and not answers.done()
+                assert turns.longest < 0.2
+                stranger.rollback()
+                found = dict(zip(reads, await answers))
+        assert found["get"] and {one.key for one in found["list"]} == {"k", "other's"}
+        assert found["log"] == found["log of a run"] and found["wait"].ok
+        assert found["plan"] is found["plan of a run"] is None
+        assert found["stuck"] == found["unknown"] == []
+
+    run(main())
+    assert "lease_lapsed" not in told and "commit_failed" not in told
+
+
+def test_an_audit_in_the_background_holds_up_nobody(url: str) -> None:
+    """A settled log is to be audited, and a stranger has the table of its lines for longer than a
+    lease: the loop goes on, the lease is kept, and the log is closed once the table is free."""
+    kind, told = pair(), list[str]()
+
+    def tell(event: sagas.Event) -> None:
+        told.append(event.name)
+
+    async def main() -> None:
+        async with sagas.open(url, [kind]) as store:
+            assert (await ended(store, kind, "k")).ok
+        lease = 1.5
+        with psycopg.connect(url) as stranger:
+            stranger.execute("LOCK TABLE sagas.lines IN ACCESS EXCLUSIVE MODE")
+            async with Turns() as turns:
+                async with sagas.open(url, [kind], lease=lease, on_event=tell) as store:
+                    node = store._inside.store.lease  # type: ignore[attr-defined]
+                    await until(lambda: asyncio.to_thread(waits_in, url))
+                    since = node._until
+                    await until(lambda: node._until > since + lease + 0.5)
+                    assert not told and turns.longest < 0.2
+                    stranger.rollback()
+                    await until(lambda: "log_closed" in told)
+
+    run(main())
+    assert told == ["log_closed"]
 
 
 # -- clocks ----------------------------------------------------------------------------------------------------------

@@ -19,7 +19,7 @@ import pytest
 import records
 import sagas
 import sagas.testing
-from cases import HOUR, QUICK, Task, ended, run, simple, until
+from cases import HOUR, QUICK, Task, asked_of, ended, run, simple, until
 
 
 def test_returns(place: str) -> None:
@@ -201,7 +201,7 @@ def test_a_result_that_is_not_of_its_type(place: str) -> None:
             await store.finish("k", pay, "by hand")
             end = await going.wait()
             assert "unstorable" in end.results["book"] and end.results["pay"] == "by hand"
-            assert [one.results for one in store.stuck()] == [end.results]
+            assert [one.results for one in await store.stuck()] == [end.results]
         async with sagas.open(place, [saga, well]) as store:
             assert await store.wait("k") == end
 
@@ -404,19 +404,19 @@ def test_unknown_for_too_long_waits_for_a_person(place: str, most: Any, done: bo
     async def first() -> None:
         async with sagas.open(place, [saga]) as store:
             await store.start(saga, key="k")
-            await until(lambda: [held for held in store.unknown() if held.asked])
+            await until(lambda: asked_of(store))
 
     async def second() -> sagas.End:
         before = len(calls)
         async with sagas.open(place, [saga]) as store:
-            (held,) = store.unknown()
+            (held,) = await store.unknown()
             assert (held.key, held.step, held.asked) == ("k", "a", True) and "no answer" in (held.error or "")
             if done:
                 await store.finish("k", "a", "it was done")
             else:
                 await store.finish("k", "a", failed="it was not")
             end = await store.wait("k")
-            assert store.unknown() == [] and len(calls) == before
+            assert await store.unknown() == [] and len(calls) == before
             return end
 
     run(first())

@@ -326,7 +326,8 @@ ASKS: dict[str, Callable[[Any], Any]] = {
 @pytest.mark.parametrize(
     "table, ask", [("results", "wait"), ("results", "log"), ("lines", "log"), ("lines", "plan")]
 )
-def test_a_saga_that_goes_while_a_client_reads_it(url: str, table: str, ask: str) -> None:
+@pytest.mark.parametrize("who", ["client", "node"])
+def test_a_saga_that_goes_while_it_is_read(url: str, who: str, table: str, ask: str) -> None:
     """Its row was read, and its log is deleted before the rest is: it is said to be gone, and is
     not told with results of None, without events or as one without a plan."""
     kind = shop()
@@ -334,11 +335,11 @@ def test_a_saga_that_goes_while_a_client_reads_it(url: str, table: str, ask: str
     async def main() -> None:
         (log,) = await fill(url, kind, ROOM, lambda number: "fails" if ask == "plan" else None)
         age(url, log)
-        async with sagas.Client(url) as client:
+        async with sagas.Client(url) if who == "client" else sagas.open(url, [kind]) as reader:
             with sources.writing(url) as link:
                 with link.transaction():
                     link.changed(f"LOCK TABLE {table} IN ACCESS EXCLUSIVE MODE")
-                    asked = asyncio.ensure_future(ASKS[ask](client))
+                    asked = asyncio.ensure_future(ASKS[ask](reader))
                     await until(lambda: waits_for_a_lock(url))
                     assert retention._delete(link, log)
                 with pytest.raises(sagas.NoSuchSaga, match="'k0' was let go meanwhile"):

@@ -70,7 +70,7 @@ def test_what_fits_into_no_log(place: str, by: str, monkeypatch: pytest.MonkeyPa
             assert [isinstance(one, sagas.TooLarge) for one in told] == [True, False, True, False]
             with pytest.raises(sagas.TooLarge, match="450 steps and 7,929 needs"):
                 await store.start(large, "k0")
-            assert (await ended(store, small, "k0")).ok and store.get("k2") is None
+            assert (await ended(store, small, "k0")).ok and await store.get("k2") is None
             with pytest.raises(sagas.KeyConflict):
                 await store.start(large, "k0")
 

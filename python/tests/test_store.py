@@ -25,7 +25,7 @@ import pytest
 import records
 import sagas
 import sagas.testing
-from cases import HOUR, QUICK, Task, ended, hears, run, simple, until
+from cases import HOUR, QUICK, Task, asked_of, ended, hears, run, simple, until
 from kills import children
 from sagas import callers, child, holding, lines, program, pump, sources, sqlite_writer
 
@@ -146,7 +146,7 @@ def test_an_input_that_the_first_step_cannot_read(place: str, given: Any, text: 
         async with sagas.open(place, [strict]) as store:
             with pytest.raises(sagas.BadInput, match=f"saga 'order', step 'charge': {text}"):
                 await store.start(strict, "new", given)
-            assert store.get("new") is None and (await ended(store, strict, "old", given)).ok
+            assert await store.get("new") is None and (await ended(store, strict, "old", given)).ok
             for well in (Order(4), {"amount": 4, "more": 1}):
                 assert (await ended(store, strict, f"well-{type(well)}", well)).results == {"charge": 4}
 
@@ -210,7 +210,12 @@ def test_a_held_step_takes_no_slot_and_keeps_nothing_from_draining(place: str, e
     async def main() -> None:
         async with sagas.open(place, [saga], concurrency=1) as store:
             slow = await store.start(saga, key="slow", input=1)
-            await until(lambda: store.unknown() or any(event.event == "missed" for event in slow.log()))
+
+            async def is_held() -> bool:
+                missed = any(event.event == "missed" for event in await slow.log())
+                return missed or bool(await store.unknown())
+
+            await until(is_held)
             assert (await ended(store, saga, "quick")).ok
             assert await slow.abort()
             end = await slow.wait()
@@ -368,7 +373,7 @@ def test_a_wait_that_cannot_say_its_time(place: str) -> None:
             end = await store.wait("never")
             assert end.states == {"wait": "failed"} and "datetime.fromisoformat" in end.errors["wait"]
             assert (await store.wait("later")).ok
-            assert store._inside.store.rows("SELECT count(*) FROM held") == [(0,)]
+            assert held(place) == []
 
     run(first())
     run(second())
@@ -401,7 +406,7 @@ def test_a_wait_whose_time_is_over_waits_no_more(place: str) -> None:
     async def second() -> None:
         async with sagas.open(place, [saga]) as store:
             assert (await store.wait("k")).ok
-            assert store._inside.store.rows("SELECT count(*) FROM held") == [(0,)]
+            assert held(place) == []
 
     run(first())
     run(second())
@@ -425,7 +430,7 @@ def test_a_saga_that_is_over_waits_for_nothing(place: str, how: str) -> None:
     async def main() -> None:
         async with sagas.open(place, [saga]) as store:
             assert (await ended(store, saga)).states["wait"] == ("failed" if how == "for good" else "waiting")
-            assert store._inside.store.rows("SELECT count(*) FROM held") == [(0,)]
+            assert held(place) == []
 
     run(main())
 
@@ -533,7 +538,7 @@ def test_a_compensation_of_which_nobody_knows(place: str) -> None:
     async def main() -> sagas.End:
         async with sagas.open(place, [saga]) as store:
             going = await store.start(saga, key="k")
-            await until(lambda: any(held.asked and held.undo for held in store.unknown()))
+            await until(lambda: asked_of(store))
             with pytest.raises(TimeoutError, match="with undo=True"):
                 await going.wait(timeout=0.01)
             with pytest.raises(sagas.NotWaiting, match="undo=True"):
@@ -693,7 +698,7 @@ def test_a_function_that_is_gone(place: str) -> None:
             await store.start(old, key="k")
         if place.startswith("postgresql:"):  # another node may have it: this one leaves the saga alone
             async with sagas.open(place, [new]) as store:
-                assert store.list(phase="open")[0].key == "k"
+                assert (await store.list(phase="open"))[0].key == "k"
             return
         listed = r"; open sagas: 1, which `sagas store .* list --phase open` lists"
         with pytest.raises(sagas.MissingHandler, match=f"'a'.*{listed}"):
@@ -938,8 +943,9 @@ def test_the_child_says_otherwise_than_was_expected(tmp_path: pathlib.Path, monk
             for number, wrong in enumerate((False, True, True, False)):
                 monkeypatch.setattr(pump.Pump, "_expected", wrongly if wrong else expected)
                 assert (await ended(store, saga, f"k{number}")).results["c"] == {"a": "A", "b": "AB"}
-                assert [event.event for event in store.log(f"k{number}") if event.event == "undone"] == []
-            assert [one.key for one in store.list()] == ["k0", "k1", "k2", "k3"]
+                events = await store.log(f"k{number}")
+                assert [event.event for event in events if event.event == "undone"] == []
+            assert [one.key for one in await store.list()] == ["k0", "k1", "k2", "k3"]
             assert all(said.startswith("yes") for said in (await store.audit()).values())
 
     run(main())
@@ -997,7 +1003,7 @@ def test_an_interrupt_takes_early_rows_back(tmp_path: pathlib.Path, monkeypatch:
                 assert log.child
                 log._wait(log.child, log.batch(), [], [store._coordinator.new_live("never", "null", log.kinds[0], 0)])
             monkeypatch.setattr(sqlite_writer.Writer, "_put_usual", put)
-            assert not writer._db.in_transaction and store.get("never") is None
+            assert not writer._db.in_transaction and await store.get("never") is None
             del store._coordinator.lives["never"]
             assert (await ended(store, saga, "more")).ok
 
@@ -1122,8 +1128,10 @@ def test_texts_are_no_statements(place: str, caplog: pytest.LogCaptureFixture) -
                 assert (await ended(store, saga, text, {text: ODD})).results == {"a": {text: ODD}}
                 with pytest.raises(sagas.KeyConflict):
                     await store.start(saga, text, ODD)
-                assert store.list(saga=text) == [] and [event.value for event in store.log(text) if event.event == "commit"] == [{text: ODD}]
-            assert [one.key for one in store.list()] == TEXTS
+                events = await store.log(text)
+                assert await store.list(saga=text) == []
+                assert [one.value for one in events if one.event == "commit"] == [{text: ODD}]
+            assert [one.key for one in await store.list()] == TEXTS
             await store.start(hazy, "hazy", ODD)
             (held,) = await until(store.unknown)
             assert "DROP TABLE" in (held.error or "")
@@ -1131,7 +1139,7 @@ def test_texts_are_no_statements(place: str, caplog: pytest.LogCaptureFixture) -
             assert (await store.wait("hazy")).results == {"b": ODD}
             assert (await ended(store, must, "must", ODD)).errors == {"c": f"sagas.Fail: {ODD}"}
             await store.resolve("must", ODD)
-            assert [one.key for one in store.list(phase="resolved")] == ["must"]
+            assert [one.key for one in await store.list(phase="resolved")] == ["must"]
 
     run(main())
     assert set(records.read(place).sagas) == {*TEXTS, "hazy", "must"}
@@ -1154,31 +1162,35 @@ def test_questions(place: str) -> None:
                 await ended(store, good, f"g{number}", "fails" if number == 1 else None)
             end = await ended(store, bad, "b")
             assert end.phase == "stuck" and end.chain == ["must"]
-            assert store.get("none") is None and store.get("b") is not None
-            assert [one.key for one in store.list(phase="ended", saga=good)] == [f"g{number}" for number in range(5)]
-            assert [(one.key, one.phase, one.planned) for one in store.list(phase="planned")] == [("g1", "ended", True)]
-            assert [one.planned for one in store.list()] == [False, True, False, False, False, False]
-            page = store.list(most=2)
-            assert [one.key for one in store.list(most=2, after=page[-1].id)] == ["g2", "g3"]
+            assert await store.get("none") is None and await store.get("b") is not None
+            listed = await store.list(phase="ended", saga=good)
+            assert [one.key for one in listed] == [f"g{number}" for number in range(5)]
+            (planned,) = await store.list(phase="planned")
+            assert (planned.key, planned.phase, planned.planned) == ("g1", "ended", True)
+            all_planned = [one.planned for one in await store.list()]
+            assert all_planned == [False, True, False, False, False, False]
+            page = await store.list(most=2)
+            assert [one.key for one in await store.list(most=2, after=page[-1].id)] == ["g2", "g3"]
             wrong: list[Any] = [{"after": "g1"}, {"most": "all"}, {"most": 0}, {"phase": "over"}]
             for words in wrong:
                 with pytest.raises((TypeError, ValueError), match=f"{[*words][0]}="):
-                    store.list(**words)
-            assert [one.key for one in store.stuck()] == ["b"]
+                    await store.list(**words)
+            assert [one.key for one in await store.stuck()] == ["b"]
             for note in ("", " ", None):
                 with pytest.raises((TypeError, ValueError), match="what was done about it"):
                     await store.resolve("b", note)  # type: ignore[arg-type]
             with pytest.raises(TypeError, match="why it failed"):
                 await store.finish("b", "a", failed=5)  # type: ignore[arg-type]
             await store.resolve("b", "seen to")
-            assert store.stuck() == [] and [one.note for one in store.list(phase="resolved")] == ["seen to"]
-            events = store.log("g1")
+            (resolved,) = await store.list(phase="resolved")
+            assert await store.stuck() == [] and resolved.note == "seen to"
+            events = await store.log("g1")
             words = [event.event for event in events]
             assert words[:2] == ["open", "start_run"] and words.count("undone") == 2 and "adopt" in words
             assert [event.value for event in events if event.event == "commit"] == ["A", "AB"]
             assert all(0 <= time.time() - event.at < 60 for event in events)
             assert list((await store.audit()).values())[0].startswith("yes sagas 6 ended 5 stuck 1")
-            assert store.draw("g1").startswith("digraph")
+            assert (await store.draw("g1")).startswith("digraph")
 
     run(main())
 
@@ -1324,7 +1336,7 @@ def test_another_loop(tmp_path: pathlib.Path) -> None:
             for call in calls:
                 with pytest.raises(RuntimeError, match="sagas.open_sync"):
                     await asyncio.to_thread(asyncio.run, call)
-            assert store.list() == []
+            assert await store.list() == []
 
     run(main())
 

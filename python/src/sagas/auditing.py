@@ -14,6 +14,7 @@ if TYPE_CHECKING:
     from .coordinator import Coordinator
     from .pump import Pump
 
+EACH = "SELECT log, name, texts FROM logs JOIN shelves USING (shelf) ORDER BY log"
 FIRST_PAUSE, MOST_PAUSE = 1.0, 300.0  # seconds
 
 
@@ -41,7 +42,7 @@ async def _close(owner: Coordinator, pump: Pump) -> None:
     while True:
         try:
             async with owner.auditing:  # one at a time: nobody waits for it
-                text, _ = owner.store.text(pump.log)
+                text = await owner.store.text(pump.log)
                 yes, said = await verdict(owner.program, text, pump.texts)
             if not yes:
                 owner.teller.tell("audit_failed", detail=f"log {pump.name}: {said}")
@@ -62,7 +63,7 @@ async def _close(owner: Coordinator, pump: Pump) -> None:
 async def all_logs(owner: Coordinator) -> dict[str, str]:
     """The verdict of each log by its name."""
     found = {}
-    for log, name, texts in owner.store.rows("SELECT log, name, texts FROM logs JOIN shelves USING (shelf) ORDER BY log"):
-        text, _ = owner.store.text(log)
+    for log, name, texts in await owner.store.read(EACH):
+        text = await owner.store.text(log)
         _, found[name] = await verdict(owner.program, text, json.loads(texts))
     return found

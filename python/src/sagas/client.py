@@ -19,7 +19,7 @@ from .errors import Closed, NoSuchSaga, NotWaiting, StoreFault, StoreUnwritable,
 from .forks import Opened
 from .kinds import Kind, version_of
 from .plans import Plan
-from .records import SagaRow
+from .records import Known, SagaRow
 from .runs import End, LogEvent, Summary
 from .schema import ROOM
 
@@ -38,6 +38,7 @@ THERE = """
 SELECT saga, input FROM sagas.sagas WHERE key = %(key)s
 UNION ALL SELECT saga, input FROM sagas.inbox WHERE key = %(key)s AND id <> ALL(%(own)s::bigint[])
 """
+WAITS = "SELECT step, kind, why, until FROM held WHERE id = ? ORDER BY since"
 BACK = "DELETE FROM sagas.inbox WHERE id = ANY(%(own)s::bigint[])"
 
 
@@ -245,41 +246,44 @@ class Client:
 
     async def list(self, *, phase: str | None = None, saga: Saga | str | None = None, after: int | None = None, most: int = 100) -> builtins.list[Summary]:
         """As `Store.list`; what no log has taken yet is not in it."""
-        query, given = histories.list_query(phase, saga.name if isinstance(saga, Saga) else saga, after, most)
-        words = {f"w{number}": word for number, word in enumerate(given)}
-        query = questions.for_postgresql(query, "?")
-        for name in words:
-            query = query.replace("?", f"%({name})s", 1)
-        return [histories.summary(SagaRow(*row)) for row in await self._ask(query, **words)]
+        name = saga.name if isinstance(saga, Saga) else saga
+        query, words = histories.list_query(phase, name, after, most)
+        return [histories.summary(SagaRow(*row)) for row in await self._read(query, *words)]
 
     async def plan(self, key: str) -> Plan | None:
         """As `Store.plan`: the last plan that the saga goes by. None where all went well, and of one that no log has taken yet. Raises `NoSuchSaga`."""
         row = await self._row(key)
         if row.id < 0:
             return None
-        lines = await self._lines(row)
-        kind = await self._kind(row)
-        return histories.follow(row.saga, row.key, kind.text, kind.count, lines)[2]
+        known = await self._history(row)
+        return histories.plan_of(self._kinds_of(row), row, known)
 
     async def log(self, key: str) -> builtins.list[LogEvent]:
         """As `Store.log`: the saga's events so far, with times; of one that no log has taken yet none. Raises `NoSuchSaga`."""
         row = await self._row(key)
         if row.id < 0:
             return []
-        lines, results = await self._lines(row), await self._results(row)
-        return histories.log_of((await self._kind(row)).names, lines, results)
+        return histories.events_of(self._kinds_of(row), row, await self._history(row))
 
     async def waits_for(self, key: str) -> builtins.list[str]:
         """What a saga waits for, in words, as far as the database knows: who runs is not in it. Raises `NoSuchSaga`."""
         row = await self._row(key)
         if row.id < 0:
             return [waiting.NOT_BEGUN]
-        rows = await self._ask("SELECT step, kind, why, until FROM held WHERE id = %(id)s ORDER BY since", id=row.id)
-        return waiting.of_rows((await self._kind(row)).names, rows) if rows else []
+        rows = await self._read(WAITS, row.id)
+        if not rows:
+            return []
+        known = await self._known(row)
+        return waiting.of_rows(self._kinds_of(row)(known.definition).names, rows)
 
     async def _ask(self, query: str, **words: Any) -> builtins.list[Row]:
         self._heard
         return await self._asker.read(query, **words)
+
+    async def _read(self, query: str, *words: Any) -> builtins.list[Row]:
+        """Rows of a question with a `?` for each word."""
+        self._heard
+        return await self._asker.rows(questions.for_postgresql(query), *values.cleaned(words))
 
     async def _find(self, key: str) -> SagaRow | None:
         rows = [SagaRow(*row) for row in await self._ask(postgresql.FIND, keys=json.dumps([values.clean(key)]))]
@@ -291,27 +295,29 @@ class Client:
             raise NoSuchSaga(f"no saga has the key {key!r}")
         return row
 
-    async def _kind(self, row: SagaRow) -> Kind:
-        """Its definition. It is asked for last: if the saga is there then, what was read before is
-        whole, since a log goes at once. Raises `NoSuchSaga` where it was let go meanwhile."""
-        asked = f"SELECT texts, def FROM sagas JOIN logs ON log = id / {ROOM} JOIN shelves USING (shelf) WHERE id = %(id)s"
-        found = await self._ask(asked, id=row.id)
-        if not found:
-            raise NoSuchSaga(f"saga {row.key!r} was let go meanwhile")
-        ((texts, place),) = found
-        text = json.loads(texts)[place]
-        kind = self._kinds[text] = self._kinds.get(text) or Kind(text, self._sagas.get((row.saga, version_of(text))))
-        return kind
+    async def _known(self, row: SagaRow) -> Known:
+        """What the store has of a saga. Raises `NoSuchSaga` where it was let go meanwhile."""
+        words = questions.known_words(row.id, history=False)
+        return questions.known(await self._read(*words), row.key)
 
-    async def _results(self, row: SagaRow) -> builtins.list[Row]:
-        return await self._ask(questions.RESULTS.replace("?", "%(id)s"), id=row.id)
+    async def _history(self, row: SagaRow) -> Known:
+        """As `_known`, with its log's chunks."""
+        words = questions.known_words(row.id, history=True)
+        return questions.known(await self._read(*words), row.key)
 
-    async def _lines(self, row: SagaRow) -> builtins.list[histories.Line]:
-        return histories.lines_of(await self._ask(histories.CHUNKS.replace("?", "%(log)s"), log=row.id // ROOM), row.id % ROOM)
+    def _kinds_of(self, row: SagaRow) -> histories.Kinds:
+        """What gives the saga of a definition's text: as this client started it, where it did."""
+
+        def kind_of(text: str) -> Kind:
+            saga = self._sagas.get((row.saga, version_of(text)))
+            kind = self._kinds[text] = self._kinds.get(text) or Kind(text, saga)
+            return kind
+
+        return kind_of
 
     async def _end(self, row: SagaRow) -> End:
-        results = await self._results(row)
-        return histories.end_of(await self._kind(row), row, results)
+        known = await self._known(row)
+        return histories.end_of(self._kinds_of(row)(known.definition), row, known.results)
 
 
 async def _start(link: Connection, words: dict[str, Any], unfit: TooLarge | None) -> bool:

@@ -14,7 +14,9 @@ from collections.abc import Callable, Sequence
 from concurrent.futures import Executor
 from typing import TYPE_CHECKING, Any, Protocol
 
-from .records import Batch, Born, Grant, Loaded, LogRow, Opened, Request, Result, SagaRow, Start
+from .records import (
+    Batch, Born, Grant, Known, Loaded, LogRow, Opened, Request, Result, SagaRow, Start,
+)  # fmt: skip
 
 if TYPE_CHECKING:
     from .callers import Inside
@@ -158,22 +160,24 @@ class Database(Protocol):
     async def news(self, id: int, turn: int) -> None:
         """Returns when the saga may have ended elsewhere, or after a while, which is longer each turn: who waits looks again."""
 
-    # -- reading, for questions: these wait where they stand
+    # -- reading, for questions
 
-    def rows(self, query: str, *words: Any) -> list[tuple[Any, ...]]:
+    async def read(self, query: str, *words: Any) -> list[tuple[Any, ...]]:
         """Rows of a query that SQLite and PostgreSQL both understand, with `?` for each word."""
+
+    async def text(self, log: int) -> str:
+        """A log's lines, which may be many megabytes."""
+
+    async def known(self, row: SagaRow) -> Known:
+        """What the store has of a saga. Raises `NoSuchSaga` where it was let go meanwhile."""
+
+    async def history(self, row: SagaRow) -> Known:
+        """As `known`, with its log's chunks."""
 
     def reader(self) -> Reader:
         """Another connection, for a thread that only reads."""
 
-    def text(self, log: int) -> tuple[str, int]:
-        """A log's lines, and how many events they are."""
-
-    def definition(self, id: int) -> str:
-        """The text of a saga's definition."""
-
-    def results(self, id: int) -> list[tuple[int, str, int, str, str | None, float]]:
-        """What a saga's attempts came to: step, kind, attempt, outcome, value, at."""
+    # -- reading, of a database that is not shared: these are answered at once
 
     def find_now(self, key: str) -> SagaRow | None:
         """As `find`."""

@@ -90,11 +90,7 @@ class Elsewhere:
         self._taken: dict[Word, dict[Attempt, None]] = {}
         self._waiting: dict[Word, dict[asyncio.Future[None], None]] = {}
         self._writing: dict[Attempt, asyncio.Future[bool]] = {}
-        self.ask: Callable[..., Awaitable[list[tuple[Any, ...]]]] = self._rows
-
-    async def _rows(self, query: str, *words: Any) -> list[tuple[Any, ...]]:
-        """Rows of a query; over a file they are there at once."""
-        return self.owner.store.rows(query, *words)
+        self.ask: Callable[..., Awaitable[list[tuple[Any, ...]]]] = owner.store.read
 
     # -- what there is
 

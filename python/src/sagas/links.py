@@ -5,7 +5,7 @@ from __future__ import annotations
 import asyncio
 import contextlib
 import re
-from collections.abc import Awaitable, Callable, Iterator
+from collections.abc import Awaitable, Callable, Iterator, Mapping, Sequence
 from typing import Any, TypeVar
 
 import psycopg
@@ -210,6 +210,9 @@ class Asker:
         """A statement's rows. Raises `StoreUnwritable`; then nobody knows whether it was done.
 
         Who is cancelled leaves the statement to its end: a connection in the middle of one is of no use."""
+        return await self._asked(text, words)
+
+    async def _asked(self, text: str, words: Mapping[str, Any] | Sequence[Any]) -> list[Row]:
         work = asyncio.get_running_loop().create_task(self._ask(text, words))
         self._under_way.add(work)
         work.add_done_callback(self._done)
@@ -220,7 +223,7 @@ class Asker:
         if not work.cancelled():
             work.exception()  # whoever asked, and was not cancelled, has it
 
-    async def _ask(self, text: str, words: dict[str, Any]) -> list[Row]:
+    async def _ask(self, text: str, words: Mapping[str, Any] | Sequence[Any]) -> list[Row]:
         with faults(self.where):
             async with asyncio.timeout(PATIENCE + 1), self.pool.connection() as link:
                 cursor = await link.execute(text, words)
@@ -228,4 +231,8 @@ class Asker:
 
     async def read(self, text: str, **words: Any) -> list[Row]:
         """As `ask`, for what may be asked twice: connections that broke unnoticed are tried past."""
-        return await tried(lambda: self.ask(text, **words))
+        return await tried(lambda: self._asked(text, words))
+
+    async def rows(self, text: str, *words: Any) -> list[Row]:
+        """As `read`, of a question with a `%s` for each word."""
+        return await tried(lambda: self._asked(text, words))

@@ -41,6 +41,7 @@ SELECT NOT EXISTS (SELECT 1 FROM logs WHERE log = %(log)s AND (owner IS DISTINCT
 FROM (SELECT) one LEFT JOIN lines l ON l.log = %(log)s ORDER BY l.first
 """
 """Beside each chunk of a log, whether the log is this node's under this epoch, or is not born yet: as of one moment."""
+TEXT = "SELECT coalesce(string_agg(text, '' ORDER BY first), '') FROM lines WHERE log = ?"
 REQUESTS = """
 SELECT r.id, r.key, r.what, r.value FROM requests r JOIN sagas s USING (key) JOIN logs l ON l.log = s.id / 1000
 WHERE r.answer IS NULL AND (l.owner = %(node)s OR l.closed <> 0) ORDER BY r.id
@@ -62,7 +63,8 @@ UNASK = "DELETE FROM requests WHERE id = %(id)s AND answer IS NULL"
 
 
 class PostgreSQL(questions.Questions):
-    """One node's part of the store. A connection writes, a pool asks, one listens, and one answers questions where they stand."""
+    """One node's part of the store. A connection writes, a pool asks, one looks for keys, one
+    listens, and one answers questions: a slow one holds up no lease, and no saga."""
 
     shared = True
 
@@ -80,7 +82,7 @@ class PostgreSQL(questions.Questions):
         self._transactions = Transactions(url, self.path, self.lease.node, lambda: self._line, self._writer, most)
         self.call, self.inside = self._transactions.call, self._transactions
         self._finder = wire.Kept(url, self.path)
-        self._reader = self.reader()
+        self._questions = links.Asker(url, self.path, 1)
         self._wanted: dict[str, list[asyncio.Future[SagaRow | None]]] = {}
         self._said: list[str] = []
         self._telling: asyncio.TimerHandle | None = None
@@ -99,6 +101,7 @@ class PostgreSQL(questions.Questions):
         await asyncio.to_thread(self._migrate)
         await self.asker.open()
         await self._finder.open()  # at once: later there may be no connection for it
+        await self._questions.open()
         self._line = await self.lease.begin()
         rows: list[LogRow] = []
         while taken := await self.lease.take(drives, [row.log for row in rows]):
@@ -137,10 +140,10 @@ class PostgreSQL(questions.Questions):
                 await self.lease.end()
         await self._transactions.close()
         await self.asker.close()
+        await self._questions.close()
         self._finder.close()
         if self._jobs:  # who looked for a key hears that it is closed
             await asyncio.wait(list(self._jobs))
-        self._reader.close()
 
     def _heard(self, what: str) -> None:
         assert self._watcher
@@ -193,6 +196,7 @@ class PostgreSQL(questions.Questions):
         self._finder.cut()
         self._transactions.let_go()
         self._spawn(self.asker.renew())
+        self._spawn(self._questions.renew())
         if self._watcher:
             self._watcher.lapsed(is_older=True)
         return False
@@ -375,13 +379,25 @@ class PostgreSQL(questions.Questions):
 
     # -- questions
 
-    def rows(self, query: str, *words: Any) -> list[tuple[Any, ...]]:
-        """Rows of a query, where it stands."""
-        return self._reader.rows(query, *words)
+    async def read(self, query: str, *words: Any) -> list[tuple[Any, ...]]:
+        """Rows of a query."""
+        return await self._questions.rows(questions.for_postgresql(query), *cleaned(words))
+
+    async def text(self, log: int) -> str:
+        """A log's lines, which the server puts together."""
+        return str((await self.read(TEXT, log))[0][0])
 
     def reader(self) -> Reader:
         """Another connection, for a thread that only reads."""
         return Reader(self.url, self.path)
+
+    def find_now(self, key: str) -> SagaRow | None:
+        """Nothing is there at once."""
+        raise NotImplementedError
+
+    def find_many(self, keys: Sequence[str]) -> dict[str, SagaRow]:
+        """As `find_now`."""
+        raise NotImplementedError
 
 
 class Reader:

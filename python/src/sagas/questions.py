@@ -8,7 +8,7 @@ from collections.abc import Callable, Sequence
 from typing import Any
 
 from .errors import NoSuchSaga
-from .records import HeldRow, Loaded, LogRow, Result, SagaRow
+from .records import HeldRow, Known, Loaded, LogRow, Result, SagaRow
 from .schema import PLANNED, ROOM, UNDO_FAILED
 
 SAGA = 'id, key, saga, def, input, at, phase, "end", ended, note'
@@ -50,6 +50,17 @@ ORDER BY step, kind, attempt
 """
 """What a saga's attempts came to: of each step its tries, then those of its compensation. Not by
 their times, since a clock may step back."""
+KNOWN = f"""
+SELECT 0, def, '', 0, '', texts, 0.0
+FROM sagas JOIN logs ON log = id / {ROOM} JOIN shelves USING (shelf) WHERE id = ?
+UNION ALL SELECT 1, step, kind, attempt, outcome, value, at FROM results WHERE id = ?
+"""
+HISTORY = f"""{KNOWN}
+UNION ALL SELECT 2, first, '', 0, '', text, at FROM lines
+WHERE log = ? AND (text LIKE ? OR text LIKE ?)
+"""
+"""All that is kept of a saga, in one statement: a log that is let go meanwhile is there or is not.
+Of the log those chunks that name the saga: a line has its number behind `"saga":`."""
 REQUESTS = "SELECT id, key, what, value FROM requests WHERE answer IS NULL ORDER BY id"
 
 
@@ -74,8 +85,8 @@ def loaded(text: str, events: int, opened: int, open: list[Any], results: list[R
     return Loaded(text, events, opened, open, results, held, epoch)
 
 
-class Questions:
-    """The questions over `rows`, which each database has its own way to answer."""
+class Rows:
+    """The questions over `rows`, which are answered at once."""
 
     def rows(self, query: str, *words: Any) -> list[tuple[Any, ...]]:
         """Rows of a query."""
@@ -83,15 +94,15 @@ class Questions:
 
     def open_logs(self) -> list[LogRow]:
         """The logs that are not closed, in order."""
-        return [LogRow(log, name, shelf, json.loads(texts), opened, open) for log, name, shelf, texts, opened, open in self.rows(f"{LOGS} WHERE closed = 0 ORDER BY log")]
+        found = self.rows(f"{LOGS} WHERE closed = 0 ORDER BY log")
+        return [
+            LogRow(log, name, shelf, json.loads(texts), opened, open)
+            for log, name, shelf, texts, opened, open in found
+        ]
 
     def places(self, log: int) -> list[int]:
         """The places of the definitions of a log's open sagas."""
         return [place for (place,) in self.rows(PLACES, *bounds(log))]
-
-    def text(self, log: int) -> tuple[str, int]:
-        """A log's lines, and how many events they are."""
-        return joined(self.rows(LINES, log))
 
     def find_now(self, key: str) -> SagaRow | None:
         """The saga with this key."""
@@ -113,14 +124,46 @@ class Questions:
                 found[row[1]] = SagaRow(*row)
         return found
 
-    def definition(self, id: int) -> str:
-        """The text of a saga's definition. Raises `NoSuchSaga` where it was let go."""
-        rows = self.rows(DEFINITION, id)
-        if not rows:
-            raise NoSuchSaga(f"the saga {id} is not kept any more")
-        ((texts, place),) = rows
-        return str(json.loads(texts)[place])
 
-    def results(self, id: int) -> list[tuple[int, str, int, str, str | None, float]]:
-        """What a saga's attempts came to: step, kind, attempt, outcome, value, at."""
-        return self.rows(RESULTS, id)  # type: ignore[return-value]
+def known_words(id: int, history: bool) -> tuple[Any, ...]:
+    """What is asked of a saga, and the words for it."""
+    if not history:
+        return KNOWN, id, id
+    log, number = divmod(id, ROOM)
+    return HISTORY, id, id, log, f'%"saga":{number},%', f'%"saga":{number}}}%'
+
+
+def known(rows: Sequence[tuple[Any, ...]], key: str) -> Known:
+    """What these say. Raises `NoSuchSaga` where it was let go since its row was read."""
+    parts: tuple[list[Any], list[Any], list[Any]] = [], [], []
+    for row in sorted(rows, key=lambda row: row[:4]):
+        parts[row[0]].append(row[1:])
+    if not parts[0]:
+        raise NoSuchSaga(f"saga {key!r} was let go meanwhile")
+    ((place, _, _, _, texts, _),) = parts[0]
+    chunks = [(at, text) for _, _, _, _, text, at in parts[2]]
+    return Known(str(json.loads(texts)[place]), parts[1], chunks)
+
+
+class Questions:
+    """The questions over `read`, which each database has its own way to answer."""
+
+    async def read(self, query: str, *words: Any) -> list[tuple[Any, ...]]:
+        """Rows of a query."""
+        raise NotImplementedError
+
+    async def read_long(self, query: str, *words: Any) -> list[tuple[Any, ...]]:
+        """As `read`, of what may be many megabytes."""
+        return await self.read(query, *words)
+
+    async def text(self, log: int) -> str:
+        """A log's lines."""
+        return joined(await self.read_long(LINES, log))[0]
+
+    async def known(self, row: SagaRow) -> Known:
+        """What the store has of a saga. Raises `NoSuchSaga` where it was let go meanwhile."""
+        return known(await self.read(*known_words(row.id, history=False)), row.key)
+
+    async def history(self, row: SagaRow) -> Known:
+        """As `known`, with its log's chunks."""
+        return known(await self.read_long(*known_words(row.id, history=True)), row.key)

@@ -115,6 +115,16 @@ class Loaded:
     epoch: int = 0
 
 
+class Known(NamedTuple):
+    """What the store has of a saga beside its row, all of one moment."""
+
+    definition: str
+    results: list[tuple[int, str, int, str, Optional[str], float]]
+    """step, kind, attempt, outcome, value, at: of each step its tries, then its compensation's"""
+    chunks: list[tuple[float, str]]
+    """at, text: those of its log in which it is named, if they were asked for"""
+
+
 class Grant(NamedTuple):
     """How many calls of a step may begin, the places that they have where it has a limit, and in how many seconds it is worth to ask again."""
 

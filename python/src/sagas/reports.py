@@ -55,7 +55,9 @@ def inbox_of(database: Database) -> Inbox:
         assert isinstance(database, PostgreSQL)
         return PostgreSQLInbox(database)
     from .reports_sqlite import SqliteInbox
+    from .sqlite import Sqlite
 
+    assert isinstance(database, Sqlite)
     return SqliteInbox(database)
 
 

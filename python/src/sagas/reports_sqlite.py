@@ -19,7 +19,7 @@ from .reports import Report
 from .values import clean
 
 if TYPE_CHECKING:
-    from .database import Database
+    from .sqlite import Sqlite
 
 LOOK = 0.02  # seconds: another program's commit makes no event here
 BUSY = 1.0  # seconds that a worker waits while others write, before it looks how long that has gone on
@@ -34,7 +34,7 @@ SELECT :token, log, :outcome, :value, :sending, (julianday('now') - 2440587.5) *
 class SqliteInbox:
     """Looks for new rows where the file has changed."""
 
-    def __init__(self, database: Database) -> None:
+    def __init__(self, database: Sqlite) -> None:
         self._database = database
         self._seen, self._version = -1, -1
         self._timer: asyncio.TimerHandle | None = None

@@ -214,13 +214,13 @@ class Run:
         """Says how a step ended that a person or another program does. See `Store.finish`."""
         await self._store.finish(self.key, step, result, failed=failed, undo=undo)
 
-    def plan(self) -> Plan | None:
+    async def plan(self) -> Plan | None:
         """Why each step stands or does not: the last plan that it goes by. None where all went well."""
-        return self._store.plan(self.key)
+        return await self._store.plan(self.key)
 
-    def log(self) -> list[LogEvent]:
+    async def log(self) -> list[LogEvent]:
         """Its events so far, with times."""
-        return self._store.log(self.key)
+        return await self._store.log(self.key)
 
     def __repr__(self) -> str:
         return f"<run {self.key!r}>"

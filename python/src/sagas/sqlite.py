@@ -161,8 +161,9 @@ class Reader:
         self._db.close()
 
 
-class Sqlite(questions.Questions):
-    """The file and its lock. Reads happen in the loop; a `Writer` writes."""
+class Sqlite(questions.Questions, questions.Rows):
+    """The file and its lock. Short reads happen in the loop, long ones in a thread; a `Writer`
+    writes."""
 
     shared = False
     takes = 0.0
@@ -347,13 +348,26 @@ class Sqlite(questions.Questions):
         """The sagas with these keys, by key, as far as they are there."""
         return self.found(keys, functools.partial(self._read, self._writer.reader() or self._reader))
 
+    async def read(self, query: str, *words: Any) -> list[tuple[Any, ...]]:
+        """As `rows`: the file is at hand."""
+        return self.rows(query, *words)
+
+    async def read_long(self, query: str, *words: Any) -> list[tuple[Any, ...]]:
+        """As `read`, in a thread."""
+        return await asyncio.to_thread(self._read_apart, query, words)
+
+    def _read_apart(self, query: str, words: Sequence[Any]) -> list[tuple[Any, ...]]:
+        with contextlib.closing(self.reader()) as reader:
+            return reader.rows(query, *words)
+
     def reader(self) -> Reader:
         """Another connection, for a thread that only reads."""
         return Reader(self.file)
 
     async def take_up(self, log: int, epoch: int) -> tuple[str, int]:
-        """As `text`, for who will write behind it: nobody else writes this file. No lines of it may be on their way."""
-        text, self._writer.events[log] = self.text(log)
+        """A log's lines and how many events they are, for who will write behind it: nobody else
+        writes this file. No lines of it may be on their way."""
+        text, self._writer.events[log] = questions.joined(self.rows(questions.LINES, log))
         return text, self._writer.events[log]
 
     async def load(self, log: int, epoch: int, born: Born | None) -> Loaded:

@@ -253,7 +253,7 @@ class Store:
         if isinstance(over, Live):
             return histories.end_of_live(over)
         row = over
-        return await moving.surely(lambda: self._end(row))
+        return await moving.surely(lambda: histories.end(self._inside, row))
 
     async def waits_for(self, key: str) -> builtins.list[str]:
         """What a saga waits for that is driven here, or that no node has begun yet, in words; of others nothing."""
@@ -281,9 +281,6 @@ class Store:
                 except Moved:
                     pass
             inside = self._inside
-
-    async def _end(self, row: SagaRow) -> End:
-        return histories.end(self._inside, row)
 
     async def abort(self, key: str, *, by: str | None = None, note: str | None = None) -> bool:
         """No step of it begins any more, and the plan says what is undone. False where it is over or was aborted before. Raises `NoSuchSaga`, `Closed`.
@@ -364,7 +361,7 @@ class Store:
                     return
                 continue
             try:
-                await self._finish_here(self._begun(live, step, kind), outcome, request)
+                await self._finish_here(await self._begun(live, step, kind), outcome, request)
                 return
             except Moved:
                 continue
@@ -382,12 +379,13 @@ class Store:
         inside.doing.outcome(attempt, outcome)
         await attempt.told
 
-    def _begun(self, live: Live, step: str, kind: str) -> Attempt:
+    async def _begun(self, live: Live, step: str, kind: str) -> Attempt:
         if step not in live.kind.names:
             raise NotWaiting(f"saga {live.key!r} has no step {step!r}{meant(step, live.kind.names)}")
         attempt = live.busy.get((live.kind.names.index(step), kind))
         if attempt is None:
-            raise NotWaiting(f"saga {live.key!r}, step {step!r}: {histories.why_not(self._inside, live, step, kind)}")
+            why = await histories.why_not(self._inside, live, step, kind)
+            raise NotWaiting(f"saga {live.key!r}, step {step!r}: {why}")
         return attempt
 
     async def serve(self) -> None:
@@ -468,20 +466,28 @@ class Store:
 
     # -- questions
 
-    def get(self, key: str) -> Run | None:
-        """The saga with this key, if there is one. A client's start that no log has yet is none, though `wait` waits for it."""
-        inside = self._inside
+    async def get(self, key: str) -> Run | None:
+        """The saga with this key, if there is one. A client's start that no log has yet is none,
+        though `wait` waits for it."""
+        inside = self._here()
         live = inside.lives.get(key)
-        return Run(self, key) if (live and live.committed) or inside.store.find_now(key) else None
+        if live and live.committed:
+            return Run(self, key)
+        row = await inside.store.find(key)
+        return Run(self, key) if row and row.id >= 0 else None
 
-    def list(self, *, phase: str | None = None, saga: Saga | str | None = None, after: int | None = None, most: int = 100) -> builtins.list[Summary]:
+    async def list(
+        self, *, phase: str | None = None, saga: Saga | str | None = None, after: int | None = None,
+        most: int = 100,
+    ) -> builtins.list[Summary]:  # fmt: skip
         """Sagas in the order of their logs, `most` at once; `after` is the `id` of the last of the page before. `phase`: open, ended, stuck or
         resolved; or planned: those of ended that ended by a plan; or undo-failed: those of these of which a compensation failed for good."""
-        return histories.listed(self._inside, phase, saga.name if isinstance(saga, Saga) else saga, after, most)
+        name = saga.name if isinstance(saga, Saga) else saga
+        return await histories.listed(self._here(), phase, name, after, most)
 
-    def stuck(self) -> builtins.list[End]:
+    async def stuck(self) -> builtins.list[End]:
         """The sagas that are stuck and that nobody has resolved, each with its chain."""
-        return histories.stuck(self._inside)
+        return await histories.stuck(self._here())
 
     async def resolve(self, key: str, note: str, *, by: str | None = None) -> None:
         """Marks a stuck saga as looked after, with a note, which takes the place of an earlier one. Raises `NoSuchSaga`, and `NotWaiting` where it is not
@@ -491,28 +497,29 @@ class Store:
         checks.text("note", note, "what was done about it")
         await histories.resolve(self._inside, key, note, self._asked(key, "resolve", by, note))
 
-    def unknown(self) -> builtins.list[Held]:
+    async def unknown(self) -> builtins.list[Held]:
         """The attempts of which nobody knows what they did, those first that a person has to say (`finish`)."""
-        return histories.unknown(self._inside)
+        return await histories.unknown(self._here())
 
     def begun(self, key: str) -> builtins.list[Begun]:
-        """What has begun of a saga that this program drives, and for what each attempt waits; none where it is over, or another program drives it."""
+        """What has begun of a saga that this program drives, and for what each attempt waits; none
+        where it is over, or another program drives it. It is known here: nothing is read."""
         return under_way.begun(self._inside, key)
 
-    def log(self, key: str) -> builtins.list[LogEvent]:
-        """A saga's events so far, with times. Raises `NoSuchSaga`."""
-        return histories.log(self._inside, key)
+    async def log(self, key: str) -> builtins.list[LogEvent]:
+        """A saga's events so far, in their order, with times. Raises `NoSuchSaga`."""
+        return await histories.log(self._here(), key)
 
-    def plan(self, key: str) -> Plan | None:
+    async def plan(self, key: str) -> Plan | None:
         """The last plan that a saga goes by: why each step stands or does not, with its certificate. None where all went well. Raises `NoSuchSaga`."""
-        return histories.plan(self._inside, key)
+        return await histories.plan(self._here(), key)
 
-    def draw(self, key: str) -> str:
+    async def draw(self, key: str) -> str:
         """A saga as text for Graphviz: its last plan, with what it found and what it kept; before a plan its definition. Raises `NoSuchSaga`."""
-        return histories.draw(self._inside, key)
+        return await histories.draw(self._here(), key)
 
     async def audit(self) -> dict[str, str]:
         """Audits each log, also those that are still driven: the verdict by the log's name, which begins with `yes` where it is sound."""
-        return await auditing.all_logs(self._inside)
+        return await auditing.all_logs(self._here())
 
 

@@ -122,7 +122,7 @@ class SyncStore:
 
     def get(self, key: str) -> SyncRun | None:
         """As `Store.get`."""
-        return SyncRun(self, key) if self._ask(lambda: self._store.get(key)) else None
+        return SyncRun(self, key) if self._do(self._store.get(key)) else None
 
     def serve(self) -> None:
         """As `Store.serve`, in the program's main thread: waits for SIGTERM or SIGINT. Raises `RuntimeError` in another thread."""
@@ -138,11 +138,11 @@ class SyncStore:
 
     def list(self, *, phase: str | None = None, saga: Saga | str | None = None, after: int | None = None, most: int = 100) -> builtins.list[Summary]:
         """As `Store.list`."""
-        return self._ask(lambda: self._store.list(phase=phase, saga=saga, after=after, most=most))
+        return self._do(self._store.list(phase=phase, saga=saga, after=after, most=most))
 
     def stuck(self) -> builtins.list[End]:
         """As `Store.stuck`."""
-        return self._ask(self._store.stuck)
+        return self._do(self._store.stuck())
 
     def resolve(self, key: str, note: str, *, by: str | None = None) -> None:
         """As `Store.resolve`."""
@@ -150,7 +150,7 @@ class SyncStore:
 
     def unknown(self) -> builtins.list[Held]:
         """As `Store.unknown`."""
-        return self._ask(self._store.unknown)
+        return self._do(self._store.unknown())
 
     def begun(self, key: str) -> builtins.list[Begun]:
         """As `Store.begun`."""
@@ -158,15 +158,15 @@ class SyncStore:
 
     def log(self, key: str) -> builtins.list[LogEvent]:
         """As `Store.log`."""
-        return self._ask(lambda: self._store.log(key))
+        return self._do(self._store.log(key))
 
     def plan(self, key: str) -> Plan | None:
         """As `Store.plan`."""
-        return self._ask(lambda: self._store.plan(key))
+        return self._do(self._store.plan(key))
 
     def draw(self, key: str) -> str:
         """As `Store.draw`."""
-        return self._ask(lambda: self._store.draw(key))
+        return self._do(self._store.draw(key))
 
     def audit(self) -> dict[str, str]:
         """As `Store.audit`."""
