@@ -152,9 +152,12 @@ def test_a_start_that_no_node_has_taken_is_withdrawn(url: str, capsys: pytest.Ca
 def requests(url: str) -> int:
     """How many requests nobody has answered."""
     with psycopg.connect(url) as link:
-        row = link.execute("SELECT count(*) FROM sagas.requests WHERE answer IS NULL").fetchone()
-        assert row
-        return int(row[0])
+        text = "SELECT count(*) FROM sagas.requests WHERE answer IS NULL"
+        of_sagas = link.execute(text).fetchone()
+        text = "SELECT coalesce(sum(jsonb_array_length(asked)), 0) FROM sagas.inbox"
+        of_starts = link.execute(text).fetchone()
+        assert of_sagas and of_starts
+        return int(of_sagas[0] + of_starts[0])
 
 
 def fast(called: list[str]) -> sagas.Saga:

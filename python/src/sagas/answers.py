@@ -172,7 +172,7 @@ class Answers:
             self.live[number] = live
             self.opened += 1
             if live.start is not None:
-                batch.more.begun.append(live.start)
+                batch.more.begun.append((live.start, live.id))
             if live.guessed:
                 batch.guessed.append(live.key)
             batch.opened.append(self._opening(live, number, batch.at))

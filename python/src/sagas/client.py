@@ -226,17 +226,21 @@ class Client:
         """No step of it begins any more. Waits until the saga's node has said so; a start that no node has taken is withdrawn at once, and then no saga has
         the key. True where this abort did it, False where the saga is over or was aborted before. Raises `NoSuchSaga`, also where the start was withdrawn
         meanwhile."""
-        if (await self._row(key)).phase is not None:
+        row = await self._row(key)
+        if row.phase is not None:
             return False
-        return bool(requests.told(await postgresql.ask(self._asker, self._heard, key, "abort", "null", None)))
+        answer = await postgresql.ask(self._asker, self._heard, row, "abort", "null")
+        return bool(requests.told(answer))
 
     async def finish(self, key: str, step: Step[Any] | str, result: Any = None, *, failed: str | None = None, undo: bool = False) -> None:
         """As `Store.finish`. Raises `NotWaiting`, `NoSuchSaga`, `NotJson`."""
         outcome = outcome_of(result, failed)
-        if (await self._row(key)).phase is not None:
+        row = await self._row(key)
+        if row.phase is not None:
             raise NotWaiting(f"saga {key!r} is over")
         wanted = requests.finish_of(step if isinstance(step, str) else step.name, "undo" if undo else "run", outcome)
-        requests.told(await postgresql.ask(self._asker, self._heard, key, "finish", values.write(wanted), None))
+        value = values.write(wanted)
+        requests.told(await postgresql.ask(self._asker, self._heard, row, "finish", value))
 
     # -- questions
 

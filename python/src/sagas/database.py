@@ -152,10 +152,8 @@ class Database(Protocol):
     async def starts(self, most: int, under_way: Sequence[int] | None = None) -> list[Start]:
         """Sagas that clients started: they are this program's to open, `most` at once. With `under_way` also those that were, and are not among these."""
 
-    async def ask(self, key: str, what: str, value: str, token: str | None = None) -> Any:
-        """Leaves a request for the node that has the saga, and waits for its answer, parsed.
-
-        With a token it is a report of that attempt: the first report of a token stays, and each further one gets that one's answer."""
+    async def ask(self, row: SagaRow, what: str, value: str) -> Any:
+        """Leaves a request for the node that has this very saga; waits for its answer, parsed."""
 
     async def news(self, id: int, turn: int) -> None:
         """Returns when the saga may have ended elsewhere, or after a while, which is longer each turn: who waits looks again."""

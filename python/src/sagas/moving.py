@@ -121,8 +121,9 @@ async def elsewhere(owner: Coordinator, live: Live) -> None:
 
 def found(owner: Coordinator, live: Live, row: SagaRow) -> None:
     """Another log has the key: that is the saga, or a conflict."""
+    error = conflict(live.key, live.kind.name, live.text, row.saga, row.input)
     if live.start is not None:
         batch = owner.empty_batch(-1, lambda fault: None)
-        batch.more.begun.append(live.start)
+        batch.more.begun.append((live.start, None if error else row.id))
         owner.enqueue(batch)
-    leave(owner, live, conflict(live.key, live.kind.name, live.text, row.saga, row.input))
+    leave(owner, live, error)

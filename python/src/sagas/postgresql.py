@@ -42,9 +42,12 @@ FROM (SELECT) one LEFT JOIN lines l ON l.log = %(log)s ORDER BY l.first
 """
 """Beside each chunk of a log, whether the log is this node's under this epoch, or is not born yet: as of one moment."""
 TEXT = "SELECT coalesce(string_agg(text, '' ORDER BY first), '') FROM lines WHERE log = ?"
-REQUESTS = """
-SELECT r.id, r.key, r.what, r.value FROM requests r JOIN sagas s USING (key) JOIN logs l ON l.log = s.id / 1000
-WHERE r.answer IS NULL AND (l.owner = %(node)s OR l.closed <> 0) ORDER BY r.id
+MINE = "JOIN logs l ON l.log = s.id / 1000 AND (l.owner = %(node)s OR l.closed <> 0)"
+REQUESTS = f"""
+SELECT r.id, r.key, r.what, r.value, s.id FROM requests r JOIN sagas s ON s.id = r.saga {MINE}
+WHERE r.answer IS NULL
+UNION ALL SELECT r.id, r.key, r.what, r.value, s.id FROM requests r JOIN sagas s USING (key) {MINE}
+WHERE r.answer IS NULL AND r.saga IS NULL ORDER BY 1
 """
 STARTS = f"""
 WITH lot AS MATERIALIZED (
@@ -53,13 +56,12 @@ WITH lot AS MATERIALIZED (
 UPDATE inbox SET node = %(node)s FROM lot WHERE inbox.id = lot.id RETURNING inbox.id, key, saga, version, input
 """
 """As a part of an OR what is not taken is looked up again for a row that another node took meanwhile; as a join it would not be."""
-ASK = "INSERT INTO requests(key, what, value, at, token) VALUES (%(key)s, %(what)s, %(value)s, extract(epoch FROM now()), %(token)s) ON CONFLICT (token) WHERE token IS NOT NULL DO NOTHING RETURNING id"
-ANSWER = """
-SELECT answer, EXISTS (SELECT 1 FROM sagas s WHERE s.key = r.key), i.key IS NOT NULL, i.key IS NOT NULL AND i.node IS NULL
-FROM requests r LEFT JOIN inbox i USING (key) WHERE r.id = %(id)s
-"""
-"""A request's answer, and as of the same moment whether a log has the saga, whether a client's start waits, and whether no node has taken that."""
-UNASK = "DELETE FROM requests WHERE id = %(id)s AND answer IS NULL"
+ANSWER = questions.named(requests.ANSWER, "id", "start")
+ASK = questions.named(requests.ASK, "what", "value", "id")
+ASK_START = questions.named(requests.ASK_START, "what", "value", "id")
+WITHDRAW = questions.named(requests.WITHDRAW_START, "id")
+FIND_NOW = questions.named(FIND_ONE.replace("$1", "?"), "key", "key")
+
 
 
 class PostgreSQL(questions.Questions):
@@ -262,7 +264,8 @@ class PostgreSQL(questions.Questions):
         if ended := commit.ended:
             self._say(news.payloads("ended", ended))
         for _, rare in commit.rare:
-            for what, ids in (("begun", rare.begun), ("answered", [id for _, id in rare.answers])):
+            begun = [id for id, _ in rare.begun]
+            for what, ids in (("begun", begun), ("answered", [id for _, id in rare.answers])):
                 if ids:
                     self._say(news.payloads(what, ids))
 
@@ -367,10 +370,10 @@ class PostgreSQL(questions.Questions):
         mine = None if under_way is None else list(under_way)
         return await self.asker.ask(STARTS, node=self.lease.node, sagas=self._sagas, most=most, mine=mine)  # type: ignore[return-value]
 
-    async def ask(self, key: str, what: str, value: str, token: str | None = None) -> Any:
+    async def ask(self, row: SagaRow, what: str, value: str) -> Any:
         """Leaves a request for the node that has the saga, and waits for its answer."""
         assert self._news
-        return await ask(self.asker, self._news, key, what, value, token)
+        return await ask(self.asker, self._news, row, what, value)
 
     async def news(self, id: int, turn: int) -> None:
         """Returns when the saga may have ended, or after a while, which is longer each turn."""
@@ -433,29 +436,48 @@ def saga_row(values: wire.Values) -> SagaRow:
     return SagaRow(int(id), key, saga, int(place), input, float(at), phase, end, None if ended is None else float(ended), note)
 
 
-async def ask(asker: links.Asker, heard: news.News, key: str, what: str, value: str, token: str | None) -> Any:
-    """Leaves a request, tells the nodes, and waits for the answer; an abort of a start that no node has taken withdraws it instead. Raises `NoSuchSaga`."""
-    if what == "abort" and await withdraw(asker, key):
+async def ask(asker: links.Asker, heard: news.News, row: SagaRow, what: str, value: str) -> Any:
+    """Leaves a request for this very saga, or for the start that it is yet; tells the nodes, and
+    waits for the answer. An abort of a start that no node has taken withdraws it instead.
+
+    Raises `NoSuchSaga`."""
+    if what == "abort" and row.id < 0 and await _withdraw(asker, -row.id):
         return True
-    rows = await asker.ask(ASK, key=key, what=what, value=value, token=token)
-    rows = rows or await asker.read("SELECT id FROM requests WHERE token = %(token)s", token=token)
-    ((id,),) = rows
+    row, id = await _leave(asker, row, what, value)
     await asker.ask(news.SAY, words=["requests"])
-    turn = 0
-    while rows := await asker.read(ANSWER, id=id):
-        ((answer, is_saga, is_started, is_free),) = rows
+    start, turn = -row.id if row.id < 0 else None, 0
+    while True:
+        ((is_asked, answer, is_started, is_free),) = await asker.read(ANSWER, id=id, start=start)
         if answer is not None:
             return json.loads(answer)
-        if what == "abort" and is_free and await withdraw(asker, key):  # the node that had taken it is gone
-            return True
-        if not is_saga and not is_started:  # nobody will answer
-            await asker.ask(UNASK, id=id)
-            break
+        if start and what == "abort" and is_free and await _withdraw(asker, start):
+            return True  # the node that had taken it is gone
+        if not is_asked and not is_started:  # nobody will answer
+            raise _gone(row)
         await heard.wait("answered", id, turn)
         turn += 1
-    raise NoSuchSaga(f"no saga has the key {key!r}")
 
 
-async def withdraw(asker: links.Asker, key: str) -> bool:
-    """Takes a client's start back. False where no start has the key, or a node has taken it."""
-    return bool(await asker.ask(requests.WITHDRAW.replace("?", "%(key)s"), key=key))
+def _gone(row: SagaRow) -> NoSuchSaga:
+    return NoSuchSaga(f"no saga has the key {row.key!r}")
+
+
+async def _leave(asker: links.Asker, row: SagaRow, what: str, value: str) -> tuple[SagaRow, int]:
+    """Leaves a request for a saga, or for a start. A start that is gone in this moment may be a saga
+    by now: that is looked for, and taken for it where it is one of its name and input. Gives what
+    is asked, and the request's id. Raises `NoSuchSaga`."""
+    while True:
+        text, id = (ASK, row.id) if row.id >= 0 else (ASK_START, -row.id)
+        rows = await asker.ask(text, what=what, value=value, id=id)
+        if rows:
+            return row, int(rows[0][0])
+        found = [SagaRow(*one) for one in await asker.read(FIND_NOW, key=row.key)]
+        now = max(found, key=lambda one: one.id, default=row)
+        if row.id >= 0 or now is row or (now.saga, now.input) != (row.saga, row.input):
+            raise _gone(row)
+        row = now
+
+
+async def _withdraw(asker: links.Asker, start: int) -> bool:
+    """Takes a client's start back. False where it is gone, or a node has taken it."""
+    return bool(await asker.ask(WITHDRAW, id=start))

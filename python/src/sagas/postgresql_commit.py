@@ -35,7 +35,7 @@ ROWS = {
     "emptied": "log bigint",
     "answers": "log bigint, answer text, id bigint",
     "asked": "log bigint, key text, what text, value text, at double precision, answer text",
-    "begun": "log bigint, id bigint",
+    "begun": "log bigint, id bigint, saga bigint",
     "notes": "note text, id bigint",
     "closed": "log bigint, closed smallint, audit text",
 }
@@ -60,12 +60,20 @@ PARTS = {
     "emptied": "DELETE FROM reports USING {rows} JOIN mine USING (log) WHERE reports.log = v.log",
     "answers": f"UPDATE requests SET answer = v.answer FROM {{rows}} WHERE requests.id = v.id AND requests.answer IS NULL AND {FREE}",
     "asked": f"INSERT INTO requests(key, what, value, at, answer) SELECT v.key, v.what, v.value, v.at, v.answer FROM {{rows}} WHERE {FREE}",
-    "begun": f"DELETE FROM inbox USING {{rows}} WHERE inbox.id = v.id AND {FREE}",
+    "begun": f"DELETE FROM inbox USING {{rows}} WHERE inbox.id = v.id AND {FREE} "
+    "RETURNING key, asked, v.saga",
     "notes": "UPDATE sagas SET note = v.note FROM {rows} WHERE sagas.id = v.id",
     "closed": "UPDATE logs SET closed = v.closed, audit = v.audit FROM {rows} JOIN mine USING (log) WHERE logs.log = v.log",
 }
 """What becomes of them."""
 
+MOVED = """
+moved AS (INSERT INTO requests(id, key, what, value, at, saga) OVERRIDING SYSTEM VALUE
+  SELECT (one ->> 0)::bigint, key, one ->> 1, one ->> 2, (one ->> 3)::double precision, saga
+  FROM begun_, jsonb_array_elements(asked) one WHERE saga IS NOT NULL
+  RETURNING pg_notify('sagas', 'requests'))"""
+"""What was asked of a start is asked of its saga. As the row that goes away has it in the end: a
+part of the statement that looked for rows would not see what was asked since the statement began."""
 KEPT = "SELECT log FROM logs WHERE {mine}{free} FOR SHARE"
 ALONE = "log = $3::bigint AND owner = $2 AND epoch = $4::bigint"
 LISTED = "log = ANY($3::bigint[]) AND owner = $2 AND epoch = ($4::bigint[])[array_position($3, log)]"
@@ -99,6 +107,8 @@ def statement(parts: tuple[str, ...], form: str = "jsonb", alone: bool = False) 
         kept = "SELECT log FROM kept UNION ALL SELECT log FROM born"
     texts.append(f"mine AS MATERIALIZED ({kept})")
     texts += [f"{part}_ AS ({PARTS[part].format(rows=rows(part))})" for part in parts if part in PARTS]
+    if "begun" in parts:
+        texts.append(MOVED)
     return f"WITH {', '.join(texts)} SELECT log FROM mine"
 
 
@@ -197,7 +207,7 @@ class Commit:
         yield "emptied", ([(log,)] for log, rare in self.rare if rare.closed)
         yield "answers", ([(log, *answer) for answer in rare.answers] for log, rare in self.rare)
         yield "asked", ([(log, *row, answer) for row, answer in rare.asked] for log, rare in self.rare)
-        yield "begun", ([(log, id) for id in rare.begun] for log, rare in self.rare)
+        yield "begun", ([(log, *one) for one in rare.begun] for log, rare in self.rare)
         yield "notes", ([(clean(note), id) for note, id in rare.notes] for _, rare in self.rare)
         yield "closed", ([(log, *rare.closed)] for log, rare in self.rare if rare.closed)
 

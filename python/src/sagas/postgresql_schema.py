@@ -103,7 +103,17 @@ ENDED = f"""
 CREATE INDEX sagas_planned ON sagas.sagas(id) WHERE {PLANNED};
 """
 
-MIGRATIONS = [FIRST, CLIENTS, REPORTS, PLACES, BETWEEN, ENDED]
+ASKED = """
+-- saga: the id of the saga that it is asked of, and of no later one of its key; null where an older
+-- release asked, which is asked of whichever saga has the key
+ALTER TABLE sagas.requests ADD COLUMN saga bigint;
+
+-- asked: what is asked of a start that no log has yet: a JSON list of lists with id, what, value
+-- and at. It goes with the start, and to `requests` in the commit that opens its saga
+ALTER TABLE sagas.inbox ADD COLUMN asked jsonb NOT NULL DEFAULT '[]';
+"""
+
+MIGRATIONS = [FIRST, CLIENTS, REPORTS, PLACES, BETWEEN, ENDED, ASKED]
 VERSION = len(MIGRATIONS)
 
 

@@ -61,12 +61,23 @@ WHERE log = ? AND (text LIKE ? OR text LIKE ?)
 """
 """All that is kept of a saga, in one statement: a log that is let go meanwhile is there or is not.
 Of the log those chunks that name the saga: a line has its number behind `"saga":`."""
-REQUESTS = "SELECT id, key, what, value FROM requests WHERE answer IS NULL ORDER BY id"
+REQUESTS = """
+SELECT r.id, r.key, r.what, r.value, s.id FROM requests r LEFT JOIN sagas s USING (key)
+WHERE r.answer IS NULL ORDER BY r.id
+"""
+"""Of a file, which forgets with a saga what was asked of its key."""
 
 
 def for_postgresql(query: str, mark: str = "%s") -> str:
     """A query as psycopg and PostgreSQL take it, with a mark for each value."""
     return query.replace(IN_OPEN_LOGS, "").replace("?", mark)
+
+
+def named(query: str, *names: str) -> str:
+    """A query with a word's name, as psycopg takes it, in place of each `?`."""
+    for name in names:
+        query = query.replace("?", f"%({name})s", 1)
+    return query
 
 
 def bounds(log: int) -> tuple[int, int]:

@@ -23,8 +23,8 @@ Freed = tuple[int, int, str, int]
 """id, step, kind, attempt"""
 Told = tuple[str, int]
 """the answer to a request, as JSON, and the request's id"""
-Request = tuple[int, str, str, Optional[str]]
-"""id, key, what, value"""
+Request = tuple[int, str, str, Optional[str], Optional[int]]
+"""id, key, what, value, and the id of the saga that it is asked of, where that is there"""
 Start = tuple[int, str, str, int, str]
 """id, key, saga, version, input"""
 Asked = tuple[str, str, str, float]
@@ -43,8 +43,9 @@ class Rare:
     asked: list[tuple[Asked, str]] = dataclasses.field(default_factory=list)
     """requests that have no row yet, with their answers"""
     notes: list[tuple[str, int]] = dataclasses.field(default_factory=list)
-    begun: list[int] = dataclasses.field(default_factory=list)
-    """starts of clients (`Start`) that are done with"""
+    begun: list[tuple[int, int | None]] = dataclasses.field(default_factory=list)
+    """starts of clients (`Start`) that are done with, each with the saga that it is, which is asked
+    what was asked of the start; None where its key has another saga"""
     settled: list[tuple[str, int]] = dataclasses.field(default_factory=list)
     """attempts that were ordered elsewhere: their tokens, and their log; no report of them is taken any more"""
     closed: tuple[int, str] | None = None

@@ -18,13 +18,35 @@ if TYPE_CHECKING:
     from .store import Store
 
 WITHDRAW = """
-WITH gone AS (DELETE FROM inbox WHERE key = ? AND node IS NULL RETURNING id, key),
-unheard AS (DELETE FROM requests r USING gone WHERE r.key = gone.key AND r.answer IS NULL RETURNING r.id)
-SELECT pg_notify('sagas', 'begun ' || id) FROM gone UNION ALL SELECT pg_notify('sagas', 'answered ' || id) FROM unheard
+WITH gone AS (DELETE FROM inbox WHERE key = ? AND node IS NULL RETURNING id, asked)
+SELECT pg_notify('sagas', 'begun ' || id) FROM gone
+UNION ALL SELECT pg_notify('sagas', 'answered ' || (one ->> 0))
+  FROM gone, jsonb_array_elements(asked) one
 """
 """Takes a client's start back, with what was asked of it; whoever waits for either looks at once. No row where no start has the key, or a node has taken it.
 
 Of one that a node has taken the saga may be in a log in the next moment, though the node is not heard of any more: that is aborted as a saga."""
+WITHDRAW_START = WITHDRAW.replace("key = ?", "id = ?")
+"""The same of this very start."""
+ASK = """
+INSERT INTO requests(key, what, value, at, saga)
+SELECT s.key, ?, ?, extract(epoch FROM now()), s.id FROM sagas s JOIN logs l ON l.log = s.id / 1000
+WHERE s.id = ? FOR KEY SHARE OF l RETURNING id
+"""
+"""Leaves a request for a saga. No row where it is gone: one that is let go meanwhile takes its
+log's row away first, and then what was asked of it."""
+ASK_START = """
+UPDATE inbox SET asked = asked || jsonb_build_array(
+  jsonb_build_array(nextval('requests_id_seq'), ?::text, ?::text, extract(epoch FROM now())))
+WHERE id = ? RETURNING (asked -> -1 ->> 0)::bigint
+"""
+"""Leaves one for a client's start, in its own row. No row where it is gone, or is a saga by now."""
+ANSWER = """
+SELECT r.id IS NOT NULL, r.answer, i.id IS NOT NULL, i.id IS NOT NULL AND i.node IS NULL
+FROM (SELECT) one LEFT JOIN requests r ON r.id = ? LEFT JOIN inbox i ON i.id = ?
+"""
+"""Of a request's id and of the start that it was asked of: whether there is a saga that is asked,
+its answer, and whether the start is there still, and no node has taken it. All is of one moment."""
 
 
 def finish_of(step: str, kind: str, outcome: Outcome) -> dict[str, Any]:
@@ -78,9 +100,10 @@ class Requests:
                 rows = await self._database.requests()
             except StoreUnwritable:
                 return
-            for id, key, what, value in rows:
+            for row in rows:
+                id = row[0]
                 if id not in self._doing:
-                    job = self._doing[id] = self._loop.create_task(self._do(id, key, what, value))
+                    job = self._doing[id] = self._loop.create_task(self._do(*row))
                     job.add_done_callback(functools.partial(self._done, id))
             if not self._again:
                 return
@@ -90,9 +113,9 @@ class Requests:
         if not job.cancelled() and job.exception():
             logger.error("request %d: %r", id, job.exception())
 
-    async def _do(self, id: int, key: str, what: str, value: str | None) -> None:
+    async def _do(self, id: int, key: str, what: str, value: str | None, of: int | None) -> None:
         try:
-            answer = await self._ask(id, key, what, json.loads(value or "null"))
+            answer = await self._ask(id, key, what, json.loads(value or "null"), of)
         except (Closed, Moved):  # the next program, or the node that has the saga, answers
             return
         except SagasError as error:
@@ -103,12 +126,13 @@ class Requests:
         batch.more.answers.append((json.dumps(answer), id))
         self._store._inside.enqueue(batch)
 
-    async def _ask(self, id: int, key: str, what: str, told: Any) -> Any:
+    async def _ask(self, id: int, key: str, what: str, told: Any, of: int | None) -> Any:
         if what == "abort":
-            return await self._store._abort(key, id)
+            return await self._store._abort(key, id, of)
         if what == "finish":
             done = "failed" not in told
             outcome = Outcome("done", values.write(told.get("result"))) if done else failure(str(told["failed"]), final=True)
-            await self._store._finish(key, told["step"], outcome, told.get("kind") == "undo", id)
+            undo = told.get("kind") == "undo"
+            await self._store._finish(key, told["step"], outcome, undo, id, of)
             return True
         raise ValueError(what)

@@ -14,12 +14,15 @@ from typing import Any, Protocol
 
 from . import databases, questions, sqlite
 from .errors import SagasError
-from .requests import WITHDRAW
+from .requests import ANSWER, ASK, ASK_START, WITHDRAW
 from .schema import VERSION
 from .values import cleaned
 
 Row = tuple[Any, ...]
 CANNOT = 4
+LEAVE = """
+INSERT INTO requests(key, what, value, at) SELECT key, ?, ?, ? FROM sagas WHERE id = ? RETURNING id
+"""
 ALONE = 5_777_002
 """The advisory lock of who lets ended sagas go."""
 STARTS = "SELECT key, saga, version, at FROM inbox i WHERE NOT EXISTS (SELECT 1 FROM nodes n WHERE n.node = i.node AND n.lease > now()) ORDER BY id"
@@ -72,8 +75,15 @@ class Source(Protocol):
     def withdraw(self, key: str) -> bool:
         """Takes a start of a client back. False where there is none, or a node has taken it."""
 
-    def is_started(self, key: str) -> bool:
-        """Whether a client's start has the key, and no log yet."""
+    def start_of(self, key: str) -> int | None:
+        """The id of the client's start that has the key, and no log yet."""
+
+    def leave(self, of: int, what: str, value: str) -> int | None:
+        """Leaves a request for the saga with this id, or for a client's start, as of an id below 0.
+        Gives the request's id; None where what is asked is gone."""
+
+    def answer(self, number: int, of: int) -> tuple[bool, str | None]:
+        """Whether a request that was left is there still, and its answer."""
 
     def close(self) -> None:
         """Ends the connection."""
@@ -163,8 +173,16 @@ class File:
     def withdraw(self, key: str) -> bool:
         return False
 
-    def is_started(self, key: str) -> bool:
-        return False
+    def start_of(self, key: str) -> int | None:
+        return None
+
+    def leave(self, of: int, what: str, value: str) -> int | None:
+        rows = self.ask(LEAVE, what, value, time.time(), of)
+        return int(rows[0][0]) if rows else None
+
+    def answer(self, number: int, of: int) -> tuple[bool, str | None]:
+        rows = self.ask("SELECT answer FROM requests WHERE id = ?", number)
+        return bool(rows), rows[0][0] if rows else None
 
     def close(self) -> None:
         self.link.close()
@@ -232,10 +250,29 @@ class Base:
         return self.ask(STARTS) if self.version > 1 else []
 
     def withdraw(self, key: str) -> bool:
-        return self.version > 1 and bool(self.ask(WITHDRAW, key))
+        self._check_new()
+        return bool(self.ask(WITHDRAW, key))
 
-    def is_started(self, key: str) -> bool:
-        return self.version > 1 and bool(self.ask("SELECT 1 FROM inbox WHERE key = ?", key))
+    def start_of(self, key: str) -> int | None:
+        rows = self.ask("SELECT id FROM inbox WHERE key = ?", key) if self.version > 1 else []
+        return int(rows[0][0]) if rows else None
+
+    def leave(self, of: int, what: str, value: str) -> int | None:
+        self._check_new()
+        rows = self.ask(ASK, what, value, of) if of >= 0 else self.ask(ASK_START, what, value, -of)
+        return int(rows[0][0]) if rows else None
+
+    def answer(self, number: int, of: int) -> tuple[bool, str | None]:
+        ((is_asked, answer, is_started, _),) = self.ask(ANSWER, number, -of if of < 0 else None)
+        return is_asked or is_started, answer
+
+    def _check_new(self) -> None:
+        """Raises `Trouble` where what is written needs tables of this version."""
+        from . import postgresql_schema
+
+        if self.version < postgresql_schema.VERSION:
+            older = f"{self.name}: its tables are of version {self.version}"
+            raise Trouble(f"{older}: run `sagas store URL migrate`; nothing was asked", CANNOT)
 
     def close(self) -> None:
         self.link.close()

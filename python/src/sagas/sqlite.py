@@ -390,7 +390,7 @@ class Sqlite(questions.Questions, questions.Rows):
         """None: who starts a saga has the store open."""
         return []
 
-    async def ask(self, key: str, what: str, value: str, token: str | None = None) -> Any:
+    async def ask(self, row: SagaRow, what: str, value: str) -> Any:
         """Nobody else has the sagas of a file."""
         raise NotImplementedError
 

@@ -5,6 +5,7 @@ from __future__ import annotations
 import asyncio
 from typing import TYPE_CHECKING
 
+from . import moving
 from .errors import StoreUnwritable
 from .guarded import logger
 from .records import Start
@@ -69,7 +70,8 @@ class Starts:
             return
         if there and there.id >= 0:
             batch = owner.empty_batch(-1, lambda fault: None)
-            batch.more.begun.append(id)
+            is_same = moving.conflict(key, saga, text, there.saga, there.input) is None
+            batch.more.begun.append((id, there.id if is_same else None))
             owner.enqueue(batch)
             return
         place = owner.shelf.places[saga, version]

@@ -294,7 +294,8 @@ class Store:
         """What is kept of somebody's request."""
         return None if by is None else (key, what, values.write({"by": by, "note": note, **more}), self._inside.clock())
 
-    async def _abort(self, key: str, request: Wanted) -> bool:
+    async def _abort(self, key: str, request: Wanted, of: int | None = None) -> bool:
+        """`of`: the saga's id, where it is asked of that one and no later one of its key."""
         while True:
             inside = self._inside
             live = await self._live(key)
@@ -302,15 +303,17 @@ class Store:
                 await asyncio.shield(self._finding[key])
                 continue
             if live is None:
-                if (await self._row(key)).phase is not None:
+                row = await self._row(key, of)
+                if row.phase is not None:
                     return False
                 if key in inside.lives:
                     continue
-                return bool(await self._elsewhere(key, "abort", None, request))
+                return bool(await self._elsewhere(row, "abort", None, request))
             try:
                 await live.started(inside.loop)
             except KeyConflict:  # it was to be started otherwise than it was
                 continue
+            _check_is(live, of)
             if live.over or live.pump is None:
                 if live.over or inside.lives.get(key) is live:
                     return False
@@ -323,18 +326,19 @@ class Store:
             except Moved:
                 continue
 
-    async def _row(self, key: str) -> SagaRow:
+    async def _row(self, key: str, of: int | None = None) -> SagaRow:
         row = await self._inside.store.find(key)
-        if row is None:
-            raise NoSuchSaga(f"no saga has the key {key!r}")
+        if row is None or (of is not None and row.id != of):
+            which = "" if row is None else " that this was asked of"
+            raise NoSuchSaga(f"no saga has the key {key!r}{which}")
         return row
 
-    async def _elsewhere(self, key: str, what: str, told: Any, request: Wanted) -> Any:
+    async def _elsewhere(self, row: SagaRow, what: str, told: Any, request: Wanted) -> Any:
         """Asks the node that has the saga. What was asked here by a row is that node's to answer."""
         if isinstance(request, int):
-            raise Moved(f"saga {key!r}")
-        answer = await self._inside.store.ask(key, what, values.write(told) if request is None else request[2])
-        return requests.told(answer)
+            raise Moved(f"saga {row.key!r}")
+        value = values.write(told) if request is None else request[2]
+        return requests.told(await self._inside.store.ask(row, what, value))
 
     async def finish(self, key: str, step: Step[Any] | str, result: Any = None, *, failed: str | None = None, undo: bool = False, by: str | None = None, note: str | None = None) -> None:
         """Says how a step ended: an approval, a step done elsewhere (`handler=None`), a wait, or one of which nobody knows.
@@ -349,17 +353,28 @@ class Store:
         asked = self._asked(key, "finish", by, note, step=name, kind="undo" if undo else "run", **said)
         await self._finish(key, name, outcome, undo, asked)
 
-    async def _finish(self, key: str, step: str, outcome: Outcome, undo: bool, request: Wanted) -> None:
+    async def _finish(
+        self, key: str, step: str, outcome: Outcome, undo: bool, request: Wanted,
+        of: int | None = None,
+    ) -> None:  # fmt: skip
+        """`of`: as of `_abort`."""
         kind = "undo" if undo else "run"
         while True:
             live = await self._live(key)
             if live is None:
-                if (await self._row(key)).phase is not None:
+                row = await self._row(key, of)
+                if row.phase is not None:
                     raise NotWaiting(f"saga {key!r} is over")
                 if key not in self._inside.lives:
-                    await self._elsewhere(key, "finish", requests.finish_of(step, kind, outcome), request)
+                    told = requests.finish_of(step, kind, outcome)
+                    await self._elsewhere(row, "finish", told, request)
                     return
                 continue
+            if of is not None and not live.committed:
+                with contextlib.suppress(SagasError):  # its start hears of it
+                    await live.started(self._inside.loop)
+                continue
+            _check_is(live, of)
             try:
                 await self._finish_here(await self._begun(live, step, kind), outcome, request)
                 return
@@ -523,3 +538,7 @@ class Store:
         return await auditing.all_logs(self._here())
 
 
+def _check_is(live: Live, of: int | None) -> None:
+    """Raises `NoSuchSaga` where something was asked of the saga with that id, and not of this."""
+    if of is not None and (live.pump is None or live.id != of):
+        raise NoSuchSaga(f"no saga has the key {live.key!r} that this was asked of")

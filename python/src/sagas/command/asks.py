@@ -23,33 +23,42 @@ WITHDRAWN = "withdrawn"
 def ask(path: str, key: str, what: str, value: Any, patience: float) -> tuple[Any, bool]:
     """Leaves a request in the store; gives the answer of the program that has the saga, or None where none has come yet, and whether a program has the store."""
     with sources.writing(path) as link:
-        if not is_there(link, key, what, value):
+        of = what_is_asked(link, key, what, value)
+        if of is None:
             return WITHDRAWN, True
-        row = (key, what, json.dumps(value), time.time())
-        ((number,),) = link.ask("INSERT INTO requests(key, what, value, at) VALUES(?, ?, ?, ?) RETURNING id", *row)
+        number = link.leave(of, what, json.dumps(value))
+        if number is None and of < 0:  # it is a saga by now
+            of = what_is_asked(link, key, what, value) or of
+            number = link.leave(of, what, json.dumps(value))
+        if number is None:
+            raise gone(key)
         link.tell("requests")
         driven = link.is_driven()
         until = time.monotonic() + (patience if driven else 0.0)
         while True:
-            rows = link.ask("SELECT answer FROM requests WHERE id = ?", number)
-            if not rows:
-                raise Trouble(f"no saga has the key {key}: it was let go")
-            ((answer,),) = rows
+            is_there, answer = link.answer(number, of)
+            if not is_there:
+                raise gone(key)
             if answer is not None or time.monotonic() >= until:
                 return parsed(answer), driven
             time.sleep(0.02)  # SQLite tells another process of a commit only when it looks
 
 
-def is_there(link: sources.Source, key: str, what: str, value: Any) -> bool:
-    """Whether there is a saga to ask about. False: it was a client's start, which no node had taken, and is withdrawn. Raises `Trouble` where nothing can be asked."""
+def gone(key: str) -> Trouble:
+    """What is said where the saga goes while it is asked."""
+    return Trouble(f"no saga has the key {key}: it was let go")
+
+
+def what_is_asked(link: sources.Source, key: str, what: str, value: Any) -> int | None:
+    """The id of the saga that is asked; below 0 that of a client's start. None: that start, which
+    no node had taken, is withdrawn. Raises `Trouble` where nothing can be asked."""
     asked = "SELECT id, phase FROM sagas WHERE key = ?"
     found = link.ask(asked, key)
     if not found and what == "abort":
         if link.withdraw(key):
-            return False
-        found = link.ask(asked, key)
-        if not found and link.is_started(key):  # a node has just taken it, and does what it is asked once it has begun
-            return True
+            return None
+        start = link.start_of(key)  # its node does what it is asked once it has begun
+        found = link.ask(asked, key) or ([(-start, None)] if start else [])
     if not found:
         raise link.absent(key)
     ((id, phase),) = found
@@ -57,7 +66,7 @@ def is_there(link: sources.Source, key: str, what: str, value: Any) -> bool:
         raise Trouble(f"{key} is over: it is {phase}, and nothing is left to {what}")
     if what == "finish":
         check_step(link, key, id, value["step"])
-    return True
+    return int(id)
 
 
 def check_step(link: sources.Source, key: str, id: int, step: str) -> None:

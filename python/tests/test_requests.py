@@ -1,0 +1,224 @@
+"""A request is done to the saga that it was asked of, and to no later one of its key."""
+
+from __future__ import annotations
+
+import asyncio
+from collections.abc import Iterator
+from typing import Any
+
+import psycopg
+import pytest
+
+import sagas
+from cases import Task, run, until
+from sagas import command
+
+
+BLOCKED = "SELECT count(*) FROM pg_locks WHERE NOT granted"
+
+
+def signed() -> sagas.Saga:
+    """One step, which waits for an approval."""
+    signed = sagas.Saga("signed")
+
+    @signed.approval
+    def sign(task: Task) -> None: ...
+
+    return signed
+
+
+@pytest.fixture
+def kind(url: str) -> sagas.Saga:
+    """A saga whose store has its tables, and no node."""
+
+    async def made() -> None:
+        async with sagas.open(url, [kind]):
+            pass
+
+    kind = signed()
+    run(made())
+    return kind
+
+
+@pytest.fixture
+def link(url: str) -> Iterator[psycopg.Connection[Any]]:
+    """A stranger's connection, which commits each statement."""
+    with psycopg.connect(url, autocommit=True, options="-c search_path=sagas") as link:
+        yield link
+
+
+def one(link: psycopg.Connection[Any], text: str) -> Any:
+    """The one value of a query."""
+    row = link.execute(text.encode()).fetchone()
+    assert row
+    return row[0]
+
+
+def asked(link: psycopg.Connection[Any]) -> int:
+    """How many requests nobody has answered."""
+    of_sagas = "SELECT count(*) FROM requests WHERE answer IS NULL"
+    of_starts = "SELECT coalesce(sum(jsonb_array_length(asked)), 0) FROM inbox"
+    return int(one(link, of_sagas) + one(link, of_starts))
+
+
+async def waits_for_a_person(url: str, store: sagas.Store, key: str) -> None:
+    """The saga is asked for, and nothing that was asked before is done to it."""
+    await until(lambda: [held.waits for held in store.begun(key)] == ["approval"], 30)
+    await store.finish(key, "sign", "by hand")
+    end = await store.wait(key)
+    assert end.ok and end.results == {"sign": "by hand"} and not end.aborted
+
+
+@pytest.mark.parametrize("same", [True, False])
+@pytest.mark.parametrize("what", ["finish", "abort"])
+@pytest.mark.parametrize("by", ["client", "node"])
+def test_who_asked_is_gone_when_another_saga_has_the_key(
+    url: str, link: psycopg.Connection[Any], kind: sagas.Saga, by: str, what: str, same: bool
+) -> None:
+    """What was asked of a start is on its way to the server; the start is withdrawn, who asked is
+    cancelled, and another start has the key: nothing is done to that one."""
+    other = sagas.Saga("other")
+
+    @other.step
+    def x(task: Task) -> int:
+        return 1
+
+    async def ask(who: sagas.Client | sagas.Store) -> None:
+        await (who.finish("k", "sign", "asked before") if what == "finish" else who.abort("k"))
+
+    async def main() -> None:
+        stranger = await psycopg.AsyncConnection.connect(url, options="-c search_path=sagas")
+        async with sagas.Client(url) as client, sagas.open(url, [other]) as store, stranger:
+            await client.start(kind, "k", "first")
+            link.execute("UPDATE inbox SET node = (SELECT node FROM nodes)")  # it is not taken back
+            await stranger.execute("LOCK TABLE requests, inbox IN EXCLUSIVE MODE")
+            asking = asyncio.create_task(ask(client if by == "client" else store))
+            await until(lambda: one(link, BLOCKED))
+            await stranger.execute("DELETE FROM inbox")
+            await client.start(kind, "k", "first" if same else "second", connection=stranger)
+            asking.cancel()
+            await asyncio.wait([asking])
+            await stranger.commit()
+            async with sagas.open(url, [kind]) as node:
+                await until(lambda: one(link, "SELECT count(*) FROM sagas"), 30)
+                await waits_for_a_person(url, node, "k")
+        assert asked(link) == 0
+
+    run(main())
+
+
+def test_a_start_of_the_same_key_is_not_taken_back(
+    url: str, link: psycopg.Connection[Any], kind: sagas.Saga
+) -> None:
+    """An abort waits for the node that has taken the start. That start is let go, and another one
+    has the key, which no node has taken: it stays."""
+
+    async def main() -> None:
+        async with sagas.Client(url) as client:
+            await client.start(kind, "k", "first")
+            link.execute("UPDATE inbox SET node = 'gone'")
+            abort = asyncio.create_task(client.abort("k"))
+            await until(lambda: asked(link))
+            async with await psycopg.AsyncConnection.connect(url) as stranger:
+                await stranger.execute("DELETE FROM sagas.inbox")
+                await client.start(kind, "k", "second", connection=stranger)
+            with pytest.raises(sagas.NoSuchSaga):
+                async with asyncio.timeout(60):
+                    await abort
+            assert one(link, "SELECT input FROM inbox") == '"second"'
+
+    run(main())
+
+
+@pytest.mark.parametrize("what", ["finish", "abort"])
+def test_what_is_asked_of_a_start_is_asked_of_its_saga(
+    url: str, link: psycopg.Connection[Any], kind: sagas.Saga, what: str
+) -> None:
+    """Who asked is gone before a node comes; it is done all the same, once."""
+
+    async def main() -> None:
+        async with sagas.Client(url) as client:
+            await client.start(kind, "k")
+            link.execute("UPDATE inbox SET node = 'gone'")
+            done = client.finish("k", "sign", "yes") if what == "finish" else client.abort("k")
+            asking = asyncio.create_task(done)
+            await until(lambda: asked(link))
+            asking.cancel()
+            async with sagas.open(url, [kind]) as store, asyncio.timeout(60):
+                end = await store.wait("k")
+                assert end.aborted if what == "abort" else end.results == {"sign": "yes"}
+        assert asked(link) == 0 and one(link, "SELECT count(*) FROM requests") == 1
+
+    run(main())
+
+
+def test_what_is_asked_while_a_start_is_opened(
+    url: str, link: psycopg.Connection[Any], kind: sagas.Saga
+) -> None:
+    """A node's commit opens the saga, and what is asked meanwhile waits for that commit: it is
+    asked of the saga, and answered."""
+
+    async def main() -> None:
+        async with sagas.Client(url) as client, sagas.open(url, [kind]) as store:
+            stranger = await psycopg.AsyncConnection.connect(url, options="-c search_path=sagas")
+            async with stranger:
+                await stranger.execute("LOCK TABLE lines IN EXCLUSIVE MODE")  # of the commit
+                await client.start(kind, "k")
+                await until(lambda: one(link, BLOCKED))
+                finish = asyncio.create_task(client.finish("k", "sign", "yes"))
+                await until(lambda: finish.done() or asked(link))
+                await stranger.commit()
+                async with asyncio.timeout(60):
+                    await finish
+            assert (await store.wait("k")).results == {"sign": "yes"}
+
+    run(main())
+
+
+def test_what_was_asked_of_a_saga_that_is_gone(
+    url: str, link: psycopg.Connection[Any], kind: sagas.Saga
+) -> None:
+    """It is done to no other saga of its key, and goes with its own."""
+    text = "INSERT INTO requests(key, what, value, at, saga) VALUES ('k', 'abort', 'null', 0, 5000)"
+
+    async def main() -> None:
+        async with sagas.open(url, [kind]) as store:
+            await store.start(kind, "k")
+            link.execute(text)
+            await asyncio.to_thread(command.main, [url, "abort", "nobody"])  # the nodes hear of it
+            await waits_for_a_person(url, store, "k")
+            with pytest.raises(sagas.NoSuchSaga):
+                await store._abort("k", None, of=5000)
+            with pytest.raises(sagas.NoSuchSaga):
+                await store._finish("k", "sign", sagas.calling.done("x"), False, None, of=5000)
+
+    run(main())
+
+
+def test_who_asks_of_a_saga_that_is_let_go(
+    url: str, link: psycopg.Connection[Any], kind: sagas.Saga
+) -> None:
+    """The saga goes while something is asked of it: nothing of that is left, and a saga that has
+    the key by then is not asked."""
+
+    async def main() -> None:
+        async with sagas.open(url, [kind]) as store:
+            await store.start(kind, "k")
+        async with sagas.Client(url) as client:
+            stranger = await psycopg.AsyncConnection.connect(url, options="-c search_path=sagas")
+            async with stranger:
+                await stranger.execute("DELETE FROM logs")
+                finish = asyncio.create_task(client.finish("k", "sign", "yes"))
+                await until(lambda: one(link, BLOCKED))
+                await stranger.execute("DELETE FROM requests")
+                await stranger.execute("DELETE FROM sagas")
+                await client.start(kind, "k", "second", connection=stranger)
+                finish.cancel()
+                await asyncio.wait([finish])
+                await stranger.commit()
+            async with sagas.open(url, [kind]) as other:
+                await until(lambda: one(link, "SELECT count(*) FROM sagas"))
+                await waits_for_a_person(url, other, "k")
+        assert asked(link) == 0
+
+    run(main())
