@@ -136,7 +136,8 @@ class Answers:
         if attempt.request is not None:
             batch.answer(attempt.request, "true")
         if attempt.is_remote:
-            batch.more.settled.append((attempt.token(), self.log))
+            came = "done" if attempt.outcome and attempt.outcome.kind == "done" else None
+            batch.more.settled.append((attempt.token(), self.log, came))
 
     def _told_otherwise(self, attempt: Attempt, outcome: Outcome, event: str) -> None:
         """It is undone, or has failed or was missed."""

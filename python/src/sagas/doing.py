@@ -18,7 +18,7 @@ from . import calling, remote
 from .callers import Callers
 from .calling import Outcome
 from .definition import Manner, Step
-from .errors import Fail, Lost
+from .errors import Closed, Fail, Lost, NotWaiting, SagasError
 from .fleet import Fleet, Gate
 from .forks import private
 from .guarded import logger
@@ -62,6 +62,7 @@ class Doing:
         self.inside = Callers(self._begins, self._called_inside, self._done, self._held_loop, owner.lot, owner.lets, owner.store.inside)
         self._holders: set[tuple[str, str, str]] = set()  # functions of which was told that they hold the loop
         self.running: set[Attempt] = set()
+        self._doubted: set[Attempt] = set()  # it is looked for what their workers reported
         self.closing = False
 
     def about_to_call(self) -> int:
@@ -109,7 +110,7 @@ class Doing:
     def begin_again(self, attempt: Attempt) -> None:
         """It is busy in a log that was taken up: it is under way here, or an earlier program had begun it."""
         if attempt.state == "done":
-            self._report(attempt)
+            self._report_again(attempt)
         elif attempt.pending and attempt.state != "running":
             why, until = attempt.pending[:2]
             self._put_row(attempt, *attempt.pending)
@@ -125,6 +126,7 @@ class Doing:
             until = attempt.until
             if until is None:
                 attempt.state = "held"
+                self._watch(attempt)
             else:
                 self._hold(attempt, "unknown", until)
         elif attempt.why == "wait" and attempt.until == 0:
@@ -439,11 +441,26 @@ class Doing:
         self._put_row(attempt, "unknown", until, error=outcome.value)
         self._hold(attempt, "unknown", until)
         if manner.run_on:
-            self.owner.reports.watch(attempt.token(), lambda outcome: self._late(attempt, outcome))
+            self._listen(attempt)
+
+    def _listen(self, attempt: Attempt) -> None:
+        """Takes the report of an attempt of which nobody knew, whenever that comes."""
+        self.owner.reports.watch(attempt.token(), lambda outcome: self._late(attempt, outcome))
+
+    def _watch(self, attempt: Attempt) -> None:
+        """As `_listen`, of one that an earlier program had: its report may be there."""
+        if attempt.is_remote:
+            self._listen(attempt)
+            self.owner.spawn(self.owner.reports.find(attempt.token()))
 
     def _late(self, attempt: Attempt, outcome: Outcome) -> None:
-        """The report of an attempt of which nobody knew. One that comes before that is in the store is found at the next call."""
-        if attempt.state == "held" and attempt.why == "unknown" and not attempt.pending:
+        """The report of an attempt of which nobody knew. One that comes before that is in the store
+        is looked for again once it is."""
+        if attempt.state != "held" or attempt.why != "unknown":
+            return
+        if attempt.pending:
+            self._listen(attempt)
+        else:
             self.outcome(attempt, outcome)
 
     def is_asked(self, attempt: Attempt) -> bool:
@@ -484,6 +501,42 @@ class Doing:
         assert pump
         pump.reports[attempt] = None
         pump.poke(now)
+
+    def _report_again(self, attempt: Attempt) -> None:
+        """Its report was not kept. If it is not *done*, its worker may have reported that, which is
+        why it was not kept: that is looked for first."""
+        outcome = attempt.outcome
+        if not attempt.is_remote or (outcome and outcome.kind == "done"):
+            self._report(attempt)
+        elif attempt not in self._doubted:
+            self._doubted.add(attempt)
+            self.owner.spawn(self._report_what_was_done(attempt))
+
+    async def _report_what_was_done(self, attempt: Attempt) -> None:
+        """Its worker's *done* counts, and whoever said otherwise hears so."""
+        try:
+            done = await self.owner.reports.find_done(attempt.token())
+        except asyncio.CancelledError:  # the store is closed
+            self._refuse(attempt, self.owner.closed or Closed(str(self.owner.store.path)))
+            raise
+        finally:
+            self._doubted.discard(attempt)
+        pump = attempt.live.pump
+        is_gone = pump is None or pump.state in ("stale", "loading", "closed")  # it comes again
+        if is_gone or attempt.live.busy.get(attempt.word) is not attempt:
+            return
+        if done:
+            where = f"saga {attempt.live.key!r}, step {attempt.name!r}"
+            self._refuse(attempt, NotWaiting(f"{where}: its worker has reported that it is done"))
+            attempt.outcome = done
+        self._report(attempt)
+
+    def _refuse(self, attempt: Attempt, error: SagasError) -> None:
+        """Whoever said how it ended hears that this does not count."""
+        told, attempt.told, attempt.request = attempt.told, None, None
+        if told and not told.done():
+            told.set_exception(error)
+            told.exception()  # whoever said it may be gone
 
     def reported(self, attempts: Sequence[Attempt]) -> None:
         """Their reports are in the store, each with its event."""

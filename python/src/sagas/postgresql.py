@@ -463,9 +463,9 @@ def _gone(row: SagaRow) -> NoSuchSaga:
 
 
 async def _leave(asker: links.Asker, row: SagaRow, what: str, value: str) -> tuple[SagaRow, int]:
-    """Leaves a request for a saga, or for a start. A start that is gone in this moment may be a saga
-    by now: that is looked for, and taken for it where it is one of its name and input. Gives what
-    is asked, and the request's id. Raises `NoSuchSaga`."""
+    """Leaves a request for a saga, or for a start. A start that is gone in this moment may be a
+    saga by now: that is looked for, and taken for it where it is one of its name and input. Gives
+    what is asked, and the request's id. Raises `NoSuchSaga`."""
     while True:
         text, id = (ASK, row.id) if row.id >= 0 else (ASK_START, -row.id)
         rows = await asker.ask(text, what=what, value=value, id=id)

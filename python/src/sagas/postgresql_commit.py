@@ -31,7 +31,7 @@ ROWS = {
     "ended": 'phase text, "end" text, ended double precision, id bigint',
     "held": "id bigint, step integer, kind text, attempt integer, why text, count bigint, since double precision, until double precision, error text",
     "freed": "id bigint, step integer, kind text, attempt integer",
-    "settled": "token text, log bigint",
+    "settled": "token text, log bigint, came text",
     "emptied": "log bigint",
     "answers": "log bigint, answer text, id bigint",
     "asked": "log bigint, key text, what text, value text, at double precision, answer text",
@@ -55,8 +55,10 @@ PARTS = {
     "held": f"INSERT INTO held SELECT v.* FROM {{rows}} {OF_LOG} ON CONFLICT (id, step, kind, attempt) DO UPDATE "
     "SET why = excluded.why, count = excluded.count, since = excluded.since, until = excluded.until, error = excluded.error",
     "freed": f"DELETE FROM held USING {{rows}} {OF_LOG} WHERE held.id = v.id AND held.step = v.step AND held.kind = v.kind AND held.attempt <= v.attempt",
-    "settled": "INSERT INTO reports(token, log, outcome) SELECT v.token, v.log, 'taken' FROM {rows} JOIN mine USING (log) "
-    "ON CONFLICT (token) DO UPDATE SET outcome = 'taken', value = NULL",
+    "settled": "INSERT INTO reports(token, log, outcome, sending) "
+    "SELECT v.token, v.log, 'taken', v.came FROM {rows} JOIN mine USING (log) "
+    "ON CONFLICT (token) DO UPDATE SET value = NULL, outcome = "
+    "CASE WHEN reports.outcome <> 'done' OR excluded.sending = 'done' THEN 'taken' END",
     "emptied": "DELETE FROM reports USING {rows} JOIN mine USING (log) WHERE reports.log = v.log",
     "answers": f"UPDATE requests SET answer = v.answer FROM {{rows}} WHERE requests.id = v.id AND requests.answer IS NULL AND {FREE}",
     "asked": f"INSERT INTO requests(key, what, value, at, answer) SELECT v.key, v.what, v.value, v.at, v.answer FROM {{rows}} WHERE {FREE}",
@@ -65,7 +67,10 @@ PARTS = {
     "notes": "UPDATE sagas SET note = v.note FROM {rows} WHERE sagas.id = v.id",
     "closed": "UPDATE logs SET closed = v.closed, audit = v.audit FROM {rows} JOIN mine USING (log) WHERE logs.log = v.log",
 }
-"""What becomes of them."""
+"""What becomes of them.
+
+`settled`: a worker's *done* gives way to nothing else. Its outcome would be null, which is refused,
+and with it all of the statement: also where the worker's transaction was open as this began."""
 
 MOVED = """
 moved AS (INSERT INTO requests(id, key, what, value, at, saga) OVERRIDING SYSTEM VALUE
@@ -73,7 +78,7 @@ moved AS (INSERT INTO requests(id, key, what, value, at, saga) OVERRIDING SYSTEM
   FROM begun_, jsonb_array_elements(asked) one WHERE saga IS NOT NULL
   RETURNING pg_notify('sagas', 'requests'))"""
 """What was asked of a start is asked of its saga. As the row that goes away has it in the end: a
-part of the statement that looked for rows would not see what was asked since the statement began."""
+part of the statement that looked for rows would not see what was asked since it began."""
 KEPT = "SELECT log FROM logs WHERE {mine}{free} FOR SHARE"
 ALONE = "log = $3::bigint AND owner = $2 AND epoch = $4::bigint"
 LISTED = "log = ANY($3::bigint[]) AND owner = $2 AND epoch = ($4::bigint[])[array_position($3, log)]"

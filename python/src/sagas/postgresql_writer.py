@@ -19,6 +19,9 @@ from .records import Batch
 from .wire import Values, Wire
 
 NONE: frozenset[int] = frozenset()
+OF_ONE = (errors.UniqueViolation, errors.NotNullViolation)
+"""What the server refuses because of one log: another has one of its keys or wrote it before, or a
+worker has reported *done* of an attempt that came to something else."""
 Came = Callable[[frozenset[int], Optional[Exception]], object]
 """What is called with the logs that are not this node's, or with what kept all from being written."""
 
@@ -118,7 +121,7 @@ class Writer:
     def _read(self, commit: Commit, rows: list[Values], fault: Exception | None, began: float) -> tuple[frozenset[int], Exception | None]:
         self.takes += (time.monotonic() - began - self.takes) / 8
         if fault is not None:
-            if not isinstance(fault, errors.UniqueViolation):
+            if not isinstance(fault, OF_ONE):
                 self.cut()
             return NONE, fault
         mine = {int(log) for (log,) in rows if log is not None}
@@ -132,7 +135,7 @@ class Writer:
         self._kept(commit)
 
     def _came(self, batches: Sequence[Batch], then: Then, lost: frozenset[int], fault: Exception | None) -> None:
-        if isinstance(fault, errors.UniqueViolation):
+        if isinstance(fault, OF_ONE):
             self._spawn(self._one_by_one(batches, then))
         else:
             self._over(batches, then, fault and self._told(fault), lost)
@@ -140,7 +143,7 @@ class Writer:
     # -- one statement for each log
 
     async def _one_by_one(self, batches: Sequence[Batch], then: Then) -> None:
-        """Another node has a key of one of them, or wrote a log before: the others are written."""
+        """One of them cannot be written (`OF_ONE`): the others are."""
         lost: set[int] = set()
         fault: Exception | None = None
         try:
@@ -166,7 +169,7 @@ class Writer:
         lost, fault = await future
         if fault is None:
             return lost
-        if isinstance(fault, errors.UniqueViolation):
+        if isinstance(fault, OF_ONE):
             return frozenset({log})
         raise self._told(fault)
 

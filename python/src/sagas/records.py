@@ -46,8 +46,10 @@ class Rare:
     begun: list[tuple[int, int | None]] = dataclasses.field(default_factory=list)
     """starts of clients (`Start`) that are done with, each with the saga that it is, which is asked
     what was asked of the start; None where its key has another saga"""
-    settled: list[tuple[str, int]] = dataclasses.field(default_factory=list)
-    """attempts that were ordered elsewhere: their tokens, and their log; no report of them is taken any more"""
+    settled: list[tuple[str, int, str | None]] = dataclasses.field(default_factory=list)
+    """attempts that were ordered elsewhere: their tokens, their log, and `done` where that is what
+    they came to. No report of them is taken any more. Where it is None, and a worker has reported
+    *done* before, nothing of the log is written: what it did stands"""
     closed: tuple[int, str] | None = None
 
 

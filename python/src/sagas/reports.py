@@ -118,17 +118,24 @@ class Reports:
 
     async def find(self, token: str) -> None:
         """Looks for a report that came before anybody waited; asks until the store answers."""
+        if report := await self._look(token):
+            self._heard(report)
+
+    async def find_done(self, token: str) -> Outcome | None:
+        """A worker's report of this token, where that is *done*; asks until the store answers."""
+        report = await self._look(token)
+        is_done = report is not None and report.outcome == "done"
+        return Outcome("done", report.value) if report and is_done else None
+
+    async def _look(self, token: str) -> Report | None:
         assert self._inbox
         pause = FIRST_PAUSE
         while True:
             try:
-                report = await self._inbox.find(token)
-                break
+                return await self._inbox.find(token)
             except StoreUnwritable:
                 await asyncio.sleep(pause)
                 pause = min(MOST_PAUSE, 2 * pause)
-        if report:
-            self._heard(report)
 
     def _heard(self, report: Report) -> None:
         waiting = self._waiting.get(report.token)

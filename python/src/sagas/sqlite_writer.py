@@ -48,7 +48,13 @@ LINES = "INSERT INTO lines VALUES(?, ?, ?, ?)"
 OPENED = "INSERT INTO sagas(id, key, saga, def, input, at) VALUES {}"
 RESULTS = "INSERT INTO results VALUES {}"
 ENDED = "UPDATE sagas SET phase = ?, end = ?, ended = ? WHERE id IN ({})"
-SETTLED = "INSERT INTO reports(token, log, outcome) VALUES(?, ?, 'taken') ON CONFLICT(token) DO UPDATE SET outcome = 'taken', value = NULL"
+SETTLED = """
+INSERT INTO reports(token, log, outcome, sending) VALUES(?, ?, 'taken', ?)
+ON CONFLICT(token) DO UPDATE SET value = NULL,
+outcome = CASE WHEN reports.outcome <> 'done' OR excluded.sending = 'done' THEN 'taken' END
+"""
+"""A worker's *done* gives way to nothing else: its outcome would be null, which is refused."""
+DONE = "SELECT 1 FROM reports WHERE token = ? AND outcome = 'done'"
 
 
 class Gap(Exception):
@@ -197,16 +203,25 @@ class Writer:
             raise
 
     def _put_those_that_may(self, batches: Sequence[Batch], patient: bool) -> Put:
-        """Begins a transaction, with the rows of all logs but those that guessed wrong (`Batch.guessed`)."""
+        """Begins a transaction, with the rows of all logs but those that guessed wrong
+        (`Batch.guessed`), or have an attempt that a worker reported otherwise (`Rare.settled`)."""
         self._begin_anew(patient)
         try:
             return self._put_rows(batches, has_usual=False), NONE
         except sqlite3.IntegrityError:
             self._begin_anew(patient)
-            lost = frozenset(batch.log for batch in batches if any(map(self._has, batch.guessed)))
+            lost = frozenset(batch.log for batch in batches if self._is_refused(batch))
             if not lost:
                 raise
             return self._put_rows([batch for batch in batches if batch.log not in lost], has_usual=False), lost
+
+    def _is_refused(self, batch: Batch) -> bool:
+        """Whether a saga has a key that it guessed to be free, or a worker has reported *done* of
+        an attempt that came to something else."""
+        settled = batch.rare.settled if batch.rare else []
+        tokens = [token for token, _, came in settled if came is None]
+        is_done = (self._db.execute(DONE, (token,)).fetchone() for token in tokens)
+        return any(map(self._has, batch.guessed)) or any(is_done)
 
     def _has(self, key: str) -> bool:
         """Whether a saga has the key."""
