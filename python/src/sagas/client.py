@@ -7,7 +7,7 @@ import json
 from collections.abc import Coroutine
 from types import TracebackType
 from typing import TYPE_CHECKING, Any
-from weakref import WeakSet
+from weakref import WeakKeyDictionary, WeakSet
 
 import psycopg
 
@@ -17,7 +17,7 @@ from .databases import FORM
 from .definition import Saga, Step
 from .errors import Closed, NoSuchSaga, NotWaiting, StoreFault, StoreUnwritable, TooLarge
 from .forks import Opened
-from .kinds import Kind, version_of
+from .kinds import Kind, digest_of, version_of
 from .plans import Plan
 from .records import Known, SagaRow
 from .runs import End, LogEvent, Summary
@@ -29,29 +29,45 @@ if TYPE_CHECKING:
 Connection = psycopg.AsyncConnection[Any]
 
 START = """
-WITH given AS (SELECT %(key)s::text AS key, %(saga)s::text AS saga, %(version)s::integer AS version, %(input)s::text AS input),
+WITH given AS (SELECT %(key)s::text AS key, %(saga)s::text AS saga, %(version)s::integer AS version,
+  %(input)s::text AS input, %(digest)s::text AS digest),
 told AS (SELECT pg_notify('sagas', 'starts'))
-INSERT INTO sagas.inbox(key, saga, version, input, at) SELECT key, saga, version, input, extract(epoch FROM clock_timestamp()) FROM given, told
+INSERT INTO sagas.inbox(key, saga, version, input, digest, at)
+SELECT key, saga, version, input, digest, extract(epoch FROM clock_timestamp()) FROM given, told
 ON CONFLICT (key) DO NOTHING RETURNING id
 """
 THERE = """
-SELECT saga, input FROM sagas.sagas WHERE key = %(key)s
-UNION ALL SELECT saga, input FROM sagas.inbox WHERE key = %(key)s AND id <> ALL(%(own)s::bigint[])
+SELECT saga, input, NULL::text FROM sagas.sagas WHERE key = %(key)s
+UNION ALL SELECT saga, input, digest FROM sagas.inbox
+WHERE key = %(key)s AND id <> ALL(%(own)s::bigint[])
 """
 WAITS = "SELECT step, kind, why, until FROM held WHERE id = ? ORDER BY since"
+RENEW = """
+WITH told AS (SELECT pg_notify('sagas', 'starts'))
+UPDATE sagas.inbox SET digest = %(digest)s FROM told
+WHERE key = %(key)s AND version = %(version)s AND node IS NULL RETURNING id
+"""
+"""A start that no node has taken has the definition of who starts it last."""
+LEFT_BY = f"SELECT i.version, {questions.OTHERS} FROM inbox i WHERE i.id = %(id)s"
 BACK = "DELETE FROM sagas.inbox WHERE id = ANY(%(own)s::bigint[])"
 
 
-def start_words(saga: Saga, key: str, input: Any) -> dict[str, Any]:
+def start_words(saga: Saga, key: str, input: Any, digest: str | None) -> dict[str, Any]:
     """What a start writes."""
-    faults.check_given(saga)
     checks.key(key)
-    return {"key": key, "saga": saga.name, "version": saga.version, "input": values.write(input, "input")}
+    about = {"key": key, "saga": saga.name, "version": saga.version, "digest": digest}
+    return about | {"input": values.write(input, "input")}
+
+
+def is_renewed(words: dict[str, Any], rows: builtins.list[Row]) -> bool:
+    """Whether the start that is there is of another definition than this one of the same key."""
+    digest = words["digest"]
+    return digest is not None and any(there not in (None, digest) for _, _, there in rows)
 
 
 def check_same(words: dict[str, Any], rows: builtins.list[Row]) -> None:
     """Raises `KeyConflict` where another saga or input has the key."""
-    for saga, text in rows:
+    for saga, text, *_ in rows:
         error = moving.conflict(words["key"], words["saga"], words["input"], saga, text)
         if error:
             raise error
@@ -110,6 +126,7 @@ class Client:
         self._news: news.News | None = None
         self._kinds: dict[str, Kind] = {}
         self._sagas: dict[tuple[str, int], Saga] = {}
+        self._digests: WeakKeyDictionary[Saga, str | None] = WeakKeyDictionary()
         self._checked: WeakSet[given.Given] = WeakSet()
         """connections that were given, and are to the store's database"""
 
@@ -175,7 +192,7 @@ class Client:
         self._heard
         if connection is not None:
             given.check_kind(connection, plain=False)
-        words, unfit = start_words(saga, key, input), room.unfit(saga)
+        words, unfit = start_words(saga, key, input, self._digest_of(saga)), room.unfit(saga)
         self._sagas[saga.name, saga.version] = saga
         if connection is not None:
             new = await self._start_within(connection, words, unfit)
@@ -184,6 +201,14 @@ class Client:
                 async with self._asker.pool.connection() as link, link.transaction():
                     new = await _start(link, words, unfit)
         return ClientRun(self, key, words, new)
+
+    def _digest_of(self, saga: Saga) -> str | None:
+        """Of its definition, which is whole by now. None of one without steps: it says only which
+        saga is meant."""
+        faults.check_given(saga)
+        if saga not in self._digests:
+            self._digests[saga] = digest_of(saga.toml()) if saga.steps else None
+        return self._digests[saga]
 
     async def _start_within(self, connection: Connection, words: dict[str, Any], unfit: TooLarge | None) -> bool:
         """A start in the transaction that is open there."""
@@ -273,7 +298,9 @@ class Client:
         """What a saga waits for, in words, as far as the database knows: who runs is not in it. Raises `NoSuchSaga`."""
         row = await self._row(key)
         if row.id < 0:
-            return [waiting.NOT_BEGUN]
+            left = await self._ask(LEFT_BY, id=-row.id)
+            is_left = left and left[0][1]
+            return [waiting.left_by(row.saga, *left[0]) if is_left else waiting.NOT_BEGUN]
         rows = await self._read(WAITS, row.id)
         if not rows:
             return []
@@ -332,6 +359,8 @@ async def _start(link: Connection, words: dict[str, Any], unfit: TooLarge | None
     if rows and own:
         await psycopg.AsyncCursor(link).execute(BACK, {"own": [id for (id,) in own]})
     check_start(words, rows, unfit)
+    if is_renewed(words, rows):
+        await given.rows(link, RENEW, words)
     return bool(own) and not rows
 
 
@@ -342,5 +371,6 @@ def start_now(link: psycopg.Connection[Any], words: dict[str, Any], unfit: TooLa
     if rows and own:
         psycopg.Cursor(link).execute(BACK, {"own": [id for (id,) in own]})
     check_start(words, rows, unfit)
+    if is_renewed(words, rows):
+        given.rows_now(link, RENEW, words)
     return bool(own) and not rows
-

@@ -86,7 +86,7 @@ class SyncClient:
         if connection is None:
             return SyncClientRun(self, self._loop.do(self._client.start(saga, key, input)))
         given.check_kind(connection, plain=True)
-        words = client.start_words(saga, key, input)
+        words = client.start_words(saga, key, input, self._client._digest_of(saga))
         new = self._start_within(connection, words, room.unfit(saga))
         return SyncClientRun(self, client.ClientRun(self._client, key, words, new))
 

@@ -6,7 +6,7 @@ import re
 
 from .database import Database
 from .errors import DefinitionError, StoreFault
-from .kinds import Shelf
+from .kinds import Shelf, digest_of
 from .sqlite import Sqlite
 
 SCHEMES = ("postgresql:", "postgres:")
@@ -51,5 +51,7 @@ def make(name: str, shelf: Shelf, node: str | None, lease: float, most: int) -> 
         from .postgresql import PostgreSQL
     except ImportError as error:
         raise missing(error) from error
-    kinds = [f"{kind.name}/{kind.version}" for kind in shelf.kinds if kind.fits]
-    return PostgreSQL(name, node=node, lease=lease, sagas=kinds, version=shelf.shelf, most=most)
+    names = {f"{kind.name}/{kind.version}": kind.text for kind in shelf.kinds if kind.fits}
+    kinds = [f"{name}/{digest_of(text)}" for name, text in names.items()]
+    words = {"sagas": [*names, *kinds], "kinds": kinds, "version": shelf.shelf}
+    return PostgreSQL(name, node=node, lease=lease, most=most, **words)  # type: ignore[arg-type]

@@ -27,6 +27,11 @@ def shelf_of(sagas: Iterable[Saga]) -> tuple[str, list[str]]:
     return hashlib.sha256(json.dumps(texts).encode()).hexdigest()[:16], texts
 
 
+def digest_of(text: str) -> str:
+    """The digest of one definition, by its text."""
+    return hashlib.sha256(text.encode()).hexdigest()[:16]
+
+
 def version_of(text: str) -> int:
     found = VERSION.match(text)
     return int(found[1]) if found else 1

@@ -36,7 +36,8 @@ UNTAKEN = f"NOT {LIVE.format('i.node')}"
 
 SAY = """
 WITH said AS (UPDATE nodes SET lease = now() + make_interval(secs => %(lease)s) WHERE node = %(node)s RETURNING 1),
-entered AS (INSERT INTO nodes(node, name, version, since, lease) SELECT %(node)s, %(name)s, %(version)s, now(), now() + make_interval(secs => %(lease)s)
+entered AS (INSERT INTO nodes(node, name, version, kinds, since, lease)
+  SELECT %(node)s, %(name)s, %(version)s, %(kinds)s, now(), now() + make_interval(secs => %(lease)s)
   WHERE %(enters)s AND NOT EXISTS (SELECT 1 FROM said) RETURNING 1)
 """
 LOOK = f"""
@@ -82,10 +83,13 @@ def now() -> float:
 class Lease:
     """This node's name, how long its lease holds as far as it knows, and what it takes over."""
 
-    def __init__(self, asker: Asker, name: str | None, seconds: float, version: str) -> None:
+    def __init__(
+        self, asker: Asker, name: str | None, seconds: float, version: str,
+        kinds: Sequence[str] = (),
+    ) -> None:  # fmt: skip
         self.name = name or f"{socket.gethostname()}-{os.getpid()}"
         self.node = f"{self.name}/{secrets.token_hex(4)}"
-        self.seconds, self.version, self._asker = seconds, version, asker
+        self.seconds, self.version, self._asker, self._kinds = seconds, version, asker, [*kinds]
         self.left: set[int] = set()  # logs that this program lacks functions for
         self.fresh = True  # no function was kept from beginning since the last beat
         self._enters = True  # its row is made where there is none
@@ -111,7 +115,10 @@ class Lease:
         asked = now()
         self._turn += 1
         own = self._turn % max(1, len(mine) // OWN) == 0
-        words = {"own": own, "node": self.node, "name": self.name, "version": self.version, "lease": self.seconds, "left": list(self.left), "mine": mine}
+        words = {
+            "own": own, "node": self.node, "name": self.name, "version": self.version,
+            "kinds": self._kinds, "lease": self.seconds, "left": list(self.left), "mine": mine,
+        }  # fmt: skip
         ((line, is_there, orphans, asks),) = await self._asker.ask(SAY + LOOK, enters=self._enters, **words)
         self._enters = not is_there
         if not is_there:

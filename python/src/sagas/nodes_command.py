@@ -7,7 +7,7 @@ import json
 import tomllib
 from typing import Any
 
-from . import databases
+from . import databases, questions
 from .kinds import version_of
 from .sources import Base, Trouble
 
@@ -25,9 +25,16 @@ GROUP BY l.log, l.name, t.texts HAVING count(s.id) > 0 ORDER BY l.log
 """
 """What has no open saga needs no node: whoever comes closes it."""
 STARTS = """
-SELECT saga, version, count(*), extract(epoch FROM now()) - min(at) FROM inbox i
-WHERE NOT EXISTS (SELECT 1 FROM nodes n WHERE n.node = i.node AND n.lease > now()) GROUP BY saga, version ORDER BY saga, version
+SELECT saga, version, digest, count(*), extract(epoch FROM now()) - min(at), fits, others
+FROM (SELECT i.*, {digest} AS digest, {fits} AS fits, {others} AS others FROM inbox i
+  WHERE NOT EXISTS (SELECT 1 FROM nodes n WHERE n.node = i.node AND n.lease > now())) i
+GROUP BY saga, version, digest, fits, others ORDER BY saga, version, digest
 """
+STARTS_OLD = STARTS.format(digest="NULL::text", fits="NULL::boolean", others="ARRAY[]::text[]")
+"""By tables in which no start has a digest."""
+STARTS_NOW = STARTS.replace("i.*, {digest} AS digest", "i.*").format(
+    fits=questions.FITS, others=questions.OTHERS
+)
 
 
 def is_database(name: str) -> None:
@@ -51,13 +58,25 @@ def read(name: str) -> dict[str, Any]:
         for log, word, texts, open in link.ask(LEFT):
             kinds = sorted(f"{tomllib.loads(text)['name']} (version {version_of(text)})" for text in json.loads(texts))
             left.append({"log": log, "name": word, "sagas": kinds, "open": open})
-        starts = [
-            {"saga": f"{saga} (version {version})", "starts": count, "seconds": float(seconds)}
-            for saga, version, count, seconds in (link.ask(STARTS) if link.version > 1 else [])
-        ]
+        starts = _starts(link)
         return {"nodes": nodes, "logs without a node": left, "starts without a node": starts}
     finally:
         link.close()
+
+
+def _starts(link: Base) -> list[dict[str, Any]]:
+    """The starts that no node has taken, by definition. `nodes`: those that leave them, since they
+    have another definition of that saga and version."""
+    if link.version < 2:
+        return []
+    rows = link.ask(STARTS_NOW if link.version > 7 else STARTS_OLD)
+    return [
+        {
+            "saga": f"{saga} (version {version})", "definition": digest, "starts": count,
+            "seconds": float(seconds), "fits": fits, "nodes": others,
+        }  # fmt: skip
+        for saga, version, digest, count, seconds, fits, others in rows
+    ]
 
 
 def init(name: str, role: str | None) -> str:

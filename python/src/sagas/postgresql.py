@@ -51,7 +51,9 @@ WHERE r.answer IS NULL AND r.saga IS NULL ORDER BY 1
 """
 STARTS = f"""
 WITH lot AS MATERIALIZED (
-  SELECT id FROM inbox i WHERE ({UNTAKEN} OR i.node = %(node)s AND i.id <> ALL(%(mine)s::bigint[])) AND saga || '/' || version = ANY(%(sagas)s::text[])
+  SELECT id FROM inbox i
+  WHERE ({UNTAKEN} OR i.node = %(node)s AND i.id <> ALL(%(mine)s::bigint[]))
+    AND saga || '/' || version || coalesce('/' || digest, '') = ANY(%(sagas)s::text[])
   ORDER BY id LIMIT %(most)s FOR UPDATE SKIP LOCKED)
 UPDATE inbox SET node = %(node)s FROM lot WHERE inbox.id = lot.id RETURNING inbox.id, key, saga, version, input
 """
@@ -70,11 +72,16 @@ class PostgreSQL(questions.Questions):
 
     shared = True
 
-    def __init__(self, url: str, *, node: str | None = None, lease: float = 10.0, sagas: Sequence[str] = (), version: str = "", most: int = 16) -> None:
+    def __init__(
+        self, url: str, *, node: str | None = None, lease: float = 10.0, sagas: Sequence[str] = (),
+        kinds: Sequence[str] = (), version: str = "", most: int = 16,
+    ) -> None:  # fmt: skip
+        """`sagas`: the starts that it takes, each as saga/version, which is of those without a
+        digest, or as saga/version/digest; `kinds`: its definitions, in the latter form."""
         self.url = self.file = url
         self.path = links.named(url)
         self.asker = links.Asker(url, self.path, 3)
-        self.lease = Lease(self.asker, node, lease, version)
+        self.lease = Lease(self.asker, node, lease, version, kinds)
         self._sagas = list(sagas)
         self._places = Places(self.asker, self.lease.node)
         self._loads = Loads(self.asker, self.lease.node, self._spawn)

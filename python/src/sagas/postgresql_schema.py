@@ -113,7 +113,16 @@ ALTER TABLE sagas.requests ADD COLUMN saga bigint;
 ALTER TABLE sagas.inbox ADD COLUMN asked jsonb NOT NULL DEFAULT '[]';
 """
 
-MIGRATIONS = [FIRST, CLIENTS, REPORTS, PLACES, BETWEEN, ENDED, ASKED]
+DIGESTS = """
+-- digest: of the client's definition; null where an older release started it, or the client has no
+-- steps of it: then any node takes it that has a saga of that name and version
+ALTER TABLE sagas.inbox ADD COLUMN digest text;
+
+-- kinds: the definitions that a node has, each as saga/version/digest; null of an older release
+ALTER TABLE sagas.nodes ADD COLUMN kinds text[];
+"""
+
+MIGRATIONS = [FIRST, CLIENTS, REPORTS, PLACES, BETWEEN, ENDED, ASKED, DIGESTS]
 VERSION = len(MIGRATIONS)
 
 

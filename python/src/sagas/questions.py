@@ -61,6 +61,14 @@ WHERE log = ? AND (text LIKE ? OR text LIKE ?)
 """
 """All that is kept of a saga, in one statement: a log that is let go meanwhile is there or is not.
 Of the log those chunks that name the saga: a line has its number behind `"saga":`."""
+OF_START = "i.saga || '/' || i.version || '/'"
+FITS = f"""EXISTS (SELECT 1 FROM nodes n, unnest(n.kinds) k
+  WHERE n.lease > now() AND starts_with(k, {OF_START})
+  AND k = {OF_START} || coalesce(i.digest, substr(k, length({OF_START}) + 1)))"""
+"""Whether a node is there that takes a client's start `i`, by PostgreSQL's tables."""
+OTHERS = f"""ARRAY(SELECT DISTINCT n.name FROM nodes n, unnest(n.kinds) k
+  WHERE n.lease > now() AND starts_with(k, {OF_START}) AND NOT {FITS} ORDER BY n.name)"""
+"""The nodes that have the saga of a start in that version, where each has another definition."""
 REQUESTS = """
 SELECT r.id, r.key, r.what, r.value, s.id FROM requests r LEFT JOIN sagas s USING (key)
 WHERE r.answer IS NULL ORDER BY r.id

@@ -16,6 +16,18 @@ MOST = 5
 SOON = 2.0  # seconds to find out what a saga waits for
 NOT_BEGUN = "no node has begun it yet (sagas store URL nodes says which have its saga)"
 """Of a client's start that no log has yet."""
+
+
+def left_by(saga: str, version: int, nodes: Sequence[str]) -> str:
+    """Of one that these nodes leave, since they have another definition of its saga."""
+    named = f"{saga!r} (version {version})"
+    has = f"node{'s' if len(nodes) > 1 else ''} {', '.join(nodes)}"
+    return (
+        f"no node has its definition of saga {named}: {has} has steps or costs that are others "
+        "(start nodes with the new definition before clients, or raise the saga's version)"
+    )
+
+
 WHY = {
     "approval": "waits for an approval",
     "backoff": "waits for its next try",

@@ -3,6 +3,7 @@
 from __future__ import annotations
 
 import argparse
+from typing import Any
 
 from .. import databases, nodes_command, sqlite
 from .tables import GOOD, moment, show_json, table
@@ -24,8 +25,22 @@ def nodes(path: str, words: argparse.Namespace) -> int:
         print(table(["LOG", "OPEN", "SAGAS"], [(one["name"], one["open"], ", ".join(one["sagas"])) for one in left]))
     if told["starts without a node"]:
         print("\nNo node has taken these starts:")
-        print(table(["SAGA", "STARTS", "WAITING"], [(one["saga"], one["starts"], f"{one['seconds']:.1f} s") for one in told["starts without a node"]]))
+        rows = [
+            (
+                one["saga"], one["definition"] or "-", one["starts"], f"{one['seconds']:.1f} s",
+                why(one),
+            )  # fmt: skip
+            for one in told["starts without a node"]
+        ]
+        print(table(["SAGA", "DEFINITION", "STARTS", "WAITING", "FOR"], rows))
     return GOOD
+
+
+def why(start: dict[str, Any]) -> str:
+    """What a start waits for that no node has taken."""
+    if start["nodes"]:
+        return f"a node with this definition: {', '.join(start['nodes'])} has another one"
+    return "its turn" if start["fits"] else "a node with this saga"
 
 
 def init(path: str, words: argparse.Namespace) -> int:
