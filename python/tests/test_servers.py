@@ -132,6 +132,37 @@ def test_a_log_that_is_about_to_be_closed(
         run(main(pair.url(pair.primary.create().rpartition("/")[2])))
 
 
+@pytest.mark.parametrize("bounds", [{"fleet_limit": 2}, {"rate": (100, 1)}], ids=str)
+def test_a_limit_holds_at_an_asynchronous_standby(bounds: dict[str, Any]) -> None:
+    """Its places were made on the server before, and the one that took over lacks them: they are
+    made anew, with no restart of a node."""
+    begun = Counter[str]()
+    most = 0
+
+    async def step(task: Task) -> str:
+        nonlocal most
+        begun[task.key] += 1
+        most = max(most, sum(begun.values()) - len(ends))
+        await asyncio.sleep(0.01)
+        ends.append(task.key)
+        return "done"
+
+    kind, ends = simple(step, **bounds), list[str]()
+
+    async def main(url: str) -> None:
+        async with sagas.open(url, [kind], lease=60) as store:
+            await asyncio.to_thread(pair.hold_back)
+            assert (await ended(store, kind, "before")).ok
+            await asyncio.to_thread(pair.fail_over)
+            async with asyncio.timeout(60):
+                keys = [f"k{number}" for number in range(6)]
+                assert all(await asyncio.gather(*(started_again(store, kind, key) for key in keys)))
+        assert most <= bounds.get("fleet_limit", 6)
+
+    with paired(synchronous=False) as pair:
+        run(main(pair.url(pair.primary.create().rpartition("/")[2])))
+
+
 class HeldAudits:
     """The program, whose audits wait until they are let go."""
 

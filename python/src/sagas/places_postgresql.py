@@ -31,8 +31,14 @@ mine AS (UPDATE places p SET node = %(node)s FROM (SELECT place FROM room ORDER 
 taken AS (UPDATE places p SET until = now + %(seconds)s::double precision FROM (SELECT place FROM times ORDER BY place LIMIT (SELECT most FROM most)) r, clock
   WHERE p.name = %(name)s AND p.kind = 'rate' AND p.place = r.place RETURNING p.place)
 SELECT (SELECT most FROM most), ARRAY(SELECT place FROM mine ORDER BY place), (SELECT count(*) FROM told),
-  (SELECT min(until) - min(now) FROM places, clock WHERE name = %(name)s AND kind = 'rate' AND place <= %(calls)s AND until > now)
+  (SELECT min(until) - min(now) FROM places, clock
+    WHERE name = %(name)s AND kind = 'rate' AND place <= %(calls)s AND until > now),
+  CASE WHEN (SELECT most FROM most) < %(want)s THEN (
+    SELECT count(*) < %(limit)s + %(calls)s FROM places
+    WHERE name = %(name)s AND place <= CASE kind WHEN 'limit' THEN %(limit)s ELSE %(calls)s END) END
 """
+"""Last, where not all are given: whether places are lacking. They are at first, and where another
+server has taken over that does not have them: so nobody remembers that they are made."""
 
 
 class Places:
@@ -40,15 +46,18 @@ class Places:
 
     def __init__(self, asker: Asker, node: str) -> None:
         self._asker, self._node = asker, node
-        self._made: set[str] = set()
 
-    async def take(self, name: str, bounds: Bounds, want: int, have: Sequence[int], look: float) -> Grant:
+    async def take(
+        self, name: str, bounds: Bounds, want: int, have: Sequence[int], look: float
+    ) -> Grant:
         """As `Database.admit`; `look`: how soon to look again whose node is gone."""
         calls, seconds = bounds.rate or (0, 0.0)
-        words = {"name": name, "limit": bounds.limit or 0, "calls": calls, "seconds": seconds}
-        if name not in self._made:
+        words = {"name": name, "limit": bounds.limit or 0, "calls": calls}
+        more = {"seconds": seconds, "node": self._node, "want": want, "have": list(have)}
+        (row,) = await self._asker.ask(TAKE, **words, **more)
+        if row[-1]:
             await self._asker.ask(MAKE, **words)
-            self._made.add(name)
-        ((count, places, _, pause),) = await self._asker.ask(TAKE, **words, node=self._node, want=want, have=list(have))
+            (row,) = await self._asker.ask(TAKE, **words, **more)
+        count, places, _, pause, _ = row
         wait = float(pause if pause is not None else seconds) if calls else look
         return Grant(int(count), places, min(wait, look) if bounds.limit else wait)
