@@ -162,6 +162,31 @@ def test_what_a_person_has_to_see_stays(place: str) -> None:
     run(main())
 
 
+def test_a_compensation_that_failed_stays(place: str) -> None:
+    """Its log is kept until somebody has resolved it, as one with a saga that is stuck."""
+    kind = sagas.Saga("row")
+    take = kind.step(name="take", keep=9, undo=0)(lambda task: None)
+
+    @take.compensation
+    def give(task: Task) -> None:
+        raise sagas.Fail("it is gone")
+
+    @kind.step(needs=[take])
+    def send(task: Task) -> None:
+        raise sagas.Fail("no")
+
+    async def main() -> None:
+        (log,) = await fill(place, kind, ROOM, lambda number: None)
+        age(place, log)
+        assert retention.prune(place, MONTH).logs == []
+        async with sagas.open(place, [kind]) as store:
+            for number in range(ROOM):
+                await store.resolve(f"k{number}", "seen to")
+        assert retention.prune(place, MONTH).sagas == ROOM
+
+    run(main())
+
+
 def test_an_export_is_what_the_audit_judges(place: str, tmp_path: pathlib.Path) -> None:
     """Log and definitions, keys with inputs and results, and each plan with its certificate, as the program judges them."""
     kind, folder = shop(), tmp_path / "archive"

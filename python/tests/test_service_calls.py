@@ -148,6 +148,20 @@ def test_a_compensation_that_failed(client: httpx.Client) -> None:
     page = client.get("/ui/sagas/undo-failed").text
     assert "Undoing <b>car</b> failed for good: “no”" in page and "Undo failed" in client.get("/ui/sagas?phase=undo-failed").text
     assert "car: undo failed, kept for 30" in client.get("/sagas/undo-failed/picture.svg").text
+    figure = 'sagas_waiting_for_a_person{why="undo_failed"} '
+    assert f"{figure}1.0" in client.get("/metrics").text
+    first = client.get("/ui").text
+    assert "Undoing <b>car</b> failed for good: no. It stands" in first and "/resolve" in page
+    assert client.get("/ui/sagas/undo-failed/resolve").status_code == 200
+    said = client.post("/sagas/undo-failed/resolve", json={"note": "given back by hand"})
+    assert said.status_code == 200
+    assert get(client, "/sagas/undo-failed")["phase"] == "resolved"
+    assert get(client, "/sagas?phase=undo-failed")["sagas"] == []
+    assert f"{figure}0.0" in client.get("/metrics").text
+    assert "Undoing <b>car</b>" not in client.get("/ui").text
+    assert "A compensation had failed, and it is resolved" in client.get(
+        "/ui/sagas/undo-failed"
+    ).text
 
 
 def test_a_beaten_lease_holds(client: httpx.Client) -> None:

@@ -125,10 +125,13 @@ class Order:
 @pytest.mark.parametrize(
     "given, text",
     [
-        (None, "input: Order is read from an object of JSON, and this is none: None"),
+        (None, "input: Order is read from an object of JSON, and this is none$"),
         ({}, "input lacks 'amount', which Order needs$"),
         ({"amuont": 4}, "input lacks 'amount', which Order needs; it has 'amuont', which Order has not"),
-        ({"amount": 4, "lines": [{"item": "a"}, {"count": 2}]}, r'input\["lines"\]\[1\] lacks .item., which Line needs$'),
+        (
+            {"amount": 4, "lines": [{"item": "a"}, {"count": 2}]},
+            r"input\.lines\[1\] lacks 'item', which Line needs$",
+        ),
     ],
 )
 def test_an_input_that_the_first_step_cannot_read(place: str, given: Any, text: str) -> None:

@@ -18,7 +18,8 @@ Each step is done, or undone where that costs least; whatever becomes of the pro
 
 - To declare: `Saga`, with `step`, `wait` and `approval`; `Step.compensation`, `Backoff`, `NEVER`.
 - In a function: `Task` (its `effect_token` is the idempotency key), `Fail`, `Unknown`.
-- To run: `open`, `open_sync`; `Store`, with `start`, `wait`, `abort`, `finish`, `list`, `stuck`, `unknown`, `resolve`; `Run`, `End`, `Plan`.
+- To run: `open`, `open_sync`; `Store`, with `start`, `wait`, `abort`, `finish`, `list`,
+  `attention`, `resolve`; `Run`, `End`, `Plan`.
 - To test: `sagas.testing.run`.
 - On other machines: `Client`, `Worker`, `sagas.celery`. Without a store: `plan`, `check`, `audit`.
 
@@ -34,11 +35,13 @@ if sys.version_info < (3, 11):
     raise ImportError(f"sagas needs Python 3.11 or later, and this is {sys.version.split()[0]}")
 
 from . import databases
+from .attention import Attention, AttentionReason
 from .definition import NEVER, Backoff, Price, Saga, Step
 from .elsewhere import Leased, Queue
 from .errors import (
     BadInput,
     BadKey,
+    CannotDecode,
     ChildError,
     Closed,
     DefinitionError,
@@ -108,11 +111,14 @@ def __dir__() -> list[str]:
 
 __all__ = [
     "NEVER",
+    "Attention",
+    "AttentionReason",
     "Backoff",
     "BadInput",
     "BadKey",
     "BadText",
     "Begun",
+    "CannotDecode",
     "ChildError",
     "Choice",
     "Client",

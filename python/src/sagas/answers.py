@@ -9,7 +9,7 @@ from collections.abc import Callable, Iterator, Sequence
 from typing import TYPE_CHECKING, Any
 
 from . import lines, values
-from .calling import Outcome
+from .calling import CANNOT_DECODE, Outcome
 from .live import Attempt, Live
 from .records import Batch, Opened, Result, Wanted
 from .schema import ROOM
@@ -131,7 +131,7 @@ class Answers:
             batch.more.freed.append(attempt.row)
             if attempt.is_wait:
                 attempt.live.rare.due.pop(attempt.word, None)
-        elif attempt.has_row and attempt.why == "unknown":
+        elif attempt.has_row and attempt.why in ("unknown", CANNOT_DECODE):
             batch.more.held.append((*attempt.row, "wait", 0, attempt.since, 0.0, None))
         if attempt.request is not None:
             batch.answer(attempt.request, "true")

@@ -14,16 +14,22 @@ from typing import Any, NamedTuple, cast
 
 from . import values
 from .definition import Manner, Unknowns
-from .errors import Fail, NotJson, Unknown
+from .errors import CannotDecode, Fail, NotJson, Unknown
 from .events import quoted
 from .guarded import logger
 from .task import Task
 
 MOST_TEXT = 4000
+CANNOT_DECODE = "cannot_decode"
+"""The kind of an outcome: this program cannot read what the store has for the function, and so
+cannot do it."""
 
 
 class Outcome(NamedTuple):
-    """`kind` is `done`, `failed`, `final` (failed, and no further try is made) or `unknown`; `value` is JSON: the result, or what was raised.
+    """`kind` is `done`, `failed`, `final` (failed, and no further try is made), `unknown` or
+    `cannot_decode`.
+
+    `value` is JSON: the result, or what was raised; of the last two it is a text.
 
     `called`: whether the function was called, or the try was given up. `error`: what it raised here, for the log's traceback; not of a `Fail`."""
 
@@ -104,22 +110,27 @@ async def ended(work: Awaitable[Any], task: Task[Any]) -> Outcome:
 
 
 def raised(error: BaseException, manner: Manner) -> Outcome:
-    """The function raised: it had no effect, or nobody knows."""
-    kind, text = sorted_by(error, manner.unknown), said(error)
-    if kind == "unknown":
-        return Outcome("unknown", text[:MOST_TEXT])
+    """The function raised: it had no effect, or nobody knows, or it could not be called with what
+    is stored."""
+    kind = sorted_by(error, manner.unknown)
+    text = str(error) if isinstance(error, CannotDecode) else said(error)
+    if kind in ("unknown", CANNOT_DECODE):
+        return Outcome(kind, text[:MOST_TEXT])
     return failure(text, final=True) if kind == "final" else failure(text)._replace(error=error)
 
 
 def sorted_by(error: BaseException, unknown: Unknowns) -> str:
-    """`unknown`, `final` or `failed`. Of a group, as `asyncio.TaskGroup` raises one, the first of these that any of it is."""
+    """`unknown`, `cannot_decode`, `final` or `failed`. Of a group, as `asyncio.TaskGroup` raises
+    one, the first of these that any of it is."""
+    if isinstance(error, CannotDecode):
+        return CANNOT_DECODE
     if isinstance(error, Fail):
         return "final"
     if isinstance(error, (Unknown, *unknown)):
         return "unknown"
     if isinstance(error, BaseExceptionGroup):
         kinds = {sorted_by(one, unknown) for one in error.exceptions}
-        return next(kind for kind in ("unknown", "final", "failed") if kind in kinds)
+        return next(kind for kind in ("unknown", CANNOT_DECODE, "final", "failed") if kind in kinds)
     return "failed" if isinstance(error, Exception) else "unknown"  # sys.exit() in the middle, say
 
 
@@ -221,6 +232,6 @@ async def _in_thread(
         return await _in_time(value, timer.when() - loop.time(), task, manner)
     if error is None:
         return done(await whole(value) if inspect.isawaitable(value) else value, task)
-    if overdue and not isinstance(error, Fail):
+    if overdue and not isinstance(error, (Fail, CannotDecode)):
         return Outcome("unknown", f"took longer than {manner.timeout} s, then raised {type(error).__name__}: {error}"[:MOST_TEXT])
     return raised(error, manner)

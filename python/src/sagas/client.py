@@ -11,7 +11,11 @@ from weakref import WeakKeyDictionary, WeakSet
 
 import psycopg
 
-from . import checks, faults, given, histories, links, moving, news, postgresql, postgresql_schema, questions, requests, room, values, waiting
+from . import (
+    attention, checks, faults, given, histories, links, moving, news, postgresql, postgresql_schema,
+    questions, requests, room, values, waiting,
+)  # fmt: skip
+from .attention import Attention
 from .calling import outcome_of
 from .databases import FORM
 from .definition import Saga, Step
@@ -49,6 +53,15 @@ WHERE key = %(key)s AND version = %(version)s AND node IS NULL RETURNING id
 """
 """A start that no node has taken has the definition of who starts it last."""
 LEFT_BY = f"SELECT i.version, {questions.OTHERS} FROM inbox i WHERE i.id = %(id)s"
+RESOLVE = f"""
+WITH done AS (
+    UPDATE sagas SET note = %(note)s WHERE key = %(key)s AND {attention.RESOLVABLE} RETURNING 1
+),
+noted AS (INSERT INTO requests(key, what, value, at, answer)
+  SELECT %(key)s, 'resolve', %(told)s::text, extract(epoch FROM clock_timestamp()), 'true' FROM done
+  WHERE %(told)s::text IS NOT NULL)
+SELECT 1 FROM done
+"""
 BACK = "DELETE FROM sagas.inbox WHERE id = ANY(%(own)s::bigint[])"
 
 
@@ -278,6 +291,20 @@ class Client:
         name = saga.name if isinstance(saga, Saga) else saga
         query, words = histories.list_query(phase, name, after, most)
         return [histories.summary(SagaRow(*row)) for row in await self._read(query, *words)]
+
+    async def attention(self, *, most: int = 100) -> builtins.list[Attention]:
+        """As `Store.attention`."""
+        checks.count("most", most)
+        rows = [row for question in attention.QUESTIONS for row in await self._read(question, most)]
+        return attention.entries(rows, most)
+
+    async def resolve(self, key: str, note: str, *, by: str | None = None) -> None:
+        """As `Store.resolve`. Raises `NoSuchSaga`, `NotWaiting`, `ValueError`."""
+        checks.text("note", note, "what was done about it")
+        told = None if by is None else values.write({"by": by, "note": note})
+        if not await self._ask(RESOLVE, key=key, note=values.clean(note), told=told):
+            await self._row(key)
+            raise attention.not_resolvable(key)
 
     async def plan(self, key: str) -> Plan | None:
         """As `Store.plan`: the last plan that the saga goes by. None where all went well, and of one that no log has taken yet. Raises `NoSuchSaga`."""

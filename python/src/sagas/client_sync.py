@@ -10,6 +10,7 @@ from typing import TYPE_CHECKING, Any
 import psycopg
 
 from . import client, given, room
+from .attention import Attention
 from .definition import Saga, Step
 from .errors import TooLarge
 from .plans import Plan
@@ -122,6 +123,14 @@ class SyncClient:
     def finish(self, key: str, step: Step[Any] | str, result: Any = None, *, failed: str | None = None, undo: bool = False) -> None:
         """As `Client.finish`."""
         self._loop.do(self._client.finish(key, step, result, failed=failed, undo=undo))
+
+    def attention(self, *, most: int = 100) -> builtins.list[Attention]:
+        """As `Client.attention`."""
+        return self._loop.do(self._client.attention(most=most))
+
+    def resolve(self, key: str, note: str, *, by: str | None = None) -> None:
+        """As `Client.resolve`."""
+        self._loop.do(self._client.resolve(key, note, by=by))
 
     def get(self, key: str) -> SyncClientRun | None:
         """As `Client.get`."""

@@ -9,7 +9,7 @@ import time
 from collections.abc import Callable, Coroutine, Sequence
 from concurrent.futures import ThreadPoolExecutor
 
-from . import auditing, moving
+from . import auditing, moving, unread
 from .anywhere import Anywhere
 from .carrying import Carrying
 from .children import Children
@@ -72,6 +72,8 @@ class Coordinator:
         self.ending: dict[int, asyncio.Task[None]] = {}
         """Logs that are settled and not yet marked closed, each with what closes it."""
         self.listeners: list[Callable[[], None]] = []
+        # when logs are offered to other nodes, of which something cannot be read here
+        self._offers = 0.0
         self.unopened = False  # starts of clients that are this node's may not be under way
 
     # -- opening
@@ -348,12 +350,22 @@ class Coordinator:
                 self.has_told = True
             if tells or live.phase != "ended":
                 self._tell_end(live)
+            if live.odd and live.phase == "ended" and '"fixed"' in live.end:
+                self._tell_undo_failed(live)
         self.rest()
 
     def _tell_end(self, live: Live) -> None:
         """How a saga ended; of a stuck one because of which steps."""
         chain = [live.kind.names[step] for step in (live.answer or {}).get("chain", ())] if live.phase == "stuck" else []
         self.teller.tell(f"saga_{live.phase}", key=live.key, saga=live.kind.name, detail=f"because of {' and '.join(chain)}" if chain else None)
+
+    def _tell_undo_failed(self, live: Live) -> None:
+        """A saga ended, and what steps of it did stands against its plan."""
+        states = json.loads(live.end)["states"]
+        stands = [name for name, state in zip(live.kind.names, states) if state == "fixed"]
+        told = "the compensation failed for good, and a person has to look (resolve)"
+        detail = f"{' and '.join(stands)}: {told}"
+        self.teller.tell("saga_undo_failed", key=live.key, saga=live.kind.name, detail=detail)
 
     def rest(self) -> None:
         """Perhaps no saga is open any more."""
@@ -401,6 +413,9 @@ class Coordinator:
                 pump.sleep()
                 self.children.gone(pump)
         self.children.turn()
+        if self.store.shared and now >= self._offers:
+            self._offers = now + unread.PAUSE
+            unread.offer_all(self)
         self._timer = self.loop.call_later(max(0.05, min(1.0, self.idle)), self._tick)
 
     # -- logs that are over

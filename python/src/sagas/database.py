@@ -141,6 +141,12 @@ class Database(Protocol):
         """A log as a pump takes it up; None where it is another node's, or is not there. What of it was on its way to the database is written now, or never
         will be. `born`: its row, until a commit is known to hold it: then it may not be there, and is empty."""
 
+    async def spare(self, log: int) -> bool:
+        """Gives a log back, of which this program cannot read something, for another node to take.
+        False where none has come since that was tried.
+
+        Raises `StoreUnwritable`."""
+
     async def take_up(self, log: int, epoch: int) -> tuple[str, int] | None:
         """A log's lines and how many events they are, for who goes on behind them; None where it is not this program's under that epoch.
 

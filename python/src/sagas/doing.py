@@ -16,9 +16,9 @@ from typing import TYPE_CHECKING, Any
 
 from . import calling, remote
 from .callers import Callers
-from .calling import Outcome
+from .calling import CANNOT_DECODE, Outcome
 from .definition import Manner, Step
-from .errors import Closed, Fail, Lost, NotWaiting, SagasError
+from .errors import CannotDecode, Closed, Fail, Lost, NotWaiting, SagasError
 from .fleet import Fleet, Gate
 from .forks import private
 from .guarded import logger
@@ -30,8 +30,10 @@ if TYPE_CHECKING:
     from .pump import Pump
 
 LOOK = 30.0  # seconds: a clock may jump, so nobody sleeps longer without a look at it
-ASKED = ("approval", "elsewhere", "unknown", "wait")
-WAITS = ("approval", "unknown", "wait")
+ASKED = ("approval", "elsewhere", "unknown", "wait", CANNOT_DECODE)
+WAITS = ("approval", "unknown", "wait", CANNOT_DECODE)
+PARKED = ("unknown", CANNOT_DECODE)
+"""Why an attempt is held that was called, and is called again."""
 """Why an attempt is held of which somebody may say how it ended."""
 COUNTED = ("backoff", "unknown")
 """Why an attempt is held for some seconds, which are counted here: to put the clock back does not make them more."""
@@ -114,9 +116,9 @@ class Doing:
         elif attempt.pending and attempt.state != "running":
             why, until = attempt.pending[:2]
             self._put_row(attempt, *attempt.pending)
-            if why == "unknown":
+            if why in PARKED:
                 attempt.drop_timer()
-                self._hold(attempt, why, until)
+                self._hold(attempt, why, until if why == "unknown" else None)
         elif attempt.why == "elsewhere" and attempt.manner.elsewhere:
             attempt.state = "held"
             self.owner.elsewhere.restored(attempt)
@@ -203,6 +205,9 @@ class Doing:
         if due is None:
             try:
                 due = due_time(step, attempt, self.owner.clock())
+            except CannotDecode as error:
+                self.park(attempt, Outcome(CANNOT_DECODE, str(error)[: calling.MOST_TEXT]))
+                return
             except Exception as error:
                 failure = calling.failure(f"{type(error).__name__}: {error}", final=isinstance(error, Fail))
                 self.outcome(attempt, failure._replace(error=error))
@@ -411,6 +416,8 @@ class Doing:
         """What becomes of it, by how its function ended."""
         if outcome.kind == "unknown":
             self.unknown(attempt, outcome)
+        elif outcome.kind == CANNOT_DECODE:
+            self.park(attempt, outcome)
         elif outcome.kind == "done" and self._asks(attempt):
             within = self._step(attempt).within
             attempt.since, attempt.fresh = self.owner.clock(), True
@@ -452,6 +459,17 @@ class Doing:
         if attempt.is_remote:
             self._listen(attempt)
             self.owner.spawn(self.owner.reports.find(attempt.token()))
+
+    def park(self, attempt: Attempt, outcome: Outcome) -> None:
+        """This program cannot read what is stored for it: it waits for one that can, or for a
+        person. Nothing counts as failed."""
+        attempt.since, attempt.outcome = attempt.since or self.owner.clock(), outcome
+        is_due = attempt.is_wait and attempt.live.rare.due.get(attempt.word) == 0
+        self._tell(attempt, "step_cannot_decode", outcome.value)
+        if attempt.live.pump:
+            attempt.live.pump.has_unread = True
+        self._put_row(attempt, CANNOT_DECODE, 0.0 if is_due else None, error=outcome.value)
+        self._hold(attempt, CANNOT_DECODE, None)
 
     def _late(self, attempt: Attempt, outcome: Outcome) -> None:
         """The report of an attempt of which nobody knew. One that comes before that is in the store

@@ -96,6 +96,17 @@ class Unstorable(NotJson):
     """What a step returned was no JSON, and could not be kept; its effect is there. The text names the step: mend what it returns."""
 
 
+class CannotDecode(SagasError):
+    """A stored input or result cannot be read as the type that this program's hints say. The text
+    says where it is wrong, and has no value.
+
+    The attempt waits (`Store.attention`), and nothing is compensated. It goes on when a program
+    that can read the value opens the store: give
+    a new field a default, say. Do not catch it in a step's function."""
+
+    __module__ = "sagas"
+
+
 class ChildError(SagasError):
     """`sagas drive` cannot be started or refuses a log. The text is its last line, and docs/ERRORS.md has the remedy."""
 

@@ -21,11 +21,16 @@ HERE = os.path.dirname(os.path.abspath(__file__)) + os.sep
 class Event:
     """Something that happened, told after it was committed. `step_missed`: it may be tried again; `step_failed`: it is not.
 
-    `name` is one of `saga_started`, `step_begun`, `step_done`, `step_missed`, `step_failed`, `step_unknown`, `step_waits`, `step_late`, `saga_planned`,
-    `saga_aborted`, `saga_ended`, `saga_stuck`, `log_closed`, `logs_gone`, `audit_failed`, `child_died`, `commit_failed`, and over PostgreSQL `log_taken`,
+    `name` is one of `saga_started`, `step_begun`, `step_done`, `step_missed`, `step_failed`,
+    `step_unknown`, `step_cannot_decode`, `step_waits`,
+    `step_late`, `saga_planned`, `saga_aborted`, `saga_ended`, `saga_undo_failed`, `saga_stuck`,
+    `log_closed`, `logs_gone`, `audit_failed`, `child_died`, `commit_failed`, and over PostgreSQL
+    `log_taken`,
     `log_lost`, `lease_lapsed`. `undo` says of a step that it is its compensation; `at` is wall time in seconds; `seconds` is how long the function took, None
-    where it was not called here; `detail` says what was raised, what was planned, or of `step_waits` for what: `approval`, `wait` (for its time) or `unknown`
-    (for its back-off, or a person)."""
+    where it was not called here; `detail` says what was raised, what was planned, or of
+    `step_waits` for what: `approval`, `wait` (for its time), `unknown`
+    (for its back-off, or a person) or `cannot_decode` (for a program that can read what is
+    stored)."""
 
     name: str
     at: float
@@ -45,10 +50,12 @@ LEVELS = {
     "step_failed": logging.WARNING,
     "step_unknown": logging.WARNING,
     "step_late": logging.WARNING,
+    "step_cannot_decode": logging.WARNING,
     "saga_planned": logging.INFO,
     "saga_aborted": logging.INFO,
     "saga_ended": logging.DEBUG,
     "saga_stuck": logging.ERROR,
+    "saga_undo_failed": logging.ERROR,
     "logs_gone": logging.INFO,
     "audit_failed": logging.CRITICAL,
     "child_died": logging.WARNING,

@@ -2,6 +2,7 @@
 
 from __future__ import annotations
 
+import dataclasses
 import hashlib
 import json
 import re
@@ -9,7 +10,7 @@ import tomllib
 from collections.abc import Iterable
 from typing import Any
 
-from . import faults, misfits, room, values
+from . import faults, misfits, room, shapes, values
 from .definition import Function, Saga, Step
 from .errors import BadInput, DefinitionError, TooLarge
 from .schema import ROOM
@@ -42,6 +43,17 @@ def _simple(step: Step[Any] | None, word: str) -> Function | None:
     if step is None or (word == "run" and (step.kind != "step" or step.limit is not None or step.bounds)):
         return None
     return step.manner(word).function if step.manner(word).is_simple else None
+
+
+def _fault(text: str, hint: Decoder) -> misfits.Misfit | None:
+    """Why a stored value cannot be read, where it cannot."""
+    try:
+        hint(values.read(text))
+    except NameError as error:
+        return misfits.Misfit(f": {error}")
+    except Exception as error:  # of the type's own code
+        return misfits.of(error)
+    return None
 
 
 class Action:
@@ -88,6 +100,8 @@ class Kind:
         self.has_bounds = any(step and step.bounds for step in self.steps)
         self.has_remote = any(step and (step.run.run_on or step.undo.run_on) for step in self.steps)
         self.decoders = {name: decoder for name, (_, decoder) in zip(self.names, told_hints) if decoder}
+        # stored values are made into others
+        self.reads = bool(self.decoders or any(self.inputs) or any(self.undo_inputs))
 
     def _actions(self, kind: str, hints: list[Decoder | None]) -> list[Action]:
         """What each step does, or its compensation."""
@@ -104,9 +118,10 @@ class Kind:
                 found[step] = set(needs[step]).union(*(found[need] for need in needs[step]))
         return [sorted(found[step]) for step in range(len(needs))]
 
-    def _firsts(self, numbers: list[int]) -> list[int]:
-        """Of the steps that begin, one for each type as which they read the input."""
-        found: list[int] = []
+    def _firsts(self, numbers: list[int]) -> dict[int, shapes.Check | None]:
+        """Of the steps that begin, one for each type as which they read the input, with what looks
+        at that."""
+        found: dict[int, shapes.Check | None] = {}
         hints: list[Any] = []
         for number in numbers:
             step = self.steps[number]
@@ -114,23 +129,40 @@ class Kind:
             hint = values.input_hint(step.run.function)
             if hint not in hints:
                 hints.append(hint)
-                found.append(number)
+                found[number] = shapes.check(hint)
         return found
 
     def misfit(self, given: Any, text: str) -> BadInput | None:
-        """Why the first steps cannot read an input, where they cannot. One that is no plain JSON is not looked at: it is of a type already."""
-        if not self.firsts or type(given) not in PLAIN:
+        """Why the first steps cannot read an input, where they cannot. Of what is of a type
+        already, a dataclass is looked at: its fields take anything."""
+        if not self.firsts or not (type(given) in PLAIN or dataclasses.is_dataclass(given)):
             return None
-        for number in self.firsts:
+        for number, check in self.firsts.items():
             step, decoder = self.steps[number], self.inputs[number]
-            assert decoder and step and step.run.function
+            assert decoder and step
             try:
                 decoder(values.read(text))
+                if check:
+                    check(values.read(text))
             except NameError:  # its hints name what is there for the checker alone: that is no fault of the input
                 continue
             except Exception as error:  # of the type's own code
-                hint = values.input_hint(step.run.function)
-                return BadInput(f"saga {self.name!r}, step {step.name!r}: {misfits.why(values.read(text), hint, 'input') or error}")
+                return BadInput(f"saga {self.name!r}, step {step.name!r}: input{misfits.of(error)}")
+        return None
+
+    def unread(self, text: str, results: dict[int, str]) -> str | None:
+        """What this program cannot read of a saga that is not over: its input, or the result of a
+        step that stands. None where it can read all of it."""
+        for number, (run, undo) in enumerate(zip(self.inputs, self.undo_inputs)):
+            for hint in (run, undo):
+                if hint and (fault := _fault(text, hint)):
+                    return f"step {self.names[number]!r}: input{fault}"
+        for number, text in results.items():
+            hint = self.decoders.get(self.names[number])
+            if hint and values.unstorable(values.read(text)) is None and (
+                fault := _fault(text, hint)
+            ):
+                return f"step {self.names[number]!r}: result{fault}"
         return None
 
     def too_large(self) -> TooLarge:

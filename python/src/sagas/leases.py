@@ -28,6 +28,8 @@ OWN = 64
 """A node with so many logs looks at each beat for those that it did not hear of, one with twice as many at each second one."""
 LOT = 50
 """Logs that are taken over at once: other nodes take theirs meanwhile."""
+SPARED = 3.0
+"""Seconds that others have to take a log that this node has spared."""
 
 LIVE = "EXISTS (SELECT 1 FROM nodes n WHERE n.node = {} AND n.lease > now())"
 ORPHAN = f"l.closed = 0 AND CASE WHEN l.owner = %(node)s THEN %(own)s AND l.log <> ALL(%(mine)s::bigint[]) ELSE NOT {LIVE.format('l.owner')} END"
@@ -62,6 +64,14 @@ WHERE log = ANY(%(logs)s::bigint[]) AND owner = %(node)s ORDER BY log
 
 Each row is one text, which psycopg reads in less time than several cells."""
 LEAVE = "UPDATE logs SET owner = NULL, epoch = epoch + 1 WHERE log = ANY(%(logs)s::bigint[]) AND owner = %(node)s"
+SPARE = """
+UPDATE logs l SET owner = NULL, epoch = epoch + 1
+WHERE l.log = %(log)s AND l.owner = %(node)s AND EXISTS (
+  SELECT 1 FROM nodes n
+  WHERE n.node <> %(node)s AND n.lease > now() AND n.since > to_timestamp(%(before)s))
+RETURNING extract(epoch FROM now())::float8, pg_notify('sagas', 'logs')
+"""
+"""Gives a log back where another node has come since it was given back the last time."""
 GONE = """
 WITH old AS (DELETE FROM nodes WHERE name = %(name)s AND node <> %(node)s),
 old2 AS (DELETE FROM nodes n WHERE lease < now() - interval '1 day' AND NOT EXISTS (SELECT 1 FROM logs WHERE owner = n.node AND closed = 0))
@@ -91,6 +101,8 @@ class Lease:
         self.node = f"{self.name}/{secrets.token_hex(4)}"
         self.seconds, self.version, self._asker, self._kinds = seconds, version, asker, [*kinds]
         self.left: set[int] = set()  # logs that this program lacks functions for
+        # until when this node does not take it, and when it was given back, by the server's clock
+        self._spared: dict[int, tuple[float, float]] = {}
         self.fresh = True  # no function was kept from beginning since the last beat
         self._enters = True  # its row is made where there is none
         self._until = 0.0
@@ -117,7 +129,7 @@ class Lease:
         own = self._turn % max(1, len(mine) // OWN) == 0
         words = {
             "own": own, "node": self.node, "name": self.name, "version": self.version,
-            "kinds": self._kinds, "lease": self.seconds, "left": list(self.left), "mine": mine,
+            "kinds": self._kinds, "lease": self.seconds, "left": self._passed(), "mine": mine,
         }  # fmt: skip
         ((line, is_there, orphans, asks),) = await self._asker.ask(SAY + LOOK, enters=self._enters, **words)
         self._enters = not is_there
@@ -128,6 +140,19 @@ class Lease:
         self._until, self.fresh = asked + self.seconds, True
         return lapsed, orphans, asks, line
 
+    def _passed(self) -> list[int]:
+        """Logs that this node does not take now."""
+        return [*self.left, *(log for log, (until, _) in self._spared.items() if until > now())]
+
+    async def spare(self, log: int) -> bool:
+        """Gives a log back, of which another node may be able to read what this one cannot. False
+        where none has come since that was tried."""
+        before = self._spared.get(log, (0.0, 0.0))[1]
+        rows = await self._asker.ask(SPARE, log=log, node=self.node, before=before)
+        for at, _ in rows:
+            self._spared[log] = now() + SPARED, at
+        return bool(rows)
+
     async def begin(self) -> str:
         """An earlier run under this name is over: its logs are free at once. Gives the server's timeline."""
         await self._asker.ask(GONE, node=self.node, name=self.name)
@@ -136,7 +161,9 @@ class Lease:
     async def take(self, drives: Drives, mine: list[int]) -> list[LogRow]:
         """Some logs that nobody has, of those whose functions this program has; none where there are no more."""
         while True:
-            found = await self._asker.read(CANDIDATES, left=list(self.left), node=self.node, mine=mine, own=True)
+            found = await self._asker.read(
+                CANDIDATES, left=self._passed(), node=self.node, mine=mine, own=True
+            )
             fit = await self._fit(drives, [json.loads(text) for (text,) in found])
             taken = await self._asker.ask(TAKE, node=self.node, logs=fit, mine=mine, own=True) if fit else []
             rows = await self._has(drives, [log for (log,) in taken]) if taken else []

@@ -13,6 +13,9 @@ import tomllib
 from collections.abc import Callable, Sequence
 from typing import Any
 
+from . import attention
+from .attention import HELD, Attention
+from .calling import CANNOT_DECODE
 from .database import Reader
 from .errors import NoSuchSaga
 from .histories import AFTER, CHUNKS, FAILED, MISSES, STANDS, follow, lines_of
@@ -21,20 +24,21 @@ from .questions import DEFINITION, ENDED_BY_PLAN, PHASE, RESULTS, SAGA
 from .questions import PHASES as WHERE
 from .records import SagaRow
 from .runs import LogEvent, Summary
-from .schema import PLANNED, ROOM, UNDO_FAILED
+from .schema import ROOM
 
 Json = dict[str, Any]
 PHASES = ("open", "ended", "stuck", "resolved")
 SHORT = "id, key, saga, phase, at, ended, note"
 STUCK = WHERE["stuck"]
-PERSON = "(why = 'approval' OR (why = 'unknown' AND until IS NULL))"
+PERSON = f"(why = 'approval' OR {HELD})"
 WAITS = "NOT (why = 'wait' AND until = 0)"
 """The row of a wait stays behind its time, so that nobody waits once more."""
 
 
 @dataclasses.dataclass(frozen=True, slots=True)
 class Waits:
-    """An attempt that is held. `why`: `unknown`, `approval`, `wait`, or `elsewhere` (a worker has it); a service adds what its memory has (`sagas.Begun`).
+    """An attempt that is held. `why`: `unknown`, `cannot_decode`, `approval`, `wait`, or
+    `elsewhere` (a worker has it); a service adds what its memory has (`sagas.Begun`).
 
     `until`: when that is over, in seconds of wall time, or None; `said`: what was raised last, or the worker's name; `count`: how often nobody knew."""
 
@@ -53,7 +57,9 @@ class Waits:
     @property
     def asks(self) -> bool:
         """Whether a person has to say something."""
-        return self.why == "approval" or (self.why == "unknown" and self.until is None)
+        return self.why in ("approval", CANNOT_DECODE) or (
+            self.why == "unknown" and self.until is None
+        )
 
 
 @dataclasses.dataclass(frozen=True, slots=True)
@@ -159,18 +165,30 @@ class Looks:
         return dict(sorted(found.items()))
 
     def asked(self) -> dict[str, int]:
-        """How many things wait for a person: stuck sagas, outcomes that nobody knows, approvals."""
+        """How many things wait for a person: stuck sagas, compensations that failed for good,
+        approvals, and attempts of which nobody knows the outcome or whose
+        stored values cannot be read."""
         stuck = self._rows(f"SELECT count(*) FROM sagas WHERE {STUCK}")[0][0]
         held: dict[str, int] = dict(self._rows(f"SELECT why, count(*) FROM held WHERE {PERSON} GROUP BY why"))  # type: ignore[arg-type]
-        return {"stuck": stuck, "unknown": held.get("unknown", 0), "approval": held.get("approval", 0)}
+        told = {why: held.get(why, 0) for why in ("unknown", CANNOT_DECODE, "approval")}
+        return {"stuck": stuck, "undo_failed": self.undo_failed(), **told}
+
+    def undone(self, most: int = 100) -> list[Attention]:
+        """The compensations that failed for good of sagas that have ended and that nobody has
+        resolved, the oldest first."""
+        return attention.entries(self._rows(attention.UNDO_FAILED, most), most)
+
+    def attention(self, most: int = 100) -> list[Attention]:
+        """What needs a person (`Store.attention`), the oldest first."""
+        return attention.found(self._rows, most)
 
     def planned(self) -> int:
         """How many have ended by a plan: they are among those that `counts` has as ended."""
-        return int(self._rows(f"SELECT count(*) FROM sagas WHERE {PLANNED}")[0][0])
+        return int(self._rows(f"SELECT count(*) FROM sagas WHERE {WHERE['planned']}")[0][0])
 
     def undo_failed(self) -> int:
-        """Of how many of these a compensation failed for good."""
-        return int(self._rows(f"SELECT count(*) FROM sagas WHERE {UNDO_FAILED}")[0][0])
+        """Of how many of these a compensation failed for good, and nobody has resolved it."""
+        return int(self._rows(f"SELECT count(*) FROM sagas WHERE {WHERE['undo-failed']}")[0][0])
 
     def page(self, *, phase: str | None = None, saga: str | None = None, search: str | None = None, before: int | None = None, after: int | None = None, most: int = 50) -> list[Summary]:
         """A page of the list, newest first: those `before` an id; or oldest first, those `after` one. `search`: what the key contains;
@@ -297,7 +315,7 @@ def worker_of(told: str | None) -> tuple[str | None, int]:
 
 def phase_of(phase: str | None, note: str | None) -> str:
     """The word for a phase and a note."""
-    return "resolved" if phase == "stuck" and note is not None else phase or "open"
+    return "resolved" if note is not None else phase or "open"
 
 
 def standing(states: Sequence[str], names: Sequence[str], attempts: Sequence[Attempted]) -> Json:

@@ -1,59 +1,80 @@
-"""Why an input is not of the type that a step reads it as, and where: looked for only once it cannot be read."""
+"""What is not of its type in a value, and where: the way to it and the rule, and never the
+value."""
 
 from __future__ import annotations
 
-import contextlib
 import dataclasses
 import json
-import typing
+from collections.abc import Iterator
 from typing import Any
 
-from . import values
 from .checks import MOST_SHOWN
 
-
-def why(value: Any, hint: Any, name: str) -> str | None:
-    """Why a value, as JSON has it, cannot be read as this type; None where it can. `name` is how it is called."""
-    part = values.decoder(hint)
-    if part is None:
-        return None
-    try:
-        part(value)
-    except Exception as error:  # of the type's own code
-        told = None
-        with contextlib.suppress(Exception):
-            told = _inside(value, hint, name)
-        return told or f"{name}: {_said(hint, error)}"
-    return None
+MOST_TOLD = 5
+MOST_DEEP = 64
 
 
-def _said(hint: Any, error: Exception) -> str:
-    text = str(error)
-    return text if isinstance(error, TypeError) else f"{getattr(hint, '__name__', hint)}: {type(error).__name__}: {text}"
+class Misfit(TypeError):
+    """A value, as JSON has it, that is not of its type. `path` is the way to it from the whole."""
+
+    def __init__(self, why: str, path: str = "") -> None:
+        super().__init__(f"{path}{why}")
+        self.why, self.path = why, path
+
+    def within(self, part: str) -> Misfit:
+        """The same, as it is told of what has the value as this part."""
+        return Misfit(self.why, part + self.path)
 
 
-def _inside(value: Any, hint: Any, name: str) -> str | None:
-    """The first part of it that is wrong."""
-    origin, words = typing.get_origin(hint), typing.get_args(hint)
-    if dataclasses.is_dataclass(hint) and isinstance(hint, type) and isinstance(value, dict):
-        return _fields(value, hint, name)
-    if origin in (list, set, frozenset) and isinstance(value, list):
-        return next((told for place, item in enumerate(value) if (told := why(item, words[0], f"{name}[{place}]"))), None)
-    if origin is dict and isinstance(value, dict):
-        return next((told for key, item in value.items() if (told := why(item, words[1], f"{name}[{json.dumps(key)}]"))), None)
-    return None
+def part(name: object) -> str:
+    """How a field or an entry of an object is named in a path."""
+    plain = isinstance(name, str) and name.isidentifier()
+    return f".{name}" if plain else f"[{json.dumps(name if isinstance(name, str) else str(name))}]"
 
 
-def _fields(value: dict[str, Any], hint: type, name: str) -> str | None:
-    hints, fields = typing.get_type_hints(hint), [field for field in dataclasses.fields(hint) if field.init]
-    for field in fields:
-        told = why(value[field.name], hints[field.name], f"{name}[{json.dumps(field.name)}]") if field.name in value else None
-        if told:
-            return told
-    needed = [field.name for field in fields if field.default is dataclasses.MISSING and field.default_factory is dataclasses.MISSING]
+def of(error: Exception, at: str = "") -> Misfit:
+    """What was raised while a value was made, told of the whole of which it is this part."""
+    if isinstance(error, Misfit):
+        return error.within(at)
+    told = next(_of_model(error), None) or Misfit(f": it cannot be read ({type(error).__name__})")
+    return told.within(at)
+
+
+def _of_model(error: Exception) -> Iterator[Misfit]:
+    """What pydantic says, without what it was given: a text of the model's own may have that."""
+    errors = getattr(error, "errors", None)
+    for one in errors() if callable(errors) else ():
+        path = "".join(f"[{word}]" if isinstance(word, int) else part(word) for word in one["loc"])
+        own = str(one["type"]).endswith("_error") or str(one["type"]).startswith("value_error")
+        yield Misfit(f": {one['type'] if own else one['msg']}", path)
+
+
+def lacking(value: dict[str, Any], hint: Any) -> Misfit | None:
+    """Which fields a dataclass needs that an object does not have."""
+    fields = [field for field in dataclasses.fields(hint) if field.init]
+    none = dataclasses.MISSING
+    needed = [one.name for one in fields if one.default is none and one.default_factory is none]
     lacks = [repr(word) for word in needed if word not in value]
     if not lacks:
         return None
     odd = ", ".join(repr(word) for word in value if word not in {field.name for field in fields})
-    more = f"; it has {odd[:MOST_SHOWN]}{'..' if odd[MOST_SHOWN:] else ''}, which {hint.__name__} has not" if odd else ""
-    return f"{name} lacks {' and '.join(lacks)}, which {hint.__name__} needs{more}"
+    shown = f"{odd[:MOST_SHOWN]}{'..' if odd[MOST_SHOWN:] else ''}"
+    more = f"; it has {shown}, which {hint.__name__} has not" if odd else ""
+    return Misfit(f" lacks {' and '.join(lacks)}, which {hint.__name__} needs{more}")
+
+
+def differences(one: Any, other: Any, at: str = "") -> Iterator[str]:
+    """The ways to what differs in two values, as JSON has them."""
+    if isinstance(one, dict) and isinstance(other, dict):
+        for name in sorted(one.keys() | other.keys()):
+            if name in one and name in other:
+                yield from differences(one[name], other[name], at + part(name))
+            else:
+                yield at + part(name)
+    elif isinstance(one, list) and isinstance(other, list):
+        for place, (here, there) in enumerate(zip(one, other)):
+            yield from differences(here, there, f"{at}[{place}]")
+        if len(one) != len(other):
+            yield f"{at}[{min(len(one), len(other))}]"
+    elif type(one) is not type(other) or one != other:
+        yield at

@@ -358,6 +358,10 @@ class PostgreSQL(questions.Questions):
             self._writer.events[log] = loaded.events
         return loaded
 
+    async def spare(self, log: int) -> bool:
+        """Gives a log back for another node to take, where one has come since that was tried."""
+        return await self.lease.spare(log)
+
     async def take_up(self, log: int, epoch: int) -> tuple[str, int] | None:
         """A log's lines and how many events they are; None where it is not this node's any more, since another wrote behind them."""
         line = self._line

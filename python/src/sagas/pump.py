@@ -63,6 +63,8 @@ class Pump(Answers):
         self.pause: float = 0.0
         self.coming: bool = False  # it is about to be loaded
         self.fault: BaseException | None = None
+        # something that is stored of its open sagas cannot be read by this program
+        self.has_unread: bool = False
 
     # -- to the child
 

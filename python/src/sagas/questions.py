@@ -35,12 +35,15 @@ IN_OPEN_LOGS = (
 """How a file, which has no index of open sagas, finds them: a log is closed only when none of its sagas is open, so those of closed ones are not looked at.
 In this order too. PostgreSQL has an index, and leaves this out."""
 PHASES = {
-    "open": f"phase IS NULL{IN_OPEN_LOGS}", "ended": "phase = 'ended'", "planned": PLANNED, "undo-failed": UNDO_FAILED,
-    "stuck": "phase = 'stuck' AND note IS NULL", "resolved": "phase = 'stuck' AND note IS NOT NULL",
+    "open": f"phase IS NULL{IN_OPEN_LOGS}", "ended": "phase = 'ended' AND note IS NULL",
+    "planned": f"{PLANNED} AND note IS NULL", "undo-failed": f"{UNDO_FAILED} AND note IS NULL",
+    "stuck": "phase = 'stuck' AND note IS NULL",
+    "resolved": f"(phase = 'stuck' OR ({UNDO_FAILED})) AND note IS NOT NULL",
 }  # fmt: skip
 """What a list may be asked for. `planned`: those of `ended` that ended by a plan, since a step had failed or they were aborted; `undo-failed`: those of these
-of which a compensation failed for good."""
-PHASE = "CASE WHEN phase IS NULL THEN 'open' WHEN phase = 'stuck' AND note IS NOT NULL THEN 'resolved' ELSE phase END"
+of which a compensation failed for good. Once a person has resolved such a saga it is `resolved`, as
+one that was stuck."""
+PHASE = "CASE WHEN phase IS NULL THEN 'open' WHEN note IS NOT NULL THEN 'resolved' ELSE phase END"
 ENDED_BY_PLAN = f"CASE WHEN {UNDO_FAILED} THEN 2 WHEN {PLANNED} THEN 1 ELSE 0 END"
 """1 of a saga that ended by a plan, 2 where a compensation failed for good, too."""
 DEFINITION = f"SELECT texts, def FROM sagas JOIN logs ON log = id / {ROOM} JOIN shelves USING (shelf) WHERE id = ?"

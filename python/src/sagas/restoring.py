@@ -8,9 +8,10 @@ import re
 import time
 from typing import TYPE_CHECKING, Any
 
-from . import lines, moving
-from .calling import Outcome
+from . import lines, moving, unread
+from .calling import CANNOT_DECODE, Outcome
 from .child import Child, Reply
+from .doing import PARKED
 from .errors import SagasError, StoreUnwritable
 from .guarded import logger
 from .live import Attempt, Lease, Live
@@ -61,8 +62,10 @@ async def load(pump: Pump) -> None:
         loaded = await owner.store.load(pump.log, pump.epoch, pump.born)
         if pump.state != "loading":
             return
-        if loaded is None:
+        if loaded is None or await unread.is_left(pump, loaded):
             owner.lose(pump)
+            return
+        if pump.state != "loading":
             return
         if loaded.epoch != pump.epoch:
             pump.epoch, pump.born = loaded.epoch, None
@@ -179,9 +182,14 @@ def _rows(pump: Pump, loaded: Loaded) -> Old:
     for id, step, kind, _, outcome, value, at in loaded.results:
         _result(pump.live[id % ROOM], step, kind, outcome, value or "null", at)
     for id, step, kind, _, why, _, _, until, _ in loaded.held:
-        if why == "unknown" or (why == "wait" and until is not None):  # of which nobody knows what it did was called: its time is over
+        if why == CANNOT_DECODE and until is None:  # it may be a wait that could not say until when
+            continue
+        # of which nobody knows what it did was called: its time is over
+        if why in PARKED or (why == "wait" and until is not None):
             due = pump.live[id % ROOM].rare.due
-            due[step, kind] = 0.0 if why == "unknown" or until is None else min(until, due.get((step, kind), until))
+            due[step, kind] = 0.0 if why in PARKED or until is None else min(
+                until, due.get((step, kind), until)
+            )
     return old
 
 
@@ -235,7 +243,9 @@ def _busy(pump: Pump, loaded: Loaded, old: Old, told: list[dict[str, Any]]) -> l
                 attempt.has_row, attempt.until = True, until
                 if attempt.why == "elsewhere":
                     _leased(attempt, error)
-                attempt.outcome = Outcome("unknown", error or "") if attempt.why == "unknown" else None
+                attempt.outcome = Outcome(
+                    attempt.why, error or ""
+                ) if attempt.why in PARKED else None
         attempt.live = live
         live.busy[attempt.word] = attempt
         if attempt.recorded and attempt.row not in done:  # by a server that was there before

@@ -1,6 +1,7 @@
 """Ended sagas are let go after their time, with their log: a closed log whose sagas ended before is deleted as a whole, exported before where that is wished.
 
-Only a log whose audit said yes goes; a stuck saga counts as ended once a person has resolved it. A key is free when its saga is gone.
+Only a log whose audit said yes goes; a saga that is stuck, or of which a compensation
+failed for good, counts as ended once a person has resolved it. A key is free when its saga is gone.
 Each log is a transaction of its own, on a connection of its own, and is followed by a pause as long as it took: who starts a saga waits for one
 log at most in a file, and for none in PostgreSQL, where other rows are touched."""
 
@@ -19,7 +20,7 @@ from typing import TYPE_CHECKING
 from . import archives, sources
 from .errors import SagasError
 from .guarded import logger
-from .schema import ROOM
+from .schema import ROOM, UNDO_FAILED
 from .sources import Source
 from .spoken import number
 
@@ -34,7 +35,8 @@ NEXT = f"""
 SELECT l.log, l.name, (SELECT count(*) FROM sagas WHERE id >= l.log * {ROOM} AND id < (l.log + 1) * {ROOM}) FROM logs l
 WHERE l.closed = 1 AND l.log > ? AND NOT EXISTS (
   SELECT 1 FROM sagas s WHERE s.id >= l.log * {ROOM} AND s.id < (l.log + 1) * {ROOM}
-  AND (s.phase IS NULL OR s.ended >= ? OR (s.phase = 'stuck' AND s.note IS NULL)))
+  AND (s.phase IS NULL OR s.ended >= ?
+    OR (s.note IS NULL AND (s.phase = 'stuck' OR ({UNDO_FAILED})))))
 ORDER BY l.log LIMIT 1
 """
 OF_SAGAS = (

@@ -41,6 +41,12 @@ class Ended(Protocol):
     def errors(self) -> dict[str, str]: ...
 
 
+def _compensations(steps: list[str]) -> str:
+    """The compensations of these steps, for a line."""
+    one = len(steps) == 1
+    return f"the {'compensation' if one else 'compensations'} of {' and '.join(steps)}"
+
+
 class Answering:
     """What is asked of either."""
 
@@ -67,7 +73,10 @@ class Answering:
 
     def __str__(self: Ended) -> str:
         """A line, and one for each step, with the first line of what that raised."""
+        stands = [step for step, state in self.states.items() if state == "fixed"]
         cost = "" if self.cost is None else f", plan of cost {self.cost}"
+        if stands and self.phase == "ended":  # what it cost is not known
+            cost = f", but {_compensations(stands)} failed for good"
         chain = f", because of {' and '.join(self.chain)}" if self.chain else ""
         said = {step: f": {error.strip().splitlines()[0][:MOST_SAID]}" for step, error in self.errors.items() if error.strip()}
         head = f"{self.saga} {self.key}: {self.phase}{' (aborted)' if self.aborted else ''}{cost}{chain}"

@@ -364,6 +364,10 @@ class Sqlite(questions.Questions, questions.Rows):
         """Another connection, for a thread that only reads."""
         return Reader(self.file)
 
+    async def spare(self, log: int) -> bool:
+        """There is nobody else."""
+        return False
+
     async def take_up(self, log: int, epoch: int) -> tuple[str, int]:
         """A log's lines and how many events they are, for who will write behind it: nobody else
         writes this file. No lines of it may be on their way."""

@@ -18,6 +18,7 @@ from typing import TYPE_CHECKING, Any
 
 from . import auditing, checks, databases, histories, moving, program, requests, retention, starting, under_way, values, waiting
 from .anywhere import Anywhere
+from .attention import Attention
 from .calling import MOST_TEXT, Outcome, outcome_of
 from .coordinator import Coordinator
 from .database import Reader
@@ -504,9 +505,19 @@ class Store:
         """The sagas that are stuck and that nobody has resolved, each with its chain."""
         return await histories.stuck(self._here())
 
+    async def attention(self, *, most: int = 100) -> builtins.list[Attention]:
+        """What needs a person, the oldest first: sagas that are stuck, and those that ended with a
+        compensation that failed for good, until somebody
+        resolves them (`resolve`); attempts of which nobody knows what they did, and those whose
+        stored input or results this program cannot read."""
+        checks.count("most", most)
+        return await histories.needed(self._inside, most)
+
     async def resolve(self, key: str, note: str, *, by: str | None = None) -> None:
-        """Marks a stuck saga as looked after, with a note, which takes the place of an earlier one. Raises `NoSuchSaga`, and `NotWaiting` where it is not
-        stuck; `ValueError` where the note says nothing.
+        """Marks a saga as looked after that is stuck, or that ended with a compensation that failed
+        for good, with a note, which takes the place of an
+        earlier one. Raises `NoSuchSaga`, and `NotWaiting` where it is neither; `ValueError` where
+        the note says nothing.
 
         `by`: who did; then that is kept, with the time (`sagas.looks`)."""
         checks.text("note", note, "what was done about it")

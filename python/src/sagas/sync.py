@@ -9,6 +9,7 @@ from collections.abc import Callable, Coroutine
 from types import TracebackType
 from typing import TYPE_CHECKING, Any, TypeVar
 
+from .attention import Attention
 from .definition import Saga, Seconds, Step
 from .plans import Plan
 from .runs import Begun, End, Held, LogEvent, Summary
@@ -143,6 +144,10 @@ class SyncStore:
     def stuck(self) -> builtins.list[End]:
         """As `Store.stuck`."""
         return self._do(self._store.stuck())
+
+    def attention(self, *, most: int = 100) -> builtins.list[Attention]:
+        """As `Store.attention`."""
+        return self._do(self._store.attention(most=most))
 
     def resolve(self, key: str, note: str, *, by: str | None = None) -> None:
         """As `Store.resolve`."""

@@ -6,7 +6,8 @@ import dataclasses
 from collections.abc import Callable, Mapping
 from typing import TYPE_CHECKING, Any, Generic, Protocol, TypeVar, overload
 
-from . import values
+from . import misfits, values
+from .errors import CannotDecode, Unstorable
 
 if TYPE_CHECKING:
     from .definition import Step
@@ -154,20 +155,38 @@ class Task(Generic[I]):
 
     @property
     def input(self) -> I:
-        """What the saga was started with: a new object each time."""
-        return values.read(self._about.input, self._about.hint)  # type: ignore[no-any-return]
+        """What the saga was started with: a new object each time. Raises `CannotDecode` where the
+        present type cannot be made of it."""
+        try:
+            return values.read(self._about.input, self._about.hint)  # type: ignore[no-any-return]
+        except Exception as error:  # of the type's own code
+            raise self._unread("input", error) from None
 
     @property
     def results(self) -> dict[str, Any]:
         """The results of all steps that this one needs, directly or not, by name: the same in each run. One that could not be stored is `{"unstorable": why}`."""
-        decoders = self._about.decoders
-        return {name: values.kept(text, decoders.get(name)) for name, text in self._texts.items()}
+        return {name: self._kept(name, text) for name, text in self._texts.items()}
+
+    def _kept(self, name: str, text: str) -> Any:
+        """A step's result. Raises `CannotDecode`."""
+        try:
+            return values.kept(text, self._about.decoders.get(name))
+        except Exception as error:  # of the type's own code
+            raise self._unread(f"result of {name!r}", error) from None
+
+    def _unread(self, what: str, error: Exception) -> CannotDecode:
+        """Why what is stored cannot be read."""
+        about = self._about
+        whose = "the compensation of step" if about.undo else "step"
+        told = error if isinstance(error, NameError) else misfits.of(error)
+        text = f"{what}: {told}" if isinstance(told, NameError) else f"{what}{told}"
+        return CannotDecode(f"saga {about.saga!r}, {whose} {about.name!r}: {text}")
 
     @property
     def result(self) -> Any:
         """In a compensation: what the step returned; `{"unstorable": why}` where that could not be stored. In an action: None."""
         own = self._about.own
-        return None if own is None else values.kept(own, self._about.decoders.get(self.step))
+        return None if own is None else self._kept(self.step, own)
 
     @property
     def plain(self) -> dict[str, Any]:
@@ -190,7 +209,10 @@ class Task(Generic[I]):
     def of(self, step: str) -> Any: ...
 
     def of(self, step: Step[Any] | str) -> Any:
-        """What a step, or the one of this name, returned that this one needs, directly or not. Raises `Unstorable` where that could not be stored."""
+        """What a step, or the one of this name, returned that this one needs, directly or not.
+
+        Raises `Unstorable` where that could not be stored, and `CannotDecode` where it is not of
+        the step's type."""
         name = step if isinstance(step, str) else step.name
         about = self._about
         text = self._texts.get(name)
@@ -199,7 +221,12 @@ class Task(Generic[I]):
                 text = about.own
             else:
                 raise KeyError(f"step {about.name!r} does not need {name!r}: name it in needs")
-        return values.returned(text, about.decoders.get(name), name)
+        try:
+            return values.returned(text, about.decoders.get(name), name)
+        except Unstorable:
+            raise
+        except Exception as error:  # of the type's own code
+            raise self._unread(f"result of {name!r}", error) from None
 
     def __repr__(self) -> str:
         return f"<task {self.token} of {self.key!r}>"

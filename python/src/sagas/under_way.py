@@ -13,6 +13,7 @@ if TYPE_CHECKING:
 SAID = {
     "": "it is called now", "ordered": "it is ordered of its queue", "place": "it waits for a place of the program's concurrency", "limit": "it waits for a place of its limit",
     "fleet_limit": "it waits for a place of its fleet_limit", "rate": "it waits for its rate", "backoff": "it waits for its next try",
+    "cannot_decode": "it waits for a program that can read what is stored for it",
 }  # fmt: skip
 """The same in words."""
 TIMED = ("backoff", "unknown", "wait", "approval")

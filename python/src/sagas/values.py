@@ -15,7 +15,9 @@ import uuid
 from collections.abc import Callable, Iterable
 from typing import Any
 
+from . import misfits
 from .errors import NotJson, Unstorable
+from .misfits import Misfit
 
 Decoder = Callable[[Any], Any]
 NUMBERS = {int, float, bool}
@@ -224,8 +226,7 @@ def decoder(hint: Any) -> Decoder | None:
     if origin in (list, set, frozenset) or (origin is tuple and len(words) == 2 and words[1] is Ellipsis):
         return _of_items(origin, decoder(words[0]))
     if origin is tuple:
-        parts = [decoder(word) or _same for word in words]
-        return lambda value: tuple(part(item) for part, item in zip(parts, value))
+        return _of_tuple([decoder(word) or _same for word in words])
     if origin is dict:
         return _of_dict(_key(words[0]), decoder(words[1]))
     return None
@@ -237,18 +238,44 @@ def _same(value: Any) -> Any:
 
 def _of_class(hint: type) -> Decoder | None:
     if hasattr(hint, "model_validate"):
-        return typing.cast(Decoder, hint.model_validate)
+        return _leaf(typing.cast(Decoder, hint.model_validate))
     if _is_old_model(hint):
-        return typing.cast(Decoder, getattr(hint, "parse_obj"))
+        return _leaf(typing.cast(Decoder, getattr(hint, "parse_obj")))
     if dataclasses.is_dataclass(hint):
         return _of_dataclass(hint)
     if issubclass(hint, enum.Enum):
-        return hint
+        return _named_leaf(hint, f": it is none of the values of {hint.__name__}")
     if hint in (tuple, set, frozenset):
-        return hint
+        return _of_items(hint, None)
     if issubclass(hint, tuple) and hasattr(hint, "_fields"):
         return _of_named_tuple(hint)
-    return _BY_TEXT.get(hint)
+    make = _BY_TEXT.get(hint)
+    return _named_leaf(make, f": it cannot be read as {hint.__name__}") if make else None
+
+
+def _leaf(make: Decoder) -> Decoder:
+    """Makes a value by code that is not of this package: what that raises is told without the
+    value."""
+
+    def read(value: Any) -> Any:
+        try:
+            return make(value)
+        except Exception as error:
+            raise misfits.of(error) from None
+
+    return read
+
+
+def _named_leaf(make: Decoder, why: str) -> Decoder:
+    """The same, of what is known by its name."""
+
+    def read(value: Any) -> Any:
+        try:
+            return make(value)
+        except Exception:
+            raise Misfit(why) from None
+
+    return read
 
 
 def _of_dataclass(hint: type) -> Decoder:
@@ -256,15 +283,26 @@ def _of_dataclass(hint: type) -> Decoder:
 
     def make(value: Any) -> Any:
         if not isinstance(value, dict):
-            raise TypeError(f"{hint.__name__} is read from an object of JSON, and this is none: {str(value)[:200]}")
+            raise Misfit(f": {hint.__name__} is read from an object of JSON, and this is none")
         if not parts:  # at the first value, since a class may name itself
             told = typing.get_type_hints(hint)
             parts.update({field.name: decoder(told[field.name]) for field in dataclasses.fields(hint) if field.init})
         given = {}
         for name, part in parts.items():
             if name in value:
-                given[name] = value[name] if part is None else part(value[name])
-        return hint(**given)
+                try:
+                    given[name] = value[name] if part is None else part(value[name])
+                except NameError:
+                    raise
+                except Exception as error:
+                    raise misfits.of(error, misfits.part(name)) from None
+        try:
+            return hint(**given)
+        except Exception as error:
+            lacks = misfits.lacking(value, hint)
+            raise lacks or Misfit(
+                f": {hint.__name__} refuses it ({type(error).__name__})"
+            ) from None
 
     return make
 
@@ -273,16 +311,52 @@ def _of_named_tuple(hint: Any) -> Decoder:
     def make(value: Any) -> Any:
         told = typing.get_type_hints(hint)
         parts = [decoder(told.get(name)) or _same for name in hint._fields]
-        return hint(*(part(item) for part, item in zip(parts, value, strict=True)))
+        if not isinstance(value, (list, tuple)) or len(value) != len(parts):
+            raise Misfit(f": {hint.__name__} is read from a list of {len(parts)}, and this is none")
+        return hint(*_each(value, parts))
 
     return make
 
 
 def _of_items(make: Decoder, inner: Decoder | None) -> Decoder | None:
-    if inner is None:
-        return None if make is list else make
-    part = inner
-    return lambda value: make(part(item) for item in value)
+    if inner is None and make is list:
+        return None
+    part = inner or _same
+
+    def read(value: Any) -> Any:
+        if not isinstance(value, (list, tuple)):
+            raise Misfit(": a list is needed, and this is none")
+        try:
+            return make([part(item) for item in value])
+        except Exception:
+            raise _first(value, part) or Misfit(": its items cannot be read") from None
+
+    return read
+
+
+def _first(value: Iterable[Any], part: Decoder) -> Exception | None:
+    """What is raised of the first item that cannot be read."""
+    for place, item in enumerate(value):
+        try:
+            part(item)
+        except NameError as error:
+            return error
+        except Exception as error:
+            return misfits.of(error, f"[{place}]")
+    return None
+
+
+def _each(value: Iterable[Any], parts: Iterable[Decoder]) -> list[Any]:
+    """Items, each by a decoder of its own."""
+    made: list[Any] = []
+    for place, (part, item) in enumerate(zip(parts, value)):
+        try:
+            made.append(part(item))
+        except NameError:
+            raise
+        except Exception as error:
+            raise misfits.of(error, f"[{place}]") from None
+    return made
 
 
 def _key(hint: Any) -> Decoder | None:
@@ -305,7 +379,30 @@ def _of_dict(key: Decoder | None, inner: Decoder | None) -> Decoder | None:
     if key is None and inner is None:
         return None
     name, part = _named(key) if key else _same, inner or _same
-    return lambda value: {name(word): part(item) for word, item in value.items()}
+
+    def read(value: Any) -> Any:
+        if not isinstance(value, dict):
+            raise Misfit(": an object is needed, and this is none")
+        made = {}
+        for word, item in value.items():
+            try:
+                made[name(word)] = part(item)
+            except NameError:
+                raise
+            except Exception as error:
+                raise misfits.of(error, misfits.part(word)) from None
+        return made
+
+    return read
+
+
+def _of_tuple(parts: list[Decoder]) -> Decoder:
+    def read(value: Any) -> Any:
+        if not isinstance(value, (list, tuple)):
+            raise Misfit(": a list is needed, and this is none")
+        return tuple(_each(value, parts))
+
+    return read
 
 
 def _named(key: Decoder) -> Decoder:
@@ -321,18 +418,38 @@ def _named(key: Decoder) -> Decoder:
 
 
 def _of_union(words: tuple[Any, ...]) -> Decoder | None:
-    parts = [part for word in words if (part := decoder(word)) is not None]
+    found = [(word, decoder(word)) for word in words]
+    parts = [part for _, part in found if part is not None]
+    plain = [word for word, part in found if part is None]
     if not parts:
         return None
 
     def make(value: Any) -> Any:
-        if value is None:
+        if value is None and type(None) in plain:
             return None
+        faults: list[Exception] = []
         for part in parts:
             try:
                 return part(value)
-            except (TypeError, ValueError, KeyError, AttributeError):
-                continue
-        return value
+            except (TypeError, ValueError, KeyError, AttributeError) as error:
+                faults.append(error)
+        if any(_may_be(value, word) for word in plain):
+            return value
+        raise misfits.of(faults[0]) if len(faults) == 1 else Misfit(
+            ": it is of none of the types that it may have"
+        )
 
     return make
+
+
+_JSON: dict[Any, tuple[type, ...]] = {
+    str: (str,), int: (int,), float: (int, float), bool: (bool,), dict: (dict,), list: (list,),
+    type(None): (type(None),),
+}  # fmt: skip
+"""The types of JSON that a plain hint stands for; of others anything is taken."""
+
+
+def _may_be(value: Any, hint: Any) -> bool:
+    """Whether a value, as JSON has it, may be meant by a hint that needs no decoder."""
+    kinds = _JSON.get(typing.get_origin(hint) or hint)
+    return kinds is None or isinstance(value, kinds)

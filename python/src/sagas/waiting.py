@@ -31,6 +31,7 @@ def left_by(saga: str, version: int, nodes: Sequence[str]) -> str:
 WHY = {
     "approval": "waits for an approval",
     "backoff": "waits for its next try",
+    "cannot_decode": "waits for a program that can read what is stored for it (attention says why)",
     "elsewhere": "waits for who does it elsewhere",
     "fleet": "waits for its fleet_limit or its rate",
     "limit": "waits for its limit",

@@ -94,4 +94,8 @@ def _call(function: Function, manner: Manner, task: Task[Any]) -> Outcome:
     except SoftTimeLimitExceeded as error:
         return Outcome("unknown", f"{type(error).__name__}: {error}"[: calling.MOST_TEXT])
     except BaseException as error:
-        return calling.raised(error, manner)
+        outcome = calling.raised(error, manner)
+        if outcome.kind != calling.CANNOT_DECODE:
+            return outcome
+        logger.warning("%s: %s: another worker may be able to do it", task.token, outcome.value)
+        return Outcome("unknown", outcome.value)  # so that it is ordered again

@@ -18,7 +18,7 @@ from ..sources import Trouble
 from ..values import clean
 from .asks import abort, finish, resolve
 from .audits import audit
-from .looks import counts, draw, export, list_sagas, log, plan, show, stuck, waiting
+from .looks import attention, counts, draw, export, list_sagas, log, plan, show, stuck, waiting
 from .pruning import prune, words_of_prune
 from .tables import CANNOT, INTERRUPTED, escape
 from .tending import init, migrate, nodes
@@ -68,6 +68,9 @@ def add_looks(add: Add) -> None:
     add("draw", draw, key=True).add_argument("--svg", action="store_true", help="how the saga stands, as the service's page shows it: an SVG file")
     add("counts", counts)
     add("stuck", stuck)
+    add("attention", attention).add_argument(
+        "--most", type=int, default=100, metavar="N", help="so many at most (100)"
+    )
     add("waiting", waiting)
 
 
@@ -86,7 +89,9 @@ def add_asks(add: Add) -> None:
     add_patience(part)
     part = add("resolve", resolve)
     part.add_argument("key", metavar="KEY", nargs="*", help="the sagas' keys")
-    part.add_argument("--all", action="store_true", help="each stuck saga that nobody has resolved, in place of KEYs")
+    part.add_argument(
+        "--all", action="store_true", help="each saga that nobody has resolved, in place of KEYs"
+    )
     part.add_argument("--saga", metavar="NAME", help="with --all: sagas of this name alone")
     part.add_argument("--note", required=True, metavar="TEXT", help="what was done about it")
 

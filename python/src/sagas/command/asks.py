@@ -9,6 +9,7 @@ import time
 from typing import Any
 
 from .. import databases, sources
+from ..attention import RESOLVABLE, RESOLVE
 from ..faults import meant
 from ..questions import DEFINITION
 from ..requests import reason
@@ -117,14 +118,17 @@ def finish(path: str, words: argparse.Namespace) -> int:
 
 
 def resolve(path: str, words: argparse.Namespace) -> int:
-    """Marks stuck sagas as seen to by a person, with a note."""
+    """Marks sagas that are stuck, or that ended with a compensation that failed for good, as seen
+    to by a person, with a note."""
     if bool(words.key) == words.all:
-        raise Trouble("resolve takes the keys of the sagas, or --all for each stuck one that nobody has resolved", 2)
+        raise Trouble(
+            "resolve takes the keys of the sagas, or --all for each one that nobody has resolved", 2
+        )
     if not words.note.strip():
         raise Trouble("--note: say what was done about it", 2)
     with sources.writing(path) as link:
-        keys: list[str] = words.key or stuck_keys(link, words.saga)
-        done = [key for key in keys if link.changed("UPDATE sagas SET note = ? WHERE key = ? AND phase = 'stuck'", words.note, key)]
+        keys: list[str] = words.key or keys_to_resolve(link, words.saga)
+        done = [key for key in keys if link.changed(RESOLVE, words.note, key)]
     if words.json:
         told = [{"key": key, "note": words.note} for key in done]
         show_json(told[0] if len(words.key) == 1 and told else told)
@@ -132,17 +136,22 @@ def resolve(path: str, words: argparse.Namespace) -> int:
         for key in done:
             print(f"{key}: resolved")
     if len(done) < len(keys):
-        raise Trouble(why_not_stuck(path, [key for key in keys if key not in done]))
+        raise Trouble(why_not(path, [key for key in keys if key not in done]))
     return GOOD
 
 
-def stuck_keys(link: sources.Source, saga: str | None) -> list[str]:
-    """The stuck sagas that nobody has resolved, of that name or of any."""
+def keys_to_resolve(link: sources.Source, saga: str | None) -> list[str]:
+    """The sagas that nobody has resolved, of that name or of any."""
     named, name = (" AND saga = ?", (saga,)) if saga is not None else ("", ())
-    return [key for (key,) in link.ask(f"SELECT key FROM sagas WHERE phase = 'stuck' AND note IS NULL{named} ORDER BY key", *name)]
+    return [
+        key
+        for (key,) in link.ask(
+            f"SELECT key FROM sagas WHERE {RESOLVABLE} AND note IS NULL{named} ORDER BY key", *name
+        )
+    ]
 
 
-def why_not_stuck(path: str, keys: list[str]) -> str:
-    """What is said of sagas that are not stuck."""
+def why_not(path: str, keys: list[str]) -> str:
+    """What is said of sagas that nobody has to resolve."""
     with View(path) as view:
         return "; ".join(f"{key} is not stuck: it is {view.saga(key).phase}" for key in keys)

@@ -3,16 +3,20 @@
 from __future__ import annotations
 
 import argparse
+import dataclasses
 import sys
 import time
 from collections.abc import Sequence
 
+from .. import attention as needs
 from .. import program
+from ..attention import Attention, AttentionReason
+from ..calling import CANNOT_DECODE
 from ..histories import MISSES
 from ..looks import PERSON, Looks
 from ..looks import PHASES as COUNTED
 from ..questions import PHASE, PHASES
-from ..schema import PLANNED, UNDO_FAILED
+from ..schema import PLANNED
 from ..server import pictures
 from ..sources import Trouble
 from ..spoken import number, state_of
@@ -22,6 +26,8 @@ from .view import ALL, Json, SagaRow, StepRow, View, log_of, plan_of, step_names
 
 def phase_of(row: SagaRow) -> str:
     """A saga's phase as a person reads it."""
+    if row.phase == "resolved":
+        return row.phase
     return "ended, undo failed" if row.undo_failed else "ended by plan" if row.planned else row.phase
 
 
@@ -149,6 +155,8 @@ def waits_for(one: Json) -> str:
     if one["why"] == "unknown":
         times = f" ({number(one['count'], 'time')})"
         return f"a person: nobody knows what came of it{times}" if one["until"] is None else f"another try: nobody knew{times}"
+    if one["why"] == CANNOT_DECODE:
+        return "a program that can read what is stored for it"
     if one["why"] == "elsewhere":
         return f"a worker: {one['worker']} has it" if one["until"] > time.time() else f"a worker: the lease of {one['worker']} ran out"
     if one["why"] == "node":
@@ -162,7 +170,9 @@ def counts(path: str, words: argparse.Namespace) -> int:
         name = view.link.name
         rows = view.ask(f"SELECT saga, {PHASE}, count(*) FROM sagas GROUP BY 1, 2 ORDER BY 1")
         ((persons,),) = view.ask(f"SELECT count(*) FROM held WHERE {PERSON}")
-        ((planned, undo_failed),) = view.ask(f"SELECT count(*), count(*) FILTER (WHERE {UNDO_FAILED}) FROM sagas WHERE {PLANNED}")
+        failed = f"count(*) FILTER (WHERE {PHASES['undo-failed']})"
+        wanted = f"count(*) FILTER (WHERE note IS NULL), {failed}"
+        ((planned, undo_failed),) = view.ask(f"SELECT {wanted} FROM sagas WHERE {PLANNED}")
     names = sorted({saga for saga, _, _ in rows})
     found = {(saga, phase): count for saga, phase, count in rows}
     told = {saga: {phase: found.get((saga, phase), 0) for phase in COUNTED} for saga in names}
@@ -193,7 +203,7 @@ def stuck(path: str, words: argparse.Namespace) -> int:
             names = step_names(view.definition(row.id))
             answer = (end or {}).get("answer") or {}
             told.append({"key": row.key, "saga": row.saga, "ended": row.ended, "chain": [names[step] for step in answer.get("chain", ())]})
-        ((undo_failed,),) = view.ask(f"SELECT count(*) FROM sagas WHERE {UNDO_FAILED}")
+        ((undo_failed,),) = view.ask(f"SELECT count(*) FROM sagas WHERE {PHASES['undo-failed']}")
     if words.json:
         show_json(told)
         return GOOD
@@ -201,8 +211,41 @@ def stuck(path: str, words: argparse.Namespace) -> int:
         (one["key"], one["saga"], moment(one["ended"]), " needs ".join(one["chain"])) for one in told
     ]))
     if undo_failed:
-        print(f"\n{undo_failed} ended with a compensation that failed for good: sagas store {name} list --phase undo-failed")
+        print(
+            f"\n{undo_failed} ended with a compensation that failed for good: "
+            f"sagas store {name} attention"
+        )
     return GOOD
+
+
+def attention(path: str, words: argparse.Namespace) -> int:
+    """Lists what needs a person: sagas that are stuck, compensations that failed for good, and
+    attempts that do not go on by themselves."""
+    with View(path) as view:
+        entries = needs.found(view.ask, words.most or ALL)
+    if words.json:
+        show_json([dataclasses.asdict(one) for one in entries])
+        return GOOD
+    print(table(["KEY", "SAGA", "WHY", "STEP", "SINCE", "SAID"], [
+        (
+            one.key, one.saga, NEEDS[one.why], _meant(one), moment(one.since), short(one.detail)
+        ) for one in entries
+    ]))
+    return GOOD
+
+
+NEEDS = {
+    AttentionReason.STUCK: "stuck",
+    AttentionReason.UNDO_FAILED: "undo failed",
+    AttentionReason.UNKNOWN: "nobody knows",
+    AttentionReason.CANNOT_DECODE: "cannot be read",
+}
+"""Why a saga needs a person, in words."""
+
+
+def _meant(one: Attention) -> str:
+    """The step, or its compensation."""
+    return "" if one.step is None else f"{one.step} (undo)" if one.undo else one.step
 
 
 def waiting(path: str, words: argparse.Namespace) -> int:

@@ -95,7 +95,12 @@ class Metrics:
             for phase, count in phases.items():
                 sagas.add_metric([saga, phase], count)
         yield sagas
-        asked = GaugeMetricFamily("sagas_waiting_for_a_person", "Stuck sagas, unknown outcomes, approvals", labels=["why"])
+        asked = GaugeMetricFamily(
+            "sagas_waiting_for_a_person",
+            "Stuck sagas, compensations that failed for good, unknown outcomes, stored values that "
+            "cannot be read, approvals",
+            labels=["why"],
+        )
         for why, count in self.asked.items():
             asked.add_metric([why], count)
         yield asked

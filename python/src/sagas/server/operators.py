@@ -1,4 +1,5 @@
-"""For operators: figures, whether it lives, whether it takes requests, and a stuck saga marked as resolved."""
+"""For operators: figures, whether it lives, whether it takes requests, and a saga that needed a
+person marked as resolved."""
 
 from __future__ import annotations
 
@@ -39,9 +40,12 @@ async def metrics(request: Request, who: Who = Depends(allow("metrics"))) -> Res
     return Response(await service_of(request).metrics.text(), media_type=TYPE)
 
 
-@router.post("/sagas/{key}/resolve", summary="Mark a stuck saga as resolved")
+@router.post(
+    "/sagas/{key}/resolve",
+    summary="Mark a saga as resolved that is stuck, or of which a compensation failed for good",
+)
 async def resolve(request: Request, key: str, body: Resolve, who: Who = Depends(allow("operator"))) -> Response:
-    """409 where it is not stuck."""
+    """409 where it is neither."""
     service = service_of(request)
     await service.store.resolve(unslashed(key), body.note, by=who.name)
     service.recount()

@@ -12,6 +12,7 @@ from fastapi import APIRouter, Query, Request
 from starlette.responses import HTMLResponse, RedirectResponse, Response
 
 from ..errors import NoSuchSaga, SagasError
+from ..attention import Attention
 from ..looks import PHASES, Looks, SagaView, StepView, Waits
 from . import pictures, rendering, shown, words
 from .access import Refused, address, limited, service_of, unslashed
@@ -174,10 +175,10 @@ async def overview(request: Request) -> Response:
     since = service.hub.now
     counts, asked, _ = await service.counts()
 
-    def questions(looks: Looks) -> tuple[Any, list[Waits], Any]:
-        return looks.stuck(STUCK), looks.waits(SHOWN), looks.page(most=12)
+    def questions(looks: Looks) -> tuple[Any, list[Attention], list[Waits], Any]:
+        return looks.stuck(STUCK), looks.undone(STUCK), looks.waits(SHOWN), looks.page(most=12)
 
-    stuck, waits, latest = await service.look(questions)
+    stuck, undone, waits, latest = await service.look(questions)
     queues = await service.queues()
     ready = [queue for queue in queues if queue.ready]
     totals = {phase: sum(of[phase] for of in counts.values()) for phase in PHASES}
@@ -186,7 +187,9 @@ async def overview(request: Request) -> Response:
         counts.setdefault(saga.name, dict.fromkeys(PHASES, 0))
     return shows(
         request, "overview.html", here="overview", live="/ui/events", since=since, again=service.counts_lag(), counts=counts, asked=asked, asked_all=sum(asked.values()), totals=totals, stuck=stuck,
-        waits=waits, shown=len(stuck) + len(waits), latest=latest, ready=sum(queue.ready for queue in queues), taken=sum(queue.taken for queue in queues), oldest=oldest,
+        undone=undone, waits=waits, latest=latest, oldest=oldest,
+        shown=len(stuck) + len({one.key for one in undone}) + len(waits),
+        ready=sum(queue.ready for queue in queues), taken=sum(queue.taken for queue in queues),
     )  # fmt: skip
 
 

@@ -6,6 +6,7 @@ import time
 from html import escape
 from typing import NamedTuple
 
+from ..calling import CANNOT_DECODE
 from ..looks import SagaView, Stretch, Waits
 from ..plans import Choice, Plan
 from . import words
@@ -88,6 +89,8 @@ def waiting(held: Waits) -> str:
         return f"at {held.said}" if held.said else "a worker has it"
     if held.why == "worker":
         return held.said or ""
+    if held.why == CANNOT_DECODE:
+        return "what is stored cannot be read"
     if held.asks and held.why == "unknown":
         return "nobody knows: say it"
     if held.why == "backoff":

@@ -1,0 +1,178 @@
+"""What needs a person until a person has seen to it, wherever it is asked for."""
+
+from __future__ import annotations
+
+import json
+import logging
+from typing import Any
+
+import pytest
+
+import sagas
+from cases import QUICK, Task, run, until
+from sagas import command
+from sagas.looks import Looks
+
+
+def shop() -> sagas.Saga:
+    """Takes, and sends: by its input the sending fails, and then the giving back; or nobody knows;
+    or nothing is left to do."""
+    shop = sagas.Saga("shop")
+
+    @shop.step(keep=9, undo=0)
+    def take(task: Task) -> int:
+        if task.input == "stuck":
+            raise sagas.Fail("none is left")
+        return 1
+
+    @take.compensation
+    def give(task: Task) -> None:
+        if task.input == "gone":
+            raise sagas.Fail("it is gone")
+
+    @shop.step(needs=[take], unknown_most=0, backoff=QUICK)
+    def send(task: Task) -> None:
+        if task.input == "unknown":
+            raise sagas.Unknown("no answer")
+        raise sagas.Fail("no address")
+
+    return shop
+
+
+def must() -> sagas.Saga:
+    """A saga that may be stuck."""
+    must = sagas.Saga("must")
+
+    @must.step(skip=sagas.NEVER)
+    def machine(task: Task) -> None:
+        raise sagas.Fail("broken")
+
+    return must
+
+
+Entry = tuple[str, str, str, str | None, bool, str | None]
+WANTED: list[Entry] = [
+    ("stuck", "must", "stuck", None, False, "because of machine"),
+    ("gone", "shop", "undo_failed", "take", True, "sagas.Fail: it is gone"),
+    ("unknown", "shop", "unknown", "send", False, "sagas.Unknown: no answer"),
+]
+
+
+def told(found: list[sagas.Attention]) -> list[Entry]:
+    """All but the time."""
+    return [(one.key, one.saga, one.why, one.step, one.undo, one.detail) for one in found]
+
+
+async def fill(store: sagas.Store, kinds: list[sagas.Saga]) -> None:
+    """One of each, and some of which nobody has to see anything."""
+    await (await store.start(kinds[1], "stuck")).wait()
+    await (await store.start(kinds[0], "well-undone")).wait()
+    end = await (await store.start(kinds[0], "gone", "gone")).wait()
+    first, *_ = str(end).splitlines()
+    assert first == "shop gone: ended, but the compensation of take failed for good"
+    await store.start(kinds[0], "unknown", "unknown")
+    await until(lambda: any(one.asked for one in store.unknown()))
+
+
+def test_what_needs_a_person(
+    place: str, capsys: pytest.CaptureFixture[str], caplog: pytest.LogCaptureFixture
+) -> None:
+    """It is one list, for the program, an operator's command and the service's first page; and goes
+    when somebody has resolved it."""
+    kinds = [shop(), must()]
+
+    async def main() -> None:
+        events: list[sagas.Event] = []
+        async with sagas.open(place, kinds, on_event=events.append) as store:
+            await fill(store, kinds)
+            assert told(await store.attention()) == WANTED
+            assert told(await store.attention(most=1)) == WANTED[:1]
+            with pytest.raises(ValueError, match="most=0"):
+                await store.attention(most=0)
+            (failed,) = [one for one in events if one.name == "saga_undo_failed"]
+            assert failed.key == "gone" and "the compensation failed for good" in str(failed.detail)
+            looks = Looks(store.reader())
+            try:
+                assert told(looks.attention()) == WANTED
+                assert looks.asked() == {
+                    "stuck": 1, "undo_failed": 1, "unknown": 1, "cannot_decode": 0, "approval": 0,
+                }
+            finally:
+                looks.close()
+
+    with caplog.at_level(logging.ERROR):
+        run(main())
+    assert "saga_undo_failed key=gone saga=shop" in caplog.text
+    capsys.readouterr()
+    assert command.main([place, "attention", "--json"]) == 0
+    shown = json.loads(capsys.readouterr().out)
+    assert [tuple(one.values())[:-1] for one in shown] == WANTED
+    assert command.main([place, "attention"]) == 0
+    assert "gone     shop  undo failed   take (undo)" in capsys.readouterr().out
+
+
+async def by_store(place: str, kinds: list[sagas.Saga]) -> None:
+    async with sagas.open(place, kinds) as store:
+        await store.resolve("gone", "paid back", by="ann")
+        with pytest.raises(sagas.NotWaiting, match="'well-undone' needs nobody to resolve it"):
+            await store.resolve("well-undone", "x")
+
+
+async def by_command(place: str, kinds: list[sagas.Saga]) -> None:
+    assert command.main([place, "resolve", "gone", "--note", "paid back"]) == 0
+    assert command.main([place, "resolve", "well-undone", "--note", "x"]) == 1
+
+
+async def by_client(place: str, kinds: list[sagas.Saga]) -> None:
+    async with sagas.Client(place) as client:
+        assert told(await client.attention()) == WANTED
+        await client.resolve("gone", "paid back", by="ann")
+        with pytest.raises(sagas.NotWaiting, match="'well-undone' needs nobody to resolve it"):
+            await client.resolve("well-undone", "x")
+        with pytest.raises(sagas.NoSuchSaga):
+            await client.resolve("nobody", "x")
+
+
+def by_plain_client(place: str) -> None:
+    with sagas.SyncClient(place) as client:
+        assert told(client.attention(most=2)) == WANTED[:2]
+        client.resolve("gone", "paid back")
+
+
+def by_plain_store(place: str, kinds: list[sagas.Saga]) -> None:
+    with sagas.open_sync(place, kinds) as store:
+        assert told(store.attention()) == WANTED
+        store.resolve("gone", "paid back")
+
+
+@pytest.mark.parametrize("who", [by_store, by_command, by_client, by_plain_client, by_plain_store])
+def test_one_whose_compensation_failed_is_resolved(place: str, who: Any) -> None:
+    """By whoever may: then nothing of it needs a person, and it is in the list of those that are
+    resolved."""
+    if "client" in who.__name__ and not place.startswith("postgresql"):
+        pytest.skip("clients are of PostgreSQL")
+    kinds = [shop(), must()]
+
+    async def first() -> None:
+        async with sagas.open(place, kinds) as store:
+            await fill(store, kinds)
+
+    async def then() -> None:
+        async with sagas.open(place, kinds) as store:
+            assert told(await store.attention()) == [WANTED[0], WANTED[2]]
+            assert [(one.key, one.phase, one.note) for one in store.list(phase="resolved")] == [
+                ("gone", "resolved", "paid back")
+            ]
+            assert store.list(phase="undo-failed") == []
+            assert [one.key for one in store.list(phase="ended")] == ["well-undone"]
+            end = await store.wait("gone")
+            assert (end.phase, end.note, end.states["take"]) == ("ended", "paid back", "fixed")
+
+    run(first())
+    if who is by_plain_client:
+        who(place)
+    elif who is by_plain_store:
+        who(place, kinds)
+    else:
+        run(who(place, kinds))
+    run(then())

@@ -1,0 +1,275 @@
+"""Inputs and results whose types have changed under open sagas: what a program cannot read it does
+not do, and nothing fails because of that."""
+
+from __future__ import annotations
+
+import asyncio
+import dataclasses
+import datetime
+import enum
+import logging
+from collections.abc import Callable
+from typing import Any, Optional
+
+import pytest
+
+import sagas
+from cases import QUICK, Task, run, until
+
+
+@dataclasses.dataclass
+class Old:
+    """An order as it was."""
+
+    amount: int
+
+
+@dataclasses.dataclass
+class Wants:
+    """As a program wants it that does not know of old ones."""
+
+    amount: int
+    address: str
+
+
+@dataclasses.dataclass
+class Mended:
+    """As it should have been added."""
+
+    amount: int
+    address: str = "unknown"
+
+
+class Color(enum.Enum):
+    """As results were."""
+
+    RED = "red"
+
+
+class Fewer(enum.Enum):
+    """One is gone."""
+
+    BLUE = "blue"
+
+
+class Shop:
+    """charge, an approval, ship: with what ship, and the refund, read their input as. What each
+    call did is kept."""
+
+    def __init__(
+        self, ship_as: Any, refund_as: Any = None, gives: Any = Color, fails: bool = False
+    ) -> None:
+        self.calls: list[str] = []
+        self.fails = fails
+        self.saga = saga = sagas.Saga("shop")
+        charge = saga.step(name="charge", keep=9, undo=0, backoff=QUICK)(self.charging(gives))
+        charge.compensation(self.refunding(refund_as))
+        ok = saga.approval(name="ok", needs=[charge])(lambda task: None)
+        saga.step(name="ship", needs=[ok, charge], tries=2, backoff=QUICK)(self.shipping(ship_as))
+
+    def charging(self, gives: Any) -> Callable[[Task], Any]:
+        async def charge(task: Task) -> Any:
+            self.calls.append("charge")
+            return "red"
+
+        charge.__annotations__["return"] = gives
+        return charge
+
+    def refunding(self, hint: Any) -> Callable[[Task], Any]:
+        async def refund(task: Task) -> None:
+            self.calls.append(f"refund {getattr(task.input, 'amount', None)}")
+
+        if hint:
+            refund.__annotations__["task"] = sagas.Task[hint]
+        return refund
+
+    def shipping(self, hint: Any) -> Callable[[Task], Any]:
+        def ship(task: Task) -> None:
+            amount, _ = task.input.amount, task.of("charge")
+            self.calls.append(f"ship {amount}")
+            if self.fails:
+                raise TypeError("the application's own")
+
+        ship.__annotations__["task"] = sagas.Task[hint]
+        return ship
+
+
+async def opened_at(place: str, shop: Shop, *keys: str) -> None:
+    """Sagas that wait to be approved, as a program leaves them that closes."""
+    async with sagas.open(place, [shop.saga]) as store:
+        for key in keys:
+            await store.start(shop.saga, key, {"amount": 314159})
+        await until(
+            lambda: sum(any(one.waits == "approval"
+            for one in store.begun(key)) for key in keys) == len(keys)
+        )
+
+
+async def parked(store: sagas.Store, key: str = "k") -> list[sagas.Attention]:
+    """What needs a person, once the saga waits for another program."""
+    await until(lambda: any(one.waits == "cannot_decode" for one in store.begun(key)))
+    while not (found := await store.attention()):  # its row is on its way
+        await asyncio.sleep(0.005)
+    return found
+
+
+@pytest.mark.parametrize("change, why", [
+    ({"ship_as": Wants}, "saga 'shop', step 'ship': input lacks 'address', which Wants needs"),
+    (
+        {"ship_as": Old, "gives": Fewer},
+        "saga 'shop', step 'ship': result of 'charge': it is none of the values of Fewer",
+    ),
+    (
+        {"ship_as": Optional[Wants]},
+        "saga 'shop', step 'ship': input lacks 'address', which Wants needs",
+    ),
+])
+def test_a_type_that_changed_parks_the_attempt(
+    place: str, change: dict[str, Any], why: str, caplog: pytest.LogCaptureFixture
+) -> None:
+    """It waits, is shown, and goes on in a program that can read it: nothing fails, nothing is
+    compensated, no try is used up."""
+    new, mended = Shop(**change), Shop(Mended)
+    told: list[sagas.Event] = []
+
+    async def main() -> None:
+        await opened_at(place, Shop(Old), "k")
+        async with sagas.open(place, [new.saga], on_event=told.append) as store:
+            told_of = "1 open saga cannot be read by this program"
+            assert told_of in caplog.text and "314159" not in caplog.text
+            await store.finish("k", "ok")
+            (one,) = await parked(store)
+            assert (one.key, one.why, one.step, one.undo, one.detail) == (
+                "k", "cannot_decode", "ship", False, why
+            )
+            assert one.why is sagas.AttentionReason.CANNOT_DECODE
+            with pytest.raises(
+                TimeoutError, match="ship waits for a program that can read what is stored for it"
+            ):
+                await store.wait("k", timeout=0.05)
+        async with sagas.open(place, [new.saga]) as store:  # it is so again
+            assert len(await parked(store)) == 1 and new.calls == []
+        async with sagas.open(place, [mended.saga]) as store:
+            assert (
+                await store.wait("k")
+            ).ok and mended.calls == ["ship 314159"] and await store.attention() == []
+
+    with caplog.at_level(logging.WARNING):
+        run(main())
+    assert [one.detail for one in told if one.name == "step_cannot_decode"] == [why]
+    assert not [one for one in told if one.name in ("step_missed", "step_failed", "saga_planned")]
+
+
+def test_a_compensation_that_cannot_read_waits(place: str) -> None:
+    """As an action: it has not failed, and the saga ends undone in a program that can read it."""
+    new, mended = Shop(Old, refund_as=Wants, fails=True), Shop(Old, refund_as=Mended)
+
+    async def main() -> None:
+        await opened_at(place, Shop(Old), "k")
+        async with sagas.open(place, [new.saga]) as store:
+            await store.finish("k", "ok")
+            (one,) = await parked(store)
+            assert (one.step, one.undo, one.why) == ("charge", True, "cannot_decode")
+            assert "the compensation of step 'charge'" in str(one.detail)
+            assert new.calls == ["ship 314159", "ship 314159"]
+        async with sagas.open(place, [mended.saga]) as store:
+            end = await store.wait("k")
+            assert end.states == {"charge": "undone", "ok": "undone", "ship": "failed"}
+            assert mended.calls == ["refund 314159"]
+
+    run(main())
+
+
+def test_a_person_may_say_how_it_ended(place: str) -> None:
+    """Where no program will read it any more: `finish`, and the saga goes on by that."""
+    new = Shop(Wants, refund_as=Old)
+
+    async def main() -> None:
+        await opened_at(place, Shop(Old), "k")
+        async with sagas.open(place, [new.saga]) as store:
+            await store.finish("k", "ok")
+            await parked(store)
+            # does not wait for what is parked: nothing begins any more
+            assert await store.abort("k")
+            await store.finish("k", "ship", failed="it was never shipped")
+            end = await store.wait("k")
+            assert end.aborted and end.states["charge"] == "undone" and new.calls == [
+                "refund 314159"
+            ]
+            assert await store.attention() == []
+
+    run(main())
+
+
+def waits(hint: Any, calls: list[str]) -> sagas.Saga:
+    """A wait that says when it is called for its time, and when its function is."""
+    saga = sagas.Saga("waits")
+
+    def pause(task: Task) -> None:
+        calls.append(f"{task.input.amount}")
+
+    def soon(task: Task) -> datetime.timedelta:
+        calls.append("until")
+        return datetime.timedelta(seconds=0.01)
+
+    pause.__annotations__["task"] = sagas.Task[hint]
+    first = saga.step(name="first")(lambda task: None)
+    saga.wait(name="pause", until=soon, needs=[first])(pause)
+    return saga
+
+
+def test_a_wait_that_is_over_is_over(place: str) -> None:
+    """A wait whose function cannot read its input is not waited for once more by the next
+    program."""
+    calls: list[str] = []
+    strict, mended = waits(Wants, calls), waits(Mended, calls)
+
+    async def main() -> None:
+        async with sagas.open(place, [strict]) as store:
+            await store.start(strict, "k", {"amount": 1})
+            await parked(store)
+        async with sagas.open(place, [mended]) as store:
+            assert (await store.wait("k")).ok
+
+    run(main())
+    assert calls == ["until", "1"]
+
+
+def test_another_node_has_it(url: str) -> None:
+    """A log of which this node cannot read something goes to another one that comes, once; where no
+    other can, it is driven here but for that."""
+    old, new = Shop(Old), Shop(Wants)
+
+    async def main() -> None:
+        await opened_at(url, Shop(Old), "k", "other")
+        async with sagas.open(url, [new.saga], node="new") as store:
+            await store.finish("k", "ok")
+            await parked(store)
+            async with sagas.open(url, [old.saga], node="old") as older:
+                assert (await older.wait("k", timeout=60)).ok and old.calls == ["ship 314159"]
+                await store.finish("other", "ok")
+                assert (await store.wait("other", timeout=60)).ok
+        assert new.calls == []
+
+    run(main())
+
+
+def test_two_nodes_of_which_none_can(url: str) -> None:
+    """Each spares it for the other, and one has it in the end: what can be read of it goes on."""
+    one, two = Shop(Wants), Shop(Wants)
+
+    async def main() -> None:
+        await opened_at(url, Shop(Old), "k", "fresh")
+        async with sagas.open(url, [one.saga], node="one") as here, sagas.open(
+            url, [two.saga], node="two"
+        ):
+            await asyncio.wait_for(here.finish("k", "ok"), 60)
+            found: list[sagas.Attention] = []
+            while not found:
+                found = await here.attention()
+                await asyncio.sleep(0.05)
+            assert found[0].why == "cannot_decode"
+            await here.abort("fresh")  # which is undone, since its refund reads nothing
+            assert (await here.wait("fresh", timeout=60)).aborted
+
+    run(main())
