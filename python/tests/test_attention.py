@@ -9,7 +9,7 @@ from typing import Any
 import pytest
 
 import sagas
-from cases import QUICK, Task, run, until
+from cases import QUICK, Task, run, until, asked_of
 from sagas import command
 from sagas.looks import Looks
 
@@ -71,7 +71,7 @@ async def fill(store: sagas.Store, kinds: list[sagas.Saga]) -> None:
     first, *_ = str(end).splitlines()
     assert first == "shop gone: ended, but the compensation of take failed for good"
     await store.start(kinds[0], "unknown", "unknown")
-    await until(lambda: any(one.asked for one in store.unknown()))
+    await until(lambda: asked_of(store))
 
 
 def test_what_needs_a_person(
@@ -160,11 +160,10 @@ def test_one_whose_compensation_failed_is_resolved(place: str, who: Any) -> None
     async def then() -> None:
         async with sagas.open(place, kinds) as store:
             assert told(await store.attention()) == [WANTED[0], WANTED[2]]
-            assert [(one.key, one.phase, one.note) for one in store.list(phase="resolved")] == [
-                ("gone", "resolved", "paid back")
-            ]
-            assert store.list(phase="undo-failed") == []
-            assert [one.key for one in store.list(phase="ended")] == ["well-undone"]
+            (one,) = await store.list(phase="resolved")
+            assert (one.key, one.phase, one.note) == ("gone", "resolved", "paid back")
+            assert await store.list(phase="undo-failed") == []
+            assert [one.key for one in await store.list(phase="ended")] == ["well-undone"]
             end = await store.wait("gone")
             assert (end.phase, end.note, end.states["take"]) == ("ended", "paid back", "fixed")
 
