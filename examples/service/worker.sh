@@ -17,7 +17,10 @@ post() { # PATH BODY: until it is answered, since the service may be about to st
   echo "$answer"
 }
 first() { # the first task's token, lease and input
-  python3 -c 'import json, sys; task = (json.load(sys.stdin)["tasks"] or [{}])[0]; print(task.get("token", "none"), task.get("lease", 0), json.dumps(task.get("input")))'
+  python3 -c '
+import json, sys
+task = (json.load(sys.stdin)["tasks"] or [{"token": "none", "lease": "none", "input": None}])[0]
+print(task["token"], task["lease"], json.dumps(task["input"]))'
 }
 
 while true; do
@@ -25,8 +28,9 @@ while true; do
   read -r task lease input < <(first <<<"$took")
   case $task:$input in # what is done here, with $task as its key
     none:*) continue ;;
-    *'"sold-out"'*) post "/tasks/$task/failed" "{\"lease\":$lease,\"error\":\"the tour is sold out\"}" ;;
-    *'"hazy"'*) post "/tasks/$task/unknown" "{\"lease\":$lease,\"error\":\"the line went dead\"}" ;;
-    *) post "/tasks/$task/done" "{\"lease\":$lease,\"result\":\"booked\"}" ;;
-  esac >/dev/null
+    *'"sold-out"'*) word=failed told='"error":"the tour is sold out"' ;;
+    *'"hazy"'*) word=unknown told='"error":"the line went dead"' ;;
+    *) word=done told='"result":"booked"' ;;
+  esac
+  post "/tasks/$task/$word" "{\"lease\":\"$lease\",$told}" >/dev/null
 done

@@ -89,7 +89,7 @@ def test_a_saga_through_workers(client: httpx.Client) -> None:
 
 
 def test_leases(client: httpx.Client) -> None:
-    """One that runs out gives the task to another with the same token; failed counts under the newest, done under any; the first report stays."""
+    """One that runs out gives the task to another with the same token; failed counts under the newest, done under any that was given; the first report stays."""
     start(client, "trip", "leases")
     (old,) = take(client, "trip/flight", lease=0.5)
     (new,) = take(client, "trip/flight")
@@ -104,8 +104,9 @@ def test_leases(client: httpx.Client) -> None:
     assert report(client, new, result=2).json()["error"] == "ReportedOtherwise"
     assert report(client, new, "failed", error="no").status_code == 409
     assert client.post(f"/tasks/{new['token']}/beat", json={"lease": new["lease"]}).json()["error"] == "LeaseLost"
-    assert report(client, {**new, "token": "0" * 16 + "-0-flight-run-1"}).status_code == 404
-    assert report(client, {**new, "token": "x"}).json()["error"] == "NoSuchTask"
+    for token in ("0" * 16 + "-0-flight-run-1", "x"):
+        none = report(client, {**new, "token": token})
+        assert (none.status_code, none.json()["error"]) == (403, "InvalidLease")
     client.post("/sagas/leases/abort", json={"note": "it was a try"})
     assert get(client, "/sagas/leases/wait?seconds=60")["aborted"] is True
 

@@ -63,8 +63,11 @@ def test_a_task_goes_through_both(both: Pair) -> None:
     assert (flight["key"], flight["input"]) == ("both", {"to": "Rome"}) and 500 < flight["seconds"] <= 600
     assert take(one, "trip/flight", wait=0) == take(two, "trip/flight", wait=0) == []
     assert two.post(f"/tasks/{flight['token']}/beat", json={"lease": flight["lease"], "seconds": 700}).json()["until"] > time.time() + 600
-    assert two.post(f"/tasks/{flight['token']}/beat", json={"lease": flight["lease"] - 1}).json()["error"] == "LeaseLost"
-    assert report(two, {**flight, "lease": 1}, "failed", error="no").json()["error"] == "LeaseLost"
+    number, _, signed = flight["lease"].partition(".")
+    forged = {**flight, "lease": f"{int(number) - 1}.{signed}"}
+    for client in (one, two):
+        assert client.post(f"/tasks/{flight['token']}/beat", json={"lease": forged["lease"]}).json()["error"] == "InvalidLease"
+        assert report(client, forged, "failed", error="no").json()["error"] == "InvalidLease"
     assert report(one, flight, result={"seat": 1}).json() == {"kept": True, "repeated": False}
     assert report(two, flight, result={"seat": 1}).json() == {"kept": True, "repeated": True}
     assert report(two, flight, result={"seat": 2}).json()["error"] == "ReportedOtherwise"

@@ -77,17 +77,25 @@ class Anywhere:
 
     # -- for workers at this node
 
-    async def take(self, words: Sequence[Word], most: int, wait: float, seconds: float, worker: str) -> list[Leased]:
+    async def take(
+        self,
+        words: Sequence[Word],
+        most: int,
+        wait: float,
+        seconds: float,
+        worker: str,
+        holder: str,
+    ) -> list[Leased]:
         """As `Store.take`."""
         deadline, texts = self.owner.loop.time() + wait, [written(word) for word in words]
         while True:
             node = self.between.where(texts, self.here.age(words)) if self.between else None
             if node is not None:
-                taken = await self._take_there(node, texts, most, seconds, worker)
+                taken = await self._take_there(node, texts, most, seconds, worker, holder)
                 if taken:
                     return taken
                 continue
-            taken = await self.here.take(words, most, seconds, worker)
+            taken = await self.here.take(words, most, seconds, worker, holder)
             if taken:
                 return taken
             left = deadline - self.owner.loop.time()
@@ -95,17 +103,25 @@ class Anywhere:
                 return []
             await self.here.come(words, left)
 
-    async def _take_there(self, node: str, words: list[str], most: int, seconds: float, worker: str) -> list[Leased]:
+    async def _take_there(
+        self, node: str, words: list[str], most: int, seconds: float, worker: str, holder: str
+    ) -> list[Leased]:
         """Tasks of another node; none where it has none any more, or does not answer."""
         assert self.between
         self._raise_if_closed()
         self.between.reserve(node, words, most)
-        asked = {"words": words, "most": most, "seconds": seconds, "worker": worker}
+        asked = {
+            "words": words,
+            "most": most,
+            "seconds": seconds,
+            "worker": worker,
+            "holder": holder,
+        }
         asking = self.owner.loop.create_task(self.between.call(node, "take", asked, TAKING))
         try:
             told = await asyncio.shield(asking)
         except asyncio.CancelledError:  # the worker is gone: what it would have got is given back
-            asking.add_done_callback(functools.partial(self._unwanted, node))
+            asking.add_done_callback(functools.partial(self._unwanted, node, holder))
             raise
         except SagasError:  # it does not answer, is closing, or cannot write
             self.between.mute(node)
@@ -114,15 +130,16 @@ class Anywhere:
             self.between.has_no_more(node, words)
         return [self._leased(task) for task in told]
 
-    def _unwanted(self, node: str, asking: asyncio.Task[Any]) -> None:
+    def _unwanted(self, node: str, holder: str, asking: asyncio.Task[Any]) -> None:
         if not asking.cancelled() and not asking.exception() and not self.owner.closed:
             for task in asking.result():
-                self.owner.spawn(self._give_back(node, task))
+                self.owner.spawn(self._give_back(node, task, holder))
 
-    async def _give_back(self, node: str, task: dict[str, Any]) -> None:
+    async def _give_back(self, node: str, task: dict[str, Any], holder: str) -> None:
         assert self.between
+        told = {"token": task["token"], "lease": task["lease"], "holder": holder, "seconds": 0.0}
         try:
-            await self.between.call(node, "beat", {"token": task["token"], "lease": task["lease"], "seconds": 0.0}, TAKING)
+            await self.between.call(node, "beat", told, TAKING)
         except SagasError:
             pass  # it runs out
 
@@ -135,26 +152,32 @@ class Anywhere:
         )
         return Leased(told["token"], told["lease"], self.owner.clock() + told["seconds"], Task(about))
 
-    async def beat(self, token: str, lease: int, seconds: float) -> float:
+    async def beat(self, token: str, lease: str, holder: str, seconds: float) -> float:
         """As `Store.beat`."""
         try:
-            return await self.here.beat(token, lease, seconds)
+            return await self.here.beat(token, lease, holder, seconds)
         except NotHere:
-            left = await self._there(token, "beat", {"token": token, "lease": lease, "seconds": seconds}, TAKING)
-            return self.owner.clock() + float(left)
+            told = {"token": token, "lease": lease, "holder": holder, "seconds": seconds}
+            return self.owner.clock() + float(await self._there(token, "beat", told, TAKING))
 
-    async def report(self, token: str, lease: int, outcome: Outcome) -> bool:
+    async def report(self, token: str, lease: str, holder: str, outcome: Outcome) -> bool:
         """As `Store.report`."""
         try:
-            return await self._report_here(token, lease, outcome)
+            return await self._report_here(token, lease, holder, outcome)
         except NotHere:
-            told = {"token": token, "lease": lease, "kind": outcome.kind, "value": outcome.value}
+            told = {
+                "token": token,
+                "lease": lease,
+                "holder": holder,
+                "kind": outcome.kind,
+                "value": outcome.value,
+            }
             return bool(await self._there(token, "report", told, REPORTING))
 
-    async def _report_here(self, token: str, lease: int, outcome: Outcome) -> bool:
+    async def _report_here(self, token: str, lease: str, holder: str, outcome: Outcome) -> bool:
         while True:
             try:
-                return await self.here.report(token, lease, outcome)
+                return await self.here.report(token, lease, holder, outcome)
             except Moved:
                 self._raise_if_closed()
 
@@ -193,7 +216,10 @@ class Anywhere:
     # -- for other nodes
 
     async def _give(self, told: dict[str, Any]) -> list[dict[str, Any]]:
-        taken = await self.here.take([read(word) for word in told["words"]], told["most"], told["seconds"], told["worker"])
+        words = [read(word) for word in told["words"]]
+        taken = await self.here.take(
+            words, told["most"], told["seconds"], told["worker"], told["holder"]
+        )
         return [self._written(one) for one in taken]
 
     def _written(self, one: Leased) -> dict[str, Any]:
@@ -208,15 +234,17 @@ class Anywhere:
 
     async def _lapse(self, task: dict[str, Any]) -> None:
         try:
-            await self.here.beat(task["token"], task["lease"], 0.0)
+            await self.here.lapse(task["token"], task["lease"])
         except SagasError:
             pass  # it is taken or reported already
 
     async def _beaten(self, told: dict[str, Any]) -> float:
-        return await self.here.beat(told["token"], told["lease"], told["seconds"]) - self.owner.clock()
+        until = await self.here.beat(told["token"], told["lease"], told["holder"], told["seconds"])
+        return until - self.owner.clock()
 
     async def _reported(self, told: dict[str, Any]) -> bool:
-        return await self._report_here(told["token"], told["lease"], Outcome(told["kind"], told["value"]))
+        outcome = Outcome(told["kind"], told["value"])
+        return await self._report_here(told["token"], told["lease"], told["holder"], outcome)
 
     async def _queues(self, told: None) -> list[Any]:
         return [[queue.saga, queue.step, queue.undo, queue.ready, queue.oldest, queue.taken] for queue in self.here.queues()]

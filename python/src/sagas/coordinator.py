@@ -81,6 +81,7 @@ class Coordinator:
     async def open(self) -> None:
         """Takes up each log that is not closed. Raises `MissingHandler`, `ChildError` or what the store raises."""
         rows = await self.store.open(self.lacks)
+        await self.elsewhere.open()
         await self.reports.open(self.shelf.sagas.values())
         self.adopt(rows)
         self._loading = {pump for pump in self.pumps.values() if pump.state == "stale"}

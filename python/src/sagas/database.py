@@ -91,6 +91,10 @@ class Database(Protocol):
 
         Raises `StoreLocked`, `StoreUnwritable`, `StoreNewer`, `StoreFault`."""
 
+    async def secret(self) -> bytes:
+        """A secret of the store, which is made when it is asked for first: leases are signed by
+        it."""
+
     def watch(self, watcher: Watcher) -> None:
         """Begins to call the watcher."""
 

@@ -1,8 +1,11 @@
 """Steps that workers elsewhere do (`handler=None`), as far as this program has them: who has taken which, and until when.
 
-A task is taken with a lease, which is in the store before the worker hears of it. *Done* is accepted under any lease of the token, since it
-is the same effect; *failed* and *unknown* only under the newest. The same report twice is one. A lease that runs out gives the task to
-whoever asks next, with the same token. Of a step with a `limit` no more leases hold at once.
+A task is taken with a lease, which is in the store before the worker hears of it, and which nobody
+else can guess (lease_signature.py). *Done* is accepted under any lease of the token, since it is
+the same effect; *failed* and *unknown* only under the newest. The same report twice is one. A lease
+that runs out gives the task to whoever asks next, with the same token. Of a step with a `limit` no
+more leases hold at once. No report is accepted of what no worker has taken, nor of an attempt that
+waits for a person.
 
 What other nodes of one database have is asked for in anywhere.py."""
 
@@ -12,11 +15,13 @@ import asyncio
 import dataclasses
 import json
 import re
+import secrets
 from collections.abc import Awaitable, Callable, Iterable, Sequence
 from typing import TYPE_CHECKING
 
 from .calling import Outcome
 from .errors import Closed, LeaseLost, NoSuchTask, NotHere, ReportedOtherwise, StoreUnwritable
+from .lease_signature import Signer
 from .live import Attempt, Lease
 from .pump import Pump
 from .schema import ROOM
@@ -41,7 +46,7 @@ class Leased:
     """A task that was taken: its token, the lease under which it is reported, and until when that holds, in seconds of wall time."""
 
     token: str
-    lease: int
+    lease: str
     until: float
     task: Task[Any]
 
@@ -83,6 +88,7 @@ class Elsewhere:
     def __init__(self, owner: Coordinator) -> None:
         self.owner = owner
         self.leased = False
+        self.signer = Signer(secrets.token_bytes(32))
         self.takeovers = 0
         self.unwanted: Callable[[], object] = lambda: None
         """Called when there is a task that nobody here waits for."""
@@ -91,6 +97,11 @@ class Elsewhere:
         self._waiting: dict[Word, dict[asyncio.Future[None], None]] = {}
         self._writing: dict[Attempt, asyncio.Future[bool]] = {}
         self.ask: Callable[..., Awaitable[list[tuple[Any, ...]]]] = owner.store.read
+
+    async def open(self) -> None:
+        """Reads the secret by which leases are signed. Raises `StoreUnwritable`."""
+        if self.leased:
+            self.signer = Signer(await self.owner.store.secret())
 
     # -- what there is
 
@@ -177,12 +188,19 @@ class Elsewhere:
 
     # -- take
 
-    async def take(self, words: Sequence[Word], most: int, seconds: float, worker: str) -> list[Leased]:
-        """Tasks that are ready here; none where there are none. Raises `StoreUnwritable`, `Closed`."""
+    async def take(
+        self, words: Sequence[Word], most: int, seconds: float, worker: str, holder: str
+    ) -> list[Leased]:
+        """Tasks that are ready here; none where there are none. Only `holder` can report them.
+        Raises `StoreUnwritable`, `Closed`."""
         if self.owner.closed:
             raise self.owner.closed
         picked = self._pick(words, most)
-        return [self._told(attempt) for attempt in await self._lease(picked, seconds, worker)] if picked else []
+        return (
+            [self._told(attempt, holder) for attempt in await self._lease(picked, seconds, worker)]
+            if picked
+            else []
+        )
 
     def _pick(self, words: Iterable[Word], most: int) -> list[Attempt]:
         """The tasks that have waited longest."""
@@ -285,9 +303,15 @@ class Elsewhere:
             if future and not future.done():
                 future.set_result(attempt.state == "held" and attempt.why == "elsewhere")
 
-    def _told(self, attempt: Attempt) -> Leased:
+    def _told(self, attempt: Attempt, holder: str) -> Leased:
         assert attempt.lease
-        return Leased(token_of(attempt), attempt.lease.number, attempt.lease.until, attempt.task())
+        token = token_of(attempt)
+        return Leased(
+            token,
+            self.signer.issue(token, attempt.lease.number, holder),
+            attempt.lease.until,
+            attempt.task(),
+        )
 
     # -- report
 
@@ -307,8 +331,16 @@ class Elsewhere:
         under = [live.busy.get(word), *(one for lot in pump.reporting for one in lot if one.live is live and one.word == word)]
         return next((one for one in under if one is not None and one.attempt == count), None)
 
-    async def beat(self, token: str, number: int, seconds: float) -> float:
+    async def beat(self, token: str, lease: str, holder: str, seconds: float) -> float:
         """As `Store.beat`, and raises `NotHere` where another node has the task's log."""
+        return await self._beat(token, self.signer.number(token, lease, holder), seconds)
+
+    async def lapse(self, token: str, lease: str) -> None:
+        """A task that this node gave and that nobody got is given back: its lease is over. Raises
+        as `beat`."""
+        await self._beat(token, int(lease.partition(".")[0]), 0.0)
+
+    async def _beat(self, token: str, number: int, seconds: float) -> float:
         attempt = self.find(token)
         if attempt is None:
             await self.outcome_of(token)
@@ -327,16 +359,20 @@ class Elsewhere:
         self.offered(attempt)
         return lease.until
 
-    async def report(self, token: str, number: int, outcome: Outcome) -> bool:
-        """As `Store.report`, and raises `NotHere` where another node has the task's log, and `Moved` where it has it now."""
+    async def report(self, token: str, lease: str, holder: str, outcome: Outcome) -> bool:
+        """As `Store.report`, and raises `NotHere` where another node has the task's log, and
+        `Moved` where it has it now.
+
+        The lease is judged before anything is looked up, so that who has none learns nothing about
+        the task."""
+        number = self.signer.number(token, lease, holder)
         attempt = self.find(token)
         if attempt is None:
             return await self._repeated(token, outcome)
         if attempt.state == "done":
             return await self._again(attempt, outcome)
         if outcome.kind == "done":
-            if not self.owner.doing.is_asked(attempt):
-                raise LeaseLost(f"{token} is not elsewhere: it is {attempt.why or attempt.state}")
+            self._check_out(attempt)
         elif not self._newest(attempt, number, outcome):
             return False
         if outcome.kind == "unknown":
@@ -349,6 +385,24 @@ class Elsewhere:
         self.owner.doing.outcome(attempt, outcome)
         await asyncio.shield(attempt.told)
         return True
+
+    def _check_out(self, attempt: Attempt) -> None:
+        """Raises `LeaseLost` where no worker may say that it is done: no worker does it, or a
+        person has to say how it ended."""
+        token = token_of(attempt)
+        if not self.leased or not attempt.manner.elsewhere:
+            raise LeaseLost(f"{token} is not done by workers")
+        if attempt.why == "unknown" and attempt.until is None:
+            raise LeaseLost(
+                f"{token}: nobody knows what it did, and a person has to say how it ended: "
+                "tell an operator what you know"
+            )
+        if (
+            attempt.why not in ("elsewhere", "unknown")
+            or attempt.state != "held"
+            or attempt.pending
+        ):
+            raise LeaseLost(f"{token} is not elsewhere: it is {attempt.why or attempt.state}")
 
     def _newest(self, attempt: Attempt, number: int, outcome: Outcome) -> bool:
         """Whether this lease may say so; false where it has said it before. Raises `LeaseLost`, `ReportedOtherwise`."""

@@ -70,6 +70,11 @@ class LeaseLost(SagasError):
     """The task's lease is not the newest: another worker has the task, or its outcome was told. Stop, and take another one."""
 
 
+class InvalidLease(SagasError):
+    """The lease was not issued for this task to whoever reports it. Nothing was recorded. Report a
+    task with the token and the lease that it was given with."""
+
+
 class ReportedOtherwise(SagasError):
     """The task was reported with another outcome, and the first one counts. Where your action had an effect, look at the saga."""
 

@@ -5,6 +5,7 @@ from __future__ import annotations
 import asyncio
 import contextlib
 import json
+import secrets
 from collections import deque
 from collections.abc import Sequence
 from typing import Any
@@ -63,6 +64,10 @@ ASK = questions.named(requests.ASK, "what", "value", "id")
 ASK_START = questions.named(requests.ASK_START, "what", "value", "id")
 WITHDRAW = questions.named(requests.WITHDRAW_START, "id")
 FIND_NOW = questions.named(FIND_ONE.replace("$1", "?"), "key", "key")
+SECRET = """
+INSERT INTO secrets(name, value) VALUES ('leases', %(value)s)
+ON CONFLICT (name) DO NOTHING RETURNING value
+"""
 
 
 
@@ -117,6 +122,12 @@ class PostgreSQL(questions.Questions):
             rows += taken
         await self._count()
         return rows
+
+    async def secret(self) -> bytes:
+        """As `Database.secret`."""
+        rows = await self.asker.read(SECRET, value=secrets.token_hex(32))
+        rows = rows or await self.asker.read("SELECT value FROM secrets WHERE name = 'leases'")
+        return bytes.fromhex(rows[0][0])
 
     def _migrate(self) -> None:
         with links.faults(self.path):

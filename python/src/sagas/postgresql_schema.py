@@ -122,8 +122,31 @@ ALTER TABLE sagas.inbox ADD COLUMN digest text;
 ALTER TABLE sagas.nodes ADD COLUMN kinds text[];
 """
 
-MIGRATIONS = [FIRST, CLIENTS, REPORTS, PLACES, BETWEEN, ENDED, ASKED, DIGESTS]
+SECRETS = """
+-- what nobody outside may know; `leases`: the key by which leases of workers are signed, in hex
+CREATE TABLE sagas.secrets(name text PRIMARY KEY, value text NOT NULL);
+"""
+
+MIGRATIONS = [FIRST, CLIENTS, REPORTS, PLACES, BETWEEN, ENDED, ASKED, DIGESTS, SECRETS]
 VERSION = len(MIGRATIONS)
+
+
+TABLES = (
+    "nodes",
+    "inbox",
+    "logs",
+    "lines",
+    "sagas",
+    "results",
+    "held",
+    "requests",
+    "reports",
+    "shelves",
+    "places",
+    "calls",
+    "secrets",
+)
+"""The tables whose rows a node and a client read and write."""
 
 
 def version_of(link: psycopg.Connection[tuple[object, ...]]) -> int:
@@ -179,7 +202,7 @@ def allow(link: psycopg.Connection[tuple[object, ...]], role: str) -> None:
     with link.transaction():
         link.execute(sql.SQL("GRANT USAGE ON SCHEMA sagas TO {}").format(name))
         link.execute(sql.SQL("GRANT SELECT ON sagas.store TO {}").format(name))
-        for table in ("nodes", "inbox", "logs", "lines", "sagas", "results", "held", "requests", "reports", "shelves", "places", "calls"):
+        for table in TABLES:
             link.execute(sql.SQL("GRANT SELECT, INSERT, UPDATE, DELETE ON sagas.{} TO {}").format(sql.Identifier(table), name))
         link.execute(sql.SQL("GRANT USAGE ON ALL SEQUENCES IN SCHEMA sagas TO {}").format(name))
         given = "has_schema_privilege(%(role)s, 'sagas', 'USAGE') AND has_table_privilege(%(role)s, 'sagas.logs', 'INSERT')"

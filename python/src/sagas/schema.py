@@ -85,12 +85,18 @@ DROP INDEX IF EXISTS sagas_open;
 """
 
 
+SECRETS = """
+-- what nobody outside may know; `leases`: the key by which leases of workers are signed, in hex
+CREATE TABLE secrets(name TEXT PRIMARY KEY, value TEXT NOT NULL) WITHOUT ROWID;
+"""
+
+
 def statements(text: str) -> list[str]:
     """The statements of a text; each ends with a semicolon and its line."""
     return [part for part in text.split(";\n") if part.strip()]
 
 
-MIGRATIONS = [statements(text) for text in (FIRST, TOKENS, REPORTS, PLACES, ENDED, OPEN)]
+MIGRATIONS = [statements(text) for text in (FIRST, TOKENS, REPORTS, PLACES, ENDED, OPEN, SECRETS)]
 """What makes each version of the one before."""
 
 VERSION = len(MIGRATIONS)

@@ -9,6 +9,7 @@ import functools
 import os
 import pathlib
 import pwd
+import secrets
 import shlex
 import sqlite3
 import time
@@ -251,6 +252,16 @@ class Sqlite(questions.Questions, questions.Rows):
             fcntl.flock(self._lock, fcntl.LOCK_UN)  # also where a process that was just forked still has it
             os.close(self._lock)
             self._lock = None
+
+    async def secret(self) -> bytes:
+        """As `Database.secret`. No commit may be under way."""
+        try:
+            self._db.execute(
+                "INSERT OR IGNORE INTO secrets VALUES ('leases', ?)", (secrets.token_hex(32),)
+            )
+        except sqlite3.Error as error:
+            raise StoreUnwritable(f"{self.path}: {error}") from error
+        return bytes.fromhex(self.rows("SELECT value FROM secrets WHERE name = 'leases'")[0][0])
 
     def watch(self, watcher: Watcher) -> None:
         """Looks for requests that other programs left, where the file has changed."""

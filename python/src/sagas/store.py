@@ -418,28 +418,53 @@ class Store:
 
     # -- workers elsewhere
 
-    async def take(self, steps: Iterable[Word], *, most: int = 1, wait: float = 0.0, lease: float = 30.0, worker: str = "") -> builtins.list[Leased]:
+    async def take(
+        self,
+        steps: Iterable[Word],
+        *,
+        most: int = 1,
+        wait: float = 0.0,
+        lease: float = 30.0,
+        worker: str = "",
+        holder: str = "",
+    ) -> builtins.list[Leased]:  # fmt: skip
         """Takes tasks of steps with `handler=None` for a worker elsewhere, those first that have waited longest; the store was opened `leased`.
 
         `steps`: which it can do, each `(saga, step, "run" or "undo")`. `wait`: seconds to wait where there is none; then the list is empty.
         `lease`: seconds after which a task is another's that was neither reported nor beaten for. The leases are in the store when it returns.
-        Raises `StoreUnwritable` (nothing was taken), `Closed`."""
-        return await self._inside.anywhere.take([*steps], most, wait, lease, worker)
+        `worker`: a name, for people. `holder`: who may report the tasks: `beat` and `report` have
+        to say the same. Raises `StoreUnwritable` (nothing was taken), `Closed`."""
+        return await self._inside.anywhere.take([*steps], most, wait, lease, worker, holder)
 
-    async def beat(self, token: str, lease: int, seconds: float = 30.0) -> float:
-        """The worker is still at it: the lease holds `seconds` from now; gives until when. Raises `LeaseLost`, `NoSuchTask`, `NotHere`, `Closed`."""
-        return await self._inside.anywhere.beat(token, lease, seconds)
+    async def beat(
+        self, token: str, lease: str, seconds: float = 30.0, *, holder: str = ""
+    ) -> float:
+        """The worker is still at it: the lease holds `seconds` from now; gives until when.
 
-    async def report(self, token: str, lease: int, result: Any = None, *, failed: str | None = None, final: bool = False, unknown: str | None = None) -> bool:
+        Raises `InvalidLease`, `LeaseLost`, `NoSuchTask`, `NotHere`, `Closed`."""
+        return await self._inside.anywhere.beat(token, lease, holder, seconds)
+
+    async def report(
+        self,
+        token: str,
+        lease: str,
+        result: Any = None,
+        *,
+        failed: str | None = None,
+        final: bool = False,
+        unknown: str | None = None,
+        holder: str = "",
+    ) -> bool:  # fmt: skip
         """How a task ended: done with its result, `failed` (without an effect; `final`: no more tries), or `unknown`. When it returns, that is kept.
 
-        *Done* counts under any lease of the token, the others only under the newest. False: the same was reported before, and counts once.
-        Raises `ReportedOtherwise`, `LeaseLost`, `NoSuchTask`, `NotHere`, `NotJson`, `Closed`."""
+        *Done* counts under any lease that was given for the token, the others only under the
+        newest. False: the same was reported before, and counts once. Raises `InvalidLease`,
+        `ReportedOtherwise`, `LeaseLost`, `NoSuchTask`, `NotHere`, `NotJson`, `Closed`."""
         if unknown is not None:
             outcome = Outcome("unknown", unknown[:MOST_TEXT])
         else:
             outcome = outcome_of(result, failed, final)
-        return await self._inside.anywhere.report(token, lease, outcome)
+        return await self._inside.anywhere.report(token, lease, holder, outcome)
 
     def queues(self) -> builtins.list[Queue]:
         """What waits here for workers elsewhere, by step."""

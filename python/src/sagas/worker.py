@@ -62,7 +62,7 @@ class _Held:
     """A task that this worker has; until half of its lease is over it may be begun, so that its first beat comes in time."""
 
     token: str
-    lease: int
+    lease: str
     task: Task[Any]
     until: float
     lost: bool = False

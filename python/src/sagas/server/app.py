@@ -23,6 +23,7 @@ STATUSES: list[tuple[type[errors.SagasError], int]] = [
     (errors.KeyConflict, 409),
     (errors.NotWaiting, 409),
     (errors.LeaseLost, 409),
+    (errors.InvalidLease, 403),
     (errors.ReportedOtherwise, 409),
     (errors.NotJson, 422),
     (errors.TooLarge, 422),

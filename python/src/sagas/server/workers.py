@@ -7,7 +7,7 @@ import re
 from typing import Any, Optional
 
 from fastapi import APIRouter, Depends, Request
-from pydantic import Field, conint, constr
+from pydantic import Field, constr
 from starlette.responses import Response
 
 from ..elsewhere import Leased, Word
@@ -19,7 +19,7 @@ router = APIRouter(prefix="/tasks", default_response_class=Json)
 WORKER = Depends(allow("worker"))
 STEP = re.compile(r"([a-z][a-z0-9_-]{0,31})/([a-z][a-z0-9_-]{0,31})(/undo)?\Z")
 LONGEST_LEASE = 3600.0
-Number = conint(ge=0, le=2**62)
+Lease = constr(strict=True, max_length=100)
 
 
 class Take(Strict):
@@ -43,14 +43,14 @@ class Next(Take):
 class Beat(Strict):
     """`seconds`: for how long the lease holds from now."""
 
-    lease: Number  # type: ignore[valid-type]
+    lease: Lease  # type: ignore[valid-type]
     seconds: float = Field(30.0, ge=0.5, le=LONGEST_LEASE)
 
 
 class Done(Strict):
     """The action had its effect, or the compensation is done."""
 
-    lease: Number  # type: ignore[valid-type]
+    lease: Lease  # type: ignore[valid-type]
     result: Any = None
     next: Optional[Next] = None
 
@@ -58,7 +58,7 @@ class Done(Strict):
 class Failed(Strict):
     """It had no effect. `final`: no further try will help."""
 
-    lease: Number  # type: ignore[valid-type]
+    lease: Lease  # type: ignore[valid-type]
     error: str = Field(max_length=4000)
     final: bool = False
     next: Optional[Next] = None
@@ -67,7 +67,7 @@ class Failed(Strict):
 class Unknown(Strict):
     """Nobody knows whether it had its effect: the same task again later, with the same token."""
 
-    lease: Number  # type: ignore[valid-type]
+    lease: Lease  # type: ignore[valid-type]
     error: str = Field("", max_length=4000)
     next: Optional[Next] = None
 
@@ -106,7 +106,10 @@ async def taken(request: Request, who: Who, body: Take) -> list[dict[str, Any]]:
     service = service_of(request)
     name = f"{who.name}/{body.worker}" if body.worker else who.name
     service.saw(name, body.steps)
-    taking = asyncio.ensure_future(service.store.take(words_of(body.steps), most=body.most, wait=body.wait, lease=body.lease, worker=name))
+    work = service.store.take(
+        words_of(body.steps), most=body.most, wait=body.wait, lease=body.lease, worker=name, holder=who.name,
+    )  # fmt: skip
+    taking = asyncio.ensure_future(work)
     found: list[Leased] = taking.result() if await first(request, taking, body.wait + 25.0) else []
     now = service.store.now()
     return [task_of(one, now) for one in found]
@@ -124,8 +127,8 @@ async def take(request: Request, body: Take, who: Who = WORKER) -> Response:
 
 @router.post("/{token}/beat", summary="Keep a lease")
 async def beat(request: Request, token: str, body: Beat, who: Who = WORKER) -> Response:
-    """409 `LeaseLost` where another worker has the task, or its outcome was told: stop."""
-    until = await service_of(request).store.beat(unslashed(token), body.lease, body.seconds)
+    """409 `LeaseLost` where another worker has the task, or its outcome was told: stop. 403 `InvalidLease` where this worker was not given the lease."""
+    until = await service_of(request).store.beat(unslashed(token), body.lease, body.seconds, holder=who.name)
     return Json({"until": until})
 
 
@@ -133,7 +136,7 @@ async def _report(request: Request, token: str, who: Who, body: Done | Failed | 
     """Keeps the report, and then takes what is wanted next."""
     if body.next is not None:
         words_of(body.next.steps)  # refused before anything is kept
-    kept = await service_of(request).store.report(unslashed(token), body.lease, **outcome)
+    kept = await service_of(request).store.report(unslashed(token), body.lease, holder=who.name, **outcome)
     told: dict[str, Any] = {"kept": True, "repeated": not kept}
     if body.next is not None:
         told["tasks"] = [] if service_of(request).stopping.done() else await taken(request, who, body.next)
@@ -142,7 +145,7 @@ async def _report(request: Request, token: str, who: Who, body: Done | Failed | 
 
 @router.post("/{token}/done", summary="Report that a task is done")
 async def done(request: Request, token: str, body: Done, who: Who = WORKER) -> Response:
-    """It counts under any lease of the token. The same report again is one; with `next`, tasks are taken in the same request. 409 `ReportedOtherwise` where another came first."""
+    """It counts under any lease that this worker was given for the token. The same report again is one; with `next`, tasks are taken in the same request. 409 `ReportedOtherwise` where another came first."""
     return await _report(request, token, who, body, result=body.result)
 
 

@@ -1,0 +1,287 @@
+"""A worker's token reports what that worker was given, and nothing else: over a file and a
+database, at the service that drives the saga and at another."""
+
+from __future__ import annotations
+
+import contextlib
+import pathlib
+import re
+import time
+from collections.abc import Iterator
+from typing import Any
+
+import httpx
+import pytest
+
+from sagas.looks import Looks
+from sagas.postgresql import PostgreSQL
+from sagas.sqlite import Reader
+from serving import DEFINITIONS, LONG, Served, report, start, take, token
+
+PAUSE = """format = 2
+name = "pause"
+[[step]]
+name = "rest"
+[[step]]
+name = "after"
+needs = ["rest"]
+"""
+FILES = DEFINITIONS | {
+    "pause.toml": PAUSE,
+    "pause.service.toml": '[step.rest]\nkind = "wait"\nuntil = 3600\n',
+}
+SHOP = """import threading, sagas
+shop = sagas.Saga("shop")
+
+@shop.step
+def price(task):
+    threading.Event().wait()
+"""
+ROLES = {"ada": "worker", "bob": "worker", "caller": "caller", "operator": "operator"}
+WORDS: list[tuple[str, dict[str, Any]]] = [
+    ("done", {"result": "forged"}),
+    ("failed", {"error": "forged", "final": True}),
+    ("failed", {"error": "forged"}),
+    ("unknown", {"error": "forged"}),
+    ("beat", {"seconds": 600}),
+]  # fmt: skip
+
+
+class World:
+    """Services over one store, with a client of each for each token."""
+
+    looks: Looks
+
+    def __init__(
+        self, folder: pathlib.Path, store: str | None, stack: contextlib.ExitStack
+    ) -> None:
+        tokens = {name: token(folder, name, role) for name, role in ROLES.items()}
+        self.clients: dict[str, list[httpx.Client]] = {name: [] for name in ROLES}
+        for name in ("one", "two") if store else ("one",):
+            (folder / name).mkdir()
+            (folder / name / "shop.py").write_text(SHOP)
+            words = [
+                "--token-file",
+                str(folder / "tokens.toml"),
+                "--app",
+                "shop:shop",
+                "--node",
+                name,
+                "--lease",
+                "5",
+            ]
+            service = Served(folder / name, FILES, *words, store=store)
+            stack.callback(service.kill)
+            service.start()
+            for who, text in tokens.items():
+                self.clients[who].append(stack.enter_context(service.client(text)))
+        self.ada, self.caller, self.operator = (
+            self.clients[name][0] for name in ("ada", "caller", "operator")
+        )
+
+    def start(self, definition: str, key: str) -> str:
+        """Starts a saga; gives what its tokens begin with, as each worker knows it who had a task
+        of the same log."""
+        assert start(self.caller, definition, key).status_code == 201
+        deadline = time.monotonic() + LONG
+        while (view := self.looks.saga(key)) is None:
+            assert time.monotonic() < deadline
+        return view.token
+
+    def saga(self, key: str) -> Any:
+        return self.operator.get(f"/sagas/{key}").json()
+
+    def waits(self, key: str, why: str) -> None:
+        """Until the saga waits for that."""
+        deadline = time.monotonic() + LONG
+        while why not in [one["why"] for one in self.saga(key)["waits"]]:
+            assert time.monotonic() < deadline, self.saga(key)
+
+    def forged(
+        self, task: str, lease: Any, by: str = "bob", verbs: Any = WORDS
+    ) -> set[tuple[int, str]]:
+        """What the services answer to reports of this task, by each verb at each service."""
+        found = set()
+        for client in self.clients[by]:
+            for verb, body in verbs:
+                answer = client.post(f"/tasks/{task}/{verb}", json={"lease": lease, **body})
+                found.add((answer.status_code, answer.json()["error"]))
+        return found
+
+
+@pytest.fixture(scope="module")
+def world(tmp_path_factory: pytest.TempPathFactory, store: str | None) -> Iterator[World]:
+    folder = tmp_path_factory.mktemp("forgeries")
+    with contextlib.ExitStack() as stack:
+        found = World(folder, store, stack)
+        found.looks = Looks(
+            PostgreSQL(store).reader() if store else Reader(str(folder / "one" / "store.db"))
+        )
+        stack.callback(found.looks.close)
+        yield found
+
+
+INVALID = {(403, "InvalidLease")}
+
+
+def guesses(world: World) -> list[str]:
+    """Leases that were not issued for the task: well made ones, odd ones, and one that this worker
+    has for a task of its own."""
+    assert start(world.caller, "licence", f"own-{time.monotonic_ns()}").status_code == 201
+    (own,) = take(world.clients["bob"][0], "licence/server")
+    number, _, signed = own["lease"].partition(".")
+    assert re.fullmatch(r"\d+\.[0-9a-f]{32}", own["lease"])
+    near = [
+        f"{number}.",
+        number,
+        f"0.{signed}",
+        f"{int(number) + 1}.{signed}",
+        f"{number}.{'0' * 32}",
+    ]
+    return [
+        own["lease"],
+        "0",
+        "1",
+        "",
+        *near,
+        f"{number}.{signed.upper()}",
+        f"{own['lease']}\n",
+        "1.\u0660" * 9,
+    ]
+
+
+def is_unmoved(world: World, key: str, before: Any) -> None:
+    words, after = ("phase", "results", "errors", "states"), world.saga(key)
+    assert {word: after[word] for word in words} == {word: before[word] for word in words}
+    waits = [
+        [(one["step"], one["why"], one["attempt"]) for one in told["waits"]]
+        for told in (before, after)
+    ]
+    assert waits[0] == waits[1]
+
+
+@pytest.mark.parametrize(
+    "definition, step, why",
+    [
+        ("trip", "flight", "worker"),
+        ("order", "review", "approval"),
+        ("pause", "rest", "wait"),
+        ("shop", "price", None),
+    ],
+    ids=["a task that nobody took", "an approval", "a timer", "a function of the program"],
+)
+def test_what_no_worker_was_given(
+    world: World, definition: str, step: str, why: str | None
+) -> None:
+    """No report of it counts, whatever the lease: nothing moves, and the answer says nothing about
+    the task."""
+    key = f"forged-{definition}"
+    begin = world.start(definition, key)
+    if why:
+        world.waits(key, why)
+    before = world.saga(key)
+    for guess in guesses(world):
+        assert world.forged(f"{begin}-{step}-run-1", guess) == INVALID, guess
+    for none in (
+        f"{begin}-{step}-run-7",
+        f"{begin}-{step}-undo-1",
+        f"{begin}-none-run-1",
+        f"{begin}9-{step}-run-1",
+        "x",
+    ):
+        assert world.forged(none, guess, verbs=WORDS[:1]) == INVALID, none
+    assert world.forged(f"{begin}-{step}-run-1", 0) == {(422, "BadRequest")}
+    is_unmoved(world, key, before)
+    if definition == "trip":
+        (task,) = take(world.clients["ada"][-1], "trip/flight")
+        assert task["key"] == key and report(world.ada, task, result=1).json() == {
+            "kept": True,
+            "repeated": False,
+        }
+    assert (
+        world.caller.post(f"/sagas/{key}/abort", json={}).status_code == 200
+    )  # its further tasks are no other test's
+
+
+def test_another_worker_s_task(world: World) -> None:
+    """Not under a lease of another task, nor under the very lease, by another's token; its own
+    worker reports it at any service, and once."""
+    begin = world.start("few", "forged-other")
+    (task,) = take(world.ada, "few/a")
+    assert task["token"] == f"{begin}-a-run-1"
+    before = world.saga("forged-other")
+    for guess in [*guesses(world), task["lease"]]:
+        assert world.forged(task["token"], guess) == INVALID, guess
+    assert (
+        world.forged(task["token"], task["lease"], by="operator") == INVALID
+    )  # an operator may do what workers do, with tasks of its own
+    is_unmoved(world, "forged-other", before)
+    assert report(world.clients["ada"][-1], task, "failed", error="full").json() == {
+        "kept": True,
+        "repeated": False,
+    }
+    (again,) = take(world.ada, "few/a/undo", "few/a", wait=1) or [None]
+    assert again is None or again["token"] != task["token"]
+    for guess in [
+        *guesses(world),
+        task["lease"],
+    ]:  # what was reported is told to none but its worker, not even whether a guess is right
+        assert (
+            world.forged(
+                task["token"],
+                guess,
+                verbs=[("done", {"result": None}), ("failed", {"error": "full"})],
+            )
+            == INVALID
+        )
+
+
+def test_a_lease_is_of_one_attempt(world: World) -> None:
+    """The next try has a token of its own, and the lease of the one before is none for it."""
+    world.start("trip", "forged-attempt")
+    (flight,) = take(world.ada, "trip/flight")
+    report(world.ada, flight, result=1)
+    (car,) = take(world.ada, "trip/car")
+    report(world.ada, car, result=1)
+    (first,) = take(world.ada, "trip/tour")
+    report(world.ada, first, "failed", error="not yet")
+    (second,) = take(world.ada, "trip/tour")
+    assert second["token"] != first["token"]
+    for lease in (first["lease"], car["lease"], flight["lease"]):
+        assert world.forged(second["token"], lease, by="ada") == INVALID
+    assert report(world.ada, second, result=5).json()["kept"] is True
+    assert (
+        world.operator.get("/sagas/forged-attempt/wait?seconds=60").json()["results"]["tour"] == 5
+    )
+
+
+def test_what_waits_for_a_person(world: World) -> None:
+    """Neither a forged lease nor the one under which it was given says how it ended: a person
+    does."""
+    world.start("trip", "forged-unknown")
+    for step in ("trip/flight", "trip/car"):
+        (task,) = take(world.ada, step)
+        report(world.ada, task, result=1)
+    (tour,) = take(world.ada, "trip/tour")
+    assert report(world.ada, tour, "unknown", error="the line went dead").status_code == 200
+    world.waits("forged-unknown", "unknown")
+    before = world.saga("forged-unknown")
+    assert [one["person"] for one in before["waits"]] == [True]
+    for guess in [*guesses(world), tour["lease"]]:
+        assert world.forged(tour["token"], guess) == INVALID, guess
+    late = world.forged(tour["token"], tour["lease"], by="ada", verbs=[WORDS[0], WORDS[4]])
+    assert late == {(409, "LeaseLost")}
+    assert world.forged(tour["token"], tour["lease"], by="ada", verbs=WORDS[1:3]) == {
+        (409, "ReportedOtherwise")
+    }
+    is_unmoved(world, "forged-unknown", before)
+    assert (
+        world.operator.post(
+            "/sagas/forged-unknown/steps/tour", json={"result": "it is there"}
+        ).status_code
+        == 200
+    )
+    assert (
+        world.operator.get("/sagas/forged-unknown/wait?seconds=60").json()["results"]["tour"]
+        == "it is there"
+    )
