@@ -3,14 +3,19 @@
 from __future__ import annotations
 
 import contextlib
+import json
 import pathlib
 import re
 import time
 from collections.abc import Iterator
+from typing import Any
 
 import httpx
 import pytest
 
+from sagas.server.app import application
+from sagas.server.definitions import read
+from sagas.server.settings import Settings
 from serving import DEFINITIONS, LONG, Served, served, start, stuck, token
 
 NASTY = "<script>alert('x')</script>\"'&{{7*7}}"
@@ -29,50 +34,223 @@ class Guarded:
 @pytest.fixture(scope="module")
 def guarded(tmp_path_factory: pytest.TempPathFactory) -> Iterator[Guarded]:
     folder = tmp_path_factory.mktemp("guarded")
-    tokens = {role: token(folder, role, role) for role in ("caller", "worker", "operator", "metrics")}
+    tokens = {role: token(folder, role, role) for role in ROLES}
     with served(folder, DEFINITIONS, "--token-file", str(folder / "tokens.toml")) as service:
         yield Guarded(service, tokens)
 
 
-CALLS = [
-    ("caller", "POST", "/sagas", {"definition": "trip", "key": "roles"}),
-    ("caller", "GET", "/sagas", None),
-    ("caller", "GET", "/sagas/roles", None),
-    ("caller", "GET", "/sagas/roles/log", None),
-    ("caller", "GET", "/sagas/roles/picture.svg", None),
-    ("caller", "GET", "/sagas/roles/certificate", None),
-    ("caller", "GET", "/sagas/roles/wait?seconds=0", None),
-    ("caller", "POST", "/sagas/roles/steps/tour", {}),
-    ("caller", "POST", "/sagas/roles/abort", {}),
-    ("worker", "POST", "/tasks/take", {"steps": ["order/send"], "wait": 0}),
-    ("worker", "POST", "/tasks/x/beat", {"lease": 1}),
-    ("worker", "POST", "/tasks/x/done", {"lease": 1}),
-    ("worker", "POST", "/tasks/x/failed", {"lease": 1, "error": "no"}),
-    ("worker", "POST", "/tasks/x/unknown", {"lease": 1}),
-    ("worker", "GET", "/queues", None),
-    ("operator", "POST", "/sagas/roles/resolve", {"note": "x"}),
-    ("metrics", "GET", "/metrics", None),
+ROLES = ("caller", "approver", "worker", "operator", "metrics")
+LOOK, START, APPROVE, WORK, OPERATE = "caller approver", "caller", "approver", "worker", ""
+FORGED = {"lease": "1." + "0" * 32}
+CALLS: list[tuple[str, str, str, Any, int]] = [
+    (START, "POST", "/sagas", {"definition": "trip", "key": "roles"}, 200),
+    (LOOK, "GET", "/sagas", None, 200),
+    (LOOK, "GET", "/sagas/roles", None, 200),
+    (LOOK, "GET", "/sagas/roles/log", None, 200),
+    (LOOK, "GET", "/sagas/roles/picture.svg", None, 200),
+    (LOOK, "GET", "/sagas/roles/certificate", None, 404),
+    (LOOK, "GET", "/sagas/roles/wait?seconds=0", None, 200),
+    (LOOK, "GET", "/events", None, 200),
+    (APPROVE, "POST", "/sagas/asks/steps/review", {"result": 1, "undo": True}, 409),
+    (START, "POST", "/sagas/nobody/abort", {}, 404),
+    (WORK, "POST", "/tasks/take", {"steps": ["order/send"], "wait": 0}, 200),
+    (WORK, "POST", "/tasks/x/beat", FORGED, 403),
+    (WORK, "POST", "/tasks/x/done", FORGED, 403),
+    (WORK, "POST", "/tasks/x/failed", {**FORGED, "error": "no"}, 403),
+    (WORK, "POST", "/tasks/x/unknown", FORGED, 403),
+    (WORK, "GET", "/queues", None, 200),
+    (OPERATE, "POST", "/sagas/roles/resolve", {"note": "x"}, 409),
+    ("metrics", "GET", "/metrics", None, 200),
 ]
+"""The roles that may besides operators, the call, and what it comes to for them."""
+FREE = ["/health", "/ready", "/openapi.json", "/", "/favicon.ico", "/ui/static/{name}", "/ui/login"]
+"""What needs no token."""
+
+
+def answer_of(client: httpx.Client, method: str, path: str, body: Any) -> tuple[int, str]:
+    """A status, and the name of an error; of a stream its head alone."""
+    with client.stream(method, path, json=body) as answer:
+        if answer.headers["content-type"] != "application/json":
+            return answer.status_code, ""
+        told = json.loads(answer.read())
+        return answer.status_code, told.get("error", "") if isinstance(told, dict) else ""
+
+
+def test_each_route_has_its_roles(guarded: Guarded) -> None:
+    """The calls of the test below are all that there are."""
+    app, _ = application(Settings("unused.db", read(guarded.service.folder / "definitions")))
+    routes = {
+        (method, route.path)
+        for route in app.routes
+        for method in getattr(route, "methods", ()) - {"HEAD"}
+    }
+    asked = {
+        (method, re.sub(r"/sagas/(roles|asks|nobody)", "/sagas/{key}", path))
+        for _, method, path, _, _ in CALLS
+    }
+    asked = {
+        (
+            method,
+            path.replace("/tasks/x/", "/tasks/{token}/").replace("steps/review", "steps/{step}"),
+        )
+        for method, path in asked
+    }
+    asked = {(method, path.partition("?")[0]) for method, path in asked}
+    pages = {(method, path) for method, path in routes if path.startswith("/ui")}
+    assert routes - pages - asked == {("GET", path) for path in FREE if not path.startswith("/ui")}
+    assert {path for method, path in pages if method == "POST"} == {
+        "/ui/login",
+        *(path.replace("KEY", "{key}") for path in POSTED),
+    }
 
 
 def test_roles(guarded: Guarded) -> None:
-    """Each call is for one role, and for operators; nobody comes in without a token, or with a wrong one."""
-    clients = {role: guarded.client(role) for role in guarded.tokens}
+    """Each call is for its roles, and for operators; nobody comes in without a token, or with a
+    wrong one."""
+    clients = {role: guarded.client(role) for role in ROLES}
     strangers = [guarded.client(None), guarded.service.client("wrong"), guarded.service.client(guarded.tokens["operator"][:-1])]
+    start(clients["caller"], "trip", "roles")
+    start(clients["caller"], "order", "asks")
     try:
-        for needed, method, path, body in CALLS:
+        for good, method, path, body, status in CALLS:
             for role, client in clients.items():
-                status = client.request(method, path, json=body).status_code
-                assert (status == 403) == (role not in (needed, "operator")), (role, method, path, status)
+                found, name = answer_of(client, method, path, body)
+                if (role, path) == ("approver", "/sagas/asks/steps/review"):
+                    assert (found, name) == (
+                        403,
+                        "NotAllowed",
+                    )  # a compensation is no approval: see below
+                elif role in (*good.split(), "operator"):
+                    assert found == status and name != "NotAllowed", (
+                        role,
+                        method,
+                        path,
+                        found,
+                        name,
+                    )
+                else:
+                    assert (found, name) == (403, "NotAllowed"), (role, method, path, found, name)
             for stranger in strangers:
-                answer = stranger.request(method, path, json=body)
-                assert answer.status_code in (401, 429), (method, path)
+                assert answer_of(stranger, method, path, body)[0] in (401, 429), (method, path)
         nobody = strangers[0]
         assert nobody.get("/health").status_code == nobody.get("/ready").status_code == 200
-        assert nobody.get("/events").status_code in (401, 429) and nobody.get("/ui/events").status_code == 403
+        assert nobody.get("/ui/events").status_code == 403
     finally:
         for client in (*clients.values(), *strangers):
             client.close()
+
+
+POSTED = (
+    "/ui/logout",
+    "/ui/start",
+    "/ui/sagas/KEY/abort",
+    "/ui/sagas/KEY/resolve",
+    "/ui/sagas/{key}/steps/{step}/{outcome}",
+)  # fmt: skip
+
+
+def test_pages_have_no_roles_but_a_session(guarded: Guarded) -> None:
+    """No bearer token opens them, and none of them does anything: each form is refused before it is
+    read."""
+    for role in (None, *ROLES):
+        with guarded.client(role) as client:
+            for path in POSTED:
+                path = (
+                    path.replace("KEY", "asks")
+                    .replace("{key}", "asks")
+                    .replace("{step}", "review")
+                    .replace("{outcome}", "done")
+                )
+                answer = client.post(path, data={"csrf": "x", "result": "1"})
+                assert (answer.status_code, answer.json()["error"]) == (403, "OldForm")
+    with logged_in(guarded) as client:
+        for outcome in ("approve", "Done", "x"):
+            assert client.get(f"/ui/sagas/asks/steps/review/{outcome}").status_code == 422
+
+
+def waits(client: httpx.Client, key: str, why: str) -> None:
+    deadline = time.monotonic() + LONG
+    while why not in [one["why"] for one in client.get(f"/sagas/{key}").json()["waits"]]:
+        assert time.monotonic() < deadline
+
+
+BOTH = [
+    ({}, "give either result or failed"),
+    ({"note": "NO"}, "give either result or failed"),
+    ({"undo": False}, "give either"),
+    ({"result": 1, "failed": "x"}, "give either result or failed"),
+    ({"result": None, "failed": None}, "give either"),
+    ({"failed": None}, "failed is a text"),
+    ({"failed": 5}, "str type expected"),
+    ({"approved": True, "result": 1}, "extra fields"),
+    ({"result": 1, "note": 5}, "str type expected"),
+    ({"result": 1, "undo": "no"}, "not a valid boolean"),
+    ([], "no JSON object"),
+    ([["result", 1]], "no JSON object"),
+]  # fmt: skip
+
+
+def test_an_approval_is_given_on_purpose(guarded: Guarded) -> None:
+    """By exactly one of `result` and `failed`; else that is said, and nothing is done."""
+    with guarded.client("approver") as approver, guarded.client("caller") as caller:
+        start(caller, "order", "purpose")
+        waits(approver, "purpose", "approval")
+        for body, says in BOTH:
+            answer = approver.post("/sagas/purpose/steps/review", json=body)
+            assert (answer.status_code, answer.json()["error"]) == (
+                422,
+                "BadRequest",
+            ) and says in answer.json()["detail"], (body, answer.text)
+            assert "__root__" not in answer.text
+        assert caller.get("/sagas/purpose").json()["states"]["review"] == "begun"
+        assert (
+            approver.post("/sagas/purpose/steps/review", json={"result": None}).status_code == 200
+        )
+        assert caller.get("/sagas/purpose").json()["results"]["review"] is None
+        start(caller, "order", "refused")
+        waits(approver, "refused", "approval")
+        assert (
+            approver.post(
+                "/sagas/refused/steps/review", json={"failed": "too dear", "note": "no"}
+            ).status_code
+            == 200
+        )
+        assert caller.get("/sagas/refused/wait?seconds=60").json()["errors"] == {
+            "review": "too dear"
+        }
+
+
+def test_who_may_approve(guarded: Guarded) -> None:
+    """Neither whoever starts a saga nor a worker; and an approver says nothing of any other
+    step."""
+    with contextlib.ExitStack() as stack:
+        clients = {role: stack.enter_context(guarded.client(role)) for role in ROLES}
+        caller, approver, operator = clients["caller"], clients["approver"], clients["operator"]
+        start(caller, "order", "by-whom")
+        waits(caller, "by-whom", "approval")
+        for role in ("caller", "worker", "metrics"):
+            assert (
+                clients[role].post("/sagas/by-whom/steps/review", json={"result": 1}).status_code
+                == 403
+            )
+        for step in ("send", "none", "review%2F", "x" * 70):
+            answer = approver.post(f"/sagas/by-whom/steps/{step}", json={"result": 1})
+            assert (answer.status_code, answer.json()["error"]) == (
+                403,
+                "NotAllowed",
+            ) and "is no approval" in answer.json()["detail"]
+        assert approver.post("/sagas/nobody/steps/review", json={"result": 1}).status_code == 404
+        assert approver.post("/sagas/by-whom/steps/review", json={"result": 1}).status_code == 200
+        start(caller, "trip", "by-an-operator")
+        waits(caller, "by-an-operator", "worker")
+        assert (
+            approver.post("/sagas/by-an-operator/steps/flight", json={"result": 1}).status_code
+            == 403
+        )
+        assert (
+            operator.post("/sagas/by-an-operator/steps/flight", json={"result": 1}).status_code
+            == 200
+        )
 
 
 @contextlib.contextmanager

@@ -89,7 +89,8 @@ def test_a_saga_through_workers(client: httpx.Client) -> None:
 
 
 def test_leases(client: httpx.Client) -> None:
-    """One that runs out gives the task to another with the same token; failed counts under the newest, done under any that was given; the first report stays."""
+    """One that runs out gives the task to another with the same token; failed counts under the
+    newest, done under any that was given; the first report stays."""
     start(client, "trip", "leases")
     (old,) = take(client, "trip/flight", lease=0.5)
     (new,) = take(client, "trip/flight")
@@ -276,8 +277,14 @@ def test_an_approval(client: httpx.Client) -> None:
     deadline = time.monotonic() + LONG
     while not get(client, "/sagas/approve-me")["waits"]:
         assert time.monotonic() < deadline
-    assert client.post("/sagas/approve-me/steps/send", json={}).json()["error"] == "NotWaiting"
-    assert client.post("/sagas/approve-me/steps/review", json={"result": {"by": "Ada"}}).status_code == 200
+    assert (
+        client.post("/sagas/approve-me/steps/send", json={"result": 1}).json()["error"]
+        == "NotWaiting"
+    )
+    assert (
+        client.post("/sagas/approve-me/steps/review", json={"result": {"by": "Ada"}}).status_code
+        == 200
+    )
     assert client.post("/sagas/approve-me/steps/review", json={"failed": "no"}).status_code == 409
     all_done(client, "order/send")
     assert get(client, "/sagas/approve-me/wait?seconds=60")["results"]["review"] == {"by": "Ada"}
@@ -285,7 +292,7 @@ def test_an_approval(client: httpx.Client) -> None:
 
 def test_an_aborted_task_that_nobody_took_is_not_begun(client: httpx.Client) -> None:
     start(client, "order", "early")
-    client.post("/sagas/early/steps/review", json={})
+    client.post("/sagas/early/steps/review", json={"result": None})
     assert client.post("/sagas/early/abort", json={"note": "wrong address"}).json() == {"key": "early", "aborted": True}
     end = get(client, "/sagas/early/wait?seconds=60")
     assert end["phase"] == "ended" and end["states"]["send"] != "committed"
@@ -451,15 +458,17 @@ def test_a_connection_that_comes_while_it_ends() -> None:
     "files, words, says",
     [
         ({}, (), "it has no definition"),
-        ({"a.toml": "format = 2\nname = "}, (), "a.toml: it is no TOML"),
-        ({"a.toml": 'format = 2\nname = "a"\n[[step]]\nname = "x"\nprice = 1\n'}, (), "a.toml: it is no definition: step 'x' has no key 'price'"),
-        ({"a.toml": 'format = 2\nname = "a"\n[[step]]\n'}, (), "a.toml: it is no definition: step 1 has no name"),
-        ({**DEFINITIONS, "b.toml": DEFINITIONS["order.toml"]}, (), "order.toml: saga 'order', which"),
-        ({**DEFINITIONS, "order.service.toml": "[step.send]\nbackoff = { frist = 1 }\n"}, (), "order.service.toml: step 'send': backoff has the keys"),
-        ({"a.toml": 'format = 2\nname = "a"\n'}, (), "a.toml: saga 'a': it has no step"),
-        ({"a.toml": 'format = 2\nname = "a"\n[[step]]\nname = "x"\nneeds = ["y"]\n'}, (), "a.toml: saga 'a', step 'x': needs 'y'"),
-        ({**DEFINITIONS, "order.service.toml": '[step.no]\nkind = "approval"\n'}, (), "order.service.toml: no step is named 'no'"),
-        ({**DEFINITIONS, "order.service.toml": '[step.review]\nkind = "x"\n'}, (), "kind is one of"),
+        ({"a.toml": "format = 2\nname = "}, (), "it is no TOML: Invalid value"),
+        (
+            {"a.toml": 'format = 2\nname = "a"\n[[step]]\nname = "x"\nprice = 1\n'},
+            (),
+            "it is no definition: step 'x' has no key 'price'",
+        ),
+        (
+            DEFINITIONS | {"order.service.toml": '[step.review]\nkind = "x"\n'},
+            (),
+            "step 'review': kind is one of",
+        ),
         (DEFINITIONS, ("--listen", "0.0.0.0:0"), "it listens on the loopback only"),
         (DEFINITIONS, ("--listen", "here"), "it is HOST:PORT"),
         (DEFINITIONS, ("--token-file", "nowhere.toml"), "nowhere.toml: it is not there; `sagas token"),

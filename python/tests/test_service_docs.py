@@ -23,7 +23,9 @@ PAGE = (TOP / "docs" / "SERVICE.md").read_text()
 def commands() -> list[tuple[str, str]]:
     """Each command of the page, with what it prints."""
     found = []
-    for block in re.findall(r"^```\n(.*?)^```$", PAGE, re.S | re.M):
+    for kind, block in re.findall(r"^```(\w*)\n(.*?)^```$", PAGE, re.S | re.M):
+        if kind:  # it is no shell's
+            continue
         for part in re.split(r"^\$ ", block, flags=re.M)[1:]:
             command, _, output = part.partition("\n")
             found.append((command, output))

@@ -66,7 +66,12 @@ def test_a_task_goes_through_both(both: Pair) -> None:
     number, _, signed = flight["lease"].partition(".")
     forged = {**flight, "lease": f"{int(number) - 1}.{signed}"}
     for client in (one, two):
-        assert client.post(f"/tasks/{flight['token']}/beat", json={"lease": forged["lease"]}).json()["error"] == "InvalidLease"
+        assert (
+            client.post(f"/tasks/{flight['token']}/beat", json={"lease": forged["lease"]}).json()[
+                "error"
+            ]
+            == "InvalidLease"
+        )
         assert report(client, forged, "failed", error="no").json()["error"] == "InvalidLease"
     assert report(one, flight, result={"seat": 1}).json() == {"kept": True, "repeated": False}
     assert report(two, flight, result={"seat": 1}).json() == {"kept": True, "repeated": True}
@@ -158,8 +163,16 @@ def test_people_say_it_anywhere(both: Pair) -> None:
     deadline = time.monotonic() + LONG
     while not both.two.get("/sagas/approved").json()["waits"]:
         assert time.monotonic() < deadline
-    assert both.two.post("/sagas/approved/steps/review", json={"result": "yes", "note": "by two"}).status_code == 200
-    assert both.two.post("/sagas/approved/steps/review", json={}).json()["error"] == "NotWaiting"
+    assert (
+        both.two.post(
+            "/sagas/approved/steps/review", json={"result": "yes", "note": "by two"}
+        ).status_code
+        == 200
+    )
+    assert (
+        both.two.post("/sagas/approved/steps/review", json={"result": 1}).json()["error"]
+        == "NotWaiting"
+    )
     all_done(both.two, "order/send")
     assert both.two.get("/sagas/approved/wait?seconds=60").json()["results"]["review"] == "yes"
     notes = [event["value"] for event in both.one.get("/sagas/approved/log").json()["events"] if event["event"] == "note"]

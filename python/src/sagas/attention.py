@@ -59,16 +59,22 @@ STUCK_SAGAS = f"""
 SELECT s.key, s.saga, f.texts, s.def, 'stuck', NULL, NULL, s."end", s.ended
 FROM sagas s {DEFINED} WHERE {PHASES["stuck"]} ORDER BY s.id LIMIT ?
 """
-UNDO_FAILED = f"""
-SELECT s.key, s.saga, f.texts, s.def, 'undo_failed', r.step, 'undo', r.value, r.at
-FROM sagas s JOIN results r ON r.id = s.id AND r.outcome = 'undo_fail' {DEFINED}
-WHERE {UNDONE} ORDER BY s.id, r.step LIMIT ?
-"""
 ATTEMPTS = f"""
 SELECT s.key, s.saga, f.texts, s.def, h.why, h.step, h.kind, h.error, h.since
 FROM held h JOIN sagas s ON s.id = h.id {DEFINED} WHERE {HELD} ORDER BY h.since LIMIT ?
 """
-QUESTIONS = (STUCK_SAGAS, UNDO_FAILED, ATTEMPTS)
+
+
+def undo_failed(where: str = "1 = 1") -> str:
+    """The question for compensations that failed for good, of the sagas of a condition."""
+    return f"""
+SELECT s.key, s.saga, f.texts, s.def, 'undo_failed', r.step, 'undo', r.value, r.at
+FROM sagas s JOIN results r ON r.id = s.id AND r.outcome = 'undo_fail' {DEFINED}
+WHERE {UNDONE} AND {where} ORDER BY s.id, r.step LIMIT ?
+"""
+
+
+QUESTIONS = (STUCK_SAGAS, undo_failed(), ATTEMPTS)
 """Each gives at most so many rows."""
 
 

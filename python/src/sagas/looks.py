@@ -10,8 +10,8 @@ import dataclasses
 import json
 import re
 import tomllib
-from collections.abc import Callable, Sequence
-from typing import Any
+from collections.abc import Callable, Collection, Sequence
+from typing import Any, Optional
 
 from . import attention
 from .attention import HELD, Attention
@@ -27,6 +27,8 @@ from .runs import LogEvent, Summary
 from .schema import ROOM
 
 Json = dict[str, Any]
+Definitions = Optional[Collection[str]]
+"""The definitions of which sagas are looked at; None: all."""
 PHASES = ("open", "ended", "stuck", "resolved")
 SHORT = "id, key, saga, phase, at, ended, note"
 STUCK = WHERE["stuck"]
@@ -164,36 +166,57 @@ class Looks:
             found.setdefault(saga, dict.fromkeys(PHASES, 0))[phase] = count
         return dict(sorted(found.items()))
 
-    def asked(self) -> dict[str, int]:
+    def asked(self, sagas: Definitions = None) -> dict[str, int]:
         """How many things wait for a person: stuck sagas, compensations that failed for good,
         approvals, and attempts of which nobody knows the outcome or whose
         stored values cannot be read."""
-        stuck = self._rows(f"SELECT count(*) FROM sagas WHERE {STUCK}")[0][0]
-        held: dict[str, int] = dict(self._rows(f"SELECT why, count(*) FROM held WHERE {PERSON} GROUP BY why"))  # type: ignore[arg-type]
+        within = ""
+        if sagas is not None:
+            within = f" AND id IN (SELECT id FROM sagas WHERE {among(sagas)})"
+        query = f"SELECT why, count(*) FROM held WHERE {PERSON}{within} GROUP BY why"
+        held: dict[str, int] = dict(self._rows(query, *(sagas or ())))  # type: ignore[arg-type]
         told = {why: held.get(why, 0) for why in ("unknown", CANNOT_DECODE, "approval")}
-        return {"stuck": stuck, "undo_failed": self.undo_failed(), **told}
+        stuck, undone = self._count(STUCK, sagas), self.undo_failed(sagas)
+        return {"stuck": stuck, "undo_failed": undone, **told}
 
-    def undone(self, most: int = 100) -> list[Attention]:
+    def undone(self, most: int = 100, sagas: Definitions = None) -> list[Attention]:
         """The compensations that failed for good of sagas that have ended and that nobody has
         resolved, the oldest first."""
-        return attention.entries(self._rows(attention.UNDO_FAILED, most), most)
+        rows = self._rows(attention.undo_failed(among(sagas)), *(sagas or ()), most)
+        return attention.entries(rows, most)
 
     def attention(self, most: int = 100) -> list[Attention]:
         """What needs a person (`Store.attention`), the oldest first."""
         return attention.found(self._rows, most)
 
-    def planned(self) -> int:
+    def planned(self, sagas: Definitions = None) -> int:
         """How many have ended by a plan: they are among those that `counts` has as ended."""
-        return int(self._rows(f"SELECT count(*) FROM sagas WHERE {WHERE['planned']}")[0][0])
+        return self._count(WHERE["planned"], sagas)
 
-    def undo_failed(self) -> int:
+    def undo_failed(self, sagas: Definitions = None) -> int:
         """Of how many of these a compensation failed for good, and nobody has resolved it."""
-        return int(self._rows(f"SELECT count(*) FROM sagas WHERE {WHERE['undo-failed']}")[0][0])
+        return self._count(WHERE["undo-failed"], sagas)
 
-    def page(self, *, phase: str | None = None, saga: str | None = None, search: str | None = None, before: int | None = None, after: int | None = None, most: int = 50) -> list[Summary]:
+    def _count(self, where: str, sagas: Definitions) -> int:
+        query = f"SELECT count(*) FROM sagas WHERE {where} AND {among(sagas)}"
+        return int(self._rows(query, *(sagas or ()))[0][0])
+
+    def page(
+        self,
+        *,
+        phase: str | None = None,
+        saga: str | None = None,
+        search: str | None = None,
+        before: int | None = None,
+        after: int | None = None,
+        most: int = 50,
+        sagas: Definitions = None,
+    ) -> list[Summary]:  # fmt: skip
         """A page of the list, newest first: those `before` an id; or oldest first, those `after` one. `search`: what the key contains;
-        `phase`: also `planned`, those of `ended` that ended by a plan, and `undo-failed`, those of these of which a compensation failed for good."""
-        wheres, words = ["1 = 1"], []
+        `phase`: also `planned`, those of `ended` that ended by a plan, and `undo-failed`, those of
+        these of which a compensation failed for good. `sagas`: the definitions of which there are
+        any at all."""
+        wheres, words = [among(sagas)], [*(sagas or ())]
         if phase is not None:
             wheres.append(WHERE[phase])
         if saga is not None:
@@ -210,10 +233,17 @@ class Looks:
         rows = self._rows(f"SELECT {SHORT}, {ENDED_BY_PLAN} FROM sagas WHERE {' AND '.join(wheres)} ORDER BY id {order} LIMIT ?", *words, most)
         return [Summary(id, key, name, phase_of(phase, note), at, ended, note, planned > 0, planned > 1) for id, key, name, phase, at, ended, note, planned in rows]
 
-    def waits(self, most: int = 100, *, person: bool = True, why: str | None = None) -> list[Waits]:
+    def waits(
+        self,
+        most: int = 100,
+        *,
+        person: bool = True,
+        why: str | None = None,
+        sagas: Definitions = None,
+    ) -> list[Waits]:
         """What is held, the oldest first; by default what a person has to say something about."""
-        wheres = [PERSON if person else "1 = 1"] + (["why = ?"] if why else [])
-        return self._waits(" AND ".join(wheres), *([why] if why else []), most=most)
+        wheres = [PERSON if person else "1 = 1", among(sagas)] + (["why = ?"] if why else [])
+        return self._waits(" AND ".join(wheres), *(sagas or ()), *([why] if why else []), most=most)
 
     def _waits(self, where: str, *words: Any, most: int) -> list[Waits]:
         query = f"SELECT h.id, s.key, s.saga, h.step, h.kind, h.attempt, h.why, h.count, h.since, h.until, h.error FROM held h JOIN sagas s ON s.id = h.id WHERE {where} AND {WAITS} ORDER BY h.since LIMIT ?"
@@ -226,10 +256,13 @@ class Looks:
                 found.append(Waits(id, key, saga, name, undo, attempt, *told))
         return found
 
-    def stuck(self, most: int = 100) -> list[tuple[Summary, list[str]]]:
+    def stuck(self, most: int = 100, sagas: Definitions = None) -> list[tuple[Summary, list[str]]]:
         """The stuck sagas that nobody has resolved, with the chain of each, the oldest first."""
         found = []
-        rows = self._rows(f'SELECT {SHORT}, "end" FROM sagas WHERE {STUCK} ORDER BY id LIMIT ?', most)
+        query = (
+            f'SELECT {SHORT}, "end" FROM sagas WHERE {STUCK} AND {among(sagas)} ORDER BY id LIMIT ?'
+        )
+        rows = self._rows(query, *(sagas or ()), most)
         for id, key, name, phase, at, ended, note, end in rows:
             chain = (json.loads(end).get("answer") or {}).get("chain", ()) if end else ()
             with contextlib.suppress(NoSuchSaga):  # it was resolved, and let go meanwhile
@@ -305,6 +338,13 @@ class Looks:
             steps_of(definition, names, states, lines, attempts), plan, self._waits("h.id = ?", row.id, most=10_000), events_of(lines, names, attempts),
             stretches_of(lines, names), self.notes(key), definition, self._token(row.id),
         )  # fmt: skip
+
+
+def among(sagas: Definitions) -> str:
+    """A condition: the saga's definition is one of these, each a word of the query."""
+    if sagas is None:
+        return "1 = 1"
+    return f"saga IN ({', '.join('?' * len(sagas))})" if sagas else "1 = 0"
 
 
 def worker_of(told: str | None) -> tuple[str | None, int]:

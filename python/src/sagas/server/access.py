@@ -1,17 +1,30 @@
-"""What routes ask of a request before anything else: whose it is, whether they may, and at what rate."""
+"""What routes ask of a request before anything else: whose it is, whether they may, and at what
+rate.
+
+`Route` asks it by the headers alone: whoever may not is answered before a byte of the body is
+read."""
 
 from __future__ import annotations
 
 import json
-from collections.abc import Awaitable, Callable
+from collections.abc import Awaitable, Callable, Coroutine
 from typing import Any
 
 from fastapi import Request
+from fastapi.routing import APIRoute
 from starlette.responses import Response
 
 from .guards import SERVICE, SLASH
 from .service import Service
-from .who import LOCAL, Who
+from .who import LOCAL, ROLES, May, Who
+
+WHO = "sagas.who"
+"""In a scope: the name of whoever asks, for the log."""
+OWNER = "sagas.owner"
+"""In a scope: the `Who`, once the route has let the request in."""
+NEEDED = "sagas_needed"
+"""An attribute of a dependency: what the request's maker has to be allowed."""
+Handler = Callable[[Request], Coroutine[Any, Any, Response]]
 
 
 class Refused(Exception):
@@ -46,33 +59,94 @@ def whose(request: Request) -> Who:
     if service.tokens is None:
         return LOCAL
     kind, _, token = request.headers.get("authorization", "").partition(" ")
-    who = service.tokens.find(token.strip()) if kind.lower() == "bearer" else None
+    given = token.strip() if kind.lower() == "bearer" else ""
+    who = service.tokens.find(given) if given else None
     if who is None:
         if not service.refusals.take(address(request)):
-            raise Refused(429, "TooMany", "too many requests without a right token from this address")
-        given = "this token is not in the token file: `sagas token` makes one" if token.strip() and kind.lower() == "bearer" else "this needs a token"
-        raise Refused(401, "NoToken", f"{given}, sent as Authorization: Bearer TOKEN")
+            raise Refused(
+                429, "TooMany", "too many requests without a right token from this address"
+            )
+        raise Refused(
+            401, "NoToken", f"{_why_not(service, given)}, sent as Authorization: Bearer TOKEN"
+        )
     return who
+
+
+def _why_not(service: Service, token: str) -> str:
+    if not token:
+        return "this needs a token"
+    if service.tokens is not None and service.tokens.has_expired(token):
+        return "this token has expired: `sagas token` makes another"
+    return "this token is not in the token file: `sagas token` makes one"
 
 
 def limited(request: Request, who: Who) -> None:
     """Counts the request. Raises `Refused` where its maker makes too many."""
-    if not service_of(request).rates.take(who.digest or address(request)):
+    if not service_of(request).rates.take(maker(request, who)):
         raise Refused(429, "TooMany", "too many requests; wait a second")
 
 
-def allow(role: str) -> Callable[[Request], Awaitable[Who]]:
-    """A dependency: the request is of somebody who has the role."""
+def maker(request: Request, who: Who) -> str:
+    """What requests and streams are counted by: the token, or without tokens the address."""
+    return who.digest or address(request)
 
-    async def allowed(request: Request) -> Who:
-        who = whose(request)
-        request.scope["sagas.who"] = who.name
-        if not who.may(role):
-            raise Refused(403, "NotAllowed", f"{who.name} is no {role}, but {', '.join(sorted(who.roles))}: take a token of the role {role} or operator")
-        limited(request, who)
+
+def allow(what: May) -> Callable[[Request], Awaitable[Who]]:
+    """A dependency: the request is of somebody who may do this, as its `Route` has made sure."""
+
+    async def owner(request: Request) -> Who:
+        who: Who = request.scope[OWNER]
         return who
 
-    return allowed
+    setattr(owner, NEEDED, what)
+    return owner
+
+
+def admit(request: Request, what: May) -> None:
+    """Raises `Refused` where the headers do not say that this may be done."""
+    who = whose(request)
+    request.scope[WHO] = who.name
+    if not who.may(what):
+        good = " or ".join(role for role, may in ROLES.items() if what in may)
+        told = f"{who.name} ({', '.join(sorted(who.roles))}) may not {what.value}"
+        raise Refused(403, "NotAllowed", f"{told}: take a token of the role {good}")
+    limited(request, who)
+    request.scope[OWNER] = who
+
+
+class Route(APIRoute):
+    """A route that lets a request in by its headers alone, before its body is read."""
+
+    def get_route_handler(self) -> Handler:
+        handle: Handler = super().get_route_handler()
+        needed = [
+            getattr(one.call, NEEDED)
+            for one in self.dependant.dependencies
+            if hasattr(one.call, NEEDED)
+        ]
+
+        async def admitted(request: Request) -> Response:
+            for what in needed:
+                admit(request, what)
+            return await handle(request)
+
+        return admitted
+
+
+def check_definition(who: Who, definition: str | None) -> None:
+    """Raises `Refused` where sagas of this definition are not the token's to see."""
+    if definition is not None and not who.sees(definition):
+        raise Refused(
+            403, "NotAllowed", f"{who.name} has no right to the definition {definition[:64]!r}"
+        )
+
+
+def check_steps(who: Who, steps: list[str]) -> None:
+    """Raises `Refused` where tasks of some of these steps are not the token's to take."""
+    beyond = sorted({step for step in steps if not who.does(step)})
+    if beyond:
+        told = ", ".join(beyond[:10]) + (" .." if beyond[10:] else "")
+        raise Refused(403, "NotAllowed", f"{who.name} has no right to the steps {told}")
 
 
 def unslashed(text: str) -> str:

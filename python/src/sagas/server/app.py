@@ -74,7 +74,7 @@ def wrong(request: Request, one: Any) -> str:
         if sent != "application/json" and not sent.endswith("+json"):
             return f"the body was sent as {sent[:80] or 'nothing'}: send it with Content-Type: application/json"
         return "the body is no JSON object"
-    return f"{'.'.join(str(part)[:80] for part in place)}: {text}"
+    return f"{'.'.join(str(part)[:80] for part in place if part != '__root__')}: {text}"
 
 
 def application(settings: Settings) -> tuple[FastAPI, Service]:

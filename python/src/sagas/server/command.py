@@ -90,8 +90,17 @@ def settings_of(words: argparse.Namespace) -> Settings:
     if not databases.is_url(words.path) and (pathlib.Path(words.path).is_dir() or not pathlib.Path(words.path).absolute().parent.is_dir()):
         raise Trouble(f"{words.path}: a store is a file, in a folder that is there")
     return Settings(
-        words.path, sagas, host, port, words.token_file, concurrency=words.concurrency, most_body=words.most_body,
-        most_connections=words.most_connections, rate=words.rate, node=words.node, lease=words.lease,
+        words.path,
+        sagas,
+        host,
+        port,
+        words.token_file,
+        concurrency=words.concurrency,
+        most_body=words.most_body,
+        most_connections=words.most_connections,
+        rate=words.rate,
+        node=words.node,
+        lease=words.lease,
     )  # fmt: skip
 
 
@@ -139,18 +148,39 @@ def main(words: list[str]) -> int:
         return CANNOT
 
 
-def token(words: list[str]) -> int:
-    """Runs `sagas token`: prints a new token, and puts its digest into the file."""
+def token_parser() -> argparse.ArgumentParser:
+    """The words of `sagas token`."""
     found = argparse.ArgumentParser(prog="sagas token", description="Makes a token: prints it, and puts its digest into the file.")
     found.add_argument("file", type=pathlib.Path, metavar="FILE", help="the token file; it is made where it is not there")
     found.add_argument("name", metavar="NAME", help="whose it is; it stands in what is written down")
-    found.add_argument("roles", nargs="+", choices=who.ROLES, metavar="ROLE", help=", ".join(who.ROLES))
-    given = found.parse_args(words)
+    roles = [*who.ROLES]
+    found.add_argument("roles", nargs="+", choices=roles, metavar="ROLE", help=", ".join(roles))
+    found.add_argument(
+        "--definition", action="append", metavar="NAME",
+        help="it sees this definition alone; give it again for each further one",
+    )  # fmt: skip
+    found.add_argument(
+        "--step", action="append", metavar="DEFINITION/STEP",
+        help="as a worker it takes this step alone, or DEFINITION/STEP/undo, the compensation; "
+        "give it again for each further one",
+    )  # fmt: skip
+    found.add_argument("--expires", metavar="WHEN", help="it ends then, as 2027-01-01T00:00:00Z")
+    return found
+
+
+def token(words: list[str]) -> int:
+    """Runs `sagas token`: prints a new token, and puts its digest into the file."""
+    given = token_parser().parse_args(words)
     if not given.name.isprintable() or not 0 < len(given.name) <= 64:
         print("sagas token: a name has 1 to 64 printable characters", file=sys.stderr)
         return USAGE
     try:
-        print(who.make(given.file, given.name, given.roles))
+        limits = who.limits_of(given.roles, given.definition, given.step, given.expires)
+    except ValueError as error:
+        print(f"sagas token: {error}", file=sys.stderr)
+        return USAGE
+    try:
+        print(who.make(given.file, given.name, given.roles, limits))
     except (who.TokenFault, OSError) as error:
         print(f"sagas token: {error}", file=sys.stderr)
         return CANNOT

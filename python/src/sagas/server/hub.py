@@ -3,31 +3,39 @@
 from __future__ import annotations
 
 import asyncio
+import contextlib
 import dataclasses
 import json
 import secrets
+import time
 from collections import deque
-from collections.abc import AsyncIterator
+from collections.abc import AsyncIterator, Callable
 
 from ..events import Event
 
 KEPT = 2000
 MOST_WAITING = 1000
 QUIET = 15.0  # seconds after which a comment shows that the stream is open
+CHECK = 2.0  # seconds between two looks whether its token still counts
 
 
 @dataclasses.dataclass(eq=False, slots=True)
 class Listener:
-    """One stream. It is `lost` where it did not read what it was sent."""
+    """One stream, of sagas that its maker `sees`. It is `lost` where it did not read what it was
+    sent."""
 
     key: str | None
     saga: str | None
-    queue: deque[tuple[int, str]]
-    awake: asyncio.Event
+    sees: Callable[[str | None], bool]
+    queue: deque[tuple[int, str]] = dataclasses.field(default_factory=deque)
+    awake: asyncio.Event = dataclasses.field(default_factory=asyncio.Event)
     lost: bool = False
 
     def wants(self, event: Event) -> bool:
-        return (self.key is None or event.key == self.key) and (self.saga is None or event.saga == self.saga)
+        asked = (self.key is None or event.key == self.key) and (
+            self.saga is None or event.saga == self.saga
+        )
+        return asked and self.sees(event.saga)
 
 
 class Hub:
@@ -89,10 +97,13 @@ class Hub:
         first = self._kept[0][0] if self._kept else self.count + 1
         return [(count, event) for count, event in self._kept if count > int(number)], int(number) + 1 < first
 
-    async def stream(self, key: str | None, saga: str | None, last: str | None) -> AsyncIterator[str]:
-        """Server-sent events. One named `missed` says that some were lost: look at the sagas themselves."""
-        listener = Listener(key, saga, deque(), asyncio.Event())
+    async def stream(
+        self, listener: Listener, last: str | None, still: Callable[[], bool]
+    ) -> AsyncIterator[str]:
+        """Server-sent events. One named `missed` says that some were lost: look at the sagas
+        themselves. It ends once it is not `still` to be."""
         self._listeners[listener] = None
+        told = time.monotonic()
         try:
             events, missed = self.behind(last)
             yield f"retry: 2000\nid: {self.boot}-{self.count if missed or last is None else last.partition('-')[2]}\n"
@@ -101,18 +112,22 @@ class Hub:
                 if listener.wants(event):
                     yield f"id: {self.boot}-{count}\n{written(event)}"
             while not self.closed:
-                while listener.queue:
+                while listener.queue and still():
                     count, text = listener.queue.popleft()
                     yield f"id: {self.boot}-{count}\n{text}"
+                    told = time.monotonic()
                 if listener.lost:
                     yield "event: missed\ndata: {}\n\n"
                     return
                 listener.awake.clear()
-                try:
-                    async with asyncio.timeout(QUIET):
+                with contextlib.suppress(TimeoutError):
+                    async with asyncio.timeout(CHECK):
                         await listener.awake.wait()
-                except TimeoutError:
+                if not still():
+                    return
+                if time.monotonic() >= told + QUIET:
                     yield ": \n\n"
+                    told = time.monotonic()
         finally:
             self._listeners.pop(listener, None)
 

@@ -85,7 +85,7 @@ class Metrics:
 
     async def text(self) -> bytes:
         """All figures, as Prometheus reads them."""
-        self.counts, self.asked, _ = await self._service.counts()
+        self.counts, self.asked, _ = await self._service.counts(None)
         return generate_latest(self.registry)
 
     def now(self) -> Iterator[Metric]:

@@ -2,10 +2,11 @@
 
 from __future__ import annotations
 
+import contextlib
 import json
 import logging
 import time
-from typing import Any, Optional
+from typing import Any, Literal, Optional
 from urllib.parse import parse_qsl, quote, urlencode
 
 from fastapi import APIRouter, Query, Request
@@ -15,13 +16,15 @@ from ..errors import NoSuchSaga, SagasError
 from ..attention import Attention
 from ..looks import PHASES, Looks, SagaView, StepView, Waits
 from . import pictures, rendering, shown, words
-from .access import Refused, address, limited, service_of, unslashed
+from .access import OWNER, WHO, Refused, address, limited, service_of, unslashed
 from .callers import kept_of, stream
-from .who import LOCAL, Session, Who
+from .hub import Listener
+from .who import LOCAL, May, Session, Who
 
 router = APIRouter(include_in_schema=False, default_response_class=HTMLResponse)
 logger = logging.getLogger("sagas.server")
 COOKIE = "sagas_session"
+Outcome = Literal["done", "failed"]
 SHOWN = 60  # approvals and outcomes that nobody knows, on the first page
 STUCK = 12  # stuck sagas there; the list has all
 LISTED = 50
@@ -34,17 +37,35 @@ LATELY = 300.0  # seconds since a worker asked; one that is at a long task asks 
 
 
 def session_of(request: Request) -> Session | None:
-    """The session of an operator; None where there is none."""
+    """The session of an operator, with what its token says now; None where there is none."""
+    session = still_of(request)
+    if session is not None:
+        request.scope[WHO], request.scope[OWNER] = session.who.name, session.who
+        limited(request, session.who)
+    return session
+
+
+def still_of(request: Request) -> Session | None:
+    """As `session_of`, without a count of it."""
     service = service_of(request)
     session = service.sessions.find(request.cookies.get(COOKIE, ""))
     if session is None:
         return None
     who = LOCAL if service.tokens is None else service.tokens.of(session.who.digest)
-    if who is None or not who.may("operator"):
-        return None  # its token is not in the file any more
-    request.scope["sagas.who"] = who.name
-    limited(request, who)
+    if who is None or not who.may(May.OPERATE):
+        return None  # its token is not in the file any more, or has expired
+    session.who = who
     return session
+
+
+def looker(request: Request) -> Who:
+    """Who looks at a page that is not `closed`."""
+    who: Who = (
+        request.scope.get(OWNER, LOCAL)
+        if service_of(request).tokens is None
+        else request.scope[OWNER]
+    )
+    return who
 
 
 def begin(request: Request, response: Response, who: Who) -> Session:
@@ -99,9 +120,10 @@ async def form_of(request: Request) -> dict[str, str]:
 
 
 async def sent(request: Request) -> tuple[Session, dict[str, str]]:
-    """The session of a form, and its words. Raises `Refused` where the form is not the session's own."""
-    form = await form_of(request)
+    """The session of a form, and its words. Raises `Refused` where the form is not the session's
+    own: without a session before it is read."""
     session = session_of(request)
+    form = await form_of(request) if session else {}
     if session is None or not session.sent(form.get("csrf", "")):
         raise Refused(403, "OldForm", "this form is not of your session any more: go back, load the page again, and send it once more")
     return session, form
@@ -145,7 +167,7 @@ async def login(request: Request) -> Response:
         return RedirectResponse("/ui", 303)
     who = service.tokens.find(form.get("token", "").strip())
     wanted = form.get("next", "/ui")
-    if who is None or not who.may("operator"):
+    if who is None or not who.may(May.OPERATE):
         fault = "This is no operator's token." if service.refusals.take(address(request)) else "Too many wrong tokens from this address; wait a while."
         return page(request, "login.html", None, 403, next=wanted, fault=fault)
     response = RedirectResponse(wanted if wanted.startswith("/ui") and "\\" not in wanted else "/ui", 303)
@@ -171,25 +193,45 @@ async def overview(request: Request) -> Response:
     """Counts, and what needs a person first."""
     if answer := closed(request):
         return answer
-    service = service_of(request)
-    since = service.hub.now
-    counts, asked, _ = await service.counts()
+    service, who = service_of(request), looker(request)
+    since, some = service.hub.now, who.definitions
+    counts, asked, _ = await service.counts(some)
+    counts = dict(counts)
 
     def questions(looks: Looks) -> tuple[Any, list[Attention], list[Waits], Any]:
-        return looks.stuck(STUCK), looks.undone(STUCK), looks.waits(SHOWN), looks.page(most=12)
+        return (
+            looks.stuck(STUCK, some),
+            looks.undone(STUCK, some),
+            looks.waits(SHOWN, sagas=some),
+            looks.page(most=12, sagas=some),
+        )
 
     stuck, undone, waits, latest = await service.look(questions)
-    queues = await service.queues()
+    queues = await service.queues(who)
     ready = [queue for queue in queues if queue.ready]
     totals = {phase: sum(of[phase] for of in counts.values()) for phase in PHASES}
     oldest = max((time.time() - queue.oldest for queue in ready if queue.oldest), default=0.0)
-    for saga in service.settings.sagas:
-        counts.setdefault(saga.name, dict.fromkeys(PHASES, 0))
+    for name in service.names(who):
+        counts.setdefault(name, dict.fromkeys(PHASES, 0))
     return shows(
-        request, "overview.html", here="overview", live="/ui/events", since=since, again=service.counts_lag(), counts=counts, asked=asked, asked_all=sum(asked.values()), totals=totals, stuck=stuck,
-        undone=undone, waits=waits, latest=latest, oldest=oldest,
+        request,
+        "overview.html",
+        here="overview",
+        live="/ui/events",
+        since=since,
+        again=service.counts_lag(some),
+        counts=counts,
+        asked=asked,
+        asked_all=sum(asked.values()),
+        totals=totals,
+        stuck=stuck,
+        undone=undone,
+        waits=waits,
         shown=len(stuck) + len({one.key for one in undone}) + len(waits),
-        ready=sum(queue.ready for queue in queues), taken=sum(queue.taken for queue in queues),
+        latest=latest,
+        ready=sum(queue.ready for queue in queues),
+        taken=sum(queue.taken for queue in queues),
+        oldest=oldest,
     )  # fmt: skip
 
 
@@ -201,13 +243,23 @@ async def listed(
     """A page of the list, newest first."""
     if answer := closed(request):
         return answer
-    service = service_of(request)
+    service, who = service_of(request), looker(request)
     phase, search, definition = phase if phase in words.PHASES else None, search or None, definition or None
-    counts, _, ended = await service.counts()
+    counts, _, ended = await service.counts(who.definitions)
+    places = {
+        word: None if text is None else int(text)
+        for word, text in (("before", before), ("after", after))
+    }
 
     def question(looks: Looks) -> Any:
-        last = None if before is None else int(before)
-        return looks.page(phase=phase, saga=definition, search=search, before=last, after=None if after is None else int(after), most=LISTED + 1)
+        return looks.page(
+            phase=phase,
+            saga=definition,
+            search=search,
+            most=LISTED + 1,
+            sagas=who.definitions,
+            **places,
+        )
 
     found = await service.look(question)
     more, found = len(found) > LISTED, found[:LISTED]
@@ -235,8 +287,10 @@ async def saga(request: Request, key: str) -> Response:
     if answer := closed(request):
         return answer
     service = service_of(request)
-    since = service.hub.now
-    view = await service.saga(unslashed(key))
+    since, view = service.hub.now, None
+    with contextlib.suppress(NoSuchSaga):
+        await service.check_sees(looker(request), unslashed(key))
+        view = await service.saga(unslashed(key))
     if view is None:
         return shows(request, "fault.html", 404, title="There is no such saga", text=f"No saga has the key {unslashed(key)}.", back="/ui/sagas")
     return shows(request, "saga.html", since=since, **told_of(view))
@@ -280,7 +334,7 @@ async def certificate(request: Request, key: str) -> Response:
     """The plan's certificate, as `sagas check` reads it."""
     if answer := closed(request):
         return answer
-    view = await kept_of(request, key)
+    view = await kept_of(request, looker(request), key)
     if view.plan is None:
         raise NoSuchSaga(f"saga {view.key!r} has no plan")
     return Response(shown.certificate_text(view.plan), media_type="text/plain; charset=utf-8")
@@ -291,12 +345,14 @@ async def workers(request: Request) -> Response:
     """What waits for workers, and who they are."""
     if answer := closed(request):
         return answer
-    service = service_of(request)
+    service, who = service_of(request), looker(request)
     since = service.hub.now
-    taken = await service.look(lambda looks: looks.waits(100, person=False, why="elsewhere"))
-    now, seen = time.time(), (await service.seen())[:200]
+    taken = await service.look(
+        lambda looks: looks.waits(100, person=False, why="elsewhere", sagas=who.definitions)
+    )
+    now, seen = time.time(), (await service.seen(who))[:200]
     queues = []
-    for queue in await service.queues():
+    for queue in await service.queues(who):
         word = f"{queue.saga}/{queue.step}" + ("/undo" if queue.undo else "")
         able = [one for one in seen if word in one.steps]
         queues.append((queue, [one.name for one in able if now - one.at < LATELY], able[:1]))
@@ -308,9 +364,16 @@ async def workers(request: Request) -> Response:
 @router.get("/ui/events")
 async def events(request: Request, key: Optional[str] = Query(None, max_length=512), since: Optional[str] = Query(None, max_length=40)) -> Response:
     """The stream that keeps a page new, from the moment on at which the page was asked for (`since`)."""
-    if session_of(request) is None:
+    session = session_of(request)
+    if session is None:
         raise Refused(403, "NoSession", "log in first")
-    return stream(request, key, None, since)
+    who = session.who
+
+    def still() -> bool:
+        now = still_of(request)
+        return now is not None and now.who == who
+
+    return stream(request, who, Listener(key, None, who.sees), since, still, dashboard=True)
 
 
 # -- what may be done
@@ -332,8 +395,10 @@ def asked(request: Request, key: str, words: dict[str, Any], status: int = 200, 
 
 async def is_approval(request: Request, key: str, step: str, undo: bool) -> bool:
     """Whether a step waits to be approved."""
-    view = await service_of(request).kept(unslashed(key))
-    return view is not None and any((one.step, one.undo, one.why) == (step, undo, "approval") for one in view.held)
+    with contextlib.suppress(NoSuchSaga):
+        view = await kept_of(request, looker(request), key)
+        return any((one.step, one.undo, one.why) == (step, undo, "approval") for one in view.held)
+    return False
 
 
 def step_words(step: str, outcome: str, undo: bool, approval: bool) -> dict[str, Any]:
@@ -370,6 +435,7 @@ async def abort(request: Request, key: str) -> Response:
     session, form = await sent(request)
     try:
         service = service_of(request)
+        await service.check_sees(session.who, unslashed(key))
         await service.in_time(service.store.abort(unslashed(key), by=session.who.name, note=form.get("note") or None))
     except SagasError as error:
         return asked(request, key, ABORT, 409, fault=str(error), note=form.get("note"))
@@ -388,6 +454,7 @@ async def resolve(request: Request, key: str) -> Response:
     if not note:
         return asked(request, key, RESOLVE, 422, fault="Say what was done about it.")
     try:
+        await service_of(request).check_sees(session.who, unslashed(key))
         await service_of(request).store.resolve(unslashed(key), note, by=session.who.name)
     except SagasError as error:
         return asked(request, key, RESOLVE, 409, fault=str(error), note=note)
@@ -395,7 +462,9 @@ async def resolve(request: Request, key: str) -> Response:
 
 
 @router.get("/ui/sagas/{key}/steps/{step}/{outcome}")
-async def step_page(request: Request, key: str, step: str, outcome: str, undo: bool = False) -> Response:
+async def step_page(
+    request: Request, key: str, step: str, outcome: Outcome, undo: bool = False
+) -> Response:
     if answer := closed(request):
         return answer
     name = unslashed(step)
@@ -403,7 +472,9 @@ async def step_page(request: Request, key: str, step: str, outcome: str, undo: b
 
 
 @router.post("/ui/sagas/{key}/steps/{step}/{outcome}")
-async def step_said(request: Request, key: str, step: str, outcome: str, undo: bool = False) -> Response:
+async def step_said(
+    request: Request, key: str, step: str, outcome: Outcome, undo: bool = False
+) -> Response:
     session, form = await sent(request)
     name, note = unslashed(step), form.get("note") or None
     question = step_words(name, outcome, undo, await is_approval(request, key, name, undo))
@@ -417,6 +488,7 @@ async def step_said(request: Request, key: str, step: str, outcome: str, undo: b
         return asked(request, key, question, 422, fault=f"The result is no JSON: {error}. A text stands in quotation marks.", **again)
     try:
         service = service_of(request)
+        await service.check_sees(session.who, unslashed(key))
         await service.in_time(service.store.finish(unslashed(key), name, result, failed=failed, undo=undo, by=session.who.name, note=note))
     except SagasError as error:
         return asked(request, key, question, 409, fault=str(error), **again)

@@ -16,16 +16,19 @@ from .. import opening
 from ..anywhere import ASKING
 from ..definition import Saga
 from ..elsewhere import Queue
-from ..errors import DefinitionError, NotHere, SagasError
+from ..errors import DefinitionError, KeyConflict, NoSuchSaga, NotHere, SagasError
 from ..events import Event
+from ..kinds import version_of
 from ..looks import Looks, SagaView
-from ..runs import Begun
+from ..runs import Begun, Run
 from ..store import Store
 from . import begun
+from .guards import SLASH
 from .hub import Hub
 from .metrics import Metrics
 from .settings import Settings
-from .who import Rates, Sessions, Tokens
+from .streams import Streams
+from .who import Rates, Sessions, Tokens, Who
 
 if TYPE_CHECKING:
     from ..between import Between
@@ -34,6 +37,8 @@ T = TypeVar("T")
 logger, http = logging.getLogger("sagas.server"), logging.getLogger("sagas.http")
 LOOKERS = 2
 MOST_WORKERS = MOST_THERE = 1000
+MOST_COUNTS = 100
+"""Lists of definitions of which the figures are kept."""
 SHARED = 200
 """Workers that one service tells another of."""
 FAILED = 5.0
@@ -73,6 +78,9 @@ class Service:
         self.sessions = Sessions(settings.session_time)
         self.rates = Rates(settings.rate)
         self.refusals = Rates(5.0)
+        self.streams = Streams(
+            settings.most_streams, settings.most_streams_each, settings.kept_streams
+        )
         self.store: Store = opening.open(
             settings.path, settings.sagas, concurrency=settings.concurrency, on_event=self._event, node=settings.node, lease=settings.lease
         )
@@ -81,8 +89,8 @@ class Service:
         self._there: dict[str, tuple[float, list[Begun]]] = {}  # what other nodes said of sagas, and until when that is told again
         self.workers: OrderedDict[str, Seen] = OrderedDict()
         self.unwritten: float | None = None
-        self._counts: Counted | None = None
-        self._counting: asyncio.Task[None] | None = None
+        self._counts: dict[frozenset[str] | None, Counted] = {}
+        self._counting: dict[frozenset[str] | None, asyncio.Task[None]] = {}
 
     # -- life
 
@@ -106,7 +114,7 @@ class Service:
         """Closes the store."""
         self.stop()
         if self._counting:
-            await asyncio.wait([self._counting])
+            await asyncio.wait([*self._counting.values()])
         await self.store.close(self.settings.grace)
         self._threads.shutdown(wait=True)
         while not self._lookers.empty():
@@ -196,57 +204,126 @@ class Service:
         self._there[view.key] = time.monotonic() + ASKING, found
         return found
 
-    async def counts(self) -> Figures:
-        """Sagas by name and phase, what waits for a person, and how sagas ended. They are counted again at most each second, and less often where that takes long."""
-        if self._counts is None or time.monotonic() > self._counts.until:
-            if self._counting is None:
-                self._counting = asyncio.get_running_loop().create_task(self._count())
-                self._counting.add_done_callback(self._counted)
-            await asyncio.shield(self._counting)
-        assert self._counts
-        return self._counts.found
+    async def counts(self, definitions: frozenset[str] | None) -> Figures:
+        """Sagas of these definitions (None: of all) by name and phase, what waits for a person, and
+        how sagas ended. They are counted again at most each second, and less often where that takes
+        long."""
+        counted = self._counts.get(definitions)
+        if counted is None or time.monotonic() > counted.until:
+            counting = self._counting.get(definitions)
+            if counting is None:
+                counting = asyncio.get_running_loop().create_task(self._count(definitions))
+                self._counting[definitions] = counting
+                counting.add_done_callback(functools.partial(self._counted, definitions))
+            await asyncio.shield(counting)
+        return self._counts[definitions].found
 
-    async def _count(self) -> None:
+    async def _count(self, some: frozenset[str] | None) -> None:
         began, seen = time.monotonic(), self.hub.count
-        found = await self.look(lambda looks: (looks.counts(), looks.asked(), {"planned": looks.planned(), "undo-failed": looks.undo_failed()}))
+
+        def question(looks: Looks) -> Figures:
+            by_name = {
+                name: of for name, of in looks.counts().items() if some is None or name in some
+            }
+            ended = {"planned": looks.planned(some), "undo-failed": looks.undo_failed(some)}
+            return by_name, looks.asked(some), ended
+
+        found = await self.look(question)
         now = time.monotonic()
-        self._counts = Counted(found, now + max(1.0, 20 * (now - began)), seen)
+        if len(self._counts) >= MOST_COUNTS:
+            self._counts.clear()
+        self._counts[some] = Counted(found, now + max(1.0, 20 * (now - began)), seen)
 
-    def counts_lag(self) -> float | None:
+    def counts_lag(self, definitions: frozenset[str] | None) -> float | None:
         """Seconds until what `counts` tells is counted anew, where something has happened since it was counted; else None."""
-        if self._counts is None or self._counts.seen == self.hub.count:
+        counted = self._counts.get(definitions)
+        if counted is None or counted.seen == self.hub.count:
             return None
-        return max(0.0, self._counts.until - time.monotonic())
+        return max(0.0, counted.until - time.monotonic())
 
-    def _counted(self, task: asyncio.Task[None]) -> None:
-        self._counting = None
+    def _counted(self, some: frozenset[str] | None, task: asyncio.Task[None]) -> None:
+        self._counting.pop(some, None)
 
     def recount(self) -> None:
         """Somebody changed something by hand, and looks at once."""
-        self._counts = None
+        self._counts.clear()
 
-    async def queues(self) -> list[Queue]:
-        """What waits for workers, at any node."""
-        return await self.store.all_queues()
+    async def queues(self, who: Who) -> list[Queue]:
+        """What waits for workers, at any node, as far as it is theirs to see."""
+        found = await self.store.all_queues()
+        return [
+            one for one in found if who.does(f"{one.saga}/{one.step}{'/undo' if one.undo else ''}")
+        ]
 
-    async def seen(self) -> list[Seen]:
-        """The workers that asked lately, at any node, the latest first."""
+    async def seen(self, who: Who) -> list[Seen]:
+        """The workers that asked lately, at any node, the latest first, with the steps that are
+        theirs to see."""
         others = [Seen(*one) for some in await self.store.anywhere.ask_all("workers") for one in some]
         found: dict[str, Seen] = {}
         for one in sorted([*self.workers.values(), *others], key=lambda one: one.at):
+            steps = (
+                one.steps
+                if who.definitions is None
+                else [step for step in one.steps if who.does(step)]
+            )
             found.pop(one.name, None)
-            found[one.name] = one
+            if steps:
+                found[one.name] = Seen(one.name, one.at, steps)
         return list(reversed(found.values()))
+
+    # -- what is whose to see
+
+    async def check_sees(self, who: Who, key: str) -> None:
+        """Raises `NoSuchSaga` where the saga is of a definition that is not theirs to see: in the
+        words for a key that nobody has."""
+        if who.definitions is not None:
+            row = await self.look(lambda looks: looks.find(key))
+            if row is None or not who.sees(row.saga):
+                raise NoSuchSaga(f"no saga has the key {key!r}")
+
+    async def is_approval(self, key: str, step: str) -> bool:
+        """Whether a saga's step is an approval. Raises `NoSuchSaga`."""
+
+        def question(looks: Looks) -> tuple[str, int] | None:
+            row = looks.find(key)
+            return None if row is None else (row.saga, version_of(looks.definition(row.id)))
+
+        found = await self.look(question)
+        if found is None:
+            raise NoSuchSaga(f"no saga has the key {key!r}")
+        sagas = [saga for saga in self.settings.sagas if (saga.name, saga.version) == found]
+        return any(
+            one.name == step and one.kind == "approval" for saga in sagas for one in saga.steps
+        )
+
+    async def start(self, who: Who, saga: Saga, key: str, given: Any) -> Run:
+        """Starts a saga. Raises what `Store.start` raises; of a key's saga that is not theirs to
+        see nothing is told."""
+        try:
+            return await self.store.start(saga, key, given)
+        except KeyConflict:
+            if who.definitions is None:
+                raise
+            try:
+                await self.check_sees(who, key)
+            except NoSuchSaga:
+                raise KeyConflict(f"the key {key!r} is another saga's: take another key") from None
+            raise
 
     # -- names
 
-    def saga_named(self, name: str, version: int | None) -> Saga:
-        """The definition of a name; without a version its newest. Raises `DefinitionError`."""
+    def saga_named(self, who: Who, name: str, version: int | None) -> Saga:
+        """The definition of a name; without a version its newest. Raises `DefinitionError`, which
+        names those that are theirs to see."""
         found = [saga for saga in self.settings.sagas if saga.name == name and version in (None, saga.version)]
         if not found:
-            there = ", ".join(sorted({saga.name for saga in self.settings.sagas}))
+            there = ", ".join(self.names(who))
             raise DefinitionError(f"there is no definition {name!r}{'' if version is None else f' of version {version}'}, but {there[:400]}")
         return max(found, key=lambda saga: saga.version)
+
+    def names(self, who: Who) -> list[str]:
+        """The definitions that are theirs to see."""
+        return sorted({saga.name for saga in self.settings.sagas if who.sees(saga.name)})
 
     def words(self) -> set[str]:
         """The steps, and compensations, that workers may ask for, as they ask for them."""
@@ -271,7 +348,7 @@ class Service:
 
     def request(self, scope: Any, status: int, seconds: float) -> None:
         """A request is over: it is counted and logged."""
-        path = scope["path"]
+        path = scope["path"].replace(SLASH, "%2F")
         waits = path.endswith(("/wait", "/take", "/events"))
         self.metrics.request(scope["method"], status, seconds, waits)
         level = logging.ERROR if status >= 500 else logging.INFO

@@ -25,6 +25,8 @@ class Settings:
     most_body: int = 1 << 20
     most_connections: int = 2000
     most_streams: int = 200
+    most_streams_each: int = 50  # of one token
+    kept_streams: int = 40  # of all, for the dashboard
     rate: float = 5000.0
     head_time: float = 10.0
     body_time: float = 30.0

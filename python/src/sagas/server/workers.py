@@ -7,19 +7,20 @@ import re
 from typing import Any, Optional
 
 from fastapi import APIRouter, Depends, Request
-from pydantic import Field, constr
+from pydantic import Field, StrictBool, constr
 from starlette.responses import Response
 
 from ..elsewhere import Leased, Word
-from .access import Json, Refused, allow, service_of, unslashed
-from .callers import Strict, first
-from .who import Who
+from .access import Json, Refused, Route, allow, check_steps, service_of, unslashed
+from .callers import Strict, Text, first
+from .who import May, Who
 
-router = APIRouter(prefix="/tasks", default_response_class=Json)
-WORKER = Depends(allow("worker"))
-STEP = re.compile(r"([a-z][a-z0-9_-]{0,31})/([a-z][a-z0-9_-]{0,31})(/undo)?\Z")
+router = APIRouter(prefix="/tasks", default_response_class=Json, route_class=Route)
+WORKER = Depends(allow(May.WORK))
+WORD = re.compile(r"([a-z][a-z0-9_-]{0,31})/([a-z][a-z0-9_-]{0,31})(/undo)?\Z")
 LONGEST_LEASE = 3600.0
 Lease = constr(strict=True, max_length=100)
+Step = constr(strict=True, max_length=80)
 
 
 class Take(Strict):
@@ -27,11 +28,11 @@ class Take(Strict):
 
     `wait`: seconds until something is there; `lease`: seconds after which a task is another's that was neither reported nor beaten for."""
 
-    steps: list[constr(max_length=80)] = Field(min_items=1, max_items=1000)  # type: ignore[valid-type]
+    steps: list[Step] = Field(min_items=1, max_items=1000)  # type: ignore[valid-type]
     most: int = Field(1, ge=1, le=100)
     wait: float = Field(30.0, ge=0.0, le=30.0)
     lease: float = Field(30.0, ge=0.5, le=LONGEST_LEASE)
-    worker: str = Field("", max_length=64)
+    worker: constr(strict=True, max_length=64) = ""  # type: ignore[valid-type]
 
 
 class Next(Take):
@@ -59,8 +60,8 @@ class Failed(Strict):
     """It had no effect. `final`: no further try will help."""
 
     lease: Lease  # type: ignore[valid-type]
-    error: str = Field(max_length=4000)
-    final: bool = False
+    error: Text  # type: ignore[valid-type]
+    final: StrictBool = False
     next: Optional[Next] = None
 
 
@@ -68,7 +69,7 @@ class Unknown(Strict):
     """Nobody knows whether it had its effect: the same task again later, with the same token."""
 
     lease: Lease  # type: ignore[valid-type]
-    error: str = Field("", max_length=4000)
+    error: Text = ""  # type: ignore[valid-type]
     next: Optional[Next] = None
 
 
@@ -76,7 +77,7 @@ def words_of(steps: list[str]) -> list[Word]:
     """The steps that are asked for. Raises `Refused`."""
     found: list[Word] = []
     for step in steps:
-        told = STEP.match(step)
+        told = WORD.match(step)
         if told is None:
             raise Refused(422, "BadStep", f"{step[:80]!r}: a step is saga/step, or saga/step/undo")
         found.append((told[1], told[2], "undo" if told[3] else "run"))
@@ -107,7 +108,12 @@ async def taken(request: Request, who: Who, body: Take) -> list[dict[str, Any]]:
     name = f"{who.name}/{body.worker}" if body.worker else who.name
     service.saw(name, body.steps)
     work = service.store.take(
-        words_of(body.steps), most=body.most, wait=body.wait, lease=body.lease, worker=name, holder=who.name,
+        words_of(body.steps),
+        most=body.most,
+        wait=body.wait,
+        lease=body.lease,
+        worker=name,
+        holder=who.name,
     )  # fmt: skip
     taking = asyncio.ensure_future(work)
     found: list[Leased] = taking.result() if await first(request, taking, body.wait + 25.0) else []
@@ -117,8 +123,13 @@ async def taken(request: Request, who: Who, body: Take) -> list[dict[str, Any]]:
 
 @router.post("/take", summary="Take tasks")
 async def take(request: Request, body: Take, who: Who = WORKER) -> Response:
-    """Those that have waited longest; an empty list where none came in time. The leases are kept before they are answered. `strange`: which of `steps` no
-    definition here has, where there are such."""
+    """Those that have waited longest; an empty list where none came in time. The leases are kept
+    before they are answered.
+
+    `strange`: which of `steps` no definition here has, where there are such. 403 names those that
+    the token may not take."""
+    words_of(body.steps)
+    check_steps(who, body.steps)
     if service_of(request).stopping.done():
         raise Refused(503, "Stopping", "the service is about to stop: ask again in a while")
     strange = sorted(set(body.steps) - service_of(request).words())
@@ -127,8 +138,12 @@ async def take(request: Request, body: Take, who: Who = WORKER) -> Response:
 
 @router.post("/{token}/beat", summary="Keep a lease")
 async def beat(request: Request, token: str, body: Beat, who: Who = WORKER) -> Response:
-    """409 `LeaseLost` where another worker has the task, or its outcome was told: stop. 403 `InvalidLease` where this worker was not given the lease."""
-    until = await service_of(request).store.beat(unslashed(token), body.lease, body.seconds, holder=who.name)
+    """409 `LeaseLost` where another worker has the task, or its outcome was told: stop.
+
+    403 `InvalidLease` where this worker was not given the lease."""
+    until = await service_of(request).store.beat(
+        unslashed(token), body.lease, body.seconds, holder=who.name
+    )
     return Json({"until": until})
 
 
@@ -136,7 +151,10 @@ async def _report(request: Request, token: str, who: Who, body: Done | Failed | 
     """Keeps the report, and then takes what is wanted next."""
     if body.next is not None:
         words_of(body.next.steps)  # refused before anything is kept
-    kept = await service_of(request).store.report(unslashed(token), body.lease, holder=who.name, **outcome)
+        check_steps(who, body.next.steps)
+    kept = await service_of(request).store.report(
+        unslashed(token), body.lease, holder=who.name, **outcome
+    )
     told: dict[str, Any] = {"kept": True, "repeated": not kept}
     if body.next is not None:
         told["tasks"] = [] if service_of(request).stopping.done() else await taken(request, who, body.next)
@@ -145,7 +163,11 @@ async def _report(request: Request, token: str, who: Who, body: Done | Failed | 
 
 @router.post("/{token}/done", summary="Report that a task is done")
 async def done(request: Request, token: str, body: Done, who: Who = WORKER) -> Response:
-    """It counts under any lease that this worker was given for the token. The same report again is one; with `next`, tasks are taken in the same request. 409 `ReportedOtherwise` where another came first."""
+    """It counts under any lease that this worker was given for the token. The same report again is
+    one; with `next`, tasks are taken in the same request.
+
+    409 `ReportedOtherwise` where another came first, and `LeaseLost` where a person has to say how
+    it ended."""
     return await _report(request, token, who, body, result=body.result)
 
 

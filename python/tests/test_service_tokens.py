@@ -1,0 +1,552 @@
+"""What a token is kept to: definitions, steps of workers, and a time; over a file and a
+database."""
+
+from __future__ import annotations
+
+import contextlib
+import datetime
+import pathlib
+import re
+import subprocess
+import sys
+import threading
+import time
+from collections.abc import Iterator
+from typing import Any
+
+import httpx
+import pytest
+
+from sagas.server import who
+from serving import (
+    DEFINITIONS,
+    LONG,
+    Served,
+    environment,
+    report,
+    served,
+    start,
+    stuck,
+    take,
+    token,
+)
+
+TOKENS: dict[str, tuple[str, ...]] = {
+    "caller": ("caller",),
+    "operator": ("operator",),
+    "worker": ("worker",),
+    "of-trip": ("caller", "--definition", "trip", "--definition", "few"),
+    "of-order": ("operator", "--definition", "order"),
+    "approves-trip": ("approver", "--definition", "trip"),
+    "approves-order": ("approver", "--definition", "order"),
+    "flies": ("worker", "--step", "trip/flight", "--step", "trip/car/undo"),
+    "sends": ("worker", "--definition", "order"),
+    "both": ("worker", "--definition", "order", "--step", "trip/flight", "--step", "order/send"),
+}
+
+
+class World:
+    """A service with these tokens."""
+
+    def __init__(self, service: Served, tokens: dict[str, str]) -> None:
+        self.service, self.tokens = service, tokens
+        self.clients: dict[str, httpx.Client] = {}
+
+    def __getitem__(self, name: str) -> httpx.Client:
+        if name not in self.clients:
+            self.clients[name] = self.service.client(self.tokens[name])
+        return self.clients[name]
+
+    def page(self, name: str) -> httpx.Client:
+        """A browser, logged in by this token."""
+        if f"page {name}" not in self.clients:
+            client = self.clients[f"page {name}"] = self.service.client()
+            answer = client.post("/ui/login", data={"token": self.tokens[name]})
+            assert (answer.status_code, answer.headers.get("location")) == (303, "/ui")
+        return self.clients[f"page {name}"]
+
+    def waits(self, key: str, why: str) -> None:
+        deadline = time.monotonic() + LONG
+        while why not in [
+            one["why"] for one in self["operator"].get(f"/sagas/{key}").json()["waits"]
+        ]:
+            assert time.monotonic() < deadline
+
+
+@pytest.fixture(scope="module")
+def world(tmp_path_factory: pytest.TempPathFactory, store: str | None) -> Iterator[World]:
+    folder = tmp_path_factory.mktemp("tokens")
+    tokens = {name: token(folder, name, *words) for name, words in TOKENS.items()}
+    with served(
+        folder, DEFINITIONS, "--token-file", str(folder / "tokens.toml"), store=store
+    ) as service:
+        found = World(service, tokens)
+        for definition in ("trip", "order"):
+            assert (
+                start(
+                    found["caller"], definition, f"a-{definition}", {"secret": f"of {definition}"}
+                ).status_code
+                == 201
+            )
+        found.waits("a-order", "approval")
+        stuck(found["operator"], "a-licence")
+        yield found
+        for client in found.clients.values():
+            client.close()
+
+
+def told(answer: httpx.Response) -> tuple[int, str, str]:
+    body = answer.json()
+    return answer.status_code, body["error"], body["detail"]
+
+
+def test_a_caller_starts_its_definitions(world: World) -> None:
+    """Any other is refused by name, whether there is one or not; and of a key that is another's
+    saga nothing is told but that it is taken."""
+    client = world["of-trip"]
+    assert start(client, "trip", "t-1").status_code == 201
+    for name in ("order", "nothing"):
+        assert told(start(client, name, "o-1")) == (
+            403,
+            "NotAllowed",
+            f"of-trip has no right to the definition '{name}'",
+        )
+    assert (
+        told(client.post("/sagas", json={"definition": "trip", "key": "x", "version": 7}))[2]
+        == "there is no definition 'trip' of version 7, but few, trip"
+    )
+    status, name, text = told(start(client, "trip", "a-order", {"secret": "of order"}))
+    assert (status, name, text) == (
+        409,
+        "KeyConflict",
+        "the key 'a-order' is another saga's: take another key",
+    )
+    assert start(client, "few", "t-1").json()["error"] == "KeyConflict"
+    assert start(client, "trip", "a-trip", {"secret": "of trip"}).json() == {
+        "key": "a-trip",
+        "definition": "trip",
+        "new": False,
+    }
+    assert world["operator"].get("/sagas/o-1").status_code == 404
+
+
+def test_a_caller_sees_its_definitions(world: World) -> None:
+    """In the list, whatever it asks for."""
+    client = world["of-trip"]
+    for query in ("", "?search=a-", "?phase=open", "?phase=stuck", "?most=1000"):
+        found = client.get(f"/sagas{query}").json()["sagas"]
+        assert {one["definition"] for one in found} <= {"trip", "few"}, query
+    assert [one["key"] for one in client.get("/sagas?search=a-").json()["sagas"]] == ["a-trip"]
+    assert client.get("/sagas?definition=trip&search=a-").json()["sagas"][0]["key"] == "a-trip"
+    assert told(client.get("/sagas?definition=order")) == (
+        403,
+        "NotAllowed",
+        "of-trip has no right to the definition 'order'",
+    )
+    assert {
+        one["definition"] for one in world["caller"].get("/sagas?search=a-").json()["sagas"]
+    } == {"trip", "order", "licence"}
+
+
+BY_KEY: list[tuple[str, str, str, Any]] = [
+    ("of-trip", "GET", "/sagas/KEY", None),
+    ("of-trip", "GET", "/sagas/KEY/log", None),
+    ("of-trip", "GET", "/sagas/KEY/wait?seconds=0", None),
+    ("of-trip", "GET", "/sagas/KEY/wait?seconds=20", None),
+    ("of-trip", "GET", "/sagas/KEY/picture.svg", None),
+    ("of-trip", "GET", "/sagas/KEY/certificate", None),
+    ("of-trip", "POST", "/sagas/KEY/abort", {"note": "x"}),
+    ("approves-trip", "GET", "/sagas/KEY", None),
+    ("approves-trip", "POST", "/sagas/KEY/steps/review", {"result": 1}),
+    ("approves-trip", "POST", "/sagas/KEY/steps/review", {"failed": "x"}),
+]
+
+
+def test_another_definition_s_saga_is_none(world: World) -> None:
+    """By its key it is answered as a key that nobody has, word for word; and nothing is done."""
+    before = world["operator"].get("/sagas/a-order").json()
+    for name, method, path, body in BY_KEY:
+        answers = []
+        for key in ("a-order", "no-order", "a-licence"):
+            began = time.monotonic()
+            answer = world[name].request(method, path.replace("KEY", key), json=body)
+            assert answer.status_code == 404 and time.monotonic() - began < 10, (path, answer.text)
+            answers.append(answer.text.replace(key, "KEY"))
+        assert len(set(answers)) == 1, answers
+    for path, body in (
+        ("abort", {}),
+        ("steps/review", {"result": 1}),
+        ("steps/flight", {"result": 1}),
+        ("resolve", {"note": "x"}),
+    ):
+        for key in ("a-trip", "no-trip"):
+            answer = world["of-order"].post(f"/sagas/{key}/{path}", json=body)
+            assert (answer.status_code, answer.json()["error"]) == (404, "NoSuchSaga")
+    assert world["operator"].get("/sagas/a-order").json() == before
+    assert world["operator"].get("/sagas/a-trip").json()["aborted"] is False
+    assert told(world["of-order"].get("/metrics"))[:2] == (403, "NotAllowed")
+
+
+def test_an_approver_of_a_definition(world: World) -> None:
+    start(world["caller"], "order", "to-approve")
+    world.waits("to-approve", "approval")
+    assert (
+        world["approves-trip"]
+        .post("/sagas/to-approve/steps/review", json={"result": 1})
+        .status_code
+        == 404
+    )
+    assert world["approves-order"].get("/sagas/to-approve").status_code == 200
+    assert (
+        world["approves-order"]
+        .post("/sagas/to-approve/steps/review", json={"result": 1})
+        .status_code
+        == 200
+    )
+    world["operator"].post("/sagas/to-approve/abort", json={})
+
+
+def test_a_stream_has_its_definitions(world: World) -> None:
+    """Also of one key alone, and behind an id; what is of no definition is for those who see
+    all."""
+    names: dict[str, list[str]] = {}
+
+    def listen(path: str, ready: threading.Barrier) -> None:
+        with world.service.client(world.tokens["of-trip"]) as client, client.stream(
+            "GET", path
+        ) as stream:
+            lines = stream.iter_lines()
+            assert next(lines).startswith("retry")
+            ready.wait(LONG)
+            for line in lines:
+                if line.startswith("data:"):
+                    names.setdefault(path, []).append(line[5:])
+                    if (
+                        '"streamed-trip"' in line
+                        and "saga_started" not in line
+                        or "saga_aborted" in line
+                    ):
+                        return
+
+    paths = ["/events", "/events?definition=trip"]
+    ready = threading.Barrier(len(paths) + 1)
+    threads = [threading.Thread(target=listen, args=(path, ready)) for path in paths]
+    for thread in threads:
+        thread.start()
+    ready.wait(LONG)
+    start(world["caller"], "order", "streamed-order")
+    start(world["caller"], "trip", "streamed-trip")
+    world["caller"].post("/sagas/streamed-trip/abort", json={})
+    for thread in threads:
+        thread.join(LONG)
+    assert all(
+        names[path] and all("order" not in text for text in names[path]) for path in paths
+    ), names
+    assert told(world["of-trip"].get("/events?definition=order"))[:2] == (403, "NotAllowed")
+    with world["of-trip"].stream(
+        "GET", "/events?key=streamed-order", headers={"Last-Event-ID": last_id(world)}
+    ) as stream:
+        lines = stream.iter_lines()
+        assert [next(lines).strip() for _ in range(3)][2] == ": open"  # nothing of it is told again
+
+
+def last_id(world: World) -> str:
+    """The id of the first event that a stream of all would have."""
+    with world["operator"].stream("GET", "/events") as stream:
+        id = next(line for line in stream.iter_lines() if line.startswith("id:"))[3:].strip()
+    return f"{id.partition('-')[0]}-0"
+
+
+def test_a_worker_takes_its_steps(world: World) -> None:
+    """What it asks for beyond them is named; and with a report it takes no others."""
+    start(world["caller"], "order", "stepped")
+    world.waits("stepped", "approval")
+    world["approves-order"].post("/sagas/stepped/steps/review", json={"result": 1})
+    for name, steps, beyond in (
+        ("flies", ["trip/flight", "trip/car"], "trip/car"),
+        (
+            "flies",
+            ["trip/flight/undo", "order/send", "trip/flight"],
+            "order/send, trip/flight/undo",
+        ),
+        ("sends", ["order/send", "trip/flight"], "trip/flight"),
+        ("both", ["order/send", "trip/flight"], "trip/flight"),
+        ("both", ["order/review"], "order/review"),
+    ):
+        answer = world[name].post("/tasks/take", json={"steps": steps, "wait": 0})
+        assert told(answer) == (403, "NotAllowed", f"{name} has no right to the steps {beyond}")
+    assert (
+        world["flies"].post("/tasks/take", json={"steps": ["flight"], "wait": 0}).status_code == 422
+    )
+    assert {one["step"] for one in world["flies"].get("/queues").json()["queues"]} == {"flight"}
+    assert {one["saga"] for one in world["sends"].get("/queues").json()["queues"]} == {"order"}
+    (sent,) = [one for one in take(world["both"], "order/send", most=10) if one["key"] == "stepped"]
+    forbidden = report(world["both"], sent, result=1, next={"steps": ["trip/flight"]})
+    assert (forbidden.status_code, forbidden.json()["error"]) == (403, "NotAllowed")
+    assert (
+        world["operator"].get("/sagas/stepped").json()["states"]["send"] == "running"
+    )  # refused before anything was kept
+    assert report(world["both"], sent, result=1).status_code == 200
+
+
+def csrf_of(client: httpx.Client, path: str) -> str:
+    found = re.search(r'name="csrf" value="([^"]+)"', client.get(path).text)
+    assert found
+    return found[1]
+
+
+def test_the_dashboard_has_its_definitions(world: World) -> None:
+    """Its operator sees no other's sagas, figures, queues and workers, and does nothing to them."""
+    page = world.page("of-order")
+    take(world["worker"], "trip/none", wait=0)
+    for path in (
+        "/ui",
+        "/ui/sagas",
+        "/ui/sagas?search=a-",
+        "/ui/sagas?definition=trip",
+        "/ui/sagas?phase=stuck",
+        "/ui/workers",
+        "/ui/start",
+    ):
+        text = page.get(path).text
+        assert (
+            "a-trip" not in text
+            and "a-licence" not in text
+            and "trip/" not in text
+            and ">trip<" not in text
+            and ">licence<" not in text
+        ), path
+    assert "a-order" in page.get("/ui").text and "a-order" in page.get("/ui/sagas").text
+    assert (
+        "a-trip" in world.page("operator").get("/ui/sagas?search=a-").text
+        and "trip/none" in world.page("operator").get("/ui/workers").text
+    )
+    own = page.get("/ui").text
+    assert (
+        re.search(r"0 stuck · 0 unknown · \d+ to approve", own)
+        and "1 stuck" in world.page("operator").get("/ui").text
+    )
+    csrf = csrf_of(page, "/ui/sagas/a-order/abort")
+    for key in ("a-trip", "no-trip"):
+        assert (
+            page.get(f"/ui/sagas/{key}").status_code == 404
+            and page.get(f"/ui/sagas/{key}/certificate").status_code == 404
+        )
+        assert f"No saga has the key {key}" in page.get(f"/ui/sagas/{key}").text
+        for path, form in (
+            ("abort", {}),
+            ("steps/flight/done", {"result": "1"}),
+            ("steps/flight/failed", {"failed": "x"}),
+            ("resolve", {"note": "x"}),
+        ):
+            answer = page.post(f"/ui/sagas/{key}/{path}", data={"csrf": csrf, **form})
+            assert (
+                answer.status_code == 409 and f"no saga has the key &#39;{key}&#39;" in answer.text
+            )
+    assert (
+        page.post(
+            "/ui/start", data={"csrf": csrf, "definition": "trip", "key": "by-page"}
+        ).status_code
+        == 403
+    )
+    taken = page.post("/ui/start", data={"csrf": csrf, "definition": "order", "key": "a-trip"})
+    assert (
+        taken.status_code == 409
+        and "is another saga&#39;s" in taken.text
+        and "secret" not in taken.text
+    )
+    assert world["operator"].get("/sagas/a-trip").json()["aborted"] is False
+    with page.stream("GET", "/ui/events?key=a-trip") as stream:
+        assert stream.status_code == 200
+    assert (
+        page.post(
+            "/ui/sagas/a-order/steps/review/failed", data={"csrf": csrf, "failed": "no"}
+        ).status_code
+        == 303
+    )
+
+
+def soon(seconds: float) -> str:
+    return (
+        datetime.datetime.now(datetime.timezone.utc) + datetime.timedelta(seconds=seconds)
+    ).isoformat()
+
+
+def test_a_token_that_expires(tmp_path: pathlib.Path) -> None:
+    """It is 401 from then on, and says so; its stream and its session end without a new start."""
+    expires = 10.0
+    old = token(tmp_path, "old", "operator", "--expires", soon(-1))
+    later = token(tmp_path, "later", "operator", "--expires", "2999-01-01T00:00:00+02:00")
+    with served(tmp_path, DEFINITIONS, "--token-file", str(tmp_path / "tokens.toml")) as service:
+        with service.client(old) as client, service.client() as page, service.client(later) as good:
+            assert told(client.get("/sagas")) == (
+                401,
+                "NoToken",
+                "this token has expired: `sagas token` makes another, "
+                "sent as Authorization: Bearer TOKEN",
+            )
+            assert page.post("/ui/login", data={"token": old}).status_code == 403
+            assert good.get("/sagas").status_code == 200
+        began = time.monotonic()
+        short = token(tmp_path, "short", "operator", "--expires", soon(expires))
+        with service.client(short) as client, service.client() as page:
+            deadline = began + expires
+            while client.get("/sagas").status_code != 200:
+                assert time.monotonic() < deadline
+                time.sleep(0.1)
+            page.post("/ui/login", data={"token": short})
+            assert page.get("/ui").status_code == 200
+            with client.stream("GET", "/events") as stream, page.stream(
+                "GET", "/ui/events"
+            ) as shown:
+                for one in (stream, shown):
+                    for _ in one.iter_lines():
+                        pass  # to its end
+            assert time.monotonic() - began >= expires - 1
+            assert client.get("/sagas").status_code == 401 and page.get("/ui").status_code == 303
+            assert page.get("/ui/events").status_code == 403
+
+
+def test_a_stream_ends_with_its_token(tmp_path: pathlib.Path) -> None:
+    """Taken out of the file, or kept to less: in a moment it is told nothing more, and its
+    session's neither once that is logged out."""
+    words = {name: token(tmp_path, name, "operator") for name in ("gone", "less", "stays")}
+    file = tmp_path / "tokens.toml"
+    with served(
+        tmp_path, DEFINITIONS, "--token-file", str(file)
+    ) as service, contextlib.ExitStack() as stack:
+        streams = {}
+        for name, text in words.items():
+            streams[name] = stack.enter_context(
+                stack.enter_context(service.client(text)).stream("GET", "/events")
+            )
+        page = stack.enter_context(service.client())
+        page.post("/ui/login", data={"token": words["stays"]})
+        shown = stack.enter_context(page.stream("GET", "/ui/events"))
+        blocks = file.read_text().split("[[token]]\n")
+        less = blocks[2].replace(
+            'roles = ["operator"]', 'roles = ["operator"]\ndefinitions = ["order"]'
+        )
+        file.write_text("[[token]]\n" + less + "[[token]]\n" + blocks[3])
+        for name in ("gone", "less"):
+            for _ in streams[name].iter_lines():
+                pass
+        other = stack.enter_context(service.client())
+        other.cookies = page.cookies
+        assert (
+            other.post("/ui/logout", data={"csrf": csrf_of(other, "/ui/sagas/x/abort")}).status_code
+            == 303
+        )
+        for _ in shown.iter_lines():
+            pass
+        lines = streams["stays"].iter_lines()
+        start(stack.enter_context(service.client(words["stays"])), "trip", "told")
+        assert any('"told"' in line for line in lines)
+
+
+DIGEST = "0" * 64
+FAULTS = [
+    ('definitions = "trip"', "definitions is a list of names of definitions, of one at least"),
+    ("definitions = []", "definitions is a list of names of definitions, of one at least"),
+    ('definitions = ["Trip!"]', "definitions is a list of names of definitions, of one at least"),
+    (
+        'steps = ["car"]',
+        "steps is a list of DEFINITION/STEP, or DEFINITION/STEP/undo, of one at least",
+    ),
+    (
+        'steps = ["trip/car/done"]',
+        "steps is a list of DEFINITION/STEP, or DEFINITION/STEP/undo, of one at least",
+    ),
+    ("steps = [1]", "steps is a list of DEFINITION/STEP, or DEFINITION/STEP/undo, of one at least"),
+    ("expires = 2027-01-01T00:00:00", "expires is a time with its offset, as 2027-01-01T00:00:00Z"),
+    ("expires = 2027-01-01", "expires is a time with its offset, as 2027-01-01T00:00:00Z"),
+    ('expires = "tomorrow"', "expires is a time with its offset, as 2027-01-01T00:00:00Z"),
+    ("expires = 5", "expires is a time with its offset, as 2027-01-01T00:00:00Z"),
+    (
+        'definition = ["trip"]',
+        "it has no key 'definition', but name, roles, sha256, definitions, steps, expires",
+    ),
+    (
+        'Steps = ["trip/car"]',
+        "it has no key 'Steps', but name, roles, sha256, definitions, steps, expires",
+    ),
+]
+
+
+@pytest.mark.parametrize("line, says", FAULTS)
+def test_faults_of_the_file(tmp_path: pathlib.Path, line: str, says: str) -> None:
+    """Each says which token and what is wrong: none of them makes a token that may more than was
+    meant."""
+    file = tmp_path / "tokens.toml"
+    good = f'[[token]]\nname = "a"\nroles = ["worker"]\nsha256 = "{DIGEST}"\n'
+    file.write_text(f"{good}\n{good}{line}\n")
+    with pytest.raises(who.TokenFault) as fault:
+        who.read(file)
+    assert str(fault.value) == f"{file}: token 2: {says}"
+
+
+def test_other_faults_of_the_file(tmp_path: pathlib.Path) -> None:
+    """Limits of roles that have none; and what is beside the tokens."""
+    file, good = (
+        tmp_path / "tokens.toml",
+        f'[[token]]\nname = "a"\nroles = ["ROLE"]\nsha256 = "{DIGEST}"\n',
+    )
+    for role, line, says in (
+        (
+            "caller",
+            'steps = ["trip/car"]',
+            "token 1: steps are of a token with the role worker, or operator",
+        ),
+        (
+            "metrics",
+            'definitions = ["trip"]',
+            "token 1: definitions are not of a token with the role metrics: "
+            "its figures are of all definitions",
+        ),
+        (
+            "approvers",
+            "",
+            "token 1: roles is a list of caller, approver, worker, operator, metrics",
+        ),
+        ("worker", '[tokens]\nname = "b"', "it has tables [[token]] alone"),
+    ):
+        file.write_text(f"{good.replace('ROLE', role)}{line}\n")
+        with pytest.raises(who.TokenFault, match=re.escape(says)):
+            who.read(file)
+
+
+def test_the_command(tmp_path: pathlib.Path) -> None:
+    """It writes what it is told, as it is read again; and says what it cannot write."""
+    file = tmp_path / "tokens.toml"
+    words = [sys.executable, "-m", "sagas", "token", str(file)]
+
+    def run(*more: str) -> tuple[int, str]:
+        done = subprocess.run([*words, *more], env=environment(), capture_output=True, text=True)
+        return done.returncode, done.stderr
+
+    assert run(
+        "w",
+        "worker",
+        "--step",
+        "trip/car",
+        "--step",
+        "trip/car/undo",
+        "--definition",
+        "trip",
+        "--expires",
+        "2030-05-06T07:08:09Z",
+    ) == (0, "")
+    (found,) = who.read(file).values()
+    assert found.limits.steps == {"trip/car", "trip/car/undo"} and found.definitions == {"trip"}
+    assert found.limits.expires == datetime.datetime(
+        2030, 5, 6, 7, 8, 9, tzinfo=datetime.timezone.utc
+    )
+    for more, says in (
+        (("w", "worker", "--step", "car"), "steps is a list of"),
+        (("w", "caller", "--step", "trip/car"), "steps are of a token with the role worker"),
+        (("w", "caller", "--expires", "2030-05-06"), "expires is a time with its offset"),
+        (("w", "caller", "--definition", ""), "definitions is a list of"),
+    ):
+        status, told = run(*more)
+        assert status == 2 and told.startswith(f"sagas token: {says}"), told
+    assert len(who.read(file)) == 1
