@@ -2,6 +2,7 @@
 
 from __future__ import annotations
 
+import contextlib
 import json
 import pathlib
 import shutil
@@ -292,6 +293,46 @@ def test_the_first_page_shows_what_is_new_by_itself(browser: Browser) -> None:
             assert client.post(f"/sagas/late-{number}/steps/review", json={"result": 1}).status_code == 200
         browser.wait(lambda: not browser.driver.find_elements(By.CSS_SELECTOR, "[aria-label^='Look at late-']"))
     browser.is_quiet()
+
+
+def test_the_page_says_when_it_is_not_live(tmp_path: pathlib.Path) -> None:
+    """Once its stream has ended; and no more once it has one again, with what happened
+    meanwhile."""
+    with served(tmp_path) as service:
+        one = Browser(service, tmp_path)
+        try:
+            one.go("/ui")
+            said = one.driver.find_element(By.ID, "lapsed")
+            assert not said.is_displayed()
+            service.kill()
+            one.wait(said.is_displayed)
+            assert "Not live" in said.text
+            one.shot("not-live")
+            service.start()
+            with service.client() as client:
+                start(client, "trip", "meanwhile")
+            one.wait(lambda: not said.is_displayed())
+            one.has("meanwhile")
+        finally:
+            one.driver.quit()
+
+
+def test_the_page_says_when_its_stream_is_refused(tmp_path: pathlib.Path) -> None:
+    """As by a service that has too many: it is asked again, and shows that it has one then."""
+    with served(tmp_path) as service, contextlib.ExitStack() as stack:
+        client = stack.enter_context(service.client())
+        client.get("/ui")
+        there = [stack.enter_context(client.stream("GET", "/ui/events")) for _ in range(50)]
+        assert {answer.status_code for answer in there} == {200}
+        one = Browser(service, tmp_path)
+        try:
+            one.go("/ui")
+            said = one.driver.find_element(By.ID, "lapsed")
+            one.wait(said.is_displayed)
+            there[0].close()
+            one.wait(lambda: not said.is_displayed())
+        finally:
+            one.driver.quit()
 
 
 def test_those_that_ended_by_plan(browser: Browser) -> None:

@@ -7,6 +7,7 @@ import asyncio
 import errno
 import gc
 import importlib
+import ipaddress
 import pathlib
 import socket
 import sys
@@ -17,7 +18,7 @@ from ..definition import Saga
 from ..errors import DefinitionError, SagasError
 from ..store import Store
 from . import definitions, logs, who
-from .settings import Settings, is_loopback
+from .settings import LOOPBACK, Network, Settings, is_loopback
 
 GOOD, NO, USAGE, CANNOT = 0, 1, 2, 4
 GARBAGE = 5000
@@ -42,10 +43,25 @@ def parser() -> argparse.ArgumentParser:
     found.add_argument("--lease", type=float, default=10.0, metavar="SECONDS", help="over PostgreSQL: how long after its last word others take over (10)")
     found.add_argument("--most-body", type=int, default=1 << 20, metavar="BYTES", help="the longest body that is taken (1048576)")
     found.add_argument("--most-connections", type=int, default=2000, metavar="N", help="how many connections there are at most (2000)")
+    found.add_argument(
+        "--trusted-proxies", type=networks_of, default=LOOPBACK, metavar="NETWORKS",
+        help="proxies whose X-Forwarded-For and X-Forwarded-Proto are believed: networks with "
+        "commas between (127.0.0.0/8,::1/128); none: \"\"",
+    )  # fmt: skip
     found.add_argument("--rate", type=float, default=5000.0, metavar="N", help="requests a second of each token, or without tokens of each address (5000)")
     found.add_argument("--log", choices=["json", "text"], default="json", help="the log's form, on standard error (json)")
     found.add_argument("--log-level", choices=["debug", "info", "warning", "error"], default="info")
     return found
+
+
+def networks_of(text: str) -> tuple[Network, ...]:
+    """Networks, or single addresses, with commas between. Raises `argparse.ArgumentTypeError`."""
+    try:
+        return tuple(ipaddress.ip_network(one.strip()) for one in text.split(",") if one.strip())
+    except ValueError as error:
+        raise argparse.ArgumentTypeError(
+            f"{error}: give networks, as 10.0.0.0/8,192.0.2.7"
+        ) from error
 
 
 def listen_of(text: str) -> tuple[str, int]:
@@ -101,6 +117,7 @@ def settings_of(words: argparse.Namespace) -> Settings:
         rate=words.rate,
         node=words.node,
         lease=words.lease,
+        trusted_proxies=words.trusted_proxies,
     )  # fmt: skip
 
 

@@ -6,12 +6,13 @@ import asyncio
 import functools
 import json
 import logging
+import re
 import time
 from collections.abc import Awaitable, Callable, MutableMapping
 from typing import TYPE_CHECKING, Any
 from urllib.parse import unquote_to_bytes, urlsplit
 
-from .settings import is_loopback
+from .settings import Network, is_address, is_among, is_loopback
 
 if TYPE_CHECKING:
     from .service import Service
@@ -44,8 +45,51 @@ HEADERS = [
 logger = logging.getLogger("sagas.http")
 
 
+TOKEN = re.compile(rb"[!#$%&'*+.^_`|~0-9A-Za-z-]+")
+"""What a header's name may be."""
+ONCE = (b"host", b"content-length", b"transfer-encoding", b"authorization")
+"""Headers of which a request has one at most: of two, whoever stands before this service may have
+read the other."""
+LOGIN = "/ui/login"
+MOST_LOGIN = 4096
+"""Bytes of the one form that needs no session."""
+
+
 class Refusal(Exception):
     """The body is too long or too slow, and that is answered: whatever the application says of it is not."""
+
+
+def check_headers(scope: Scope) -> None:
+    """Raises `ValueError` where somebody else may read the request's head otherwise."""
+    names = [name.lower() for name, _ in scope["headers"]]
+    if not all(TOKEN.fullmatch(name) for name in names) or any(
+        names.count(name) > 1 for name in ONCE
+    ):
+        raise ValueError("headers")
+    if b"content-length" in names and b"transfer-encoding" in names:
+        raise ValueError("two lengths")
+    if b"host" not in names and scope.get("http_version") == "1.1":
+        raise ValueError("no host")
+
+
+def forwarded(scope: Scope, trusted: tuple[Network, ...]) -> None:
+    """Where a trusted proxy hands the request on: its client is the last one that is no such proxy,
+    and its scheme as the proxy says."""
+    client = scope.get("client")
+    if not client or not is_among(client[0], trusted):
+        return
+    told = [
+        value.decode("latin-1") for name, value in scope["headers"] if name == b"x-forwarded-for"
+    ]
+    for host in reversed([one.strip() for one in ",".join(told).split(",")]):
+        if not is_address(host):
+            break
+        scope["client"] = host, 0
+        if not is_among(host, trusted):
+            break
+    scheme = headers(scope).get(b"x-forwarded-proto", "").strip().lower()
+    if scheme in ("http", "https"):
+        scope["scheme"] = scheme
 
 
 def headers(scope: Scope) -> dict[bytes, str]:
@@ -84,7 +128,10 @@ class Guard:
         await Passage(self, scope, receive, send).run()
 
     def refusal(self, scope: Scope) -> tuple[int, str, str] | None:
-        """Why a request is not even looked at."""
+        """Why a request is not even looked at. Raises `ValueError` where its head cannot be
+        read."""
+        check_headers(scope)
+        forwarded(scope, self.settings.trusted_proxies)
         path = parted(scope.get("raw_path") or scope["path"].encode())
         if path is None:
             return 400, "BadPath", "a part of the path is no UTF-8"
@@ -97,10 +144,18 @@ class Guard:
             origin, site = told.get(b"origin"), told.get(b"sec-fetch-site")
             if site in ("cross-site", "same-site") or (origin is not None and urlsplit(origin).netloc != host):
                 return 403, "OtherOrigin", "another page's request changes nothing here"
-        length = told.get(b"content-length")
-        if length is not None and (not length.isdigit() or len(length) > 12 or int(length) > self.settings.most_body):
-            return 413, "TooLong", f"a body has at most {self.settings.most_body} bytes"
+        length, most = told.get(b"content-length"), self.most(scope)
+        if length is not None and (not length.isdigit() or len(length) > 12 or int(length) > most):
+            return 413, "TooLong", f"a body has at most {most} bytes"
         return None
+
+    def most(self, scope: Scope) -> int:
+        """Bytes that the body may have."""
+        return (
+            min(MOST_LOGIN, self.settings.most_body)
+            if scope["path"] == LOGIN
+            else self.settings.most_body
+        )
 
 
 class Passage:
@@ -111,6 +166,7 @@ class Passage:
         self._receive, self._send = receive, send
         self._size, self._whole, self._refused = 0, False, False
         self.status, self.began = 0, time.monotonic()
+        self._until = asyncio.get_running_loop().time() + self.settings.body_time
 
     async def run(self) -> None:
         refusal = self._refusal()
@@ -126,7 +182,7 @@ class Passage:
         try:
             return self.guard.refusal(self.scope)
         except ValueError:
-            return 400, "BadRequest", "a header of the request cannot be read"
+            return 400, "BadRequest", "a header of the request cannot be read, or is there twice"
 
     async def _through(self) -> None:
         try:
@@ -139,22 +195,24 @@ class Passage:
                 await self._refuse(500, "Failed", "this is a fault of the service; its log says more")
 
     async def receive(self) -> Message:
-        """The next part of the body, in time and within its size; then that the client is gone."""
+        """The next part of the body, all of it in one time and within its size; then that the
+        client is gone."""
         if self._whole:
             return await self._receive()
         message = await (self._receive() if self.scope.get(WHOLE) else self._in_time())
         if message["type"] == "http.request":
             self._size += len(message.get("body", b""))
             self._whole = not message.get("more_body", False)
-            if self._size > self.settings.most_body:
-                await self._refuse(413, "TooLong", f"a body has at most {self.settings.most_body} bytes")
+            if self._size > (most := self.guard.most(self.scope)):
+                await self._refuse(413, "TooLong", f"a body has at most {most} bytes")
                 raise Refusal
         return message
 
     async def _in_time(self) -> Message:
-        """The next part of a body that is still to come."""
+        """The next part of a body that is still to come: however many there are, they have one time
+        together."""
         try:
-            async with asyncio.timeout(self.settings.body_time):
+            async with asyncio.timeout_at(self._until):
                 return await self._receive()
         except TimeoutError:
             await self._refuse(408, "TooSlow", "the body did not come in time")

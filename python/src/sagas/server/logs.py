@@ -5,7 +5,7 @@ from __future__ import annotations
 import json
 import logging
 import time
-from typing import TextIO
+from typing import Any, TextIO
 
 
 class Lines(logging.Formatter):
@@ -22,11 +22,31 @@ class Lines(logging.Formatter):
         return json.dumps(told, default=str)
 
 
+def escaped(text: str) -> str:
+    """A text in one line: what is not printable, as a control character of a path, by its
+    number."""
+    return (
+        text
+        if text.isprintable()
+        else "".join(one if one.isprintable() else ascii(one)[1:-1] for one in text)
+    )
+
+
 class Text(logging.Formatter):
-    """A line for people; its time is in UTC."""
+    """A line for people; its time is in UTC. No message makes a line of its own, and the lines of a
+    traceback are set in."""
 
     converter = time.gmtime
     default_msec_format = "%s.%03dZ"
+
+    def formatMessage(self, record: logging.LogRecord) -> str:
+        record.message = escaped(record.message)
+        return super().formatMessage(record)
+
+    def formatException(self, *words: Any) -> str:
+        return "\n".join(
+            f"    {escaped(line)}" for line in super().formatException(*words).split("\n")
+        )
 
 
 def begin(form: str, level: str, stream: TextIO) -> None:

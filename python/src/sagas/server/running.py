@@ -24,41 +24,58 @@ SPARE = 200  # descriptors that connections leave to the store and its children
 
 
 class Connections:
-    """Those whose request has not come yet, the longest idle first. Where there are too many connections, these give way."""
+    """Those whose request has not come yet, or not all of it, by when they last had none to send:
+    what comes of a request meanwhile changes no place.
+
+    Where there are too many connections, the first of these gives way."""
 
     def __init__(self, most: int, seconds: float) -> None:
         self.most, self.seconds = most, seconds
         self.all: dict[Any, None] = {}
-        self._idle: OrderedDict[Any, asyncio.TimerHandle] = OrderedDict()
+        self._owing: OrderedDict[Any, asyncio.TimerHandle | None] = OrderedDict()
 
     def came(self, connection: Any) -> None:
-        """A connection was made; where there are too many, the one that has been idle longest ends, or this one."""
+        """A connection was made; where there are too many, the one that has owed a request longest
+        ends, or this one."""
         self.all[connection] = None
         if len(self.all) > self.most:
-            other = next(iter(self._idle), connection)
+            other = next(iter(self._owing), connection)
             self.went(other)
             other.transport.abort()
             if other is connection:
                 return
-        self.idles(connection)
+        self.begins(connection)
 
-    def idles(self, connection: Any) -> None:
-        """No request of it is under way: its head has to come in time."""
-        if connection not in self._idle:
-            self._idle[connection] = asyncio.get_running_loop().call_later(self.seconds, self._late, connection)
+    def begins(self, connection: Any) -> None:
+        """A request's head is to come, in time."""
+        if self._owing.get(connection) is None:
+            self._owing[connection] = asyncio.get_running_loop().call_later(
+                self.seconds, self._late, connection
+            )
+
+    def owes(self, connection: Any) -> None:
+        """Its last request was answered, or the body of this one is still to come; for either
+        somebody else counts the time."""
+        self._drop_timer(connection)
+        self._owing.setdefault(connection, None)
 
     def works(self, connection: Any) -> None:
-        """A request of it is under way."""
-        timer = self._idle.pop(connection, None)
-        if timer:
-            timer.cancel()
+        """All of a request has come, and is not answered yet."""
+        self._drop_timer(connection)
+        self._owing.pop(connection, None)
 
     def went(self, connection: Any) -> None:
         self.works(connection)
         self.all.pop(connection, None)
 
+    def _drop_timer(self, connection: Any) -> None:
+        timer = self._owing.get(connection)
+        if timer:
+            timer.cancel()
+            self._owing[connection] = None
+
     def _late(self, connection: Any) -> None:
-        self._idle.pop(connection, None)
+        self._owing.pop(connection, None)
         connection.transport.abort()
 
 
@@ -97,9 +114,25 @@ class Bounded(asyncio.Protocol):
         super().data_received(data)
         if self.cycle is None or self.cycle.response_complete:
             if not self.transport.is_closing():
-                self.counted.idles(self)
+                self.counted.begins(self)
+        else:
+            self._is_under_way()
+
+    def _is_under_way(self) -> None:
+        """A request is begun; until its body is there, others go before it."""
+        if self.cycle.more_body:
+            self.counted.owes(self)
         else:
             self.counted.works(self)
+
+    def on_response_complete(self) -> None:
+        super().on_response_complete()  # type: ignore[misc]
+        if self.transport.is_closing():
+            return
+        if self.cycle.response_complete:
+            self.counted.owes(self)
+        else:  # the next one was there already
+            self._is_under_way()
 
     def pause_writing(self) -> None:
         super().pause_writing()
@@ -184,8 +217,18 @@ async def run(settings: Settings, listening: socket.socket, opened: Callable[[],
     await service.begin()
     try:
         config = uvicorn.Config(
-            app, http=protocol(Connections(most, settings.head_time), settings.send_time), loop="asyncio", ws="none", lifespan="off", access_log=False, log_config=None,
-            log_level="error", server_header=False, timeout_keep_alive=15, backlog=2048, forwarded_allow_ips="127.0.0.1,::1",
+            app,
+            http=protocol(Connections(most, settings.head_time), settings.send_time),
+            loop="asyncio",
+            ws="none",
+            lifespan="off",
+            access_log=False,
+            log_config=None,
+            log_level="error",
+            server_header=False,
+            timeout_keep_alive=15,
+            backlog=2048,
+            proxy_headers=False,
         )  # fmt: skip
         await Server(config, service, opened).serve(sockets=[listening])
     finally:

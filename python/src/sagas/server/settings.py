@@ -5,8 +5,16 @@ from __future__ import annotations
 import dataclasses
 import ipaddress
 import pathlib
+from typing import Union
 
 from ..definition import Saga
+
+
+Network = Union[ipaddress.IPv4Network, ipaddress.IPv6Network]
+LOOPBACK: tuple[Network, ...] = (
+    ipaddress.ip_network("127.0.0.0/8"),
+    ipaddress.ip_network("::1/128"),
+)
 
 
 @dataclasses.dataclass(frozen=True, slots=True)
@@ -14,7 +22,8 @@ class Settings:
     """`tokens` is None where it listens on the loopback only, and everybody there may do everything.
 
     Sizes are in bytes, times in seconds. `rate`: requests a second that each token (without tokens: each address) may make on the
-    average; it may save up two seconds' worth. `node` and `lease` are of a store in PostgreSQL, as in `sagas.open`."""
+    average; it may save up two seconds' worth. `trusted_proxies`: the networks whose word is taken
+    for whose request it is. `node` and `lease` are of a store in PostgreSQL, as in `sagas.open`."""
 
     path: str
     sagas: list[Saga]
@@ -27,6 +36,7 @@ class Settings:
     most_streams: int = 200
     most_streams_each: int = 50  # of one token
     kept_streams: int = 40  # of all, for the dashboard
+    trusted_proxies: tuple[Network, ...] = LOOPBACK
     rate: float = 5000.0
     head_time: float = 10.0
     body_time: float = 30.0
@@ -44,3 +54,23 @@ def is_loopback(host: str) -> bool:
         return ipaddress.ip_address(host.strip("[]")).is_loopback
     except ValueError:
         return host == "localhost"
+
+
+def is_address(host: str) -> bool:
+    """Whether it is the address of a machine, and nothing else."""
+    try:
+        ipaddress.ip_address(host)
+    except ValueError:
+        return False
+    return True
+
+
+def is_among(host: str, networks: tuple[Network, ...]) -> bool:
+    """Whether an address is in one of these networks."""
+    try:
+        address = ipaddress.ip_address(host)
+    except ValueError:
+        return False
+    if isinstance(address, ipaddress.IPv6Address) and address.ipv4_mapped:
+        address = address.ipv4_mapped
+    return any(address in network for network in networks if network.version == address.version)

@@ -66,14 +66,29 @@ if (live) {
   };
   againLater();
   const names = ["saga_started", "step_begun", "step_done", "step_missed", "step_failed", "step_unknown", "step_waits", "saga_planned", "saga_aborted", "saga_ended", "saga_stuck", "missed"];
-  let source = null, since = document.body.dataset.since;
+  let source = null, since = document.body.dataset.since, later = 0;
+  const lapsed = document.getElementById("lapsed");
+  const opened = () => { // what happened while there was no stream is on a new page
+    if (!lapsed.hidden) renew();
+    lapsed.hidden = true;
+  };
+  const ended = () => { // a browser tries again by itself, except where a stream was refused
+    lapsed.hidden = false;
+    clearTimeout(later);
+    if (source?.readyState !== EventSource.CLOSED) return;
+    later = setTimeout(() => renew().finally(listen), 5000); // a new page may have a new session
+  };
   const listen = () => { // a page that nobody sees has no stream: a browser has few connections
+    clearTimeout(later);
     source?.close();
     source = document.hidden ? null : new EventSource(since ? `${live}${live.includes("?") ? "&" : "?"}since=${since}` : live);
     since = ""; // what happened before the page was asked for is on it; later streams begin with a new page
-    if (source) names.forEach((name) => source.addEventListener(name, renew));
+    if (!source) return;
+    names.forEach((name) => source.addEventListener(name, renew));
+    source.addEventListener("open", opened);
+    source.addEventListener("error", ended);
   };
   listen();
   document.addEventListener("visibilitychange", () => { listen(); if (!document.hidden) renew(); });
-  addEventListener("pagehide", () => source?.close());
+  addEventListener("pagehide", () => { clearTimeout(later); source?.close(); });
 }

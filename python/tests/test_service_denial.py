@@ -1,0 +1,310 @@
+"""Whoever has no token keeps nobody from the service: bodies that trickle, heads alone, streams
+without end."""
+
+from __future__ import annotations
+
+import asyncio
+import contextlib
+import json
+import pathlib
+import socket
+import threading
+import time
+from collections.abc import Awaitable, Callable, Iterator
+
+import httpx
+import pytest
+
+from driving import program
+from sagas.server import definitions, running
+from sagas.server.settings import Settings
+from serving import DEFINITIONS, LONG, Served, host, served, start, token
+
+MOST = 60
+
+
+class Trickler(threading.Thread):
+    """A client that sends a body of which there is always more to come, over and over."""
+
+    def __init__(self, service: Served, head: bytes, part: bytes) -> None:
+        super().__init__(daemon=True)
+        name, _, port = service.address.rpartition(":")
+        self.address, self.head, self.part = (name, int(port)), head, part
+        self.begun, self.over = threading.Event(), threading.Event()
+
+    def run(self) -> None:
+        while not self.over.is_set():
+            with contextlib.suppress(OSError), socket.create_connection(
+                self.address, timeout=LONG
+            ) as one:
+                one.sendall(self.head)
+                self.begun.set()
+                while not self.over.wait(0.2):
+                    one.sendall(self.part)
+
+
+@contextlib.contextmanager
+def trickling(service: Served, count: int, head: str, part: bytes) -> Iterator[None]:
+    """So many of them, each with its head sent at least, until the block ends."""
+    text = "\r\n".join([head, f"Host: {service.address}", "Content-Type: application/json", "", ""])
+    some = [Trickler(service, text.encode(), part) for _ in range(count)]
+    for one in some:
+        one.start()
+    try:
+        assert all(one.begun.wait(LONG) for one in some)
+        yield
+    finally:
+        for one in some:
+            one.over.set()
+        for one in some:
+            one.join(LONG)
+
+
+HEADS = [
+    ("POST /sagas HTTP/1.1\r\nContent-Length: 1000000", b" "),
+    ("POST /sagas HTTP/1.1\r\nTransfer-Encoding: chunked", b"1\r\n \r\n"),
+    ("POST /ui/login HTTP/1.1\r\nContent-Length: 4000", b"a"),
+    ("GET /health HTTP/1.1\r\nContent-Length: 1000000", b" "),
+    ("GET /health HTTP/1.1\r\nX-Slow: a", b""),
+]
+
+
+@pytest.mark.parametrize("tokens", [False, True], ids=["without tokens", "with tokens"])
+@pytest.mark.parametrize(
+    "head, part",
+    HEADS,
+    ids=["a length", "chunks", "the login", "an answer that has come", "a head alone"],
+)
+def test_bodies_that_trickle(tmp_path: pathlib.Path, head: str, part: bytes, tokens: bool) -> None:
+    """More of them than there may be connections: each question by somebody else is answered at
+    once."""
+    words = ["--most-connections", str(MOST)]
+    if tokens:
+        token(tmp_path, "a", "caller")
+        words += ["--token-file", str(tmp_path / "tokens.toml")]
+    with served(tmp_path, DEFINITIONS, *words) as service, trickling(service, MOST + 1, head, part):
+        for _ in range(40):
+            with service.client() as client:
+                assert client.get("/health").json() == {"alive": True}
+            time.sleep(0.05)
+
+
+@contextlib.contextmanager
+def raw(service: Served) -> Iterator[socket.socket]:
+    name, _, port = service.address.rpartition(":")
+    with socket.create_connection((name, int(port)), timeout=LONG) as one:
+        yield one
+
+
+def answered(one: socket.socket) -> tuple[int, str]:
+    """The status of the next answer, and the name of its error."""
+    text = b""
+    while b"\r\n\r\n" not in text:
+        text += one.recv(65536)
+    head, _, body = text.partition(b"\r\n\r\n")
+    length = int(
+        next(line for line in head.lower().split(b"\r\n") if line.startswith(b"content-length"))[
+            15:
+        ]
+    )
+    while len(body) < length:
+        body += one.recv(65536)
+    return int(head.split(b" ")[1]), json.loads(body).get("error", "")
+
+
+def test_who_may_not_is_told_by_the_head_alone(tmp_path: pathlib.Path) -> None:
+    """Before a byte of the body is there, and before it is looked at; what comes of it is thrown
+    away, and the connection goes on."""
+    tokens = {role: token(tmp_path, role, role) for role in ("caller", "worker", "approver")}
+    with served(tmp_path, DEFINITIONS, "--token-file", str(tmp_path / "tokens.toml")) as service:
+        cases = [
+            (path, name, 401)
+            for path in (
+                "/sagas",
+                "/tasks/take",
+                "/sagas/x/steps/y",
+                "/sagas/x/abort",
+                "/sagas/x/resolve",
+                "/tasks/x/done",
+            )
+            for name in (None, "wrong")
+        ] + [
+            ("/sagas", "worker", 403),
+            ("/tasks/take", "caller", 403),
+            ("/sagas/x/steps/y", "caller", 403),
+            ("/sagas/x/abort", "approver", 403),
+            ("/ui/start", None, 403),
+        ]
+        for path, name, status in cases:
+            bearer = "" if name is None else f"Authorization: Bearer {tokens.get(name, name)}\r\n"
+            kind = (
+                "application/x-www-form-urlencoded"
+                if path.startswith("/ui")
+                else "application/json"
+            )
+            begin = f"POST {path} HTTP/1.1\r\nHost: {service.address}\r\n"
+            head = f"{begin}Content-Type: {kind}\r\n{bearer}"
+            with raw(service) as one:
+                one.sendall(f"{head}Content-Length: 100000\r\n\r\n".encode())
+                began = time.monotonic()
+                found = answered(one)
+                assert (
+                    found[0] in (status, 429 if status == 401 else status)
+                    and time.monotonic() - began < 10
+                ), (path, name, found)
+                one.sendall(b"[" * 100_000)  # no JSON, and deep: nobody reads it
+                one.sendall(f"GET /health HTTP/1.1\r\nHost: {service.address}\r\n\r\n".encode())
+                assert answered(one) == (200, "")
+        with service.client(tokens["worker"]) as client:
+            answer = client.post(
+                "/sagas", content=b"{", headers={"content-type": "application/json"}
+            )
+            assert (answer.status_code, answer.json()["error"]) == (403, "NotAllowed")
+        with service.client(tokens["caller"]) as client:
+            assert (
+                client.post(
+                    "/sagas", content=b"{", headers={"content-type": "application/json"}
+                ).status_code
+                == 422
+            )
+
+
+Ask = Callable[[tuple[str, int]], Awaitable[None]]
+
+
+def inside(folder: pathlib.Path, ask: Ask, **more: object) -> None:
+    """Asks a service in this program, with settings that a process would take too long for."""
+    Served(folder)
+    some = definitions.read(folder / "definitions")
+    told = Settings(str(folder / "store.db"), some, **more)  # type: ignore[arg-type]
+
+    async def main() -> None:
+        opened = asyncio.Event()
+        with socket.create_server((host(), 0)) as listening:
+            at_work = asyncio.create_task(running.run(told, listening, opened.set))
+            await opened.wait()
+            try:
+                await ask(listening.getsockname())
+            finally:
+                at_work.cancel()
+                await asyncio.wait([at_work])
+
+    asyncio.run(asyncio.wait_for(main(), LONG))
+
+
+def test_a_body_has_one_time(tmp_path: pathlib.Path, monkeypatch: pytest.MonkeyPatch) -> None:
+    """Whatever trickles in between: then it is 408, and the connection ends."""
+    monkeypatch.setenv("SAGAS_PROGRAM", program())
+
+    async def ask(address: tuple[str, int]) -> None:
+        for length, part in (
+            ("Content-Length: 1000", b" "),
+            ("Transfer-Encoding: chunked", b"1\r\n \r\n"),
+        ):
+            back, there = await asyncio.open_connection(*address)
+            there.write(
+                f"POST /sagas HTTP/1.1\r\nHost: 127.0.0.1\r\n"
+                f"Content-Type: application/json\r\n{length}\r\n\r\n".encode()
+            )
+            began, answer = time.monotonic(), asyncio.ensure_future(back.readuntil(b"\r\n\r\n"))
+            while not answer.done():
+                assert time.monotonic() < began + 20
+                there.write(part)
+                await asyncio.sleep(0.1)
+            assert (await answer).startswith(b"HTTP/1.1 408 ") and time.monotonic() > began + 0.9
+            there.close()
+
+    inside(tmp_path, ask, body_time=1.0)
+
+
+def test_streams_are_shared(tmp_path: pathlib.Path, monkeypatch: pytest.MonkeyPatch) -> None:
+    """A token has so many, and all tokens leave some to the dashboard; one that ends makes room."""
+    monkeypatch.setenv("SAGAS_PROGRAM", program())
+    tokens = {name: token(tmp_path, name, "operator") for name in "abc"}
+
+    async def ask(address: tuple[str, int]) -> None:
+        async with contextlib.AsyncExitStack() as stack:
+            clients: dict[str, httpx.AsyncClient] = {}
+            for name, text in [*tokens.items(), ("page", "")]:
+                words = {"headers": {"Authorization": f"Bearer {text}"}} if text else {}
+                client = httpx.AsyncClient(
+                    base_url="http://%s:%d" % address, trust_env=False, timeout=LONG, **words
+                )
+                clients[name] = await stack.enter_async_context(client)
+            await clients["page"].post("/ui/login", data={"token": tokens["a"]})
+
+            async def stream(name: str) -> httpx.Response:
+                path = "/ui/events" if name == "page" else "/events"
+                return await clients[name].send(
+                    clients[name].build_request("GET", path), stream=True
+                )
+
+            there = [await stream("a") for _ in range(3)]
+            assert [one.status_code for one in there] == [200] * 3
+            more = await stream("a")
+            assert (
+                more.status_code == 503
+                and "you have 3 event streams: close some" in (await more.aread()).decode()
+            )
+            there += [await stream("b"), await stream("b")]
+            for name in "bc":
+                full = await stream(name)
+                assert (
+                    full.status_code == 503
+                    and "there are 5 event streams" in (await full.aread()).decode()
+                )
+            shown = [
+                await stream("page"),
+                await stream("page"),
+            ]  # though its token has as many others as it may
+            assert [one.status_code for one in there[3:] + shown] == [200] * 4
+            assert (await stream("page")).status_code == 503
+            await there[0].aclose()
+            while (one := await stream("c")).status_code != 200:
+                await asyncio.sleep(0.05)
+            for one in [one, *there, *shown]:
+                await one.aclose()
+
+    inside(
+        tmp_path,
+        ask,
+        most_streams=7,
+        most_streams_each=3,
+        kept_streams=2,
+        tokens=tmp_path / "tokens.toml",
+    )
+
+
+def test_idle_ones_give_way_before_those_at_work(tmp_path: pathlib.Path) -> None:
+    """What waits for its answer stays, however many come; what has had its answer goes, the oldest
+    first."""
+    with served(
+        tmp_path, DEFINITIONS, "--most-connections", "16"
+    ) as service, contextlib.ExitStack() as stack:
+        with service.client() as client:
+            start(client, "trip", "slow")
+        works = stack.enter_context(raw(service))
+        works.sendall(
+            f"GET /sagas/slow/wait?seconds=5 HTTP/1.1\r\nHost: {service.address}\r\n\r\n".encode()
+        )
+        idle = [stack.enter_context(raw(service)) for _ in range(15)]
+        for one in idle:
+            one.sendall(f"GET /health HTTP/1.1\r\nHost: {service.address}\r\n\r\n".encode())
+            assert answered(one) == (200, "")
+        for _ in range(3):
+            one = stack.enter_context(raw(service))
+            one.sendall(f"GET /health HTTP/1.1\r\nHost: {service.address}\r\n\r\n".encode())
+            assert answered(one) == (200, "")
+        assert [is_over(one) for one in idle] == [True] * 3 + [False] * 12
+        assert answered(works) == (200, "")
+
+
+def is_over(one: socket.socket) -> bool:
+    """Whether the service has ended this connection."""
+    one.settimeout(0.2)
+    try:
+        return one.recv(1) == b""
+    except ConnectionResetError:
+        return True
+    except TimeoutError:
+        return False
