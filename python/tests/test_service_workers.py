@@ -7,6 +7,7 @@ import contextlib
 import pathlib
 import shutil
 import signal
+import socket
 import subprocess
 import sys
 import threading
@@ -18,7 +19,7 @@ import httpx
 import pytest
 
 import sagas
-from serving import DEFINITIONS, LONG, Served, environment, served, start, token
+from serving import DEFINITIONS, LONG, Served, all_done, environment, host, served, start, token
 
 EXAMPLES = pathlib.Path(__file__).resolve().parents[2] / "examples" / "service"
 STEPS = """format = 2
@@ -323,6 +324,79 @@ class Workers:
     def end(self) -> None:
         for process in self.there:
             self._end(process)
+
+
+@contextlib.contextmanager
+def hotel(answer: bytes) -> Iterator[str]:
+    """A hotel that answers so to whatever it is asked, and then ends the connection; gives its
+    address."""
+    with socket.create_server((host(), 0)) as listening:
+        threading.Thread(target=accept, args=(listening, answer), daemon=True).start()
+        yield "http://%s:%d/" % listening.getsockname()
+        listening.shutdown(socket.SHUT_RDWR)
+
+
+def accept(listening: socket.socket, answer: bytes) -> None:
+    while True:
+        try:
+            one, _ = listening.accept()
+        except OSError:
+            return
+        with one, contextlib.suppress(OSError):
+            one.recv(65536)
+            one.sendall(answer)
+            one.shutdown(socket.SHUT_WR)
+            while one.recv(65536):  # whatever is still to come: else the answer would be lost
+                pass
+
+
+FULL = b"HTTP/1.1 409 Conflict\r\nContent-Length: 0\r\nConnection: close\r\n\r\n"
+
+
+@pytest.mark.parametrize(
+    "answer, says",
+    [
+        (b"", "fetch failed"),
+        (b"HTTP/1.1 200 OK\r\nContent-Le", "fetch failed"),
+        (FULL.replace(b"409 Conflict", b"503 Busy"), "the hotel answers 503"),
+        (FULL, None),
+    ],
+    ids=["no answer", "half an answer", "a fault of the hotel", "a refusal"],
+)
+def test_the_worker_in_node_does_not_know(
+    tmp_path: pathlib.Path, answer: bytes, says: str | None
+) -> None:
+    """Where the line to the hotel goes dead, that is unknown, since the hotel may have booked; a
+    refusal is a failure."""
+    files = {path.name: path.read_text() for path in (EXAMPLES / "definitions").glob("*.toml")}
+    node = shutil.which("node")
+    assert node
+    with served(tmp_path, files) as service, service.client() as client, hotel(answer) as address:
+        start(client, "trip", "t")
+        all_done(client, "trip/flight")
+        words = [node, str(EXAMPLES / "worker.mjs"), service.url]
+        with subprocess.Popen(words, env=environment() | {"HOTEL": address}) as worker:
+            try:
+                deadline, found = time.monotonic() + LONG, []
+                while not found:
+                    assert time.monotonic() < deadline
+                    log = client.get("/sagas/t/log").json()["events"]
+                    waits = client.get("/sagas/t").json()["waits"]
+                    found = [
+                        one["said"]
+                        for one in waits
+                        if (one["step"], one["why"]) == ("hotel", "unknown") and one["said"]
+                    ]
+                    found += [
+                        one["value"]["error"]
+                        for one in log
+                        if (one["event"], one["step"]) == ("missed", "hotel")
+                    ]
+            finally:
+                worker.kill()
+    assert (says or "the hotel answers 409") in found[0]
+    missed = [one for one in log if one["event"] in ("missed", "fail") and one["step"] == "hotel"]
+    assert bool(missed) is (says is None)
 
 
 def test_the_examples_go_on(tmp_path: pathlib.Path) -> None:
