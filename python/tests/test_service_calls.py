@@ -458,16 +458,16 @@ def test_a_connection_that_comes_while_it_ends() -> None:
     "files, words, says",
     [
         ({}, (), "it has no definition"),
-        ({"a.toml": "format = 2\nname = "}, (), "it is no TOML: Invalid value"),
+        ({"a.toml": "format = 2\nname = "}, (), "a.toml:2: it is no TOML: Invalid value"),
         (
             {"a.toml": 'format = 2\nname = "a"\n[[step]]\nname = "x"\nprice = 1\n'},
             (),
-            "it is no definition: step 'x' has no key 'price'",
+            "a.toml:5: it is no definition: step 'x' has no key 'price'",
         ),
         (
             DEFINITIONS | {"order.service.toml": '[step.review]\nkind = "x"\n'},
             (),
-            "step 'review': kind is one of",
+            "order.service.toml:2: step 'review': kind is one of",
         ),
         (DEFINITIONS, ("--listen", "0.0.0.0:0"), "it listens on the loopback only"),
         (DEFINITIONS, ("--listen", "here"), "it is HOST:PORT"),

@@ -15,13 +15,16 @@ from __future__ import annotations
 
 import datetime
 import pathlib
+import re
 import tomllib
 from collections.abc import Callable
 from typing import Any
 
 from ..definition import NEVER, Backoff, Price, Saga, Step, nothing
 from ..errors import DefinitionError
+from ..faults import MOST_WITHIN
 from ..kinds import version_of
+from .toml_lines import Lines
 
 SERVICE = ".service.toml"
 Json = dict[str, Any]
@@ -30,103 +33,197 @@ STEP = {"name", "needs", "run", "undo", "skip", "keep", "tries", "undo_tries"}
 KEYS = {"work": {"kind", "backoff", "unknown_most", "limit"}, "approval": {"kind", "within"}, "wait": {"kind", "until"}}
 
 
+class Fault(Exception):
+    """Something is wrong with a definition, at this path of its text; or, where `beside`, of the
+    file beside it."""
+
+    def __init__(self, text: str, *path: str | int, beside: bool = False) -> None:
+        super().__init__(text)
+        self.path, self.beside = path, beside
+
+
+class File:
+    """One of the two files of a definition, parsed, and the lines of what stands in it."""
+
+    def __init__(self, path: pathlib.Path) -> None:
+        self.path = path
+        try:
+            self.text = path.read_text(encoding="utf-8")
+        except (OSError, UnicodeDecodeError) as error:
+            raise DefinitionError(f"{path}: it cannot be read: {error}") from error
+        self.told = self._parsed()
+        self._lines = Lines(self.text)
+
+    def _parsed(self) -> Json:
+        try:
+            return tomllib.loads(self.text)
+        except tomllib.TOMLDecodeError as error:
+            text, _, place = str(error).partition(" (at ")
+            line = re.match(r"line (\d+)", place)
+            number = (
+                int(line[1]) if line else self.text.count("\n") + (not self.text.endswith("\n"))
+            )
+            raise DefinitionError(f"{self.path}:{max(1, number)}: it is no TOML: {text}") from error
+
+    def at(self, *path: str | int) -> str:
+        """File and line of what has this path."""
+        return f"{self.path}:{self._lines.of(*path)}"
+
+
 def read(folder: pathlib.Path) -> list[Saga]:
-    """The sagas of a folder, by file name. Raises `DefinitionError`, which names the file."""
+    """The sagas of a folder, by file name. Raises `DefinitionError`, which names file and line."""
     if not folder.is_dir():
         raise DefinitionError(f"{folder}: " + ("it is a file: give the folder that it is in" if folder.exists() else "there is no such folder"))
     paths = sorted(path for path in folder.glob("*.toml") if not path.name.endswith(SERVICE))
     if not paths:
         raise DefinitionError(f"{folder}: it has no definition, NAME.toml")
-    found: dict[tuple[str, int], pathlib.Path] = {}
-    sagas = []
+    found: dict[tuple[str, int], Saga] = {}
     for path in paths:
         saga = read_one(path)
-        other = found.setdefault((saga.name, saga.version), path)
-        if other is not path:
-            raise DefinitionError(f"{path}: saga {saga.name!r}, which {other} is already: give it another name, or `# version {saga.version + 1}` as the first line")
-        sagas.append(saga)
-    return sagas
+        other = found.setdefault((saga.name, saga.version), saga)
+        if other is not saga:
+            where = other.where.rpartition(":")[0]
+            remedy = f"give it another name, or `# version {saga.version + 1}` as the first line"
+            raise DefinitionError(
+                f"{saga.where}: saga {saga.name!r}, which {where} is already: {remedy}"
+            )
+    return [*found.values()]
 
 
 def read_one(path: pathlib.Path) -> Saga:
     """The saga of a file. Raises `DefinitionError`."""
-    text = _text(path)
-    beside = path.with_name(path.name.removesuffix(".toml") + SERVICE)
-    told, manners = _parsed(path, text), _manners(beside) if beside.exists() else {}
+    file = File(path)
+    place = path.with_name(path.name.removesuffix(".toml") + SERVICE)
+    beside = File(place) if place.exists() else None
     try:
-        saga = _built(told, version_of(text), manners)
-        unknown = set(manners) - {step.name for step in saga.steps}
-        if unknown:
-            raise DefinitionError(f"{beside}: no step is named {min(unknown)!r}")
-        if _plain(told) != _plain(tomllib.loads(saga.toml())):
-            raise DefinitionError(f"{path}: an approval has no prices run and keep, a wait none of run")
-        return saga
-    except DefinitionError as error:
-        raise DefinitionError(_placed(str(error), path)) from error
-    except (KeyError, TypeError, ValueError, AttributeError) as error:
-        raise DefinitionError(f"{path}: it is no definition: {error}") from error
+        return _built(file, beside)
+    except Fault as fault:
+        where = beside if fault.beside and beside else file
+        raise DefinitionError(f"{where.at(*fault.path)}: {fault}") from None
 
 
-def _text(path: pathlib.Path) -> str:
-    try:
-        return path.read_text(encoding="utf-8")
-    except (OSError, UnicodeDecodeError) as error:
-        raise DefinitionError(f"{path}: it cannot be read: {error}") from error
-
-
-def _parsed(path: pathlib.Path, text: str) -> Json:
-    try:
-        return tomllib.loads(text)
-    except tomllib.TOMLDecodeError as error:
-        raise DefinitionError(f"{path}: it is no TOML: {error}") from error
-
-
-def _placed(text: str, path: pathlib.Path) -> str:
-    """The message with the definition's file for the program's line."""
-    head, found, rest = text.partition(": saga ")
-    return f"{path}: saga {rest}" if found else text
-
-
-def _manners(path: pathlib.Path) -> dict[str, Json]:
-    """What the second file says, by step."""
-    told = _parsed(path, _text(path))
+def _manners(beside: File) -> dict[str, Json]:
+    """What the second file says, by step. Raises `Fault`."""
+    told = beside.told
     steps = told.get("step", {})
-    if set(told) - {"step"} or not isinstance(steps, dict):
-        raise DefinitionError(f"{path}: it has tables [step.NAME] alone")
+    strange = set(told) - {"step"}
+    if strange or not isinstance(steps, dict):
+        raise Fault(
+            "it has tables [step.NAME] alone", *sorted(strange or {"step"})[:1], beside=True
+        )
     for name, words in steps.items():
-        kind = words.get("kind", "work") if isinstance(words, dict) else None
-        if kind not in KEYS:
-            raise DefinitionError(f"{path}: step {name!r}: kind is one of {', '.join(KEYS)}")
-        for word in set(words) - KEYS[kind]:
-            raise DefinitionError(f"{path}: step {name!r}: {kind} has no key {word!r}, but {', '.join(sorted(KEYS[kind]))}")
-        for word in ("within", "until", "unknown_most"):
-            if word in words and (not isinstance(words[word], (int, float)) or words[word] < 0):
-                raise DefinitionError(f"{path}: step {name!r}: {word} is a number of at least 0")
-        backoff = words.get("backoff", {})
-        if not isinstance(backoff, dict) or set(backoff) - BACKOFF:
-            raise DefinitionError(f"{path}: step {name!r}: backoff has the keys {', '.join(sorted(BACKOFF))}, each a number, and no other")
-        if kind == "wait" and "until" not in words:
-            raise DefinitionError(f"{path}: step {name!r}: a wait has a key until")
+        _check_manner(name, words)
     return steps
 
 
-def _built(told: Json, version: int, manners: dict[str, Json]) -> Saga:
-    if told.get("format") not in (1, 2) or set(told) - {"format", "name", "step"}:
-        raise ValueError("a definition has the keys format (1 or 2), name and step")
-    saga = Saga(told["name"], version=version)
-    build: dict[str, Callable[[Saga, Json, Json], None]] = {"work": _work, "approval": _approval, "wait": _wait}
+def _check_manner(name: str, words: Any) -> None:
+    def fault(text: str, *key: str) -> Fault:
+        return Fault(f"step {name!r}: {text}", "step", name, *key, beside=True)
+
+    kind = words.get("kind", "work") if isinstance(words, dict) else None
+    if not isinstance(kind, str) or kind not in KEYS:
+        raise fault(f"kind is one of {', '.join(KEYS)}", "kind")
+    for word in sorted(set(words) - KEYS[kind]):
+        raise fault(f"{kind} has no key {word!r}, but {', '.join(sorted(KEYS[kind]))}", word)
+    for word in ("within", "until", "unknown_most"):
+        if word in words and not (is_number(words[word]) and 0 <= words[word] <= MOST_WITHIN):
+            raise fault(f"{word} is a number from 0 to {MOST_WITHIN:,.0f}", word)
+    backoff = words.get("backoff", {})
+    if (
+        not isinstance(backoff, dict)
+        or set(backoff) - BACKOFF
+        or not all(map(is_number, backoff.values()))
+    ):
+        raise fault(
+            f"backoff has the keys {', '.join(sorted(BACKOFF))}, each a number, and no other",
+            "backoff",
+        )
+    if kind == "wait" and "until" not in words:
+        raise fault("a wait has a key until")
+
+
+def is_number(value: Any) -> bool:
+    return isinstance(value, (int, float)) and not isinstance(value, bool)
+
+
+def _built(file: File, beside: File | None) -> Saga:
+    """The saga of these files. Raises `Fault`, `DefinitionError`."""
+    told, manners = file.told, _manners(beside) if beside else {}
+    _check_keys(told)
+    try:
+        saga = Saga(told["name"], version=version_of(file.text))
+    except DefinitionError as error:
+        raise DefinitionError(f"{file.at('name')}: {_said(error)}") from None
+    saga.where = file.at("name")
+    for place, step in enumerate(told.get("step", [])):
+        _add(saga, file, beside, place, step, manners.get(step["name"], {}))
+    for name in manners:
+        if all(step.name != name for step in saga.steps):
+            raise Fault(f"no step is named {name!r}", "step", name, beside=True)
+    saga.check()
+    if _plain(told) != _plain(tomllib.loads(saga.toml())):
+        raise Fault("it is no definition of this service", "name")
+    return saga
+
+
+def _check_keys(told: Json) -> None:
+    """Raises `Fault` where a definition has other keys than there are."""
+    strange = sorted(set(told) - {"format", "name", "step"})
+    if told.get("format") not in (1, 2) or strange:
+        raise Fault(
+            "it is no definition: a definition has the keys format (1 or 2), name and step",
+            *(strange or ["format"])[:1],
+        )
+    if "name" not in told:
+        raise Fault("it is no definition: it has no name")
     steps = told.get("step", [])
     if not isinstance(steps, list) or not all(isinstance(step, dict) for step in steps):
-        raise ValueError("each step is a table [[step]]")
-    for place, step in enumerate(steps, 1):
-        for word in set(step) - STEP:
-            raise ValueError(f"step {step.get('name', place)!r} has no key {word!r}, but {', '.join(sorted(STEP))}")
-        if "name" not in step:
-            raise ValueError(f"step {place} has no name")
-        manner = manners.get(step["name"], {})
-        build[manner.get("kind", "work")](saga, step, manner)
-    saga.check()
-    return saga
+        raise Fault("it is no definition: each step is a table [[step]]", "step")
+    for place, step in enumerate(steps):
+        for word in sorted(set(step) - STEP):
+            known = ", ".join(sorted(STEP))
+            raise Fault(
+                f"it is no definition: step {step.get('name', place + 1)!r} has no key {word!r}, "
+                f"but {known}",
+                "step",
+                place,
+                word,
+            )
+        if not isinstance(step.get("name"), str):
+            raise Fault(f"it is no definition: step {place + 1} has no name", "step", place, "name")
+
+
+def _add(saga: Saga, file: File, beside: File | None, place: int, step: Json, manner: Json) -> None:
+    """One more step. Raises `Fault`, or `DefinitionError` with the line of the step, or of its key
+    that is named."""
+    kind = manner.get("kind", "work")
+    for word in sorted({"approval": {"run", "keep"}, "wait": {"run"}}.get(kind, set()) & set(step)):
+        raise Fault(
+            f"step {step['name']!r}: an approval has no prices run and keep, a wait none of run",
+            "step",
+            place,
+            word,
+        )
+    build: dict[str, Callable[[Saga, Json, Json], None]] = {
+        "work": _work,
+        "approval": _approval,
+        "wait": _wait,
+    }
+    try:
+        build[kind](saga, step, manner)
+    except DefinitionError as error:
+        text = _said(error)
+        named = re.search(r": (\w+)[=(]", text)
+        key = named[1].lower() if named else "name"
+        if key in manner and beside:
+            raise DefinitionError(f"{beside.at('step', step['name'], key)}: {text}") from None
+        raise DefinitionError(f"{file.at('step', place, key)}: {text}") from None
+    saga.steps[-1].where = file.at("step", place)
+
+
+def _said(error: DefinitionError) -> str:
+    """What is wrong, without the line of this module by which it was met."""
+    return "saga " + str(error).partition(": saga ")[2]
 
 
 def _price(step: Json, word: str) -> Price:
