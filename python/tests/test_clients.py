@@ -48,6 +48,50 @@ def inbox(url: str) -> int:
         return int(row[0])
 
 
+def test_a_start_behind_the_server_s_restart(postgresql: Server, url: str) -> None:
+    """Connections that have ended meanwhile are tried past, however many the client has: the start
+    is made, and once."""
+    kind = shop()
+
+    async def main() -> None:
+        async with sagas.open(url, [kind], node="a"):
+            pass  # makes the tables
+        async with sagas.Client(url, connections=3) as client:
+            with psycopg.connect(
+                url
+            ) as link:  # so that each start holds its connection until all have one
+                link.execute("LOCK TABLE sagas.inbox")
+                starts = [
+                    asyncio.create_task(client.start(kind, f"before-{number}"))
+                    for number in range(3)
+                ]
+                backends = (
+                    "SELECT count(*) FROM pg_stat_activity "
+                    "WHERE wait_event_type = 'Lock' AND application_name = 'sagas'"
+                )
+                with psycopg.connect(url, autocommit=True) as eye:
+                    while eye.execute(backends).fetchone() != (3,):
+                        await asyncio.sleep(0.05)
+            assert [(await one).new for one in starts] == [True] * 3
+            for mode in ("fast", "immediate"):
+                postgresql.stop(mode)
+                postgresql.start()
+                for number in range(4):
+                    assert (await client.start(kind, f"{mode}-{number}", number)).new is True
+                    assert (await client.start(kind, f"{mode}-{number}", number)).new is False
+            with pytest.raises(sagas.KeyConflict):
+                await client.start(kind, "fast-1", 5)
+            postgresql.stop("fast")
+            try:
+                with pytest.raises(sagas.StoreUnwritable):
+                    await client.start(kind, "nowhere")
+            finally:
+                postgresql.start()
+
+    run(main())
+    assert inbox(url) == 11
+
+
 def test_a_client_starts_and_waits(url: str) -> None:
     """Many starts by two clients, some of the same keys: nodes take them, each once; ends, lists and conflicts are as at a node."""
     kind = shop()

@@ -94,8 +94,12 @@ def check_start(words: dict[str, Any], rows: builtins.list[Row], unfit: TooLarge
 
 
 class ClientRun:
-    """A saga that a client started, or found by its key. `new`: whether this very start wrote it down: its key was free. Where a node began the key in the
-    same moment, or the caller's transaction does not commit, it was not begun by this start all the same."""
+    """A saga that a client started, or found by its key. `new`: whether this very start wrote it
+    down: its key was free.
+
+    Where a node began the key in the same moment, or the caller's transaction does not commit, it
+    was not begun by this start all the same. Where the connection was lost while the start was
+    committed, so that it was made again, `new` is False though this start wrote it."""
 
     def __init__(self, client: Client, key: str, words: dict[str, Any] | None = None, new: bool = False) -> None:
         self._client, self.key, self._words, self.new = client, key, words, new
@@ -133,7 +137,7 @@ class Client:
         if not isinstance(url, str):
             raise StoreFault(f"{checks.shown(url)}: this is no URL of a database in PostgreSQL: {FORM}")
         checks.count("connections", connections)
-        self._url, self.path = url, links.named(url)
+        self._url, self.path, self._most = url, links.named(url), connections
         self._asker = links.Asker(url, self.path, connections)
         self._opened = Opened("the client")
         self._news: news.News | None = None
@@ -210,9 +214,7 @@ class Client:
         if connection is not None:
             new = await self._start_within(connection, words, unfit)
         else:
-            with links.faults(self.path):
-                async with self._asker.pool.connection() as link, link.transaction():
-                    new = await _start(link, words, unfit)
+            new = await self._start_alone(words, unfit)
         return ClientRun(self, key, words, new)
 
     def _digest_of(self, saga: Saga) -> str | None:
@@ -222,6 +224,19 @@ class Client:
         if saga not in self._digests:
             self._digests[saga] = digest_of(saga.toml()) if saga.steps else None
         return self._digests[saga]
+
+    async def _start_alone(self, words: dict[str, Any], unfit: TooLarge | None) -> bool:
+        """A start in a transaction of its own. Connections that the server has ended meanwhile are
+        tried past, all that there may be: a start that is made twice is one, by its key."""
+        for left in reversed(range(self._most + 1)):
+            try:
+                with links.faults(self.path):
+                    async with self._asker.pool.connection() as link, link.transaction():
+                        return await _start(link, words, unfit)
+            except StoreUnwritable as error:
+                if not (left and links.was_cut(error)):
+                    raise
+        raise AssertionError
 
     async def _start_within(self, connection: Connection, words: dict[str, Any], unfit: TooLarge | None) -> bool:
         """A start in the transaction that is open there."""

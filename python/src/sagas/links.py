@@ -49,6 +49,9 @@ LINE = "left(pg_walfile_name(pg_current_wal_lsn()), 8)"
 
 ESCAPED = 'with % and two hex digits for what is special in a password, as urllib.parse.quote(password, safe="") gives it'
 
+CUT = ("08", "57P0")
+"""How the codes begin that say that a connection is over; an error without a code says so too."""
+
 T = TypeVar("T")
 Row = tuple[Any, ...]
 Link = psycopg.AsyncConnection[Row]
@@ -128,6 +131,15 @@ async def tried(ask: Callable[[], Awaitable[T]]) -> T:
             if turn == 4 or not isinstance(error.__cause__, psycopg.OperationalError):
                 raise
     raise AssertionError
+
+
+def was_cut(error: StoreUnwritable) -> bool:
+    """Whether a connection had ended, as all do where the server starts again: another one may
+    do."""
+    cause = error.__cause__
+    if not isinstance(cause, psycopg.OperationalError):
+        return False
+    return cause.sqlstate is None or cause.sqlstate.startswith(CUT)
 
 
 async def connect(url: str, settings: str = SETTINGS) -> Link:
