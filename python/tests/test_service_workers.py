@@ -189,6 +189,70 @@ def test_a_worker_that_may_not(tmp_path: pathlib.Path) -> None:
         sagas.Worker("http://127.0.0.1:1").run()
 
 
+def rewritten(service: Served, old: str, new: str) -> None:
+    """Changes the token file, and waits until the service has seen it."""
+    file = service.folder / "tokens.toml"
+    file.write_text(file.read_text().replace(old, new))
+    marker = token(service.folder, f"seen-{time.monotonic_ns()}", "caller")
+    deadline = time.monotonic() + LONG
+    with service.client(marker) as client:
+        while client.get("/sagas").status_code != 200:
+            assert time.monotonic() < deadline
+            time.sleep(0.1)
+
+
+def test_a_worker_that_may_less_than_before(tmp_path: pathlib.Path) -> None:
+    """What it has done already it still reports; then it ends, and says which steps it may not
+    take."""
+    word = token(tmp_path, "w", "worker", "--step", "trip/flight", "--step", "trip/car")
+    caller = token(tmp_path, "c", "caller")
+    with served(tmp_path, DEFINITIONS, "--token-file", str(tmp_path / "tokens.toml")) as service:
+        worker = sagas.Worker(service.url, word, wait=1.0, concurrency=1)
+
+        @worker.step("trip", "flight")
+        def flight(task: sagas.Task[Any]) -> int:
+            rewritten(service, '"trip/car", ', "")
+            return 5
+
+        worker.step("trip", "car")(lambda task: None)
+        with service.client(caller) as client:
+            assert start(client, "trip", "less").status_code == 201
+            with pytest.raises(sagas.ServiceRefused, match="w has no right to the steps trip/car"):
+                worker.run()
+            assert client.get("/sagas/less").json()["results"] == {"flight": 5}
+
+
+def test_a_worker_whose_lease_is_not_its_own(
+    tmp_path: pathlib.Path, caplog: pytest.LogCaptureFixture
+) -> None:
+    """Its report is refused, which its log says; it goes on with other tasks."""
+    word = token(tmp_path, "before", "worker")
+    caller = token(tmp_path, "c", "caller")
+    with served(tmp_path, DEFINITIONS, "--token-file", str(tmp_path / "tokens.toml")) as service:
+        worker, calls = sagas.Worker(service.url, word, wait=1.0, concurrency=1, lease=1.0), []
+        again = threading.Event()
+
+        @worker.step("trip", "flight")
+        def flight(task: sagas.Task[Any]) -> int:
+            calls.append(task.effect_token)
+            if len(calls) == 1:
+                rewritten(service, '"before"', '"after"')
+            else:
+                again.set()
+            return len(calls)
+
+        with service.client(caller) as client:
+            assert start(client, "trip", "other").status_code == 201
+            with working(worker):
+                assert again.wait(LONG)
+                deadline = time.monotonic() + LONG
+                while client.get("/sagas/other").json()["states"]["flight"] != "committed":
+                    assert time.monotonic() < deadline
+            assert client.get("/sagas/other").json()["results"] == {"flight": 2}
+    assert calls[0] == calls[1] and "done was not taken" in caplog.text
+    assert "InvalidLease" in caplog.text
+
+
 class Asking(sagas.Worker):
     """It counts what each answer gave it."""
 

@@ -229,10 +229,19 @@ class Worker:
                 self._held.discard(one)
                 self._mean += (time.monotonic() - began - self._mean) / 4
                 more = {} if self._ahead or self._stop.is_set() else {"next": self._wanted()}
+        return self._report(one, verb, body, more)
+
+    def _report(
+        self, one: _Held, verb: str, body: dict[str, Any], more: dict[str, Any],
+    ) -> dict[str, Any] | None:  # fmt: skip
+        """Says how a task ended. Where no more tasks may be taken with it, it is said alone."""
+        path, told = f"/tasks/{one.token}/{verb}", {"lease": one.lease, **body}
         try:
-            return self._until_told(f"/tasks/{one.token}/{verb}", {"lease": one.lease, **body, **more})
+            return self._until_told(path, {**told, **more})
         except ServiceRefused as refusal:
-            if refusal.status in (401, 403):
+            if _is_final(refusal):
+                if refusal.status == 403 and more:
+                    return self._report(one, verb, body, {})
                 raise
             logger.warning("%s: %s was not taken: %s", one.token, verb, refusal)
             return None
@@ -277,7 +286,7 @@ class Worker:
         try:
             self._ask(url, f"/tasks/{one.token}/beat", {"lease": one.lease, "seconds": seconds}, 10.0)
         except ServiceRefused as refusal:
-            one.lost = refusal.status in (404, 409)
+            one.lost = refusal.status in (403, 404, 409)
             logger.warning("%s: %s", one.token, refusal)
         except (OSError, ValueError) as error:
             logger.info("%s: no beat: %s", one.token, error)
@@ -357,6 +366,11 @@ class Worker:
         if link.sock is not None:
             link.sock.settimeout(seconds)
         return link, parts.path
+
+
+def _is_final(refusal: ServiceRefused) -> bool:
+    """Whether the worker is refused, and not what it says of one task."""
+    return refusal.status in (401, 403) and '"error":"InvalidLease"' not in str(refusal)
 
 
 def _answer(link: http.client.HTTPConnection, path: str, data: bytes, headers: dict[str, str]) -> tuple[int, bytes]:
