@@ -12,6 +12,7 @@ from urllib.parse import parse_qsl, quote, urlencode
 from fastapi import APIRouter, Query, Request
 from starlette.responses import HTMLResponse, RedirectResponse, Response
 
+from ..elsewhere import Queue
 from ..errors import NoSuchSaga, SagasError
 from ..attention import Attention
 from ..looks import PHASES, Looks, SagaView, StepView, Waits
@@ -196,43 +197,29 @@ async def overview(request: Request) -> Response:
     service, who = service_of(request), looker(request)
     since, some = service.hub.now, who.definitions
     counts, asked, _ = await service.counts(some)
-    counts = dict(counts)
+    none = {name: dict.fromkeys(PHASES, 0) for name in service.names(who)}
+    counts = {**counts, **{name: of for name, of in none.items() if name not in counts}}
 
     def questions(looks: Looks) -> tuple[Any, list[Attention], list[Waits], Any]:
-        return (
-            looks.stuck(STUCK, some),
-            looks.undone(STUCK, some),
-            looks.waits(SHOWN, sagas=some),
-            looks.page(most=12, sagas=some),
-        )
+        latest = looks.page(most=12, sagas=some)
+        undone, waits = looks.undone(STUCK, some), looks.waits(SHOWN, sagas=some)
+        return looks.stuck(STUCK, some), undone, waits, latest
 
     stuck, undone, waits, latest = await service.look(questions)
-    queues = await service.queues(who)
-    ready = [queue for queue in queues if queue.ready]
-    totals = {phase: sum(of[phase] for of in counts.values()) for phase in PHASES}
-    oldest = max((time.time() - queue.oldest for queue in ready if queue.oldest), default=0.0)
-    for name in service.names(who):
-        counts.setdefault(name, dict.fromkeys(PHASES, 0))
-    return shows(
-        request,
-        "overview.html",
-        here="overview",
-        live="/ui/events",
-        since=since,
-        again=service.counts_lag(some),
-        counts=counts,
-        asked=asked,
-        asked_all=sum(asked.values()),
-        totals=totals,
-        stuck=stuck,
-        undone=undone,
-        waits=waits,
-        shown=len(stuck) + len({one.key for one in undone}) + len(waits),
-        latest=latest,
-        ready=sum(queue.ready for queue in queues),
-        taken=sum(queue.taken for queue in queues),
-        oldest=oldest,
-    )  # fmt: skip
+    shown = len(stuck) + len({one.key for one in undone}) + len(waits)
+    told = {"stuck": stuck, "undone": undone, "waits": waits, "latest": latest, "shown": shown}
+    told |= {"counts": counts, "asked": asked, "asked_all": sum(asked.values())}
+    told |= {"totals": {phase: sum(of[phase] for of in counts.values()) for phase in PHASES}}
+    told |= work_of(await service.queues(who)) | {"again": service.counts_lag(some)}
+    return shows(request, "overview.html", here="overview", live="/ui/events", since=since, **told)
+
+
+def work_of(queues: list[Queue]) -> dict[str, Any]:
+    """What waits for workers, in all."""
+    now, ready = time.time(), [queue for queue in queues if queue.ready]
+    oldest = max((now - queue.oldest for queue in ready if queue.oldest), default=0.0)
+    taken = sum(queue.taken for queue in queues)
+    return {"ready": sum(queue.ready for queue in ready), "taken": taken, "oldest": oldest}
 
 
 @router.get("/ui/sagas")
@@ -246,22 +233,9 @@ async def listed(
     service, who = service_of(request), looker(request)
     phase, search, definition = phase if phase in words.PHASES else None, search or None, definition or None
     counts, _, ended = await service.counts(who.definitions)
-    places = {
-        word: None if text is None else int(text)
-        for word, text in (("before", before), ("after", after))
-    }
-
-    def question(looks: Looks) -> Any:
-        return looks.page(
-            phase=phase,
-            saga=definition,
-            search=search,
-            most=LISTED + 1,
-            sagas=who.definitions,
-            **places,
-        )
-
-    found = await service.look(question)
+    asked: dict[str, Any] = {"before": before and int(before), "after": after and int(after)}
+    asked |= {"phase": phase, "saga": definition, "search": search, "sagas": who.definitions}
+    found = await service.look(lambda looks: looks.page(most=LISTED + 1, **asked))
     more, found = len(found) > LISTED, found[:LISTED]
     if after is not None:
         found.reverse()
