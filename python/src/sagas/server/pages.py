@@ -206,8 +206,8 @@ async def overview(request: Request) -> Response:
         return looks.stuck(STUCK, some), undone, waits, latest
 
     stuck, undone, waits, latest = await service.look(questions)
-    shown = len(stuck) + len({one.key for one in undone}) + len(waits)
-    told = {"stuck": stuck, "undone": undone, "waits": waits, "latest": latest, "shown": shown}
+    listed = len(stuck) + len({one.key for one in undone}) + len(waits)
+    told = {"stuck": stuck, "undone": undone, "waits": waits, "latest": latest, "shown": listed}
     told |= {"counts": counts, "asked": asked, "asked_all": sum(asked.values())}
     told |= {"totals": {phase: sum(of[phase] for of in counts.values()) for phase in PHASES}}
     told |= work_of(await service.queues(who)) | {"again": service.counts_lag(some)}
