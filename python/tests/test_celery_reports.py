@@ -15,7 +15,7 @@ import pytest
 import sagas
 import sagas.celery
 from brokers import Broker, broker_at
-from cases import QUICK, Task, run, until
+from cases import QUICK, Task, run, until, asked_of
 from sagas import command, reports_postgresql
 from sagas.calling import Outcome
 from sagas.desks import desk_of
@@ -53,7 +53,7 @@ class Late:
         """The store, with the step held for a person."""
         async with sagas.open(self.place, [self.saga]) as store:
             await store.start(self.saga, "k")
-            await until(lambda: [one.asked for one in store.unknown()] == [True], 30)
+            await until(lambda: asked_of(store), 30)
             yield store
 
     @property
