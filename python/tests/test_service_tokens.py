@@ -444,6 +444,45 @@ def test_a_stream_ends_with_its_token(tmp_path: pathlib.Path) -> None:
         assert any('"told"' in line for line in lines)
 
 
+def test_what_waits_ends_with_its_token(tmp_path: pathlib.Path) -> None:
+    """A long question is refused once its token is taken away, or asked again once it is kept to
+    less; what comes then is another's."""
+    words = {name: token(tmp_path, name, "operator") for name in ("gone", "less", "stays")}
+    file, found = tmp_path / "tokens.toml", dict[str, tuple[int, str]]()
+    with served(tmp_path, DEFINITIONS, "--token-file", str(file)) as service:
+        with service.client(words["stays"]) as client:
+            start(client, "trip", "waits")
+
+            def ask(name: str, path: str, body: Any) -> None:
+                with service.client(words[name]) as other:
+                    answer = other.request("POST" if body else "GET", path, json=body)
+                    found[f"{name} {path}"] = answer.status_code, answer.json().get("error")
+
+            wanted = {"steps": ["order/send", "licence/server"], "wait": 30}
+            asked = [("/tasks/take", wanted), ("/sagas/waits/wait?seconds=60", None)]
+            some = [(name, *one) for name in ("gone", "less") for one in asked]
+            threads = [threading.Thread(target=ask, args=one) for one in some]
+            for thread in threads:
+                thread.start()
+            page = service.client()
+            page.post("/ui/login", data={"token": words["stays"]})
+            while not all(f"{name}</" in page.get("/ui/workers").text for name in ("gone", "less")):
+                time.sleep(0.1)
+            page.close()
+            began, blocks = time.monotonic(), file.read_text().split("[[token]]\n")
+            less = blocks[2].replace("sha256", 'definitions = ["order"]\nsha256')
+            file.write_text("[[token]]\n" + less + "[[token]]\n" + blocks[3])
+            for thread in threads:
+                thread.join(LONG)
+            assert time.monotonic() - began < 25
+            assert set(found.values()) == {(401, "NoToken"), (503, "Changed")}, found
+            assert {key: value for key, value in found.items() if key.startswith("gone")} == {
+                f"gone {path}": (401, "NoToken") for path, _ in asked
+            }
+            start(client, "licence", "comes")
+            assert [task["key"] for task in take(client, "licence/server")] == ["comes"]
+
+
 DIGEST = "0" * 64
 FAULTS = [
     ('definitions = "trip"', "definitions is a list of names of definitions, of one at least"),

@@ -133,6 +133,19 @@ class Route(APIRoute):
         return admitted
 
 
+def is_still(request: Request, who: Who) -> bool:
+    """Whether the token is in its file as it was when it was looked up, and has not expired."""
+    tokens = service_of(request).tokens
+    return tokens is None or tokens.of(who.digest) == who
+
+
+def check_still(request: Request, who: Who) -> None:
+    """Raises `Refused` where the token has ended since the request was let in, or was changed."""
+    if not is_still(request, who):
+        whose(request)  # raises where it has ended
+        raise Refused(503, "Changed", "what your token may was changed meanwhile: ask again")
+
+
 def check_definition(who: Who, definition: str | None) -> None:
     """Raises `Refused` where sagas of this definition are not the token's to see."""
     if definition is not None and not who.sees(definition):

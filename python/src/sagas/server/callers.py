@@ -16,9 +16,10 @@ from starlette.responses import PlainTextResponse, Response
 from ..errors import NoSuchSaga
 from ..looks import SagaView
 from . import pictures, rendering, shown
-from .access import Json, Refused, Route, allow, check_definition, maker, service_of, unslashed
+from .access import Json, Refused, Route, allow, check_definition, check_still, is_still, maker
+from .access import service_of, unslashed
 from .guards import GONE
-from .hub import Listener
+from .hub import CHECK, Listener
 from .streams import Stream
 from .who import May, Who
 
@@ -154,22 +155,39 @@ async def wait(
     """As `GET /sagas/{key}`, once it is over or the time has passed; `over` says which."""
     await service_of(request).check_sees(who, unslashed(key))
     ending = asyncio.ensure_future(service_of(request).store.over(unslashed(key)))
-    if await first(request, ending, seconds):
+    if await first(request, who, ending, seconds):
         ending.result()  # raises, where there is no such saga
     return Json(shown.saga(await view_of(request, who, key)))
 
 
-async def first(request: Request, work: "asyncio.Future[Any]", seconds: float) -> bool:
-    """Waits for a piece of work, but no longer than the client or the service is there. Whether it is done; else it is cancelled, to its end."""
-    others = request.scope[GONE], service_of(request).stopping
+async def first(request: Request, who: Who, work: "asyncio.Future[Any]", seconds: float) -> bool:
+    """Waits for a piece of work, but no longer than the client, its token and the service are
+    there. Whether it is done; else it is cancelled, to its end. Raises `Refused` where the token
+    has ended."""
+    others, loop = (request.scope[GONE], service_of(request).stopping), asyncio.get_running_loop()
+    slice = seconds if service_of(request).tokens is None else min(seconds, CHECK)
+    until = loop.time() + seconds
     try:
-        await asyncio.wait((work, *others), timeout=seconds, return_when=asyncio.FIRST_COMPLETED)
-        return work.done()
+        while not (done := await waited(work, others, min(slice, until - loop.time()))):
+            check_still(request, who)
+            if loop.time() >= until:
+                return False
+        return work in done
     finally:
         if not work.done():
             work.cancel()
             with contextlib.suppress(asyncio.CancelledError, Exception):
                 await work
+
+
+async def waited(
+    work: "asyncio.Future[Any]", others: tuple["asyncio.Future[None]", ...], seconds: float,
+) -> "set[asyncio.Future[Any]]":  # fmt: skip
+    """Those that are done, once one of them is, or the time has passed."""
+    some: set[asyncio.Future[Any]] = {work, *others}
+    first = asyncio.FIRST_COMPLETED
+    done, _ = await asyncio.wait(some, timeout=max(0.0, seconds), return_when=first)
+    return set(done)
 
 
 @router.post("/sagas/{key}/abort", summary="Abort a saga")
@@ -245,11 +263,8 @@ async def events(
 
     An event `missed` says that some are not kept any more: look at the sagas themselves."""
     check_definition(who, definition)
-    tokens = service_of(request).tokens
     listener = Listener(key, definition, who.sees)
-    return stream(
-        request, who, listener, None, lambda: tokens is None or tokens.of(who.digest) == who
-    )
+    return stream(request, who, listener, None, lambda: is_still(request, who))
 
 
 def stream(

@@ -116,7 +116,8 @@ async def taken(request: Request, who: Who, body: Take) -> list[dict[str, Any]]:
         holder=who.name,
     )  # fmt: skip
     taking = asyncio.ensure_future(work)
-    found: list[Leased] = taking.result() if await first(request, taking, body.wait + 25.0) else []
+    is_there = await first(request, who, taking, body.wait + 25.0)
+    found: list[Leased] = taking.result() if is_there else []
     now = service.store.now()
     return [task_of(one, now) for one in found]
 
