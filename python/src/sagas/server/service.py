@@ -90,7 +90,7 @@ class Service:
         self.workers: OrderedDict[str, Seen] = OrderedDict()
         self.unwritten: float | None = None
         self._counts: dict[frozenset[str] | None, Counted] = {}
-        self._counting: dict[frozenset[str] | None, asyncio.Task[None]] = {}
+        self._counting: dict[frozenset[str] | None, asyncio.Task[Counted]] = {}
 
     # -- life
 
@@ -215,10 +215,10 @@ class Service:
                 counting = asyncio.get_running_loop().create_task(self._count(definitions))
                 self._counting[definitions] = counting
                 counting.add_done_callback(functools.partial(self._counted, definitions))
-            await asyncio.shield(counting)
-        return self._counts[definitions].found
+            counted = await asyncio.shield(counting)
+        return counted.found
 
-    async def _count(self, some: frozenset[str] | None) -> None:
+    async def _count(self, some: frozenset[str] | None) -> Counted:
         began, seen = time.monotonic(), self.hub.count
 
         def question(looks: Looks) -> Figures:
@@ -232,7 +232,9 @@ class Service:
         now = time.monotonic()
         if len(self._counts) >= MOST_COUNTS:
             self._counts.clear()
-        self._counts[some] = Counted(found, now + max(1.0, 20 * (now - began)), seen)
+        counted = Counted(found, now + max(1.0, 20 * (now - began)), seen)
+        self._counts[some] = counted
+        return counted
 
     def counts_lag(self, definitions: frozenset[str] | None) -> float | None:
         """Seconds until what `counts` tells is counted anew, where something has happened since it was counted; else None."""
@@ -241,7 +243,7 @@ class Service:
             return None
         return max(0.0, counted.until - time.monotonic())
 
-    def _counted(self, some: frozenset[str] | None, task: asyncio.Task[None]) -> None:
+    def _counted(self, some: frozenset[str] | None, task: asyncio.Task[Counted]) -> None:
         self._counting.pop(some, None)
 
     def recount(self) -> None:

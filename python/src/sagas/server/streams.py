@@ -20,13 +20,11 @@ class Streams:
         """Why this maker gets no further one; None where there is room."""
         if self._there[maker, dashboard] >= self.each:
             return f"you have {self.each} event streams: close some"
-        total, api = self._there.total(), sum(
-            count for (_, shown), count in self._there.items() if not shown
-        )
-        if total >= self.most or (not dashboard and api >= self.most - self.kept):
-            return (
-                f"there are {api if not dashboard else total} event streams: ask again in a while"
-            )
+        most = self.most if dashboard else self.most - self.kept
+        others = sum(count for (_, shown), count in self._there.items() if not shown)
+        total = self._there.total()
+        if total >= self.most or (not dashboard and others >= most):
+            return f"there are {most} event streams: ask again in a while"
         return None
 
     def take(self, maker: str, dashboard: bool) -> Callable[[], None]:
