@@ -9,7 +9,7 @@ from typing import Any
 import pytest
 
 import sagas
-from cases import QUICK, Task, run, until, asked_of
+from cases import QUICK, Task, asked_of, run, until
 from sagas import command
 from sagas.looks import Looks
 

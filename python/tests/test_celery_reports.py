@@ -15,7 +15,7 @@ import pytest
 import sagas
 import sagas.celery
 from brokers import Broker, broker_at
-from cases import QUICK, Task, run, until, asked_of
+from cases import QUICK, Task, asked_of, run, until
 from sagas import command, reports_postgresql
 from sagas.calling import Outcome
 from sagas.desks import desk_of
