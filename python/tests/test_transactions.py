@@ -10,6 +10,7 @@ import pathlib
 import subprocess
 import sys
 import textwrap
+import threading
 import time
 from collections import Counter
 from typing import Any
@@ -647,6 +648,44 @@ def test_connections_are_reserved(url: str) -> None:
     run(main())
 
 
+def test_a_connection_that_is_lent_comes_back_once(url: str) -> None:
+    """Whether its function is over before who called it goes on, behind that, or never begins."""
+
+    async def main() -> None:
+        pool = Pool(url, 1)
+        waits = asyncio.create_task(pool.lend())
+        first = await waits
+        link = await asyncio.to_thread(first.begin)
+        link.execute("SELECT 1")
+        link.leave()
+        await asyncio.to_thread(first.end)
+        assert not pool.is_at_hand()
+        first.leave()
+        assert pool.is_at_hand()
+
+        second = await pool.lend()
+        assert await asyncio.to_thread(second.begin) is link
+        second.leave()  # nobody waits for it any more
+        assert not pool.is_at_hand()
+        await asyncio.to_thread(second.end)
+        await until(pool.is_at_hand)
+
+        third = await pool.lend()
+        third.leave()
+        assert pool.is_at_hand()
+        with pytest.raises(psycopg.OperationalError, match="closed"):
+            third.begin()
+        other = await pool.take()
+        assert other.pgconn is link.pgconn and not pool.is_at_hand()
+        await other.execute("SELECT 1")
+        await other.rollback()
+        pool.give(other)
+        await pool.close()
+        assert other.closed
+
+    run(main())
+
+
 def test_a_function_that_asks_late(url: str) -> None:
     """It waits for something before it asks for its connection, which is there; who asks behind its end gets none."""
     prepare(url)
@@ -707,3 +746,150 @@ def test_what_ends_at_once_leaves_its_connection(url: str) -> None:
 
     run(main())
     assert booked(url) == {(f"gives {number}", "book"): 1 for number in range(20)}
+
+
+NODE, OTHERS = 7, "other"
+"""Connections of a node, beside those of its steps; the name of those that are not a node's."""
+
+
+class Count:
+    """The most connections of an application that the server had at once, as often as it tells."""
+
+    def __init__(self, url: str, name: str) -> None:
+        self.most = self.looks = 0
+        self._url, self._name = f"{url}?application_name={OTHERS}", name
+        self._is_over = threading.Event()
+        self._thread = threading.Thread(target=self._look)
+
+    def __enter__(self) -> Count:
+        self._thread.start()
+        return self
+
+    def _look(self) -> None:
+        text = (
+            "SELECT count(*) FROM pg_stat_activity "
+            "WHERE datname = current_database() AND application_name = %s"
+        )
+        with psycopg.connect(self._url, autocommit=True) as link:
+            while not self._is_over.wait(0.002):
+                ((count,),) = link.execute(text, (self._name,)).fetchall()
+                self.most, self.looks = max(self.most, count), self.looks + 1
+
+    def __exit__(self, *_: object) -> None:
+        self._is_over.set()
+        self._thread.join()
+
+
+def test_how_many_connections_a_node_has(url: str) -> None:
+    """Steps inside, by async and plain functions, with limits over all nodes; reads; what clients
+    start and ask; logs that are taken over: it has `concurrency` and seven at most."""
+    concurrency, gate = 16, asyncio.Event()
+
+    def kinds() -> list[sagas.Saga]:
+        mixed = sagas.Saga("mixed")
+
+        @mixed.step(transaction=True)
+        async def a(task: Task) -> None:
+            await task.connection.execute("SELECT pg_sleep(0.02)")
+
+        @mixed.step(transaction=True)
+        def b(task: Task) -> None:
+            task.connection.execute("SELECT pg_sleep(0.02)")
+
+        @mixed.step(needs=[a], transaction=True, fleet_limit=6, rate=(1000, 1))
+        async def c(task: Task) -> None:
+            await task.connection.execute("SELECT 1")
+
+        @mixed.step(needs=[b], transaction=True, tries=2, backoff=QUICK)
+        def d(task: Task) -> None:
+            task.connection.execute("SELECT 1")
+            if task.attempt == 1:
+                task.connection.execute("SET work_mem = '1MB'")
+                raise ValueError("rolled back")
+
+        held = sagas.Saga("held")
+
+        @held.step
+        async def waits(task: Task) -> None:
+            await gate.wait()
+
+        @held.approval(needs=[waits])
+        def approved(task: Task) -> None: ...
+
+        return [mixed, held]
+
+    def named(name: str) -> str:
+        return f"{url}?application_name={name}"
+
+    async def main() -> None:
+        first, (mixed, held) = kinds(), kinds()
+        async with sagas.open(named("first"), first, node="same", grace=0.0) as before:
+            for number in range(8):
+                await before.start(first[1], f"held {number}")
+            with Count(url, "second") as count:
+                async with contextlib.AsyncExitStack() as stack:
+                    second = sagas.open(
+                        named("second"), [mixed, held], node="same", concurrency=concurrency
+                    )
+                    store = await stack.enter_async_context(second)
+                    client = await stack.enter_async_context(sagas.Client(named(OTHERS)))
+                    runs = await asyncio.gather(
+                        *(store.start(mixed, f"k{number}") for number in range(60)),
+                        *(client.start(mixed, f"c{number}") for number in range(60)),
+                    )
+                    gate.set()
+                    reads = (store.list, store.stuck, store.unknown) * 20
+                    logs = [store.log(f"k{number}") for number in range(20)]
+                    await asyncio.gather(*(ask() for ask in reads), *logs)
+                    ends = await asyncio.gather(*(run.wait() for run in runs))
+                    assert all(end.ok for end in ends)
+                    keys = [f"held {number}" for number in range(8)]
+                    await asyncio.gather(*(surely_finished(client, key) for key in keys))
+        assert concurrency < count.most <= concurrency + NODE and count.looks > 20
+
+    run(main())
+
+
+async def surely_finished(client: sagas.Client, key: str) -> None:
+    """Approves it, once that is asked for."""
+    while True:
+        try:
+            await client.finish(key, "approved", True)
+        except sagas.NotWaiting:
+            await asyncio.sleep(0.02)
+        else:
+            assert (await client.wait(key)).ok
+            return
+
+
+@pytest.mark.parametrize("first", ["async", "plain"])
+def test_one_budget_for_both_kinds_of_functions(url: str, first: str) -> None:
+    """What plain functions had is had by async ones, and the other way round: no more connections
+    are made, and what psycopg has prepared over one is known to both."""
+    processes = set[int]()
+    kinds = {name: sagas.Saga(name) for name in ("async", "plain")}
+    look = "SELECT pg_backend_pid(), pg_sleep(%s)"  # psycopg prepares it at its sixth use
+
+    @kinds["async"].step(name="a", transaction=True)
+    async def looks(task: Task) -> None:
+        for _ in range(4):
+            rows = await (await task.connection.execute(look, (0.002,))).fetchall()
+            processes.add(rows[0][0])
+
+    @kinds["plain"].step(name="a", transaction=True)
+    def looks_in_thread(task: Task) -> None:
+        for _ in range(4):
+            processes.add(task.connection.execute(look, (0.002,)).fetchall()[0][0])
+
+    async def main() -> None:
+        async with sagas.open(url, [*kinds.values()], concurrency=4) as store:
+            for turn in range(6):
+                kind = kinds[first if turn % 2 else ({*kinds} - {first}).pop()]
+                ends = [ended(store, kind, f"{turn}, {place}") for place in range(12)]
+                assert all(end.ok for end in await asyncio.gather(*ends))
+            each = [(kind, place) for place in range(12) for kind in kinds.values()]
+            both = [ended(store, kind, f"{kind.name} {place}") for kind, place in each]
+            assert all(end.ok for end in await asyncio.gather(*both))
+
+    run(main())
+    assert 1 < len(processes) <= 4

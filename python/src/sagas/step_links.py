@@ -124,6 +124,7 @@ class AsyncStepLink(psycopg.AsyncConnection[Row]):
         super().__init__(*words, **more)
         self.cursor_factory = AsyncStepCursor
         self._home = asyncio.get_running_loop()
+        self._pool = None  # psycopg's word for one that is not its user's to close
 
     async def wait(self, gen: PQGen[RV], *words: Any, **more: Any) -> RV:
         """All that psycopg does over a connection goes by here."""
@@ -318,6 +319,7 @@ class StepLink(psycopg.Connection[Row]):
     def __init__(self, *words: Any, **more: Any) -> None:
         super().__init__(*words, **more)
         self.cursor_factory = StepCursor
+        self._pool = None
 
     def prepare(self, prepares: Prepares) -> None:
         """As `AsyncStepLink.prepare`."""
@@ -340,6 +342,12 @@ class StepLink(psycopg.Connection[Row]):
         finally:
             if self.halfway:
                 super().close()
+
+    def is_there(self) -> bool:
+        """As `AsyncStepLink.is_there`; nothing tells what came."""
+        with contextlib.suppress(psycopg.Error):
+            self.pgconn.consume_input()
+        return not self.closed
 
     def leave(self) -> None:
         """As `AsyncStepLink.leave`."""
@@ -378,6 +386,21 @@ class StepLink(psycopg.Connection[Row]):
             self.spent = True
             self.wait(_done(self, text, encoding_of(self)))
             self.spent = False
+
+
+To = TypeVar("To", AsyncStepLink, StepLink)
+
+
+def turned(link: AsyncStepLink | StepLink, kind: type[To]) -> To:
+    """A connection that nobody uses, for functions of this kind; the object before is of no use."""
+    if isinstance(link, kind):
+        return link
+    if isinstance(link, AsyncStepLink):
+        link.silence()
+    made = kind(link.pgconn)
+    made._prepared = link._prepared  # what psycopg has prepared over it, by names of its own
+    made.prepares, made.statements = link.prepares, link.statements
+    return made
 
 
 def is_prepared(link: AsyncStepLink | StepLink) -> bool:

@@ -7,17 +7,20 @@ from __future__ import annotations
 
 import asyncio
 import contextlib
+import enum
 import threading
 import time
 from collections import deque
+from typing import TypeVar
 
 import psycopg
 from psycopg import errors, pq
 from psycopg.rows import tuple_row
 
 from . import links
-from .step_links import AsyncStepLink, Prepares, StepLink, is_as_made
+from .step_links import AsyncStepLink, Prepares, StepLink, is_as_made, turned
 
+L = TypeVar("L", AsyncStepLink, StepLink)
 REST = 600.0
 """Seconds that a connection may rest before it is closed."""
 AGAIN = 0.1, 2.0
@@ -34,16 +37,20 @@ def is_good(link: AsyncStepLink | StepLink) -> bool:
 
 
 class Pool:
-    """For functions in the loop. A connection is made while somebody waits for one and there are fewer than `most`: one at a time.
+    """For all functions of a node: those in the loop, and plain ones, which a `Loan` is for. A
+    connection is made while somebody waits for one and there are fewer than `most`: one at a time.
+    One that rests is for either kind of function: it is turned into the other kind of object.
 
-    A function that may want one has one reserved, which rests until it is wanted; the loop watches those that rest, so that one which breaks is
-    dropped before somebody has it."""
+    A function in the loop that may want one has one reserved, which rests until it is wanted. The
+    loop watches those that rest, so that one which breaks is dropped before somebody has it; of
+    those that a plain function had, it is seen as they are handed out."""
 
     def __init__(self, url: str, most: int, prepares: Prepares | None = None) -> None:
         self._url, self._most, self._count, self._prepares = url, most, 0, prepares
         self._reserved = 0  # of those that rest
         self._rests: list[tuple[AsyncStepLink, float]] = []  # since when; who came last is the last
-        self._waiting: deque[asyncio.Future[AsyncStepLink]] = deque()
+        self._plain_rests: list[tuple[StepLink, float]] = []
+        self._waiting: deque[asyncio.Future[AsyncStepLink | StepLink]] = deque()
         self._grows: asyncio.Task[None] | None = None
         self._fault: Exception | None = None
         self._drops: set[asyncio.Task[None]] = set()
@@ -51,7 +58,7 @@ class Pool:
 
     def is_at_hand(self) -> bool:
         """Whether one rests that nobody has reserved."""
-        return len(self._rests) > self._reserved
+        return len(self._rests) + len(self._plain_rests) > self._reserved
 
     async def reserve(self) -> None:
         """One is the caller's, at once where one is at hand, who calls `reserved` or `release`. Raises `psycopg.OperationalError` where it takes too long."""
@@ -89,14 +96,32 @@ class Pool:
         return self._resting() if self.is_at_hand() else None
 
     def _resting(self) -> AsyncStepLink | None:
-        while self._rests:
-            link, _ = self._rests.pop()
+        link = self._last(self._rests)
+        if link is None and (plain := self._last(self._plain_rests)) is not None:
+            link = turned(plain, AsyncStepLink)
+        return link
+
+    def _plain_at_hand(self) -> StepLink | None:
+        if not self.is_at_hand():
+            return None
+        plain = self._last(self._plain_rests)
+        if plain is None and (link := self._last(self._rests)) is not None:
+            plain = turned(link, StepLink)
+        return plain
+
+    def _last(self, rests: list[tuple[L, float]]) -> L | None:
+        """The one that came last of those that are not broken."""
+        while rests:
+            link, _ = rests.pop()
             if link.is_there():
                 return link
             self._drop(link)
         return None
 
-    def _rest(self, link: AsyncStepLink) -> None:
+    def _rest(self, link: AsyncStepLink | StepLink) -> None:
+        if isinstance(link, StepLink):
+            self._plain_rests.append((link, time.monotonic()))
+            return
         link.heard = self._heard
         link.watch()
         self._rests.append((link, time.monotonic()))
@@ -112,12 +137,18 @@ class Pool:
 
     async def take(self) -> AsyncStepLink:
         """One, as soon as it is there. Raises `psycopg.OperationalError` where that takes too long."""
-        link = self.at_hand()
-        if link:
-            return link
+        return self.at_hand() or turned(await self._next(), AsyncStepLink)
+
+    async def lend(self) -> Loan:
+        """As `take`, for a function in a thread."""
+        return Loan(self, self._plain_at_hand() or turned(await self._next(), StepLink))
+
+    async def _next(self) -> AsyncStepLink | StepLink:
+        """The next one that is there, or is given back."""
         if self._is_over:
             raise errors.OperationalError(CLOSED)
-        future: asyncio.Future[AsyncStepLink] = asyncio.get_running_loop().create_future()
+        loop = asyncio.get_running_loop()
+        future: asyncio.Future[AsyncStepLink | StepLink] = loop.create_future()
         self._waiting.append(future)
         self._grow()
         try:
@@ -132,7 +163,7 @@ class Pool:
                 raise errors.OperationalError(NONE_FREE) from self._fault
             raise
 
-    def give(self, link: AsyncStepLink) -> None:
+    def give(self, link: AsyncStepLink | StepLink) -> None:
         """Nobody uses it any more."""
         link.row_factory = tuple_row  # as it was made
         if self._is_over or not is_good(link):
@@ -147,14 +178,23 @@ class Pool:
 
     def look(self, rest: float = REST) -> None:
         """Closes those that rested so long."""
-        while len(self._rests) > self._reserved and time.monotonic() - self._rests[0][1] >= rest:
-            self._drop(self._rests.pop(0)[0])
+        self._let_go(self._plain_rests, rest)
+        self._let_go(self._rests, rest)
 
-    def _drop(self, link: AsyncStepLink) -> None:
-        self._count -= 1
-        job = asyncio.get_running_loop().create_task(link.close())
+    def _let_go(self, rests: list[tuple[L, float]], rest: float) -> None:
+        while rests and self.is_at_hand() and time.monotonic() - rests[0][1] >= rest:
+            link, _ = rests.pop(0)
+            self._drop(link)
+
+    def _drop(self, link: AsyncStepLink | StepLink) -> None:
+        """Closes it; until then it counts."""
+        job = asyncio.get_running_loop().create_task(_close(link))
         self._drops.add(job)
-        job.add_done_callback(self._drops.discard)
+        job.add_done_callback(self._dropped)
+
+    def _dropped(self, job: asyncio.Task[None]) -> None:
+        self._drops.discard(job)
+        self._count -= 1
         self._grow()
 
     def _grow(self) -> None:
@@ -197,98 +237,61 @@ class Pool:
                 future.set_exception(errors.OperationalError(CLOSED))
         while self._rests:
             self._drop(self._rests.pop()[0])
+        while self._plain_rests:
+            self._drop(self._plain_rests.pop()[0])
         if self._drops:
             await asyncio.wait(list(self._drops))
 
 
-class ThreadPool:
-    """For functions in threads. A connection is made by whoever wants one, where none rests and there are fewer than `most`: one at a time."""
-
-    def __init__(self, url: str, most: int, prepares: Prepares | None = None) -> None:
-        self._url, self._most, self._count, self._prepares = url, most, 0, prepares
-        self._rests: list[tuple[StepLink, float]] = []
-        self._room = threading.Condition()
-        self._grows = self._is_over = False
-
-    def take(self) -> StepLink:
-        """One, as soon as it is there. Raises `psycopg.OperationalError` where that takes too long."""
-        until, pause = time.monotonic() + links.PATIENCE, AGAIN[0]
-        fault: Exception | None = None
-        while True:
-            link = self._resting_or_turn(until, fault)
-            if link:
-                return link
-            try:
-                made = StepLink.connect(links.address(self._url))
-                assert isinstance(made, StepLink)
-                if self._prepares and self._prepares.works:
-                    made.prepare(self._prepares)
-                link = made
-            except links.FAULTS as error:
-                fault = error
-            with self._room:
-                self._grows = False
-                self._room.notify()
-                if link:
-                    return link
-                self._count -= 1
-                self._room.wait(pause)
-            pause = min(AGAIN[1], 2 * pause)
-
-    def _resting_or_turn(self, until: float, fault: Exception | None) -> StepLink | None:
-        """One that rests; None where it is this one's turn to connect."""
-        with self._room:
-            while True:
-                if self._is_over:
-                    raise errors.OperationalError(CLOSED)
-                while self._rests:
-                    link, _ = self._rests.pop()
-                    if is_there(link):
-                        return link
-                    self._drop(link)
-                left = until - time.monotonic()
-                if left <= 0:
-                    raise errors.OperationalError(NONE_FREE) from fault
-                if self._count < self._most and not self._grows:
-                    self._grows = True
-                    self._count += 1
-                    return None
-                self._room.wait(left)
-
-    def give(self, link: StepLink) -> None:
-        """Nobody uses it any more."""
-        link.row_factory = tuple_row
-        with self._room:
-            if self._is_over or not is_good(link):
-                self._drop(link)
-            else:
-                self._rests.append((link, time.monotonic()))
-            self._room.notify()
-
-    def look(self, rest: float = REST) -> None:
-        """Closes those that rested so long."""
-        with self._room:
-            while self._rests and time.monotonic() - self._rests[0][1] >= rest:
-                self._drop(self._rests.pop(0)[0])
-
-    def _drop(self, link: StepLink) -> None:
-        self._count -= 1
-        with contextlib.suppress(psycopg.Error):
+async def _close(link: AsyncStepLink | StepLink) -> None:
+    with contextlib.suppress(psycopg.Error):
+        if isinstance(link, StepLink):
             link.close()
-
-    def close(self) -> None:
-        """Ends those that rest; the others end as they are given back."""
-        with self._room:
-            self._is_over = True
-            while self._rests:
-                self._drop(self._rests.pop()[0])
-            self._room.notify_all()
+        else:
+            await link.close()
 
 
-def is_there(link: StepLink) -> bool:
-    """Whether it can be used, as far as is known without asking the server."""
-    try:
-        link.pgconn.consume_input()
-    except psycopg.Error:
-        return False
-    return not link.closed
+class LoanState(enum.Enum):
+    """How far a loan is."""
+
+    WAITS = "waits"
+    """The function has not begun."""
+    HELD = "held"
+    OVER = "over"
+    LEFT = "left"
+    """Nobody waits for the function any more."""
+
+
+class Loan:
+    """A connection that a function in a thread is to have. It goes back once: as who called the
+    function goes on (`leave`), or, where that is before the function is over, as it is (`end`)."""
+
+    def __init__(self, pool: Pool, link: StepLink) -> None:
+        self._pool, self._link, self._state = pool, link, LoanState.WAITS
+        self._loop, self._lock = asyncio.get_running_loop(), threading.Lock()
+
+    def begin(self) -> StepLink:
+        """In the thread: the function begins. Raises `psycopg.OperationalError` where it is too
+        late for that."""
+        with self._lock:
+            if self._state is not LoanState.WAITS:
+                raise errors.OperationalError(CLOSED)
+            self._state = LoanState.HELD
+        return self._link
+
+    def end(self) -> None:
+        """In the thread: the function is over."""
+        with self._lock:
+            is_left, self._state = self._state is LoanState.LEFT, LoanState.OVER
+        if is_left:
+            try:
+                self._loop.call_soon_threadsafe(self._pool.give, self._link)
+            except RuntimeError:  # the loop is closed
+                self._link.close()
+
+    def leave(self) -> None:
+        """In the loop: the function is over, or nobody waits for it."""
+        with self._lock:
+            is_held, self._state = self._state is LoanState.HELD, LoanState.LEFT
+        if not is_held:
+            self._pool.give(self._link)

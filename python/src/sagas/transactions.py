@@ -20,7 +20,7 @@ from .definition import Function, Manner
 from .errors import Lost, Unknown
 from .step_commit import UNPREPARED, Fence, recorded
 from .step_links import AsyncStepLink, Prepares, StepLink, check_whole, is_as_made, is_prepared
-from .step_pool import REST, Pool, ThreadPool
+from .step_pool import REST, Loan, Pool
 from .task import Task
 
 if TYPE_CHECKING:
@@ -120,7 +120,7 @@ class Transactions:
     def __init__(self, url: str, where: str, node: str, line: Callable[[], str], writer: Writer, most: int) -> None:
         self._where, self._node, self._line, self._writer = where, node, line, writer
         self._prepares = Prepares(step_commit.PREPARED)
-        self._pool, self._threads = Pool(url, most, self._prepares), ThreadPool(url, most, self._prepares)
+        self._pool = Pool(url, most, self._prepares)
         self._timer: asyncio.TimerHandle | None = None
         self._leaving: set[asyncio.Task[None]] = set()
         self._entered: Attempt | None = None
@@ -133,16 +133,13 @@ class Transactions:
         if self._leaving:
             await asyncio.wait(list(self._leaving), timeout=links.CONNECT)
         await self._pool.close()
-        await asyncio.to_thread(self._threads.close)
 
     def let_go(self) -> None:
         """Closes all that rest: the server may have none left for the store itself, or another one has taken over."""
         self._pool.look(0.0)
-        self._threads.look(0.0)
 
     def _look(self) -> None:
         self._pool.look()
-        self._threads.look()
         self._timer = asyncio.get_running_loop().call_later(LOOK, self._look)
 
     async def call(self, attempt: Attempt, manner: Manner, task: Task[Any], executor: Executor | None, late: Callable[[], object] | None) -> Outcome | None:
@@ -151,13 +148,31 @@ class Transactions:
         Raises `Lost` where nobody knows whether it was committed, or where the log is another node's: then it is looked up."""
         function = manner.function
         assert function
-        in_loop = calling.is_async(function)
-        within = functools.partial(self.within, attempt, function) if in_loop else functools.partial(self._in_thread, self._record(attempt), function)
-        outcome = await calling.call(manner, task, executor, late, within)
+        if calling.is_async(function):
+            within = functools.partial(self.within, attempt, function)
+            outcome = await calling.call(manner, task, executor, late, within)
+        else:
+            outcome = await self._call_plain(attempt, function, manner, task, executor, late)
         record = attempt.record
         if record and (lost := record.lost()):
             raise lost
         return outcome
+
+    async def _call_plain(
+        self, attempt: Attempt, function: Function, manner: Manner, task: Task[Any],
+        executor: Executor | None, late: Callable[[], object] | None,
+    ) -> Outcome | None:  # fmt: skip
+        """In a thread, which has a connection from before it begins."""
+        try:
+            loan = await self._pool.lend()
+        except BaseException as error:
+            fault = as_raised(error) if isinstance(error, psycopg.Error) else error
+            return calling.interrupted(fault, manner)
+        try:
+            within = functools.partial(self._in_thread, self._record(attempt), loan, function)
+            return await calling.call(manner, task, executor, late, within)
+        finally:
+            loan.leave()
 
     def enter(self, attempt: Attempt) -> Take | None:
         """As `callers.Inside`: one that asks for no connection before it first waits costs little more than without a transaction."""
@@ -278,12 +293,12 @@ class Transactions:
         finally:
             self._pool.give(link)
 
-    def _in_thread(self, record: Record, function: Function, task: Task[Any]) -> Any:
+    def _in_thread(self, record: Record, loan: Loan, function: Function, task: Task[Any]) -> Any:
         try:
-            link = self._threads.take()
-            task.enter(link)
-            link.begun = False
+            link = loan.begin()
             try:
+                task.enter(link)
+                link.begun = False
                 value = calling.whole_now(function(task))
                 if link.begun:
                     check_whole(link)
@@ -293,7 +308,7 @@ class Transactions:
                 try:
                     link.leave()
                 finally:
-                    self._threads.give(link)
+                    loan.end()
         except psycopg.Error as error:
             raise record.judged(error)
         return value
