@@ -615,8 +615,11 @@ class Doing:
         return attempt.live.aborted or attempt.attempt < attempt.live.kind.tries[attempt.step]
 
     def forget(self, attempt: Attempt) -> None:
-        """The store does not have it: it had not begun, or its report is there."""
+        """The store does not have it: it had not begun, or its report is there; or another node has
+        its log."""
         attempt.drop_timer()
+        if attempt.is_remote:
+            self.owner.reports.forget(attempt.token())
         if attempt.why == "elsewhere":
             self.owner.elsewhere.gone(attempt)
         if attempt.told and not attempt.told.done():

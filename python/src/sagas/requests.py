@@ -49,6 +49,14 @@ FROM (SELECT) one LEFT JOIN requests r ON r.id = ? LEFT JOIN inbox i ON i.id = ?
 its answer, and whether the start is there still, and no node has taken it. All is of one moment."""
 
 
+ERRORS = {
+    kind.__name__: kind
+    for kind in vars(errors).values()
+    if isinstance(kind, type) and issubclass(kind, SagasError)
+}
+"""Those that an answer may name. One of a later release may name another."""
+
+
 def finish_of(step: str, kind: str, outcome: Outcome) -> dict[str, Any]:
     """What a request says that tells how a step ended."""
     told: dict[str, Any] = {"step": step, "kind": kind}
@@ -60,8 +68,7 @@ def told(answer: Any) -> Any:
     """The answer to a request; raises the error that it names."""
     if isinstance(answer, dict) and "error" in answer:
         name = str(answer["error"]).partition(": ")[0]
-        kind = getattr(errors, name, SagasError)
-        raise kind(reason(answer))
+        raise ERRORS.get(name, SagasError)(reason(answer))
     return answer
 
 

@@ -159,7 +159,8 @@ class Summary:
 class Held:
     """An attempt of which nobody knows what it did. `asked`: a person has to say, by `Store.finish`; else it is made again at `until`.
 
-    `count`: how often it was made; `since`, `until`: wall time in seconds; `error`: what was raised last."""
+    `token`: the attempt's, as `Task.token`. `count`: how often it was made; `since`, `until`: wall
+    time in seconds; `error`: what was raised last."""
 
     key: str
     saga: str

@@ -4,8 +4,9 @@ from __future__ import annotations
 
 import functools
 import time
+from collections import OrderedDict
 from collections.abc import Callable, Iterator
-from typing import TYPE_CHECKING
+from typing import TYPE_CHECKING, Optional
 
 from prometheus_client import CollectorRegistry, Counter, Gauge, Histogram
 from prometheus_client.core import CounterMetricFamily, GaugeMetricFamily, Metric
@@ -21,6 +22,10 @@ SECONDS = (0.01, 0.03, 0.1, 0.3, 1, 3, 10, 30, 100, 300, 1000, 3600, 86400)
 TOLD = {"step_done": "done", "step_missed": "missed", "step_failed": "failed", "step_unknown": "unknown"}
 FAULTS = ("child_died", "commit_failed", "audit_failed", "lease_lapsed", "log_lost")
 TYPE = CONTENT_TYPE_LATEST
+MOST_BEGUN = 100_000
+"""Attempts of which it is known when they began."""
+Begun = tuple[Optional[str], Optional[str], bool, Optional[int]]
+"""key, step, undo, attempt"""
 
 
 class Metrics:
@@ -31,7 +36,7 @@ class Metrics:
         self._service = service
         self.counts: dict[str, dict[str, int]] = {}
         self.asked: dict[str, int] = {}
-        self._began: dict[tuple[str | None, str | None, bool, int | None], float] = {}
+        self._began: OrderedDict[Begun, float] = OrderedDict()
         self.started = self._counter("sagas_started", "Sagas that were started", "saga")
         self.ended = self._counter("sagas_ended", "Sagas that ended, by how", "saga", "phase")
         self.aborted = self._counter("sagas_aborted", "Sagas that were aborted", "saga")
@@ -68,8 +73,9 @@ class Metrics:
         elif event.name == "log_taken":
             self.logs_taken.inc()
         elif event.name == "step_begun":
-            if len(self._began) < 100_000:
-                self._began[event.key, event.step, event.undo, event.attempt] = event.at
+            self._began[event.key, event.step, event.undo, event.attempt] = event.at
+            if len(self._began) > MOST_BEGUN:  # the first of them may have ended at other nodes
+                self._began.popitem(last=False)
         elif outcome:
             kind = "undo" if event.undo else "run"
             self.steps(saga, event.step, kind, outcome).inc()

@@ -1,0 +1,23 @@
+"""What is answered to requests, and what a caller makes of it."""
+
+from __future__ import annotations
+
+import pytest
+
+import sagas
+from sagas import requests
+
+
+@pytest.mark.parametrize("name", ["annotations", "SagasError", "Later", "__doc__", "", "no error: "])
+def test_an_answer_that_names_no_error_of_this_release(name: str) -> None:
+    """It is an error all the same: what answers may be of another release."""
+    with pytest.raises(sagas.SagasError) as raised:
+        requests.told({"error": f"{name}: why" if name else "why"})
+    assert type(raised.value) is sagas.SagasError and str(raised.value)
+
+
+def test_an_answer_that_names_an_error() -> None:
+    """It is raised, with why; whatever else is answered is given."""
+    with pytest.raises(sagas.NotWaiting, match="^it is over: it is done$"):
+        requests.told({"error": "NotWaiting: it is over: it is done"})
+    assert requests.told(True) is True and requests.told({"a": 1}) == {"a": 1}
