@@ -306,6 +306,114 @@ def test_a_log_that_a_node_has_no_functions_for_is_left(url: str) -> None:
     run(main())
 
 
+def test_what_no_node_drives_is_told(url: str, caplog: pytest.LogCaptureFixture) -> None:
+    """A node that lacks the functions of open sagas says once which they are and how many, as soon
+    as nobody has driven them for a lease. What was left is forgotten once it is closed."""
+    gate, calls = asyncio.Event(), list[str]()
+    old, new = pair(gate, calls), simple(lambda task: 1)
+    says = (
+        f"/{url.rpartition('/')[2]}: no node drives 1 log, since none has the functions of their "
+        "open sagas: pair (version 1): 3 sagas in 1 log. Start a program that has them"
+    )
+
+    def warnings() -> list[str]:
+        return [one.getMessage() for one in caplog.records if "no node drives" in one.getMessage()]
+
+    async def main() -> None:
+        async with sagas.open(url, [old], grace=0.0) as store:
+            for number in range(3):
+                await store.start(old, f"old {number}")
+            await until(lambda: len(calls) == 3)
+        async with sagas.open(url, [new], lease=1.0) as store:
+            lease = store._inside.store.lease  # type: ignore[attr-defined]
+            (log,) = lease.left
+            await until(warnings)
+            turn = lease._turn
+            await until(lambda: lease._turn > turn + 4)
+            assert len(warnings()) == 1 and says in warnings()[0]
+            gate.set()
+            async with sagas.open(url, [old], lease=1.0):
+                for number in range(3):
+                    assert (await store.wait(f"old {number}")).ok
+                await until(lambda: records.read(url).logs[log].closed)
+            await until(lambda: not lease.left)
+            assert len(warnings()) == 1
+
+    run(main())
+
+
+class Nowhere:
+    """A queue of a broker that no worker listens to."""
+
+    timeout = 0.05
+
+    def declare(self, step: Any, kind: str, manner: Any) -> None: ...
+
+    async def check(self, database: Any, steps: Any) -> None: ...
+
+    async def send(self, order: Any) -> None: ...
+
+
+def test_nothing_is_kept_of_reports_that_another_node_waits_for(url: str) -> None:
+    """Attempts that were ordered elsewhere, and of which nobody knows, go to another node."""
+    tokens: list[str] = []
+
+    def kind_of() -> sagas.Saga:
+        kind = sagas.Saga("ordered")
+
+        @kind.step(run_on=Nowhere(), backoff=sagas.Backoff(first=60, most=60))
+        def a(task: Task) -> None: ...
+
+        return kind
+
+    async def main() -> None:
+        first, second = kind_of(), kind_of()
+        async with sagas.open(url, [first], node="same", grace=0.0) as store:
+            for number in range(3):
+                await store.start(first, f"k{number}")
+            waiting = store._inside.reports._waiting
+            await until(lambda: asked_all(store, 3))
+            assert len(waiting) == 3
+            tokens.extend(waiting)
+            async with sagas.open(url, [second], node="same", grace=0.0) as other:
+                await until(lambda: not store._inside.lives)
+                assert not waiting
+                assert {held.token for held in await other.unknown()} == {*tokens}
+
+    run(main())
+
+
+async def asked_all(store: sagas.Store, count: int) -> bool:
+    """Whether so many attempts are known to be unknown."""
+    return len(await store.unknown()) == count
+
+
+def test_a_lost_connection_is_no_childs_death(postgresql: Server, url: str) -> None:
+    """The server cannot be reached as logs are to be taken up: that is said of the database."""
+    gate, calls, told = asyncio.Event(), list[str](), list[sagas.Event]()
+    kind = pair(gate, calls)
+
+    def not_taken_up() -> int:
+        return sum("is not taken up yet" in (event.detail or "") for event in told)
+
+    async def main() -> None:
+        with relaying(postgresql.port) as relay:
+            place = postgresql.url(url.rpartition("/")[2], port=relay.port)
+            async with sagas.open(place, [kind], lease=60, on_event=told.append) as store:
+                await store.start(kind, "k")
+                await until(lambda: calls)
+                relay.before = 1.0
+                relay.cut()
+                gate.set()
+                await until(lambda: not_taken_up() > 2)
+                relay.before = 0.0
+                assert (await store.wait("k")).ok
+
+    run(main())
+    assert "child_died" not in {event.name for event in told}
+    assert "commit_failed" in {event.name for event in told}
+
+
 def test_a_rolling_deploy_of_a_changed_definition(url: str) -> None:
     """Sagas of the old definition go on with the old functions while their node is there, and then by that definition with the new ones."""
     gates = {"stays": asyncio.Event(), "leaves": asyncio.Event()}

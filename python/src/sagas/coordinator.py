@@ -155,10 +155,15 @@ class Coordinator:
 
     def trouble(self, pump: Pump, error: SagasError) -> None:
         """A log could not be taken up: at the opening that is an error, later it is tried again."""
-        self.teller.tell("child_died", detail=f"log {pump.name}: {error}")
+        if isinstance(error, StoreUnwritable):
+            detail = f"log {pump.name} is not taken up yet: {error}"
+            self.teller.tell("commit_failed", detail=detail)
+        else:
+            self.teller.tell("child_died", detail=f"log {pump.name}: {error}")
         self.changed()
         if self._opening and not self._opening.done():
-            self._opening.set_exception(error if isinstance(error, ChildError) else ChildError(str(error)))
+            is_named = isinstance(error, (ChildError, StoreUnwritable))
+            self._opening.set_exception(error if is_named else ChildError(str(error)))
 
     # -- one writer
 

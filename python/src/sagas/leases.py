@@ -10,14 +10,17 @@ import os
 import secrets
 import socket
 import time
+import tomllib
 from collections.abc import Sequence
 from typing import TYPE_CHECKING, Any
 
 from .guarded import logger
+from .kinds import version_of
 from .links import LINE, Asker
 from .questions import OPENED
 from .records import LogRow
 from .schema import ROOM
+from .spoken import number
 
 if TYPE_CHECKING:
     from .database import Drives
@@ -44,8 +47,13 @@ entered AS (INSERT INTO nodes(node, name, version, kinds, since, lease)
 """
 LOOK = f"""
 SELECT {LINE}, EXISTS (SELECT 1 FROM said UNION ALL SELECT 1 FROM entered), EXISTS (SELECT 1 FROM logs l WHERE {ORPHAN} AND l.log <> ALL(%(left)s::bigint[])),
-  EXISTS (SELECT 1 FROM inbox i WHERE {UNTAKEN}) OR EXISTS (SELECT 1 FROM requests WHERE answer IS NULL)
+  EXISTS (SELECT 1 FROM inbox i WHERE {UNTAKEN})
+    OR EXISTS (SELECT 1 FROM requests WHERE answer IS NULL),
+  (SELECT coalesce(json_agg(json_build_array(l.log, {LIVE.format('l.owner')})), '[]') FROM logs l
+   WHERE l.log = ANY(%(left)s::bigint[]) AND l.closed = 0)
 """
+"""The last column: of the logs that are left to others those that are not closed, and whether a
+node drives each."""
 PLACES = f"ARRAY(SELECT DISTINCT def FROM sagas WHERE id >= l.log * {ROOM} AND id < (l.log + 1) * {ROOM} AND phase IS NULL)"
 """Of the definitions of a log, those with open sagas."""
 CANDIDATES = f"""
@@ -63,6 +71,12 @@ WHERE log = ANY(%(logs)s::bigint[]) AND owner = %(node)s ORDER BY log
 """What is in the logs that were taken. By a statement behind the taking: one that counted as it took would not see the last commit of a node that still wrote.
 
 Each row is one text, which psycopg reads in less time than several cells."""
+UNDRIVEN = f"""
+SELECT texts::json ->> def, count(DISTINCT log), count(*) FROM logs l JOIN shelves USING (shelf)
+JOIN sagas s ON s.id >= log * {ROOM} AND s.id < (log + 1) * {ROOM} AND phase IS NULL
+WHERE log = ANY(%(logs)s::bigint[]) GROUP BY 1 ORDER BY 1
+"""
+"""The definitions of the open sagas of these logs: of how many logs, and how many sagas."""
 LEAVE = "UPDATE logs SET owner = NULL, epoch = epoch + 1 WHERE log = ANY(%(logs)s::bigint[]) AND owner = %(node)s"
 SPARE = """
 UPDATE logs l SET owner = NULL, epoch = epoch + 1
@@ -100,7 +114,9 @@ class Lease:
         self.name = name or f"{socket.gethostname()}-{os.getpid()}"
         self.node = f"{self.name}/{secrets.token_hex(4)}"
         self.seconds, self.version, self._asker, self._kinds = seconds, version, asker, [*kinds]
-        self.left: set[int] = set()  # logs that this program lacks functions for
+        self.left: set[int] = set()  # open logs that this program lacks functions for
+        self._undriven: dict[int, float] = {}  # those that no node drives, since when, by `now`
+        self._told: set[int] = set()  # of which that was told
         # until when this node does not take it, and when it was given back, by the server's clock
         self._spared: dict[int, tuple[float, float]] = {}
         self.fresh = True  # no function was kept from beginning since the last beat
@@ -127,11 +143,14 @@ class Lease:
         asked = now()
         self._turn += 1
         own = self._turn % max(1, len(mine) // OWN) == 0
+        before = self._passed()
         words = {
             "own": own, "node": self.node, "name": self.name, "version": self.version,
-            "kinds": self._kinds, "lease": self.seconds, "left": self._passed(), "mine": mine,
+            "kinds": self._kinds, "lease": self.seconds, "left": before, "mine": mine,
         }  # fmt: skip
-        ((line, is_there, orphans, asks),) = await self._asker.ask(SAY + LOOK, enters=self._enters, **words)
+        rows = await self._asker.ask(SAY + LOOK, enters=self._enters, **words)
+        ((line, is_there, orphans, asks, left),) = rows
+        self._look_at_left(before, dict(left))
         self._enters = not is_there
         if not is_there:
             self._until = asked
@@ -152,6 +171,29 @@ class Lease:
         for at, _ in rows:
             self._spared[log] = now() + SPARED, at
         return bool(rows)
+
+    def _look_at_left(self, before: Sequence[int], left: dict[int, bool]) -> None:
+        """Of those that were left, these are open still: whether a node drives each."""
+        self.left -= {log for log in before if log not in left}
+        undriven = [log for log, driven in left.items() if log in self.left and not driven]
+        self._undriven = since = {log: self._undriven.get(log, now()) for log in undriven}
+        self._told &= since.keys()
+
+    async def warn(self) -> None:
+        """Tells of logs that no node has driven for as long as a lease, each once: a node that is
+        gone had its time, and so had those that would take its logs."""
+        old = [log for log, since in self._undriven.items() if now() - since >= self.seconds]
+        if not (logs := [log for log in old if log not in self._told]):
+            return
+        rows = await self._asker.read(UNDRIVEN, logs=logs)
+        self._told.update(logs)
+        if rows:
+            whose = "; ".join(_undriven(*row) for row in rows)
+            logger.warning(
+                "%s: no node drives %s, since none has the functions of their open sagas: %s. "
+                "Start a program that has them (`sagas store URL nodes` tells of them too)",
+                self._asker.where, number(len(logs), "log"), whose,
+            )  # fmt: skip
 
     async def begin(self) -> str:
         """An earlier run under this name is over: its logs are free at once. Gives the server's timeline."""
@@ -189,3 +231,10 @@ class Lease:
     async def end(self) -> None:
         """What this node has is free for others, now."""
         await self._asker.ask(HAND_OVER, node=self.node)
+
+
+def _undriven(text: str, logs: int, sagas: int) -> str:
+    """The open sagas of a definition, in so many logs."""
+    told = tomllib.loads(text)
+    count = f"{number(sagas, 'saga')} in {number(logs, 'log')}"
+    return f"{told['name']} (version {version_of(text)}): {count}"

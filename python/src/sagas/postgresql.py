@@ -203,6 +203,7 @@ class PostgreSQL(questions.Questions):
             self._watcher.taken(rows)
         if asks:
             self._watcher.look()
+        await self.lease.warn()
         if len(self._numbers) < NUMBERS // 2:
             await self._count()
 
