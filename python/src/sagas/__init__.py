@@ -35,6 +35,7 @@ if sys.version_info < (3, 11):
     raise ImportError(f"sagas needs Python 3.11 or later, and this is {sys.version.split()[0]}")
 
 from . import databases
+from .approvals import Approved, Rejected
 from .attention import Attention, AttentionReason
 from .definition import NEVER, Backoff, Price, Saga, Step
 from .elsewhere import Leased, Queue
@@ -55,6 +56,7 @@ from .errors import (
     NotHere,
     NotJson,
     NotWaiting,
+    PlacesTaken,
     ReportedOtherwise,
     SagasError,
     StoreFault,
@@ -64,6 +66,7 @@ from .errors import (
     TooLarge,
     Unknown,
     Unstorable,
+    WouldWaitForever,
     WrongStore,
 )
 from .events import Event
@@ -112,6 +115,7 @@ def __dir__() -> list[str]:
 
 __all__ = [
     "NEVER",
+    "Approved",
     "Attention",
     "AttentionReason",
     "Backoff",
@@ -141,9 +145,11 @@ __all__ = [
     "NotHere",
     "NotJson",
     "NotWaiting",
+    "PlacesTaken",
     "Plan",
     "Price",
     "Queue",
+    "Rejected",
     "ReportedOtherwise",
     "Run",
     "Saga",
@@ -166,6 +172,7 @@ __all__ = [
     "Unstorable",
     "Verdict",
     "Worker",
+    "WouldWaitForever",
     "WrongStore",
     "audit",
     "check",

@@ -12,6 +12,7 @@ from collections.abc import Awaitable, Callable, Coroutine, Generator, Sequence
 from typing import Any, Protocol
 
 from . import calling
+from .called import CALLED
 from .calling import Outcome
 from .definition import Function
 from .live import Attempt
@@ -156,6 +157,7 @@ class Callers:
         if not self._begins(attempt):
             return
         began = time.monotonic()
+        CALLED.set(attempt)
         try:
             task: Task[Any] = Task(attempt)
             work = self._inside.within(attempt, function, task) if self._inside else function(task)
@@ -168,6 +170,7 @@ class Callers:
         """Its function up to where it waits: then what is left."""
         function, began, context, turns, inside = attempt.action.simple, time.monotonic(), self._context.copy(), self._turns, self._inside
         assert function
+        context.run(CALLED.set, attempt)
         task: Task[Any] = Task(attempt)
         if inside:
             take = inside.enter(attempt)
@@ -214,6 +217,7 @@ class Callers:
         return self._wait(attempt, began, task, rest)
 
     async def _wait(self, attempt: Attempt, began: float, task: Task[Any], rest: Awaitable[Any]) -> None:
+        CALLED.set(attempt)
         try:
             outcome: Outcome | None = calling.done(await rest, task)
         except BaseException as error:

@@ -3,6 +3,7 @@
 from __future__ import annotations
 
 import asyncio
+import contextvars
 import functools
 import inspect
 import json
@@ -12,7 +13,8 @@ from collections.abc import Awaitable, Callable
 from concurrent.futures import Executor
 from typing import Any, NamedTuple, cast
 
-from . import values
+from . import called, values
+from .approvals import Answer, answering
 from .definition import Manner, Unknowns
 from .errors import CannotDecode, Fail, NotJson, Unknown
 from .events import quoted
@@ -23,11 +25,13 @@ MOST_TEXT = 4000
 CANNOT_DECODE = "cannot_decode"
 """The kind of an outcome: this program cannot read what the store has for the function, and so
 cannot do it."""
+ANSWERED = "answered"
+"""The kind of an outcome: the function of an approval says how it ends, and nobody is asked."""
 
 
 class Outcome(NamedTuple):
-    """`kind` is `done`, `failed`, `final` (failed, and no further try is made), `unknown` or
-    `cannot_decode`.
+    """`kind` is `done`, `failed`, `final` (failed, and no further try is made), `unknown`,
+    `cannot_decode` or `answered`.
 
     `value` is JSON: the result, or what was raised; of the last two it is a text.
 
@@ -51,6 +55,14 @@ def failure(text: str, final: bool = False, called: bool = True) -> Outcome:
     if not called:
         told["called"] = False
     return Outcome("final" if final else "failed", json.dumps(told), called)
+
+
+def answered(outcome: Outcome) -> Outcome:
+    """How an approval ended of which its function said so."""
+    told = json.loads(outcome.value)
+    if "rejected" in told:
+        return failure(told["rejected"], final=True)
+    return Outcome("done", json.dumps(told["approved"], separators=(",", ":"), sort_keys=True))
 
 
 def outcome_of(result: Any, failed: str | None, final: bool = True) -> Outcome:
@@ -93,6 +105,8 @@ def done(value: Any, task: Task[Any] | None = None) -> Outcome:
     try:
         return _outcome(("done", values.write(value), True, None))
     except NotJson as error:
+        if isinstance(value, Answer):
+            return Outcome(ANSWERED, value.written())
         if inspect.isawaitable(value):
             raise Unawaited(value) from None
         whose = f" key={quoted(task.key)} saga={task.saga} step={task.step}" if task else ""
@@ -165,6 +179,8 @@ async def call(
     `late` is called where a thread takes longer than its time: it is waited for, since it cannot be stopped. `function`: one in place of the manner's."""
     function = function or manner.function
     assert function
+    if manner.asks:
+        function = answering(function)
     try:
         if not is_async(function):
             return await _in_thread(function, manner, task, executor, late)
@@ -202,7 +218,8 @@ async def _in_time(work: Awaitable[Any], left: float, task: Task[Any], manner: M
 def _guarded(function: Callable[[Task[Any]], Any], task: Task[Any]) -> tuple[Any, BaseException | None]:
     pid = os.getpid()
     try:
-        return function(task), None
+        with called.in_thread():
+            return function(task), None
     except BaseException as error:  # a future would not take each of them
         return None, error
     finally:
@@ -224,7 +241,10 @@ async def _in_thread(
 
     timer = loop.call_later(manner.timeout, over) if manner.timeout is not None else None
     try:
-        value, error = await loop.run_in_executor(executor, _guarded, function, task)
+        context = contextvars.copy_context()
+        value, error = await loop.run_in_executor(
+            executor, lambda: context.run(_guarded, function, task)
+        )
     finally:
         if timer:
             timer.cancel()

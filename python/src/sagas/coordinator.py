@@ -15,6 +15,7 @@ from .carrying import Carrying
 from .children import Children
 from .doing import Doing
 from .database import Database
+from .deadlocks import Waits
 from .elsewhere import Elsewhere
 from .errors import ChildError, Closed, Lost, SagasError, StoreUnwritable
 from .events import Teller
@@ -64,6 +65,7 @@ class Coordinator:
         self.has_told = False  # who waited for a start or an end goes on in the loop's next turn
         self.holding = Holding()
         self.carrying = Carrying(self)
+        self.waits = Waits(self)
         self._opening: asyncio.Future[None] | None = None
         self._loading: set[Pump] = set()
         self._rested: asyncio.Event = asyncio.Event()
@@ -419,6 +421,7 @@ class Coordinator:
                 pump.sleep()
                 self.children.gone(pump)
         self.children.turn()
+        self.waits.look()
         if self.store.shared and now >= self._offers:
             self._offers = now + unread.PAUSE
             unread.offer_all(self)

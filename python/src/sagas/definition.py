@@ -116,6 +116,8 @@ class Manner:
     """It has no function here: a person or another program says how it ended (`Store.finish`)."""
     transaction: bool = False
     """It is a transaction in the store's database, which its result is part of."""
+    asks: bool = False
+    """It is an approval's function: it asks somebody, or says at once how that ends."""
     implied: bool = False
     """Nobody declared it: a wait, an approval, or a step with `undo=0` is undone by doing nothing."""
     run_on: RunOn | None = None
@@ -324,13 +326,17 @@ class Saga:
     ) -> Any:
         """Decorator: a step that a person, or another program, says done or failed by `Store.finish`. `@saga.approval` does, too.
 
-        Its function asks for that (sends the mail, say), and returns nothing. Where nobody has said anything `within` the time since (seconds, or a
+        Its function asks for that (sends the mail, say), and returns nothing; or it says at once
+        how
+        that ends: `sagas.Approved(result)` or `sagas.Rejected(why)`, and nobody is asked. Where
+        nobody has said anything `within` the time since (seconds, or a
         timedelta), it has failed.
         A saga that is undone meanwhile does not wait for it; that counts as one of its `tries`. Without a compensation it is undone by doing nothing;
         `undo=NEVER` says that it cannot be taken back."""
 
         def declare(function: Callable[[Any], Any]) -> Step[Any]:
             manner = Manner(function, tries, timeout if timeout is None else seconds(timeout), backoff)
+            manner.asks = True
             step = self._add(function, name, "approval", needs, {"run": 0, "undo": undo, "skip": skip, "keep": 0}, manner, None)
             step.within = faults.within(step, within)
             return step

@@ -14,9 +14,10 @@ from collections.abc import Callable, Sequence
 from concurrent.futures import Executor
 from typing import TYPE_CHECKING, Any
 
-from . import calling, remote
+from . import calling, deadlocks, remote
+from .called import CALLED
 from .callers import Callers
-from .calling import CANNOT_DECODE, Outcome
+from .calling import ANSWERED, CANNOT_DECODE, Outcome
 from .definition import Manner, Step
 from .errors import CannotDecode, Closed, Fail, Lost, NotWaiting, SagasError
 from .fleet import Fleet, Gate
@@ -171,7 +172,9 @@ class Doing:
 
     def _set_timer(self, attempt: Attempt) -> None:
         assert attempt.until is not None
-        most = max(LEAST_PAUSE, attempt.manner.backoff.most) if attempt.why in COUNTED else LOOK
+        most = LOOK
+        if attempt.why in COUNTED:
+            most = max(LEAST_PAUSE, attempt.manner.backoff.most, attempt.pause)
         attempt.timer = self.owner.loop.call_later(max(0.0, min(most, attempt.until - self.owner.clock())), self._look, attempt)
 
     def _look(self, attempt: Attempt) -> None:
@@ -324,6 +327,7 @@ class Doing:
         if not self._begins(attempt):
             return
         fault, began = None, time.monotonic()
+        CALLED.set(attempt)
         try:
             outcome = await self._elsewise(attempt, attempt.manner)
         except Lost as error:
@@ -418,6 +422,8 @@ class Doing:
             self.unknown(attempt, outcome)
         elif outcome.kind == CANNOT_DECODE:
             self.park(attempt, outcome)
+        elif outcome.kind == ANSWERED:
+            self.outcome(attempt, calling.answered(outcome))
         elif outcome.kind == "done" and self._asks(attempt):
             within = self._step(attempt).within
             attempt.since, attempt.fresh = self.owner.clock(), True
@@ -442,7 +448,9 @@ class Doing:
         attempt.outcome = outcome
         most = manner.unknown_most
         over = now - attempt.since >= most.total_seconds() if isinstance(most, datetime.timedelta) else most is not None and attempt.count > most
-        until = None if over else now + max(LEAST_PAUSE, manner.backoff.after(attempt.count))
+        own = manner.backoff.after(attempt.count)
+        attempt.pause = max(LEAST_PAUSE, own, deadlocks.pause(attempt))
+        until = None if over else now + attempt.pause
         times = f"; {attempt.count} times by now" if attempt.count > 1 else ""
         self._tell(attempt, "step_unknown", f"{outcome.value}{times}{'; a person has to say' if over else ''}")
         self._put_row(attempt, "unknown", until, error=outcome.value)

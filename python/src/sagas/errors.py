@@ -132,3 +132,21 @@ class Fail(SagasError):
     """Raised by a step's function: it had no effect, and no further try will help. The tries that are left are not made."""
 
     __module__ = "sagas"
+
+
+class WouldWaitForever(SagasError):
+    """A step's function would wait for what ends only behind it: for its own saga, or for one that
+    waits for it; or it says of its own approval how that ended.
+
+    The text names both. Wait outside of the saga's steps; let an approval's function return
+    `Approved` or `Rejected`."""
+
+    __module__ = "sagas"
+
+
+class PlacesTaken(WouldWaitForever, Unknown):
+    """All places of the store's `concurrency` are taken by functions that wait for sagas, which
+    need a place themselves. As with any `Unknown`, the attempt
+    is made again, after its back-off, and takes no place until then. Give the store more places."""
+
+    __module__ = "sagas"

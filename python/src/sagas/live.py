@@ -133,7 +133,12 @@ class Attempt:
 
     `why` it is held: backoff, unknown, wait, approval, elsewhere, limit. `fresh`: it cannot have been called, by this program or an earlier one."""
 
-    __slots__ = ("live", "step", "kind", "attempt", "action", "word", "state", "why", "fresh", "outcome", "at", "timer", "job", "since", "count", "has_row", "request", "told", "until", "pending", "awaited", "lease", "took", "event", "record", "recorded", "results")
+    __slots__ = (
+        "live", "step", "kind", "attempt", "action", "word", "state", "why", "fresh", "outcome",
+        "at", "timer", "job", "since", "count", "has_row", "request", "told", "until", "pending",
+        "awaited", "lease", "took", "event", "record", "recorded", "results", "thread", "pause",
+        "gave_way",
+    )  # fmt: skip
 
     def __init__(self, live: Live, step: int, kind: str, attempt: int, fresh: bool) -> None:
         self.live = live
@@ -161,6 +166,9 @@ class Attempt:
         self.event = ""  # that its report came to
         self.record: Record | None = None  # of the transaction that it is called in
         self.recorded = False  # its result is in the store, with what it wrote
+        self.pause = 0.0  # seconds until it is called again, of which nobody knows what it did
+        self.gave_way = False  # its wait was given up, so that others have its place
+        self.thread: int | None = None  # that calls its plain function
         self.results = live.results  # of the steps that stand as it begins, and stay in it
 
     @property

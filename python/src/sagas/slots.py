@@ -92,6 +92,10 @@ class Slots:
                 self.come(following)
                 return
 
+    def is_waiting(self, attempt: Attempt) -> bool:
+        """Whether it waits for a place."""
+        return attempt in self._ready
+
     def clear(self) -> None:
         """Nothing that waits begins any more."""
         self._ready.clear()

@@ -16,7 +16,10 @@ from collections.abc import Callable, Iterable
 from types import TracebackType
 from typing import TYPE_CHECKING, Any
 
-from . import auditing, checks, databases, histories, moving, program, requests, retention, starting, under_way, values, waiting
+from . import (
+    auditing, called, checks, databases, histories, moving, program, requests, retention, starting,
+    under_way, values, waiting,
+)  # fmt: skip
 from .anywhere import Anywhere
 from .attention import Attention
 from .calling import MOST_TEXT, Outcome, outcome_of
@@ -24,7 +27,10 @@ from .coordinator import Coordinator
 from .database import Reader
 from .definition import Saga, Seconds, Step
 from .elsewhere import Leased, Queue, Word
-from .errors import Closed, KeyConflict, Moved, NoSuchSaga, NotWaiting, SagasError, StoreUnwritable
+from .errors import (
+    Closed, KeyConflict, Moved, NoSuchSaga, NotWaiting, SagasError, StoreUnwritable,
+    WouldWaitForever,
+)  # fmt: skip
 from .events import Hook, Teller
 from .faults import meant
 from .forks import Opened, private
@@ -237,9 +243,20 @@ class Store:
                 finding.set_result(None)
 
     async def wait(self, key: str, timeout: float | None = None) -> End:
-        """Waits for a saga's end, at most `timeout` seconds; then `TimeoutError`, which says what it waits for. Raises `NoSuchSaga`, `Closed`."""
+        """Waits for a saga's end, at most `timeout` seconds; then `TimeoutError`, which says what
+        it waits for. Raises `NoSuchSaga`, `Closed`; and
+        `WouldWaitForever` in a step's function without which the saga cannot end."""
         if timeout is not None:
-            return await waiting.in_time(key, self.wait(key), timeout, lambda: self.waits_for(key))
+            return await waiting.in_time(
+                key, self._until_ended(key), timeout, lambda: self.waits_for(key)
+            )
+        inside = self._here()
+        if caller := called.waiter(inside):
+            return await inside.waits.during(caller, key, self._until_ended(key))
+        return await self._until_ended(key)
+
+    async def _until_ended(self, key: str) -> End:
+        """As `wait`, for who gives it up by himself."""
         inside = self._here()
         live = inside.lives.get(key)
         if live is not None and live.is_doubtful:
@@ -387,6 +404,11 @@ class Store:
         while not inside.doing.is_asked(attempt):
             if inside.lives.get(key) is not attempt.live:
                 raise Moved(f"saga {key!r}")
+            if attempt is called.waiter(inside) and inside.doing.will_be_asked(attempt):
+                raise WouldWaitForever(
+                    f"step {step!r} of saga {key!r} says itself how it ended, before it is asked: "
+                    "return sagas.Approved(result) or sagas.Rejected(why) in place of that"
+                )
             if not inside.doing.will_be_asked(attempt):
                 raise NotWaiting(f"saga {key!r}, step {step!r}: nobody has to say how it ended: {under_way.said(inside, attempt)}")
             await attempt.change()
@@ -503,6 +525,11 @@ class Store:
 
     async def settled(self) -> None:
         """Waits until no saga is open: for a program that only settles what is there (`open(.., new=False)`), and for tests."""
+        if caller := called.waiter(self._inside):
+            raise WouldWaitForever(
+                f"step {caller.name!r} of saga {caller.live.key!r} waits until no saga is open, "
+                "and its own is: wait for that outside of a step"
+            )
         await self._inside.settled()
 
     # -- questions

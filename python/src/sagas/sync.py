@@ -101,7 +101,8 @@ class SyncStore:
 
     def wait(self, key: str, timeout: float | None = None) -> End:
         """As `Store.wait`, at most `timeout` seconds; then `TimeoutError`, which says what the saga waits for."""
-        return self._loop.in_time(key, self._store.wait(key), timeout, lambda: self._store.waits_for(key))
+        work = self._store.wait(key) if timeout is None else self._store._until_ended(key)
+        return self._loop.in_time(key, work, timeout, lambda: self._store.waits_for(key))
 
     def abort(self, key: str, *, by: str | None = None, note: str | None = None) -> bool:
         """As `Store.abort`."""

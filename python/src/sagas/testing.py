@@ -23,7 +23,7 @@ from typing import Any
 from . import calling, faults, lines, program, values
 from .calling import Outcome
 from .definition import Manner, Saga, Step, Until
-from .errors import ChildError, DefinitionError, Fail
+from .errors import CannotDecode, ChildError, DefinitionError, Fail
 from .kinds import Kind
 from .runs import Answering
 from .scripts import Answers, Attempts as Attempts, Rule, Script, answers_of, name_of, script
@@ -318,6 +318,8 @@ class _Player:
         if manner.elsewhere:
             return self._answer(due, declared)
         outcome = await self._call(manner, due)
+        if outcome.kind == calling.ANSWERED:
+            return calling.answered(outcome)
         if outcome.kind != "done":
             return outcome
         self.returns[due.step, due.kind] += 1
@@ -343,6 +345,8 @@ class _Player:
             raise asyncio.CancelledError
         if self.fault:
             raise self.fault
+        if outcome.kind == calling.CANNOT_DECODE:
+            raise CannotDecode(outcome.value)
         if outcome.kind == "done" and due.kind == "run" and self._step(due.step).kind != "approval":
             values.stored(json.loads(outcome.value), task.step)
         return outcome

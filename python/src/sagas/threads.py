@@ -8,7 +8,7 @@ import threading
 from collections.abc import Callable, Coroutine
 from typing import Any, TypeVar
 
-from . import waiting
+from . import called, waiting
 from .errors import Closed
 from .forks import Opened
 
@@ -56,7 +56,8 @@ class Loop:
         if threading.current_thread() is self._thread:
             work.close()
             raise RuntimeError(f"{self.where}: called in its own loop, which would wait for itself: make the function a plain def, or open it with async")
-        future = asyncio.run_coroutine_threadsafe(work, self._loop)
+        with called.blocking():
+            future = asyncio.run_coroutine_threadsafe(work, self._loop)
         try:
             return future.result(timeout)
         except BaseException:

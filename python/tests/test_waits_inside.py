@@ -1,0 +1,319 @@
+"""Functions of steps that wait for sagas: what can end is waited for, and what cannot is refused by
+name."""
+
+from __future__ import annotations
+
+import asyncio
+import threading
+from collections.abc import Callable
+from typing import Any
+
+import pytest
+
+import sagas
+import sagas.testing
+from cases import QUICK, Task, run, simple, until
+
+FOR_EVER = sagas.WouldWaitForever
+
+
+def chain(first: Callable[[Task], Any], **words: Any) -> sagas.Saga:
+    """One step of that function, by the name `parent`."""
+    saga = sagas.Saga("parent")
+    saga.step(name="p", backoff=QUICK, **words)(first)
+    return saga
+
+
+async def heard(place: str, act: Callable[[Any, Task], Any], key: str, **words: Any) -> str:
+    """What a step's function is told that does this with its store."""
+    told: list[str] = []
+    stores: list[Any] = []
+
+    async def p(task: Task) -> None:
+        try:
+            await act(stores[0], task)
+        except FOR_EVER as error:
+            told.append(str(error))
+
+    saga = chain(p, **words)
+    async with sagas.open(place, [saga]) as store:
+        stores.append(store)
+        assert (await (await store.start(saga, key)).wait(timeout=60)).ok
+    return told[0]
+
+
+@pytest.mark.parametrize("words", [{}, {"timeout": 50}, {"limit": 2}])
+def test_its_own_saga(place: str, words: dict[str, Any]) -> None:
+    """However the function is called."""
+
+    async def main() -> None:
+        async def wait(store: sagas.Store, task: Task) -> None:
+            await store.wait(task.key)
+
+        async def later(store: sagas.Store, task: Task) -> None:
+            await asyncio.sleep(0.01)
+            run = store.get(task.key)
+            assert run
+            await run.wait()
+
+        async def settled(store: sagas.Store, task: Task) -> None:
+            await store.settled()
+
+        told = [await heard(place, act, f"k{n}", **words) for n, act in enumerate((wait, later))]
+        assert told == [
+            f"step 'p' of saga 'k{n}' waits for its own saga, which ends only behind it: "
+            "wait for it outside of the saga's own steps"
+            for n in range(2)
+        ]
+        said = await heard(place, settled, "k2", **words)
+        assert "waits until no saga is open, and its own is" in said
+
+    run(main())
+
+
+def test_what_can_end_is_waited_for(place: str) -> None:
+    """A wait for its own saga in a task of its own, or for so long; and for another saga of the
+    same key in another store."""
+    ends: list[sagas.End] = []
+    stores: list[sagas.Store] = []
+    jobs: list[asyncio.Task[Any]] = []
+
+    async def p(task: Task) -> None:
+        async def note() -> None:
+            ends.append(await stores[0].wait(task.key))
+
+        jobs.append(asyncio.create_task(note()))
+        await asyncio.sleep(0.01)
+        with pytest.raises(TimeoutError):
+            await stores[0].wait(task.key, timeout=0.01)
+
+    saga = chain(p)
+
+    async def main() -> None:
+        async with sagas.open(place, [saga]) as store:
+            stores.append(store)
+            assert (await (await store.start(saga, "k")).wait(timeout=60)).ok
+            await jobs[0]
+            assert ends[0].ok
+
+    run(main())
+
+
+def test_a_plain_function_and_its_own_saga(place: str) -> None:
+    """In its thread; one that it begins beside itself is let wait."""
+    told: list[str] = []
+    ends: list[sagas.End] = []
+    stores: list[sagas.SyncStore] = []
+    threads: list[threading.Thread] = []
+
+    def p(task: Task) -> None:
+        beside = threading.Thread(target=lambda: ends.append(stores[0].wait(task.key)))
+        beside.start()
+        threads.append(beside)
+        with pytest.raises(FOR_EVER) as error:
+            stores[0].wait(task.key)
+        told.append(str(error.value))
+        with pytest.raises(TimeoutError):
+            stores[0].wait(task.key, timeout=0.01)
+
+    saga = chain(p)
+    with sagas.open_sync(place, [saga], grace=1) as store:
+        stores.append(store)
+        assert store.start(saga, "k").wait(timeout=60).ok
+        threads[0].join(60)
+    assert "waits for its own saga" in told[0] and ends[0].ok
+
+
+def test_sagas_that_wait_for_each_other(place: str) -> None:
+    """The one that closes the circle is told; the others go on."""
+    told: list[str] = []
+    stores: list[sagas.Store] = []
+
+    async def p(task: Task) -> None:
+        other = {"a": "b", "b": "c", "c": "a"}[task.key]
+        try:
+            await stores[0].wait(other)
+        except FOR_EVER as error:
+            told.append(str(error))
+
+    saga = chain(p)
+
+    async def main() -> None:
+        async with sagas.open(place, [saga]) as store:
+            stores.append(store)
+            runs = [await store.start(saga, key) for key in "abc"]
+            assert all([(await one.wait(timeout=60)).ok for one in runs])
+
+    run(main())
+    assert len(told) == 1 and told[0].count("which waits for saga") == 2
+
+
+@pytest.mark.parametrize("plain", [False, True])
+def test_parents_that_take_all_places(place: str, plain: bool) -> None:
+    """Each waits for a child that has no place: one is told, and is called again once there are
+    places, so that all end."""
+    told: list[str] = []
+    stores: list[Any] = []
+    child = sagas.Saga("child")
+
+    @child.step(name="c")
+    async def c(task: Task) -> None:
+        await asyncio.sleep(0.001)
+
+    def begin(task: Task) -> Any:
+        return stores[0].start(child, f"{task.key}-child")
+
+    async def p(task: Task) -> None:
+        try:
+            await (await begin(task)).wait()
+        except sagas.PlacesTaken as error:
+            told.append(str(error))
+            raise
+
+    def q(task: Task) -> None:
+        try:
+            begin(task).wait()
+        except sagas.PlacesTaken as error:
+            told.append(str(error))
+            raise
+
+    parent = chain(q if plain else p)
+
+    async def main() -> None:
+        async with sagas.open(place, [parent, child], concurrency=2, idle=0.1, grace=1) as store:
+            stores.append(store)
+            runs = [await store.start(parent, f"p{number}") for number in range(4)]
+            assert all([(await one.wait(timeout=60)).ok for one in runs])
+
+    def plainly() -> None:
+        with sagas.open_sync(place, [parent, child], concurrency=2, idle=0.1, grace=1) as store:
+            stores.append(store)
+            runs = [store.start(parent, f"p{number}") for number in range(4)]
+            assert all(one.wait(timeout=60).ok for one in runs)
+
+    plainly() if plain else run(main())
+    assert told and "all 2 places of the store's concurrency are taken" in told[0]
+
+
+def test_parents_of_children_that_need_no_place(place: str) -> None:
+    """A child that waits for a worker, an approval or a time may end without a place: nobody is
+    told anything."""
+    stores: list[sagas.Store] = []
+    faults: list[BaseException] = []
+    child = sagas.Saga("child")
+    child.step(handler=None, name="c")
+
+    async def p(task: Task) -> None:
+        try:
+            await (await stores[0].start(child, f"{task.key}-child")).wait()
+        except BaseException as error:
+            faults.append(error)
+            raise
+
+    parent = chain(p)
+
+    async def main() -> None:
+        async with sagas.open(place, [parent, child], concurrency=2, idle=0.1, grace=1) as store:
+            stores.append(store)
+            await store.start(child, "p0-child")
+            await until(lambda: store.begun("p0-child"))
+            run = await store.start(parent, "p0")
+            with pytest.raises(TimeoutError):
+                await run.wait(timeout=0.5)  # some looks
+            await store.finish("p0-child", "c")
+            assert (await run.wait(timeout=60)).ok and not faults
+
+    run(main())
+
+
+# -- approvals that say so themselves
+# ----------------------------------------------------------------
+
+
+def asking(function: Callable[[Task], Any]) -> sagas.Saga:
+    saga = sagas.Saga("asking")
+    saga.approval(name="ok", backoff=QUICK)(function)
+    return saga
+
+
+def small(task: Task) -> Any:
+    """By its input."""
+    if task.input == "small":
+        return sagas.Approved({"by": "rule"})
+    return sagas.Rejected("too dear") if task.input == "dear" else None
+
+
+async def small_async(task: Task) -> Any:
+    await asyncio.sleep(0)
+    return small(task)
+
+
+@pytest.mark.parametrize("function", [small, small_async])
+def test_an_approval_that_says_so_itself(place: str, function: Callable[[Task], Any]) -> None:
+    """It is over at once, done or failed for good; else somebody is asked, as before."""
+    saga = asking(function)
+
+    async def main() -> None:
+        async with sagas.open(place, [saga]) as store:
+            given = await (await store.start(saga, "small", "small")).wait(timeout=60)
+            assert given.ok and given.results == {"ok": {"by": "rule"}}
+            refused = await (await store.start(saga, "dear", "dear")).wait(timeout=60)
+            assert refused.states == {"ok": "failed"} and refused.errors == {"ok": "too dear"}
+            asked = await store.start(saga, "asked")
+            await until(lambda: [one for one in store.begun("asked") if one.waits == "approval"])
+            await asked.finish("ok", "yes")
+            assert (await asked.wait(timeout=60)).results == {"ok": "yes"}
+
+    run(main())
+    assert sagas.testing.run(saga, "small").results == {"ok": {"by": "rule"}}
+    assert sagas.testing.run(saga, "dear").states == {"ok": "failed"}
+    assert sagas.testing.run(saga, answers={"ok": 1}).results == {"ok": 1}
+
+
+def test_an_approval_that_finishes_itself(place: str) -> None:
+    """It would wait until it is asked: it is told what to return. In a thread, too."""
+    told: list[str] = []
+    stores: list[Any] = []
+
+    async def ask(task: Task) -> None:
+        with pytest.raises(FOR_EVER) as error:
+            await stores[0].finish(task.key, task.step)
+        told.append(str(error.value))
+
+    def ask_plainly(task: Task) -> None:
+        with pytest.raises(FOR_EVER) as error:
+            stores[-1].finish(task.key, task.step)
+        told.append(str(error.value))
+
+    async def main() -> None:
+        saga = asking(ask)
+        async with sagas.open(place, [saga]) as store:
+            stores.append(store)
+            run = await store.start(saga, "k")
+            await run.finish("ok")
+            assert (await run.wait(timeout=60)).ok
+
+    run(main())
+    saga = asking(ask_plainly)
+    with sagas.open_sync(place, [saga], grace=1) as store:
+        stores.append(store)
+        one = store.start(saga, "plain")
+        one.finish("ok")
+        assert one.wait(timeout=60).ok
+    assert len(told) == 2 and all(
+        "return sagas.Approved(result) or sagas.Rejected(why)" in text for text in told
+    )
+
+
+def test_an_answer_of_what_is_no_approval(place: str) -> None:
+    """It is a result that is no JSON: the step is done, and the result is not kept."""
+    saga = simple(lambda task: sagas.Approved(1))
+
+    async def main() -> None:
+        async with sagas.open(place, [saga]) as store:
+            end = await (await store.start(saga, "k")).wait(timeout=60)
+            assert end.ok and "Approved is not JSON" in end.results["a"]["unstorable"]
+
+    run(main())
+    with pytest.raises(TypeError, match="why is a text"):
+        sagas.Rejected(1)  # type: ignore[arg-type]
