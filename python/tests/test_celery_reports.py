@@ -37,7 +37,7 @@ class Late:
         self.place, self.orders = place, list[Order]()
         app = celery.Celery("late", broker=broker.url)
         app.conf.sagas_store = place
-        queue = sagas.celery.Queue(app, "late", timeout=0.05)
+        queue = sagas.celery.Queue(app, "late", timeout=0.5)
         queue.send = self._lose  # type: ignore[method-assign]
         self.saga = sagas.Saga("late")
 

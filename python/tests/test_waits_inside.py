@@ -52,7 +52,7 @@ def test_its_own_saga(place: str, words: dict[str, Any]) -> None:
 
         async def later(store: sagas.Store, task: Task) -> None:
             await asyncio.sleep(0.01)
-            run = store.get(task.key)
+            run = await store.get(task.key)
             assert run
             await run.wait()
 
