@@ -105,7 +105,7 @@ class World:
         for client in self.clients[by]:
             for verb, body in verbs:
                 answer = client.post(f"/tasks/{task}/{verb}", json={"lease": lease, **body})
-                found.add((answer.status_code, answer.json()["error"]))
+                found.add((answer.status_code, answer.json().get("error", "")))
         return found
 
 
@@ -180,6 +180,8 @@ def test_what_no_worker_was_given(
     if why:
         world.waits(key, why)
     before = world.saga(key)
+    assert world.forged(f"{begin}-{step}-run-1", 0) == {(422, "BadRequest")}
+    is_unmoved(world, key, before)
     for guess in guesses(world):
         assert world.forged(f"{begin}-{step}-run-1", guess) == INVALID, guess
     for none in (
@@ -190,7 +192,6 @@ def test_what_no_worker_was_given(
         "x",
     ):
         assert world.forged(none, guess, verbs=WORDS[:1]) == INVALID, none
-    assert world.forged(f"{begin}-{step}-run-1", 0) == {(422, "BadRequest")}
     is_unmoved(world, key, before)
     if definition == "trip":
         (task,) = take(world.clients["ada"][-1], "trip/flight")
