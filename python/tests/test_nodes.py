@@ -927,6 +927,40 @@ def test_who_reads_holds_up_nobody(url: str, table: str) -> None:
     assert "lease_lapsed" not in told and "commit_failed" not in told
 
 
+def test_the_ends_of_many_sagas_at_once(postgresql: Server, url: str) -> None:
+    """They ended at another node: each who waits has the end of his own, also where connections are
+    cut meanwhile; a saga that is let go then is gone."""
+    kind = simple(echo)
+    keys = [f"k{number}" for number in range(600)]
+
+    async def main() -> None:
+        async with sagas.open(url, [kind], node="other") as other:
+            await asyncio.gather(*(ended(other, kind, key, {"of": key}) for key in keys))
+        with relaying(postgresql.port, 3) as relay:
+            place = postgresql.url(url.rpartition("/")[2], port=relay.port)
+            async with sagas.open(place, [kind], lease=60) as store:
+                for chance in (0.0, 0.2):
+                    relay.before = relay.after = chance
+                    ends = await asyncio.gather(*(store.wait(key) for key in keys))
+                    assert [end.results["a"] for end in ends] == [{"of": key} for key in keys]
+                relay.before = relay.after = 0.0
+                row = await store._inside.store.find("k0")
+                assert row
+                with pytest.raises(sagas.NoSuchSaga, match="'k0' was let go meanwhile"):
+                    await store._inside.store.known(row._replace(id=row.id + 990))
+                asked = [asyncio.ensure_future(store.wait(key)) for key in keys]
+                await asyncio.sleep(0)
+            over = await asyncio.wait_for(asyncio.gather(*asked, return_exceptions=True), 60)
+            assert {type(one) for one in over} <= {sagas.End, sagas.Closed, sagas.StoreUnwritable}
+
+    run(main())
+
+
+async def echo(task: Task) -> Any:
+    """What it is given."""
+    return task.input
+
+
 def test_an_audit_in_the_background_holds_up_nobody(url: str) -> None:
     """A settled log is to be audited, and a stranger has the table of its lines for longer than a
     lease: the loop goes on, the lease is kept, and the log is closed once the table is free."""

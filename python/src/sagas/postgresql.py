@@ -19,10 +19,11 @@ from .errors import NoSuchSaga, StoreUnwritable
 from .guarded import logger
 from .leases import UNTAKEN, Lease
 from .loads_postgresql import Loads
+from .lookups_postgresql import Lookups
 from .places_postgresql import Places
 from .postgresql_commit import Commit
 from .postgresql_writer import Writer
-from .records import Batch, Born, Grant, Loaded, LogRow, Opened, Request, Result, SagaRow, Start
+from .records import Batch, Born, Grant, Known, Loaded, LogRow, Opened, Request, Result, SagaRow, Start
 from .transactions import Transactions
 from .values import clean, cleaned
 
@@ -97,6 +98,7 @@ class PostgreSQL(questions.Questions):
         self.call, self.inside = self._transactions.call, self._transactions
         self._finder = wire.Kept(url, self.path)
         self._questions = links.Asker(url, self.path, 1)
+        self._lookups = Lookups(self._questions, self._spawn)
         self._wanted: dict[str, list[asyncio.Future[SagaRow | None]]] = {}
         self._said: list[str] = []
         self._telling: asyncio.TimerHandle | None = None
@@ -408,6 +410,10 @@ class PostgreSQL(questions.Questions):
     async def read(self, query: str, *words: Any) -> list[tuple[Any, ...]]:
         """Rows of a query."""
         return await self._questions.rows(questions.for_postgresql(query), *cleaned(words))
+
+    async def known(self, row: SagaRow) -> Known:
+        """What the store has of a saga, with what others ask in the same moment."""
+        return await self._lookups.known(row)
 
     async def text(self, log: int) -> str:
         """A log's lines, which the server puts together."""
