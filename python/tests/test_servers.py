@@ -308,6 +308,123 @@ async def ends_at_the_one_before(two: Parted) -> None:
     await asyncio.to_thread(two.pair.primary.stop)
 
 
+class Lacking:
+    """Two sagas in one log, of whose second one the standby does not know when it takes over. Their
+    step is inside, one at a time: the second one's begins once the first one's is over."""
+
+    def __init__(self, pair: Pair, in_thread: bool) -> None:
+        self.pair, self.database = pair, pair.primary.create().rpartition("/")[2]
+        self.gates: dict[str, asyncio.Event] = defaultdict(asyncio.Event)
+        self.calls: list[str] = []
+        self.over: list[str] = []
+        self.lost: list[str] = []
+        self.names: list[str] = []
+        self.kind, text = sagas.Saga("booking"), "INSERT INTO public.book VALUES (%s)"
+
+        async def passes(key: str) -> None:
+            await self.gates[key].wait()
+
+        async def book(task: Task) -> None:
+            if task.key == "there":
+                self.calls.append(task.key)
+                await passes(task.key)
+            await task.connection.execute(text, (task.key,))
+            if task.key == "lacking":
+                self.calls.append(task.key)
+                await passes(task.key)
+                self.over.append(task.key)
+
+        def book_in_thread(task: Task) -> None:
+            if task.key == "there":
+                self.calls.append(task.key)
+                asyncio.run_coroutine_threadsafe(passes(task.key), self.loop).result()
+            task.connection.execute(text, (task.key,))
+            if task.key == "lacking":
+                self.calls.append(task.key)
+                asyncio.run_coroutine_threadsafe(passes(task.key), self.loop).result()
+                self.over.append(task.key)
+
+        quick = sagas.Backoff(first=0.01, most=0.02)
+        step = self.kind.step(name="book", transaction=True, limit=1, backoff=quick)
+        step(book_in_thread if in_thread else book)
+        self.ask(pair.primary, "CREATE TABLE book(key text)")
+
+    def ask(self, server: Server, text: str) -> list[tuple[Any, ...]]:
+        """A statement at one of the two."""
+        with psycopg.connect(server.url(self.database), autocommit=True) as link:
+            cursor = link.execute(text.encode())
+            return cursor.fetchall() if cursor.description else []
+
+    def heard(self, event: sagas.Event) -> None:
+        """What happens in the node."""
+        self.names.append(event.name)
+        if event.name == "commit_failed" and event.key:
+            self.lost.append(event.key)
+
+    def booked(self) -> list[str]:
+        """The effects at the server that took over."""
+        return [key for (key,) in self.ask(self.pair.standby, "SELECT key FROM book ORDER BY key")]
+
+    def rests(self) -> bool:
+        """Whether nothing goes on at the server that took over."""
+        busy = "datname = current_database() AND pid <> pg_backend_pid() AND state <> 'idle'"
+        return not self.ask(self.pair.standby, f"SELECT 1 FROM pg_stat_activity WHERE {busy}")
+
+    def is_told(self, taken_up: bool, in_thread: bool) -> bool:
+        """Whether it has come out what became of the second one's step."""
+        over = taken_up and (bool(self.over) or not in_thread) and self.rests()
+        return bool("lacking" in self.booked() or self.lost or over)
+
+    async def part(self, store: sagas.Store) -> None:
+        """Both begin, and the standby takes over, which has the log and the first one of them."""
+        self.loop = asyncio.get_running_loop()
+        await store.start(self.kind, "there")
+        await until(lambda: self.calls == ["there"], 60)
+        await asyncio.to_thread(self.pair.hold_back)
+        await store.start(self.kind, "lacking")
+        await until(lambda: [one.waits for one in store.begun("lacking")] == ["limit"], 60)
+        await asyncio.to_thread(self.pair.standby.promote)
+        text = f"ALTER DATABASE {self.database} SET default_transaction_read_only = on"
+        self.ask(self.pair.primary, text)
+
+    async def goes_over(self) -> None:
+        """The node knows of the other server, and the second saga's step begins there."""
+        mine = "datname = current_database() AND pid <> pg_backend_pid()"
+        text = f"SELECT pg_terminate_backend(pid) FROM pg_stat_activity WHERE {mine}"
+        self.ask(self.pair.primary, text)
+        await until(lambda: "lease_lapsed" in self.names, 60)
+        self.gates["there"].set()
+        await until(lambda: "lacking" in self.calls, 60)
+
+
+@pytest.mark.parametrize("taken_up", [False, True])
+@pytest.mark.parametrize("in_thread", [False, True])
+def test_a_step_inside_of_a_saga_that_is_not_there(in_thread: bool, taken_up: bool) -> None:
+    """Its node knows that another server has taken over, and takes the log up from there only then,
+    or meanwhile: nothing of a saga is written that the server lacks."""
+
+    async def main(two: Lacking) -> None:
+        url, hook = two.pair.url(two.database), two.heard
+        async with sagas.open(url, [two.kind], lease=600, on_event=hook, grace=1) as store:
+            await two.part(store)
+            held = await psycopg.AsyncConnection.connect(two.pair.standby.url(two.database))
+            async with held:
+                await held.execute("LOCK TABLE sagas.logs IN SHARE MODE")  # none is taken up
+                await two.goes_over()
+                if taken_up:
+                    await held.commit()
+                    await until(lambda: not store.begun("lacking"), 60)
+                two.gates["lacking"].set()
+                await until(lambda: two.is_told(taken_up, in_thread), 60)
+                assert "lacking" not in two.booked()
+            assert (await store.wait("there")).ok
+            assert (await started_again(store, two.kind, "lacking")).ok
+        assert two.booked() == ["lacking", "there"]
+
+    with paired(synchronous=False) as pair:
+        run(main(Lacking(pair, in_thread)))
+
+
 def test_all_connections_are_taken() -> None:
     """Strangers have all that the server gives: what is open goes on or waits, what is to be opened is refused by name; nothing is called twice."""
     calls: Counter[str] = Counter()

@@ -326,6 +326,7 @@ class Coordinator:
         number = self.store.new_log()
         pump = self.current = self.pumps[number] = Pump(self, number, name, self.shelf.shelf, self.shelf.texts, "asleep", epoch=1)
         pump.born = (name, self.shelf.shelf, json.dumps(self.shelf.texts))
+        pump.known = (pump.epoch, self.store.line)
         if before:
             self.loop.call_soon(self.close_if_over, before)
         return pump

@@ -120,6 +120,10 @@ class Database(Protocol):
     def new_log(self) -> int:
         """The number of a log that is to be born (`Batch.born`)."""
 
+    @property
+    def line(self) -> str:
+        """The server's timeline, as far as it is known; empty of a file."""
+
     def holds(self) -> bool:
         """Whether the logs are still this program's: looked at before each function begins."""
 

@@ -27,8 +27,9 @@ SELECT log, {MINE},
   (SELECT count(*) FROM {SAGAS}),
   (SELECT json_agg(json_build_array(s.id, s.key, s.def, s.input,
     (SELECT json_agg(json_build_array({questions.RESULT}) ORDER BY r.step, r.kind, r.attempt) FROM results r WHERE r.id = s.id),
-    (SELECT json_agg(json_build_array({questions.HELD})) FROM held h WHERE h.id = s.id)) ORDER BY s.id)::text FROM {SAGAS} AND s.phase IS NULL)
-FROM logs l WHERE {LOGS}
+    (SELECT json_agg(json_build_array({questions.HELD})) FROM held h WHERE h.id = s.id))
+    ORDER BY s.id)::text FROM {SAGAS} AND s.phase IS NULL),
+  {links.LINE} FROM logs l WHERE {LOGS}
 """
 """One transaction: the second part sees all that was written under the epochs before, and meanwhile nothing is. A log of which a commit is under way is passed
 over. A log's sagas are one text, since psycopg takes longer for some thousand cells than the server for all."""
@@ -37,7 +38,7 @@ WITH new AS (INSERT INTO shelves VALUES (%(shelf)s, %(texts)s) ON CONFLICT DO NO
 INSERT INTO logs(log, name, shelf, owner, epoch) VALUES (%(log)s, %(name)s, %(shelf)s, %(node)s, %(epoch)s) ON CONFLICT DO NOTHING
 """
 """A log that is not in the store, as far as this node knows: the commit that was to hold it may come late, and then meets it, of a later epoch."""
-ALONE = f"UPDATE logs SET epoch = epoch + 1 WHERE {LOGS} AND {MINE} RETURNING epoch"
+ALONE = f"UPDATE logs SET epoch = epoch + 1 WHERE {LOGS} AND {MINE} RETURNING epoch, {links.LINE}"
 """Whatever its epoch is, here as above: this node may not have heard of the last one that it made."""
 
 
@@ -117,12 +118,15 @@ class Loads:
                 epochs: dict[int, int] = {log: epoch for log, epoch in await cursor.fetchall()}
                 cursor.nextset()
                 while row := await cursor.fetchone():
-                    log, is_mine, text, opened, sagas = row
+                    log, is_mine, text, opened, sagas, line = row
                     these, waits = [want for want in waits if want.log == log], [want for want in waits if want.log != log]
                     if log not in epochs and is_mine:
                         locked += these
                         continue
-                    loaded = _loaded(text or "", opened, json.loads(sagas or "[]"), epochs[log]) if log in epochs else None
+                    loaded = None
+                    if log in epochs:
+                        loaded = _loaded(text or "", opened, json.loads(sagas or "[]"))
+                        loaded.epoch, loaded.line = epochs[log], line
                     for want in these:
                         want.tell(loaded)
                     await asyncio.sleep(0)
@@ -149,7 +153,9 @@ class Loads:
                 text, events = questions.joined(await rows(f"SELECT first, text FROM lines WHERE {LOGS} ORDER BY first"))
                 ((opened,),) = await rows(questions.COUNT)
                 open, results, held = [await rows(query) for query in (questions.OPEN_SAGAS, questions.OPEN_RESULTS, questions.OPEN_HELD)]
-        return questions.loaded(text, events, opened, open, results, held, taken[0][0])
+        loaded = questions.loaded(text, events, opened, open, results, held)
+        ((loaded.epoch, loaded.line),) = taken
+        return loaded
 
 
 def _was_heard(fault: Exception) -> bool:
@@ -158,7 +164,7 @@ def _was_heard(fault: Exception) -> bool:
     return isinstance(cause, TimeoutError) or getattr(cause, "sqlstate", None) is not None
 
 
-def _loaded(text: str, opened: int, sagas: Sequence[Any], epoch: int) -> Loaded:
+def _loaded(text: str, opened: int, sagas: Sequence[Any]) -> Loaded:
     """From its cells. Seconds are written as whole numbers there, where they are."""
     results: list[Result] = [
         (id, step, kind, attempt, outcome, value, float(at)) for saga in sagas for id, step, kind, attempt, outcome, value, at in saga[4] or ()
@@ -169,4 +175,4 @@ def _loaded(text: str, opened: int, sagas: Sequence[Any], epoch: int) -> Loaded:
         for id, step, kind, attempt, why, count, since, until, error in saga[5] or ()
     ]
     open = [(id, key, place, text) for id, key, place, text, _, _ in sagas]
-    return Loaded(text, text.count("\n"), opened, open, results, held, epoch)
+    return Loaded(text, text.count("\n"), opened, open, results, held)

@@ -251,6 +251,11 @@ class PostgreSQL(questions.Questions):
         return await self._places.take(name, bounds, want, have, self.lease.pause)
 
     @property
+    def line(self) -> str:
+        """The server's timeline, as far as this node knows."""
+        return self._line
+
+    @property
     def takes(self) -> float:
         """How long a commit takes."""
         return self._writer.takes
@@ -367,7 +372,7 @@ class PostgreSQL(questions.Questions):
         """A log as a pump takes it up, under a new epoch: what was on its way to the server is fenced. None where it is another node's, or is not there."""
         line = self._line
         loaded = await self._loads.load(log, epoch, born)
-        self._check_line(line)
+        self._check_line(loaded.line if loaded else line)  # it may come over a connection of before
         if loaded:
             self._writer.events[log] = loaded.events
         return loaded

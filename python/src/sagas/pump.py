@@ -33,6 +33,9 @@ class Pump(Answers):
 
     def __init__(self, owner: Coordinator, log: int, name: str, shelf: str, texts: list[str], state: str, epoch: int = 0) -> None:
         self.epoch = epoch
+        self.known: tuple[int, str] = (-1, "")
+        """the epoch, and the server's timeline, as of which its attempts are known: what one of
+        them writes by itself is fenced by both"""
         self.owner, self.log, self.name, self.shelf, self.texts, self.state = owner, log, name, shelf, texts, state
         self.kinds: list[Kind] = [owner.shelf.kind(text) for text in texts]
         self.child: Child | None = None

@@ -116,6 +116,8 @@ class Loaded:
     results: list[Result]
     held: list[HeldRow]
     epoch: int = 0
+    line: str = ""
+    """the server's timeline as it was read, where that is kept"""
 
 
 class Known(NamedTuple):

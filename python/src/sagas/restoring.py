@@ -146,6 +146,7 @@ def _restore(pump: Pump, loaded: Loaded, shown: list[int], replies: list[Reply])
         live.draining = told["phase"] in ("draining", "planning")
         pump._told_show(batch, number, told)
     busy = _busy(pump, loaded, old, json.loads(replies[0])["busy"])
+    pump.known = (loaded.epoch, loaded.line)
     pump.fault = None
     pump.reserved = pump.opened + len(pump.opens)
     for live, future, request in aborts:

@@ -326,6 +326,11 @@ class Sqlite(questions.Questions, questions.Rows):
         self._next_log += 1
         return self._next_log - 1
 
+    @property
+    def line(self) -> str:
+        """A file has none."""
+        return ""
+
     def holds(self) -> bool:
         """The lock is held until the end."""
         return True

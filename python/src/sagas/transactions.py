@@ -63,8 +63,9 @@ class Record:
     attempt: Attempt
     where: str
     node: str
-    line: str
     prepares: Prepares
+    line: str = ""
+    """The timeline of the server that it is written to, once that is about to be."""
     begun: bool = False
     done: bool = False
     prepared: bool = False
@@ -97,10 +98,19 @@ class Record:
         self.begun = True
 
     def fence(self) -> Fence:
-        """Of whom the log has to be."""
+        """Of whom the log has to be, and at which server: as of when its attempts were looked at.
+        A log that is about to be taken up from another server may lack the attempt there, though
+        it has the same epoch."""
         pump = self.attempt.live.pump
         assert pump
-        return Fence(pump.log, self.node, pump.epoch, self.line)
+        epoch, self.line = pump.known
+        return Fence(pump.log, self.node, epoch, self.line)
+
+    def check(self) -> None:
+        """Raises `Lost` where the attempt was let go, since its log was taken up without it. What
+        ended before that, and is sent later, has the epoch of before."""
+        if self.attempt.state != "running":
+            raise Lost(f"{self.where}: {self.attempt.token()} is not there any more")
 
     def text(self, link: AsyncStepLink | StepLink, value: str) -> str:
         """What is written of a result, and the commit."""
@@ -237,6 +247,7 @@ class Transactions:
                 check_whole(link)
                 text = calling.done(value).value
                 if not (self._is_alone(record) and await self._is_carried(record, link)):
+                    record.check()
                     await link.end(record.text(link, text), record.sending)
                     self._answered(record, link)
         finally:
@@ -257,7 +268,7 @@ class Transactions:
     def _record(self, attempt: Attempt) -> Record:
         if self._timer is None:
             self._look()
-        record = attempt.record = Record(attempt, self._where, self._node, self._line(), self._prepares)
+        record = attempt.record = Record(attempt, self._where, self._node, self._prepares)
         return record
 
     def _is_alone(self, record: Record) -> bool:
@@ -302,7 +313,9 @@ class Transactions:
                 value = calling.whole_now(function(task))
                 if link.begun:
                     check_whole(link)
-                    link.end(record.text(link, calling.done(value).value), record.sending)
+                    text = calling.done(value).value
+                    record.check()
+                    link.end(record.text(link, text), record.sending)
                     self._answered(record, link)
             finally:
                 try:
