@@ -222,6 +222,24 @@ async def another_node_has_one_of_two_logs(stage: Stage) -> int:
     return 3
 
 
+async def another_node_has_the_only_log(stage: Stage) -> int:
+    """A node reports into a log that another has taken up, and has not written since: its lines
+    join on, so their primary key refuses nothing, and nothing is written all the same."""
+    async with stage.node("one") as (first, store), stage.node("two") as (second, _):
+        work = asyncio.create_task(first.one(store, 0))
+        await until(lambda: first.called)
+        stage.give("k0", "two")
+        await until(lambda: second.called)
+        first.gates["k0", "a"].set()
+        await until(lambda: ("k0", "b") in first.called or not inner(store).pumps)
+        if stage.ask("SELECT 1 FROM results"):
+            stage.found.add("not-its-own")
+        second.open_all()
+        first.open_all()
+        await stage.over(work)
+    return 1
+
+
 async def a_commit_of_two_logs_comes_late(stage: Stage) -> int:
     """The server comes to it when its connection is cut, and its logs are under other epochs, as where their node has taken them up again."""
     with relaying(stage.server.port) as relay:
@@ -405,7 +423,8 @@ async def the_answer_to_a_step_inside_is_lost(stage: Stage) -> int:
 MOMENTS = {
     moment.__name__: moment
     for moment in (
-        nothing_happens, another_node_has_the_log, another_node_has_one_of_two_logs, a_commit_of_two_logs_comes_late, a_refused_start_comes_late,
+        nothing_happens, another_node_has_the_log, another_node_has_one_of_two_logs,
+        another_node_has_the_only_log, a_commit_of_two_logs_comes_late, a_refused_start_comes_late,
         the_answer_to_a_commit_is_lost, the_commit_takes_long, two_nodes_start_a_key_at_once, two_nodes_guess_a_key_at_once, a_node_lives, steps_are_inside,
         another_node_has_the_log_of_a_step_inside, another_node_has_the_logs_of_steps_inside, the_commit_of_a_step_inside_takes_long,
         the_answer_to_a_step_inside_is_lost,

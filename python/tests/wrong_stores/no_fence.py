@@ -1,0 +1,14 @@
+"""A commit of one log writes whatever joins on to its lines, whoever has the log now."""
+
+from __future__ import annotations
+
+from sagas import postgresql_commit
+
+FINDS = {"not-its-own"}
+MOMENT = "another_node_has_the_only_log"
+
+
+def apply() -> None:
+    """Neither owner nor epoch is compared; the primary key of `lines` refuses what it did."""
+    fence = "log = $3::bigint AND $2::text IS NOT NULL AND $4::bigint IS NOT NULL"
+    setattr(postgresql_commit, "ALONE", fence)
