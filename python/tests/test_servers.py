@@ -425,6 +425,46 @@ def test_a_step_inside_of_a_saga_that_is_not_there(in_thread: bool, taken_up: bo
         run(main(Lacking(pair, in_thread)))
 
 
+@pytest.mark.parametrize("is_over", [True, False])
+def test_a_start_that_the_standby_has_as_taken(is_over: bool) -> None:
+    """A node has taken a client's start, and its saga has begun, or is over, where the standby does
+    not know of it: there the start is that node's still, which begins it anew."""
+    calls = Counter[str]()
+    gate = asyncio.Event()
+
+    async def step(task: Task) -> str:
+        calls[task.key] += 1
+        await gate.wait()
+        return "done"
+
+    kind = simple(step)
+
+    async def main(url: str, primary: str) -> None:
+        stranger = await psycopg.AsyncConnection.connect(primary)
+        async with sagas.open(url, [kind], lease=600) as store, sagas.Client(url) as client:
+            assert store.holds()
+            async with stranger:
+                await stranger.execute("LOCK TABLE sagas.lines IN EXCLUSIVE MODE")
+                going = await client.start(kind, "k")
+                text = "SELECT 1 FROM sagas.inbox WHERE node IS NOT NULL"
+                async with asyncio.timeout(60):
+                    while not await (await stranger.execute(text)).fetchall():
+                        await asyncio.sleep(0.01)
+                await asyncio.to_thread(pair.hold_back)
+            await until(lambda: calls["k"] == 1)
+            if is_over:
+                gate.set()
+                assert (await going.wait()).ok
+            await asyncio.to_thread(pair.fail_over)
+            await until(lambda: calls["k"] == 2, 30)
+            gate.set()
+            assert (await going.wait()).ok
+
+    with paired(synchronous=False) as pair:
+        primary = pair.primary.create()
+        run(main(pair.url(primary.rpartition("/")[2]), primary))
+
+
 def test_all_connections_are_taken() -> None:
     """Strangers have all that the server gives: what is open goes on or waits, what is to be opened is refused by name; nothing is called twice."""
     calls: Counter[str] = Counter()

@@ -48,6 +48,7 @@ def lapsed(owner: Coordinator, is_older: bool) -> None:
         owner.reopen()
         for pump in owner.pumps.values():
             pump.full = True
+        owner.doubt()  # a start may be this node's there that was begun, and is over
     for pump in list(owner.pumps.values()):
         if pump.state in ("up", "waking", "asleep"):
             pump.fail(None)

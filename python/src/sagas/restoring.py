@@ -180,6 +180,8 @@ def _rows(pump: Pump, loaded: Loaded) -> Old:
     for live in before.values():
         if live.committed and live.number not in pump.live and owner.lives.get(live.key) is live:
             moving.leave(owner, live, None)  # its end was written, and the answer to that was lost
+            if live.start is not None:  # or another server took over, which has it as a start
+                owner.doubt()
     for id, step, kind, _, outcome, value, at in loaded.results:
         _result(pump.live[id % ROOM], step, kind, outcome, value or "null", at)
     for id, step, kind, _, why, _, _, until, _ in loaded.held:
