@@ -15,6 +15,9 @@ import pytest
 
 import sagas
 from cases import QUICK, Task, run, until
+from sagas import values
+from sagas.definition import Manner
+from sagas.task import Told
 
 
 @dataclasses.dataclass
@@ -273,3 +276,18 @@ def test_two_nodes_of_which_none_can(url: str) -> None:
             assert (await here.wait("fresh", timeout=60)).aborted
 
     run(main())
+
+
+def test_a_worker_of_celery_that_cannot_read_its_order() -> None:
+    """It is one of those who do not know, so that it is ordered again, and perhaps of another
+    worker; no try is used up."""
+    worker = pytest.importorskip("sagas.celery.worker")
+
+    def reads(task: sagas.Task[Wants]) -> None:
+        assert task.input
+
+    hint = values.hints(reads)[0]
+    about = Told("shop", "k", "ship", False, 1, "log-0", '{"amount":314159}', {}, None, hint)
+    outcome = worker._call(reads, Manner(reads), sagas.Task(about))
+    said = "saga 'shop', step 'ship': input lacks 'address', which Wants needs"
+    assert (outcome.kind, outcome.value) == ("unknown", said)

@@ -379,7 +379,9 @@ def test_finish_says_what_is_wrong(place: str, capsys: pytest.CaptureFixture[str
         async with sagas.open(path, kinds) as store:
             await filled(path, store, kinds)
             asked = functools.partial(asyncio.to_thread, finish)
-            assert await asked("letter-1", "write") == "sagas store: saga 'letter-1', step 'write': it is over: it is done\n"
+            over = "it is over: it is done; this is another answer, and the first counts"
+            wrong = await asked("letter-1", "write")
+            assert wrong == f"sagas store: saga 'letter-1', step 'write': {over}\n"
             assert await asked("letter-1", "write", "--undo") == "sagas store: saga 'letter-1', step 'write': it has not begun: say it again once it has\n"
             with pytest.raises(sagas.NotWaiting, match="saga 'letter-1' has no step 'sing': is 'sign' meant"):
                 await store.finish("letter-1", "sing")

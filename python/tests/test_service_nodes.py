@@ -163,16 +163,12 @@ def test_people_say_it_anywhere(both: Pair) -> None:
     deadline = time.monotonic() + LONG
     while not both.two.get("/sagas/approved").json()["waits"]:
         assert time.monotonic() < deadline
-    assert (
-        both.two.post(
-            "/sagas/approved/steps/review", json={"result": "yes", "note": "by two"}
-        ).status_code
-        == 200
+    answered = both.two.post(
+        "/sagas/approved/steps/review", json={"result": "yes", "note": "by two"}
     )
-    assert (
-        both.two.post("/sagas/approved/steps/review", json={"result": 1}).json()["error"]
-        == "NotWaiting"
-    )
+    assert answered.status_code == 200
+    other = both.two.post("/sagas/approved/steps/review", json={"result": 1})
+    assert other.json()["error"] == "ReportedOtherwise"
     all_done(both.two, "order/send")
     assert both.two.get("/sagas/approved/wait?seconds=60").json()["results"]["review"] == "yes"
     notes = [event["value"] for event in both.one.get("/sagas/approved/log").json()["events"] if event["event"] == "note"]

@@ -70,7 +70,7 @@ def outcome_of(result: Any, failed: str | None, final: bool = True) -> Outcome:
     if failed is None:
         return Outcome("done", values.write(result))
     if not isinstance(failed, str):
-        raise TypeError(f"failed={failed!r}: it is a text: why it failed")
+        raise TypeError(f"failed={type(failed).__name__}: it is a text: why it failed")
     return failure(failed, final)
 
 

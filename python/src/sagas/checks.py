@@ -19,7 +19,11 @@ TIME = "it is seconds, or a timedelta"
 def shown(value: object) -> str:
     """A value for a message, not too long."""
     text = repr(value)
-    return text if len(text) <= MOST_SHOWN else f"{text[:MOST_SHOWN]}.. ({len(text):,} letters)"
+    if len(text) <= MOST_SHOWN:
+        return text
+    if isinstance(value, str):
+        return f"{text[:MOST_SHOWN]}.. ({len(value):,} letters)"
+    return f"{text[:MOST_SHOWN]}.."
 
 
 def count(word: str, value: Any) -> int:

@@ -12,14 +12,14 @@ from weakref import WeakKeyDictionary, WeakSet
 import psycopg
 
 from . import (
-    attention, checks, faults, given, histories, links, moving, news, postgresql, postgresql_schema,
-    questions, requests, room, values, waiting,
+    attention, checks, faults, finishes, given, histories, links, moving, news, postgresql,
+    postgresql_schema, questions, requests, room, values, waiting,
 )  # fmt: skip
 from .attention import Attention
-from .calling import outcome_of
+from .calling import Outcome, outcome_of
 from .databases import FORM
 from .definition import Saga, Step
-from .errors import Closed, NoSuchSaga, NotWaiting, StoreFault, StoreUnwritable, TooLarge
+from .errors import Closed, NoSuchSaga, StoreFault, StoreUnwritable, TooLarge
 from .forks import Opened
 from .kinds import Kind, digest_of, version_of
 from .plans import Plan
@@ -66,9 +66,9 @@ BACK = "DELETE FROM sagas.inbox WHERE id = ANY(%(own)s::bigint[])"
 
 
 def start_words(saga: Saga, key: str, input: Any, digest: str | None) -> dict[str, Any]:
-    """What a start writes."""
+    """What a start writes, and of which saga."""
     checks.key(key)
-    about = {"key": key, "saga": saga.name, "version": saga.version, "digest": digest}
+    about = {"key": key, "saga": saga.name, "version": saga.version, "digest": digest, "of": saga}
     return about | {"input": values.write(input, "input")}
 
 
@@ -81,7 +81,7 @@ def is_renewed(words: dict[str, Any], rows: builtins.list[Row]) -> bool:
 def check_same(words: dict[str, Any], rows: builtins.list[Row]) -> None:
     """Raises `KeyConflict` where another saga or input has the key."""
     for saga, text, *_ in rows:
-        error = moving.conflict(words["key"], words["saga"], words["input"], saga, text)
+        error = moving.conflict(words["key"], words["of"], words["input"], saga, text)
         if error:
             raise error
 
@@ -286,14 +286,25 @@ class Client:
         return bool(requests.told(answer))
 
     async def finish(self, key: str, step: Step[Any] | str, result: Any = None, *, failed: str | None = None, undo: bool = False) -> None:
-        """As `Store.finish`. Raises `NotWaiting`, `NoSuchSaga`, `NotJson`."""
+        """As `Store.finish`. Raises `NotWaiting`, `ReportedOtherwise`, `NoSuchSaga`, `NotJson`."""
         outcome = outcome_of(result, failed)
-        row = await self._row(key)
+        row, kind = await self._row(key), "undo" if undo else "run"
+        name = step if isinstance(step, str) else step.name
         if row.phase is not None:
-            raise NotWaiting(f"saga {key!r} is over")
-        wanted = requests.finish_of(step if isinstance(step, str) else step.name, "undo" if undo else "run", outcome)
-        value = values.write(wanted)
+            await self._check_kept(row, name, kind, outcome)
+            return
+        value = values.write(requests.finish_of(name, kind, outcome))
         requests.told(await postgresql.ask(self._asker, self._heard, row, "finish", value))
+
+    async def _check_kept(self, row: SagaRow, step: str, kind: str, outcome: Outcome) -> None:
+        """Of a saga that is over: raises `NotWaiting` where it was not said before that the step
+        ended so."""
+        rows = await self._read(finishes.RESULTS, row.id)
+        names = self._kinds_of(row)((await self._known(row)).definition).names
+        first = finishes.first_of(rows, names.index(step), kind) if step in names else None
+        if first is None:
+            raise finishes.over(row.key)
+        finishes.check(row.key, step, first, outcome)
 
     # -- questions
 

@@ -51,7 +51,11 @@ def due_time(step: Step[Any], attempt: Attempt, now: float) -> float:
     if isinstance(until, datetime.datetime) and until.tzinfo:
         return until.timestamp()
     remedy = ": make one of the text, by datetime.datetime.fromisoformat" if isinstance(until, str) else ""
-    raise TypeError(f"until gave {until!r}: it is a timedelta, or a datetime with a time zone{remedy}")
+    told = "a datetime without one" if isinstance(
+        until, datetime.datetime
+    ) else type(until).__name__
+    rule = "it is a timedelta, or a datetime with a time zone"
+    raise TypeError(f"until gave {told}: {rule}{remedy}")
 
 
 class Doing:

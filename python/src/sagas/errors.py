@@ -75,8 +75,11 @@ class InvalidLease(SagasError):
     task with the token and the lease that it was given with."""
 
 
-class ReportedOtherwise(SagasError):
-    """The task was reported with another outcome, and the first one counts. Where your action had an effect, look at the saga."""
+class ReportedOtherwise(NotWaiting):
+    """The task, or the step by `finish`, was reported with another outcome, and the first one
+    counts. The same outcome again is no error.
+
+    Where your action had an effect, look at the saga."""
 
 
 class TooLarge(SagasError):

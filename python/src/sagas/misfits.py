@@ -63,6 +63,13 @@ def lacking(value: dict[str, Any], hint: Any) -> Misfit | None:
     return Misfit(f" lacks {' and '.join(lacks)}, which {hint.__name__} needs{more}")
 
 
+def told(paths: list[str]) -> str:
+    """Ways to parts of a value, for a message."""
+    named = [path or "its whole" for path in paths]
+    more = f" and {len(named) - MOST_TOLD} more" if len(named) > MOST_TOLD else ""
+    return f"{', '.join(named[:MOST_TOLD])}{more}"
+
+
 def differences(one: Any, other: Any, at: str = "") -> Iterator[str]:
     """The ways to what differs in two values, as JSON has them."""
     if isinstance(one, dict) and isinstance(other, dict):

@@ -6,11 +6,14 @@ import asyncio
 from collections.abc import Awaitable, Callable
 from typing import TYPE_CHECKING, TypeVar
 
+from . import inputs, misfits
 from .errors import KeyConflict, Moved, StoreUnwritable
 from .records import LogRow, SagaRow
 
 if TYPE_CHECKING:
     from .coordinator import Coordinator
+    from .definition import Saga
+    from .kinds import Kind
     from .live import Live
     from .pump import Pump
 
@@ -18,12 +21,16 @@ T = TypeVar("T")
 FIRST_PAUSE, MOST_PAUSE = 0.02, 2.0  # seconds
 
 
-def conflict(key: str, saga: str, text: str, name: str, there: str) -> KeyConflict | None:
+def conflict(
+    key: str, kind: Kind | Saga, text: str, name: str, there: str
+) -> KeyConflict | None:
     """What a start with this saga and input meets where the key has that saga and that input."""
+    saga = kind.name
     if name != saga:
         return KeyConflict(f"key {key!r} has a saga {name!r}, and not {saga!r}: a key is its saga's as long as that is kept")
-    if there != text:
-        return KeyConflict(f"key {key!r} has another input: {there[:200]}, and not {text[:200]}")
+    if there != text and (differ := inputs.differences(kind, there, text)):
+        told = misfits.told(differ)
+        return KeyConflict(f"key {key!r} has another input, which differs at {told}")
     return None
 
 
@@ -122,7 +129,7 @@ async def elsewhere(owner: Coordinator, live: Live) -> None:
 
 def found(owner: Coordinator, live: Live, row: SagaRow) -> None:
     """Another log has the key: that is the saga, or a conflict."""
-    error = conflict(live.key, live.kind.name, live.text, row.saga, row.input)
+    error = conflict(live.key, live.kind, live.text, row.saga, row.input)
     if live.start is not None:
         batch = owner.empty_batch(-1, lambda fault: None)
         batch.more.begun.append((live.start, None if error else row.id))

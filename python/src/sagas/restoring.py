@@ -205,7 +205,7 @@ def _live(pump: Pump, key: str, text: str, place: int) -> Live:
         return old
     live = owner.new_live(key, text, kind, place)
     if old is not None:
-        error = moving.conflict(key, old.kind.name, old.text, kind.name, text)
+        error = moving.conflict(key, old.kind, old.text, kind.name, text)
         if error:
             old.tell(old.starting, error)
             old.tell(old.ending, error)

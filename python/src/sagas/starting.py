@@ -68,14 +68,14 @@ class Starts:
         if key in owner.lives and not (there and there.id >= 0):  # begun here too, and not in the store yet: should that fail, this start counts
             owner.doubt()
             return
+        place = owner.shelf.places[saga, version]
+        kind = owner.shelf.kinds[place]
         if there and there.id >= 0:
             batch = owner.empty_batch(-1, lambda fault: None)
-            is_same = moving.conflict(key, saga, text, there.saga, there.input) is None
+            is_same = moving.conflict(key, kind, text, there.saga, there.input) is None
             batch.more.begun.append((id, there.id if is_same else None))
             owner.enqueue(batch)
             return
-        place = owner.shelf.places[saga, version]
-        kind = owner.shelf.kinds[place]
         if not kind.fits:  # it waits, as one of a saga that no node has
             return
         live = owner.new_live(key, text, kind, place)

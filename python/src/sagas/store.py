@@ -10,6 +10,7 @@ import asyncio
 import builtins
 import contextlib
 import datetime
+import json
 import os
 import signal
 from collections.abc import Callable, Iterable
@@ -17,8 +18,8 @@ from types import TracebackType
 from typing import TYPE_CHECKING, Any
 
 from . import (
-    auditing, called, checks, databases, histories, moving, program, requests, retention, starting,
-    under_way, values, waiting,
+    auditing, called, checks, databases, finishes, histories, moving, program, questions, requests,
+    retention, starting, under_way, values, waiting,
 )  # fmt: skip
 from .anywhere import Anywhere
 from .attention import Attention
@@ -178,11 +179,11 @@ class Store:
         live = inside.lives.get(key)  # another start of it may have come meanwhile
         there = (live.kind.name, live.text) if live else (row.saga, row.input) if row else None
         if there:
-            error = moving.conflict(key, saga.name, text, *there)
+            error = moving.conflict(key, kind, text, *there)
             if error and live and not live.committed and not inside.store.shared:  # that start may have no right to the key either
                 row = inside.store.find_now(key)
                 if row:
-                    error, live = moving.conflict(key, saga.name, text, row.saga, row.input), None
+                    error, live = moving.conflict(key, kind, text, row.saga, row.input), None
             if error:
                 raise error
         elif not self.new:
@@ -216,7 +217,9 @@ class Store:
     async def _is_there(self, live: Live) -> bool:
         """Whether the key of one that could not be begun has that saga all the same. Raises `KeyConflict`, `StoreUnwritable`."""
         row = await self._find(live.key)
-        error = moving.conflict(live.key, live.kind.name, live.text, row.saga, row.input) if row else None
+        error = moving.conflict(
+            live.key, live.kind, live.text, row.saga, row.input
+        ) if row else None
         if error:
             raise error
         return row is not None
@@ -363,6 +366,8 @@ class Store:
 
         `failed` says why it failed for good; else it is done, with the result. `undo`: its compensation is meant. When it returns, that is kept.
         `by`: who says so; then that is kept, with the note and the time (`sagas.looks`).
+        The same said again is one, also when the step or the saga is over; another answer is
+        `ReportedOtherwise`, and the first counts.
         Raises `NotWaiting` where nobody has to say anything about the step, `NoSuchSaga`, `NotJson`, `Closed`."""
         self._here()
         outcome = outcome_of(result, failed)
@@ -382,7 +387,8 @@ class Store:
             if live is None:
                 row = await self._row(key, of)
                 if row.phase is not None:
-                    raise NotWaiting(f"saga {key!r} is over")
+                    await self._check_kept(row, step, kind, outcome)
+                    return
                 if key not in self._inside.lives:
                     told = requests.finish_of(step, kind, outcome)
                     await self._elsewhere(row, "finish", told, request)
@@ -394,7 +400,9 @@ class Store:
                 continue
             _check_is(live, of)
             try:
-                await self._finish_here(await self._begun(live, step, kind), outcome, request)
+                attempt = await self._begun(live, step, kind, outcome)
+                if attempt:
+                    await self._finish_here(attempt, outcome, request)
                 return
             except Moved:
                 continue
@@ -402,6 +410,9 @@ class Store:
     async def _finish_here(self, attempt: Attempt, outcome: Outcome, request: Wanted) -> None:
         inside, key, step = self._inside, attempt.live.key, attempt.name
         while not inside.doing.is_asked(attempt):
+            if first := await finishes.of_attempt(attempt):
+                finishes.check(key, step, first, outcome)
+                return
             if inside.lives.get(key) is not attempt.live:
                 raise Moved(f"saga {key!r}")
             if attempt is called.waiter(inside) and inside.doing.will_be_asked(attempt):
@@ -410,21 +421,49 @@ class Store:
                     "return sagas.Approved(result) or sagas.Rejected(why) in place of that"
                 )
             if not inside.doing.will_be_asked(attempt):
-                raise NotWaiting(f"saga {key!r}, step {step!r}: nobody has to say how it ended: {under_way.said(inside, attempt)}")
+                why = under_way.said(inside, attempt)
+                raise NotWaiting(
+                    f"saga {key!r}, step {step!r}: nobody has to say how it ended: {why}"
+                )
             await attempt.change()
             self._inside  # raises, where it was closed meanwhile
         attempt.request, attempt.told = request, inside.loop.create_future()
         inside.doing.outcome(attempt, outcome)
-        await attempt.told
+        await asyncio.shield(attempt.told)
 
-    async def _begun(self, live: Live, step: str, kind: str) -> Attempt:
+    async def _begun(
+        self, live: Live, step: str, kind: str, outcome: Outcome
+    ) -> Attempt | None:
+        """The attempt that is under way; None where it was said before that the step ended so."""
         if step not in live.kind.names:
-            raise NotWaiting(f"saga {live.key!r} has no step {step!r}{meant(step, live.kind.names)}")
-        attempt = live.busy.get((live.kind.names.index(step), kind))
-        if attempt is None:
-            why = await histories.why_not(self._inside, live, step, kind)
+            raise NotWaiting(
+                f"saga {live.key!r} has no step {step!r}{meant(step, live.kind.names)}"
+            )
+        place = live.kind.names.index(step)
+        attempt = live.busy.get((place, kind))
+        if attempt is not None and (place, kind) not in live.rare.final:
+            return attempt
+        is_there = live.pump is not None and live.committed
+        rows = await self._inside.store.read(finishes.RESULTS, live.id) if is_there else []
+        first = finishes.first_of(rows, place, kind)
+        if first is None and attempt is not None:
+            return attempt
+        why = await histories.why_not(self._inside, live, step, kind)
+        if first is None:
             raise NotWaiting(f"saga {live.key!r}, step {step!r}: {why}")
-        return attempt
+        finishes.check(live.key, step, first, outcome, why)
+        return None
+
+    async def _check_kept(self, row: SagaRow, step: str, kind: str, outcome: Outcome) -> None:
+        """Of a saga that is over: raises `NotWaiting` where it was not said before that the step
+        ended so."""
+        store = self._inside.store
+        rows = await store.read(finishes.RESULTS, row.id)
+        names = self._inside.shelf.kind((await store.known(row)).definition).names
+        first = finishes.first_of(rows, names.index(step), kind) if step in names else None
+        if first is None:
+            raise finishes.over(row.key)
+        finishes.check(row.key, step, first, outcome)
 
     async def serve(self) -> None:
         """Waits for SIGTERM or SIGINT: for a program that only drives sagas. Then close the store: its sagas go on elsewhere, or at the next start."""

@@ -276,7 +276,9 @@ class _Player:
             return self.clock() + told.total_seconds()
         if isinstance(told, datetime.datetime) and told.tzinfo:
             return told.timestamp()
-        raise TypeError(f"step {task.step!r}: until gave {told!r}: it is a timedelta, or a datetime with a time zone")
+        kind = type(told).__name__
+        rule = "it is a timedelta, or a datetime with a time zone"
+        raise TypeError(f"step {task.step!r}: until gave {kind}: {rule}")
 
     def _step(self, step: int) -> Step[Any]:
         declared = self.kind.steps[step]

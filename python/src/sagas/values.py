@@ -435,9 +435,10 @@ def _of_union(words: tuple[Any, ...]) -> Decoder | None:
                 faults.append(error)
         if any(_may_be(value, word) for word in plain):
             return value
-        raise misfits.of(faults[0]) if len(faults) == 1 else Misfit(
-            ": it is of none of the types that it may have"
-        )
+        has_more = any(word is not type(None) for word in plain)
+        if len(faults) == 1 and (isinstance(value, dict) or not has_more):
+            raise misfits.of(faults[0])
+        raise Misfit(": it is of none of the types that it may have")
 
     return make
 

@@ -113,7 +113,8 @@ def finish(path: str, words: argparse.Namespace) -> int:
         try:
             value["result"] = json.loads(words.result)
         except ValueError as error:
-            raise Trouble(f"--result {words.result!r} is no JSON ({error}): a text is written '{json.dumps(words.result, ensure_ascii=False)}'", 2) from error
+            told = f"--result is no JSON ({error}): a text is written '\"yes\"'"
+            raise Trouble(told, 2) from error
     return request(path, words, "finish", value, f"{words.step} is finished", "not finished")
 
 

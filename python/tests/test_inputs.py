@@ -1,0 +1,241 @@
+"""What `start` says of an input: whether it is of its type, and whether it is the one that the key
+has. No value is in any text."""
+
+from __future__ import annotations
+
+import asyncio
+import dataclasses
+import datetime
+import decimal
+import enum
+import logging
+import uuid
+from typing import Any, Literal, Optional, Union
+
+import pytest
+
+import sagas
+import sagas.testing
+from cases import Task, run, simple
+from sagas import checks
+
+SECRET = "4242-secret"
+
+
+class Color(enum.Enum):
+    RED = "red"
+
+
+@dataclasses.dataclass
+class Item:
+    """A part of an order."""
+
+    name: str
+    price: Union[int, decimal.Decimal]
+    count: int = 1
+
+
+@dataclasses.dataclass
+class Order:
+    """Fields of each kind."""
+
+    amount: int
+    weight: float = 0.5
+    paid: bool = False
+    items: list[Item] = dataclasses.field(default_factory=list)
+    by_name: dict[str, Item] = dataclasses.field(default_factory=dict)
+    color: Optional[Color] = None
+    at: Optional[datetime.datetime] = None
+    id: uuid.UUID = uuid.UUID(int=0)
+    way: Literal["sea", "air"] = "sea"
+    gift: Union[Item, str, None] = None
+    pair: tuple[int, str] = (1, "a")
+    numbers: list[Union[int, None]] = dataclasses.field(default_factory=list)
+    note: str = None  # type: ignore[assignment]
+    more: Any = None
+    parent: Optional[Order] = None
+
+
+def reads(hint: Any) -> sagas.Saga:
+    """A saga whose first step reads its input as this."""
+
+    async def a(task: Task) -> None:
+        assert task.input is not None
+
+    a.__annotations__["task"] = sagas.Task[hint]
+    return simple(a)
+
+
+WRONG: list[tuple[dict[str, Any], str]] = [
+    ({"amount": SECRET}, ".amount: a whole number is needed, and this is a text"),
+    ({"amount": 1.5}, ".amount: a whole number is needed, and this is a number"),
+    ({"amount": True}, ".amount: a whole number is needed, and this is true or false"),
+    ({"weight": SECRET}, ".weight: a number is needed, and this is a text"),
+    ({"paid": 1}, ".paid: true or false is needed, and this is a whole number"),
+    ({"items": [{"name": "a", "price": 1}, {"name": 2, "price": 1}]},
+     ".items[1].name: a text is needed, and this is a whole number"),
+    ({"items": [{"name": "a", "price": SECRET}]}, ".items[0].price: it is of none of the types"),
+    ({"items": [{"name": "a"}]}, ".items[0] lacks 'price', which Item needs"),
+    ({"items": SECRET}, ".items: a list is needed"),
+    ({"by_name": {"x y": {"name": "a", "price": 1, "count": "2"}}},
+     '.by_name["x y"].count: a whole number is needed, and this is a text'),
+    ({"color": SECRET}, ".color: it is none of the values of Color"),
+    ({"at": SECRET}, ".at: it cannot be read as datetime"),
+    ({"id": SECRET}, ".id: it cannot be read as UUID"),
+    ({"way": SECRET}, ".way: it is one of 'sea', 'air'"),
+    ({"gift": {"name": 3}}, ".gift lacks 'price', which Item needs"),
+    ({"pair": [1, 2]}, ".pair[1]: a text is needed, and this is a whole number"),
+    ({"numbers": [1, None, SECRET]}, ".numbers[2]: it is of none of the types"),
+    ({"note": 7}, ".note: a text is needed, and this is a whole number"),
+    ({"parent": {"amount": 1, "parent": {"amount": SECRET}}},
+     ".parent.parent.amount: a whole number is needed"),
+]  # fmt: skip
+WELL: list[Any] = [
+    {"amount": 1, "weight": 2, "note": None, "more": [SECRET], "strange": 1},
+    {"amount": 1, "items": [{"name": "a", "price": "2.50"}], "color": "red", "gift": "a ring"},
+    {"amount": 1, "at": "2026-01-02T03:04:05+00:00", "gift": {"name": "a", "price": 1}},
+    Order(1, items=[Item("a", decimal.Decimal("2.5"))], color=Color.RED, parent=Order(2)),
+    Order(1, at=datetime.datetime(2026, 1, 2), pair=(2, "b"), by_name={"a": Item("a", 1)}),
+]
+
+
+def test_the_types_of_fields(place: str, caplog: pytest.LogCaptureFixture) -> None:
+    """Nested, optional, in lists and dicts, of unions, enums and times: each fault by its place,
+    and nothing is begun."""
+    saga = reads(Order)
+
+    async def main() -> None:
+        async with sagas.open(place, [saga]) as store:
+            for number, (given, text) in enumerate(WRONG):
+                with pytest.raises(sagas.BadInput) as error:
+                    await store.start(saga, f"wrong-{number}", {"amount": 1} | given)
+                assert f"saga 'simple', step 'a': input{text}" in str(error.value)
+                assert SECRET not in str(error.value) and store.get(f"wrong-{number}") is None
+            for number, given in enumerate(WELL):
+                assert (
+                    await (await store.start(saga, f"well-{number}", given)).wait(timeout=60)
+                ).ok
+            with pytest.raises(sagas.BadInput, match=r"input\.amount: a whole number"):
+                await store.start(saga, "k", Order("1"))  # type: ignore[arg-type]
+
+    with caplog.at_level(logging.DEBUG):
+        run(main())
+    assert SECRET not in caplog.text.replace(repr(WELL[0]["more"]), "")
+
+
+@dataclasses.dataclass
+class Newer:
+    """As `Item`, with a field that was added."""
+
+    name: str
+    price: Union[int, decimal.Decimal]
+    count: int = 1
+    color: Optional[str] = None
+
+
+@pytest.mark.parametrize("client", [False, True])
+def test_an_optional_field_that_was_added(place: str, client: bool) -> None:
+    """The same start again is the same saga; another value is another input, in what the type knows
+    and in what it does not."""
+    if client and not place.startswith("postgresql"):
+        pytest.skip("clients are of PostgreSQL")
+    before, after = reads(Item), reads(Newer)
+    raw = sagas.Saga("simple")
+    raw.step(name="a")(after.steps[0].run.function)  # type: ignore[arg-type]
+    raw.step(name="b")(lambda task: None)
+    given = {"name": "a", "price": 1}
+
+    async def main() -> None:
+        async with sagas.open(place, [before]) as store:
+            assert (await (await store.start(before, "k", Item("a", 1))).wait(timeout=60)).ok
+            await store.start(before, "bare", given)
+        async with sagas.open(place, [after]) as store:
+            starter: Any = store
+            if client:
+                starter = await sagas.Client(place).__aenter__()
+            for key in ("k", "bare"):
+                for same in (Newer("a", 1), given, {**given, "count": 1}, Item("a", 1)):
+                    assert not (await starter.start(after, key, same)).new
+                for other, at in (
+                    (Newer("a", 1, color=SECRET), ".color"), (Newer(SECRET, 2), ".name, .price")
+                ):
+                    with pytest.raises(sagas.KeyConflict) as error:
+                        await starter.start(after, key, other)
+                    told = f"key {key!r} has another input, which differs at {at}"
+                    assert str(error.value) == told
+            if client:
+                await starter.close()
+
+    run(main())
+
+
+def test_what_a_reader_without_a_type_sees_counts(place: str) -> None:
+    """Where a step reads the input as it is, a field that no type knows is a part of it."""
+    saga = sagas.Saga("both")
+
+    @saga.step
+    def typed(task: sagas.Task[Item]) -> None: ...
+
+    @saga.step
+    def plain(task: Task) -> None: ...
+
+    async def main() -> None:
+        async with sagas.open(place, [saga]) as store:
+            await store.start(saga, "k", {"name": "a", "price": 1, "x": [1, {"y": SECRET}]})
+            same = {"name": "a", "price": 1, "count": 1, "x": [1, {"y": SECRET}]}
+            assert not (await store.start(saga, "k", same)).new
+            with pytest.raises(sagas.KeyConflict) as error:
+                await store.start(saga, "k", {"name": "a", "price": 1, "x": [1, {"y": 2}, 3]})
+            assert str(error.value) == "key 'k' has another input, which differs at .x[1].y, .x[2]"
+            await store.start(saga, "whole", {"name": "a", "price": 1})
+            with pytest.raises(sagas.KeyConflict, match=r"differs at \.name"):
+                await store.start(saga, "whole", {"name": SECRET, "price": 1})
+
+    run(main())
+
+
+def test_conflicts_show_no_values(place: str) -> None:
+    """The whole, one of many parts, and names that are no words."""
+    saga = simple(lambda task: None)
+    for_many = {f"f{number}": number for number in range(9)}
+    conflicts: list[tuple[Any, Any, str]] = [
+        (SECRET, {"a": SECRET}, "its whole"),
+        ({"a b": SECRET, "c": [SECRET]}, {"a b": 1, "c": []}, '["a b"], .c[0]'),
+        (for_many, {name: SECRET for name in for_many}, ".f0, .f1, .f2, .f3, .f4 and 4 more"),
+        ({"a": 1}, {"a": True}, ".a"),
+    ]
+
+    async def main() -> None:
+        async with sagas.open(place, [saga]) as store:
+            for number, (one, other, at) in enumerate(conflicts):
+                await store.start(saga, f"k{number}", one)
+                with pytest.raises(sagas.KeyConflict) as error:
+                    await store.start(saga, f"k{number}", other)
+                told = f"key 'k{number}' has another input, which differs at {at}"
+                assert str(error.value) == told
+
+    run(main())
+
+
+def test_how_long_a_value_is_said_to_be() -> None:
+    """Its own letters, without the quotation marks of Python."""
+    with pytest.raises(sagas.BadKey, match=r"\(513 letters\): a key is a text of 1 to 512"):
+        checks.key("k" * 513)
+    assert checks.shown(["k" * 513]).endswith("..") and "letters" not in checks.shown(["k" * 513])
+
+
+def test_what_a_wait_gives_is_not_told(place: str, caplog: pytest.LogCaptureFixture) -> None:
+    """`until` may give what it read of the input."""
+    saga = sagas.Saga("waits")
+    saga.wait(name="w", until=lambda task: task.input, tries=1)(lambda task: None)
+
+    async def main() -> None:
+        async with sagas.open(place, [saga]) as store:
+            end = await (await store.start(saga, "k", SECRET)).wait(timeout=60)
+            assert "until gave str: it is a timedelta" in end.errors["w"] and SECRET not in str(end)
+            with pytest.raises(TypeError, match="failed=list: it is a text"):
+                await store.finish("k", "w", failed=[SECRET])  # type: ignore[arg-type]
+
+    with caplog.at_level(logging.DEBUG):
+        run(main())
+    assert SECRET not in caplog.text
