@@ -10,7 +10,7 @@ import psycopg
 import pytest
 
 import sagas
-from cases import Task, ended, run, until
+from cases import ended, run
 from sagas import command
 
 

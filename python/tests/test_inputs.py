@@ -3,7 +3,6 @@ has. No value is in any text."""
 
 from __future__ import annotations
 
-import asyncio
 import dataclasses
 import datetime
 import decimal

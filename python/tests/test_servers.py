@@ -17,7 +17,6 @@ from typing import Any, LiteralString
 import psycopg
 import pytest
 
-import records
 import sagas
 from cases import Task, ended, run, simple, until
 from judge import judge

@@ -9,7 +9,6 @@ import pathlib
 import re
 import resource
 import socket
-import string
 from collections.abc import Iterator
 from typing import Any
 from urllib.parse import quote, urlencode

@@ -3,7 +3,6 @@ what stands in the log of that."""
 
 from __future__ import annotations
 
-import contextlib
 import ipaddress
 import json
 import logging
@@ -14,11 +13,10 @@ import time
 from collections.abc import Iterator
 from typing import Any
 
-import httpx
 import pytest
 
 from sagas.server import guards, logs
-from serving import DEFINITIONS, LONG, Served, environment, served, start, token
+from serving import DEFINITIONS, LONG, Served, environment, served, token
 
 
 @pytest.fixture(scope="module")

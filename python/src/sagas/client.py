@@ -25,7 +25,6 @@ from .kinds import Kind, digest_of, version_of
 from .plans import Plan
 from .records import Known, SagaRow
 from .runs import End, LogEvent, Summary
-from .schema import ROOM
 
 if TYPE_CHECKING:
     from .links import Row

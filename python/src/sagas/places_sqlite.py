@@ -7,7 +7,6 @@ import sqlite3
 from collections.abc import Callable, Sequence
 
 from .errors import StoreUnwritable
-from .records import Grant
 
 FREE = "SELECT place FROM places WHERE name = ? AND kind = 'rate' AND place <= ? AND (until IS NULL OR until <= ? OR until > ?) ORDER BY place LIMIT ?"
 SOON = "SELECT min(until) FROM places WHERE name = ? AND kind = 'rate' AND place <= ? AND until > ?"

@@ -6,8 +6,8 @@ import itertools
 import json
 import time
 from collections import deque
-from collections.abc import Callable, Iterable, Sequence
-from typing import TYPE_CHECKING, Any
+from collections.abc import Iterable, Sequence
+from typing import TYPE_CHECKING
 
 from . import lines, restoring
 from .answers import Abort, Act, Answers, Disagrees

@@ -10,7 +10,6 @@ import asyncio
 import builtins
 import contextlib
 import datetime
-import json
 import os
 import signal
 from collections.abc import Callable, Iterable

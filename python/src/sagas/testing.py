@@ -23,10 +23,10 @@ from typing import Any
 from . import calling, faults, lines, program, values
 from .calling import Outcome
 from .definition import Manner, Saga, Step, Until
-from .errors import CannotDecode, ChildError, DefinitionError, Fail
+from .errors import CannotDecode, ChildError, Fail
 from .kinds import Kind
 from .runs import Answering
-from .scripts import Answers, Attempts as Attempts, Rule, Script, answers_of, name_of, script
+from .scripts import Answers, Rule, Script, answers_of, name_of, script
 from .task import Task, Told
 
 Json = dict[str, Any]

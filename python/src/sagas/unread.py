@@ -9,7 +9,6 @@ from typing import TYPE_CHECKING
 from .errors import StoreUnwritable
 from .guarded import logger
 from .records import Loaded
-from .schema import ROOM
 
 if TYPE_CHECKING:
     from .coordinator import Coordinator
