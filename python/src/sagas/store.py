@@ -17,7 +17,7 @@ from types import TracebackType
 from typing import TYPE_CHECKING, Any
 
 from . import (
-    auditing, called, checks, databases, finishes, histories, moving, program, questions, requests,
+    auditing, called, checks, databases, finishes, histories, moving, program, requests,
     retention, starting, under_way, values, waiting,
 )  # fmt: skip
 from .anywhere import Anywhere
