@@ -8,7 +8,7 @@ import sagas
 from sagas import requests
 
 
-@pytest.mark.parametrize("name", ["annotations", "SagasError", "Later", "__doc__", "", "no error: "])
+@pytest.mark.parametrize("name", ["annotations", "SagasError", "Later", "__doc__", "", "no: "])
 def test_an_answer_that_names_no_error_of_this_release(name: str) -> None:
     """It is an error all the same: what answers may be of another release."""
     with pytest.raises(sagas.SagasError) as raised:

@@ -529,7 +529,8 @@ def test_a_rollback_leaves_what_is_prepared(url: str, in_thread: bool, way: str)
                 end = await ended(store, kind, f"k{number}", given)
                 assert end.ok is not (given == "rolls back")
             for key in ("first", "second"):  # beside another, each commits by itself
-                ends = [ended(store, kind, f"{key} {at}", way if at == 1 else None) for at in range(3)]
+                given = {0: None, 1: way, 2: None}
+                ends = [ended(store, kind, f"{key} {at}", one) for at, one in given.items()]
                 await asyncio.gather(*ends)
             await audited(store)
 

@@ -308,8 +308,9 @@ def test_a_log_that_a_node_has_no_functions_for_is_left(url: str) -> None:
 
 def test_what_no_node_drives_is_told(url: str, caplog: pytest.LogCaptureFixture) -> None:
     """A node that lacks the functions of open sagas says once which they are and how many, as soon
-    as nobody has driven them for a lease. What was left is forgotten once it is closed."""
-    gate, calls = asyncio.Event(), list[str]()
+    as nobody has driven them for a lease; to find that out it does not give up its own, where a
+    table is locked meanwhile. What was left is forgotten once it is closed."""
+    gate, calls, told = asyncio.Event(), list[str](), list[sagas.Event]()
     old, new = pair(gate, calls), simple(lambda task: 1)
     says = (
         f"/{url.rpartition('/')[2]}: no node drives 1 log, since none has the functions of their "
@@ -324,9 +325,16 @@ def test_what_no_node_drives_is_told(url: str, caplog: pytest.LogCaptureFixture)
             for number in range(3):
                 await store.start(old, f"old {number}")
             await until(lambda: len(calls) == 3)
-        async with sagas.open(url, [new], lease=1.0) as store:
+        async with sagas.open(url, [new], lease=1.0, on_event=told.append) as store:
             lease = store._inside.store.lease  # type: ignore[attr-defined]
             (log,) = lease.left
+            with psycopg.connect(url) as stranger:
+                stranger.execute("LOCK TABLE sagas.sagas IN ACCESS EXCLUSIVE MODE")
+                since = lease._until
+                await until(lambda: asyncio.to_thread(waits_in, url))
+                await until(lambda: lease._until > since + 2.5)
+                assert not warnings()
+                stranger.rollback()
             await until(warnings)
             turn = lease._turn
             await until(lambda: lease._turn > turn + 4)
@@ -340,6 +348,7 @@ def test_what_no_node_drives_is_told(url: str, caplog: pytest.LogCaptureFixture)
             assert len(warnings()) == 1
 
     run(main())
+    assert "lease_lapsed" not in {event.name for event in told}
 
 
 class Nowhere:

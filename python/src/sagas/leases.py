@@ -179,21 +179,17 @@ class Lease:
         self._undriven = since = {log: self._undriven.get(log, now()) for log in undriven}
         self._told &= since.keys()
 
-    async def warn(self) -> None:
-        """Tells of logs that no node has driven for as long as a lease, each once: a node that is
-        gone had its time, and so had those that would take its logs."""
+    def undriven(self) -> list[int]:
+        """Logs that no node has driven for as long as a lease, each once: a node that is gone had
+        its time, and so had those that would take its logs."""
         old = [log for log, since in self._undriven.items() if now() - since >= self.seconds]
-        if not (logs := [log for log in old if log not in self._told]):
-            return
-        rows = await self._asker.read(UNDRIVEN, logs=logs)
+        logs = [log for log in old if log not in self._told]
         self._told.update(logs)
-        if rows:
-            whose = "; ".join(_undriven(*row) for row in rows)
-            logger.warning(
-                "%s: no node drives %s, since none has the functions of their open sagas: %s. "
-                "Start a program that has them (`sagas store URL nodes` tells of them too)",
-                self._asker.where, number(len(logs), "log"), whose,
-            )  # fmt: skip
+        return logs
+
+    def untold(self, logs: Sequence[int]) -> None:
+        """It could not be told of these."""
+        self._told -= {*logs}
 
     async def begin(self) -> str:
         """An earlier run under this name is over: its logs are free at once. Gives the server's timeline."""
@@ -233,8 +229,14 @@ class Lease:
         await self._asker.ask(HAND_OVER, node=self.node)
 
 
-def _undriven(text: str, logs: int, sagas: int) -> str:
-    """The open sagas of a definition, in so many logs."""
-    told = tomllib.loads(text)
-    count = f"{number(sagas, 'saga')} in {number(logs, 'log')}"
-    return f"{told['name']} (version {version_of(text)}): {count}"
+def said_of(where: str, logs: Sequence[int], rows: Sequence[Sequence[Any]]) -> str:
+    """That no node drives these logs, with the definitions of their open sagas (`UNDRIVEN`)."""
+    whose = []
+    for text, count, sagas in rows:
+        name = f"{tomllib.loads(text)['name']} (version {version_of(text)})"
+        whose.append(f"{name}: {number(sagas, 'saga')} in {number(count, 'log')}")
+    return (
+        f"{where}: no node drives {number(len(logs), 'log')}, since none has the functions of "
+        f"their open sagas: {'; '.join(whose)}. Start a program that has them "
+        "(`sagas store URL nodes` tells of them too)"
+    )

@@ -17,13 +17,15 @@ from .database import Drives, Then, Watcher
 from .definition import Bounds
 from .errors import NoSuchSaga, StoreUnwritable
 from .guarded import logger
-from .leases import UNTAKEN, Lease
+from .leases import UNDRIVEN, UNTAKEN, Lease, said_of
 from .loads_postgresql import Loads
 from .lookups_postgresql import Lookups
 from .places_postgresql import Places
 from .postgresql_commit import Commit
 from .postgresql_writer import Writer
-from .records import Batch, Born, Grant, Known, Loaded, LogRow, Opened, Request, Result, SagaRow, Start
+from .records import (
+    Batch, Born, Grant, Known, Loaded, LogRow, Opened, Request, Result, SagaRow, Start,
+)  # fmt: skip
 from .transactions import Transactions
 from .values import clean, cleaned
 
@@ -205,9 +207,20 @@ class PostgreSQL(questions.Questions):
             self._watcher.taken(rows)
         if asks:
             self._watcher.look()
-        await self.lease.warn()
+        if logs := self.lease.undriven():
+            self._spawn(self._warn(logs))
         if len(self._numbers) < NUMBERS // 2:
             await self._count()
+
+    async def _warn(self, logs: list[int]) -> None:
+        """Tells that no node drives these. Not as a part of a beat, which waits for no table."""
+        try:
+            rows = await self._questions.read(UNDRIVEN, logs=logs)
+        except StoreUnwritable:
+            self.lease.untold(logs)
+            return
+        if rows:
+            logger.warning("%s", said_of(self.path, logs, rows))
 
     def _is_known(self, line: str) -> bool:
         """Whether this is the server that was there before. Another one may lack commits: then each log is taken up again before anything is written."""
