@@ -626,6 +626,11 @@ class Doing:
             return False
         return attempt.live.aborted or attempt.attempt < attempt.live.kind.tries[attempt.step]
 
+    def _is_in_thread(self, attempt: Attempt) -> bool:
+        """Whether its function is a plain one, which is called here."""
+        function = attempt.manner.function
+        return not attempt.manner.run_on and function is not None and not calling.is_async(function)
+
     def forget(self, attempt: Attempt) -> None:
         """The store does not have it: it had not begun, or its report is there; or another node has
         its log."""
@@ -637,9 +642,12 @@ class Doing:
         if attempt.told and not attempt.told.done():
             attempt.told.set_result(True)
         attempt.changed()
-        self.slots.cancel(attempt)
-        job, attempt.job = attempt.job, None
+        if attempt not in self.running:  # else its places are its own until its function is over
+            self.slots.cancel(attempt)
         attempt.state = "done"
+        if attempt.job and self._is_in_thread(attempt):  # which cannot be stopped
+            return
+        job, attempt.job = attempt.job, None
         if job and inspect.getcoroutinestate(job.get_coro()) == inspect.CORO_CREATED:  # type: ignore[arg-type]  # it will never run a line
             self.running.discard(attempt)
             self._leave(attempt)

@@ -1,0 +1,61 @@
+"""A step's limit in one program, while what runs is let go."""
+
+from __future__ import annotations
+
+import asyncio
+import threading
+
+import psycopg
+import pytest
+
+import sagas
+from cases import Task, run, simple, until
+
+OTHER = """
+INSERT INTO sagas.nodes(node, name, version, since, lease)
+VALUES ('other/1', 'other', '', now(), now() + interval '1 hour')
+"""
+TAKEN = "UPDATE sagas.logs SET owner = 'other/1', epoch = epoch + 1"
+
+
+@pytest.mark.parametrize("in_thread", [False, True])
+def test_what_is_let_go_has_its_place_until_it_is_over(url: str, in_thread: bool) -> None:
+    """A log goes to another node while a function of it runs here, which cannot be stopped, or
+    takes its time to end: no further one begins before."""
+    begun: list[str] = []
+    gate, opened = threading.Event(), asyncio.Event()
+
+    def in_a_thread(task: Task) -> None:
+        begun.append(task.key)
+        if task.key == "first":
+            gate.wait(60)
+
+    async def in_the_loop(task: Task) -> None:
+        begun.append(task.key)
+        if task.key == "first":
+            try:
+                await asyncio.sleep(60)
+            finally:
+                await opened.wait()
+
+    kind = simple(in_a_thread if in_thread else in_the_loop, limit=1)
+
+    async def main() -> None:
+        async with sagas.open(url, [kind], lease=600) as store:
+            await store.start(kind, "first")
+            await until(lambda: begun == ["first"], 30)
+            with psycopg.connect(url) as link:
+                link.execute(OTHER)
+                link.execute(TAKEN)
+            abort = asyncio.create_task(store.abort("first"))  # its commit shows whose the log is
+            await until(lambda: not store.begun("first"), 30)
+            second = await store.start(kind, "second")
+            await until(lambda: store.begun("second"), 30)
+            (one,) = store.begun("second")
+            assert one.waits == "limit" and begun == ["first"]
+            gate.set()
+            opened.set()
+            assert (await second.wait(30)).ok and begun == ["first", "second"]
+            abort.cancel()
+
+    run(main())
