@@ -291,3 +291,109 @@ def test_a_worker_of_celery_that_cannot_read_its_order() -> None:
     outcome = worker._call(reads, Manner(reads), sagas.Task(about))
     said = "saga 'shop', step 'ship': input lacks 'address', which Wants needs"
     assert (outcome.kind, outcome.value) == ("unknown", said)
+
+
+def steps(*names: str, calls: list[str], version: int = 1) -> sagas.Saga:
+    """An approval, and behind it steps in a row, each of which notes that it was called, and by
+    which version."""
+    saga = sagas.Saga("steps", version=version)
+    last = saga.approval(name="ok")(lambda task: None)
+    for name in names:
+
+        def act(task: Task) -> None:
+            calls.append(f"{task.step} v{version}")
+
+        last = saga.step(name=name, needs=[last], undo=0)(act)
+    return saga
+
+
+async def left_open(place: str, saga: sagas.Saga) -> None:
+    """A saga that waits to be approved, as a program leaves it."""
+    async with sagas.open(place, [saga]) as store:
+        await store.start(saga, "old")
+        await until(lambda: any(one.waits == "approval" for one in store.begun("old")))
+
+
+def test_a_step_that_was_added(place: str) -> None:
+    """A saga that is open goes on by the definition that it was begun with, and today's functions;
+    a new one has the step."""
+    calls: list[str] = []
+    before, after = steps("a", calls=calls), steps("a", "b", calls=calls)
+
+    async def main() -> None:
+        await left_open(place, before)
+        async with sagas.open(place, [after]) as store:
+            await store.finish("old", "ok")
+            assert (await store.wait("old", timeout=60)).states == {
+                "ok": "committed", "a": "committed"
+            }
+            run = await store.start(after, "new")
+            await until(lambda: any(one.waits == "approval" for one in store.begun("new")))
+            await run.finish("ok")
+            assert list((await run.wait(timeout=60)).states) == ["ok", "a", "b"]
+
+    run(main())
+    assert calls == ["a v1", "a v1", "b v1"]
+
+
+def test_a_step_that_is_gone_or_renamed(place: str) -> None:
+    """A file is not opened, and the step is named; over PostgreSQL the log is left, until a node
+    has the step again."""
+    calls: list[str] = []
+    before, after = steps("a", "b", calls=calls), steps("a", "c", calls=calls)
+
+    async def main() -> None:
+        await left_open(place, before)
+        if place.startswith("postgresql"):
+            async with sagas.open(place, [after]) as store:
+                with pytest.raises(TimeoutError):
+                    await store.wait("old", timeout=0.2)
+        else:
+            with pytest.raises(sagas.MissingHandler, match="step 'b' has no function"):
+                async with sagas.open(place, [after]):
+                    pass
+        async with sagas.open(place, [before]) as store:
+            await store.finish("old", "ok")
+            assert (await store.wait("old", timeout=60)).ok
+
+    run(main())
+
+
+def test_both_versions(place: str) -> None:
+    """Sagas of the older version go on by its functions, and those that are started by the newer
+    one's."""
+    calls: list[str] = []
+    one, two = steps("a", calls=calls), steps("b", calls=calls, version=2)
+
+    async def main() -> None:
+        await left_open(place, one)
+        async with sagas.open(place, [one, two]) as store:
+            await store.finish("old", "ok")
+            assert (await store.wait("old", timeout=60)).ok
+            run = await store.start(two, "new")
+            await until(lambda: any(one.waits == "approval" for one in store.begun("new")))
+            await run.finish("ok")
+            assert (await run.wait(timeout=60)).ok
+
+    run(main())
+    assert calls == ["a v1", "b v2"]
+
+
+def test_a_field_that_is_gone_and_a_result_that_has_more(place: str) -> None:
+    """What a type does not name is not read; a field with a default is as by its default."""
+
+    @dataclasses.dataclass
+    class Less:
+        color: str = "none"
+
+    new = Shop(Less)
+    new.saga.steps[2].run.function = lambda task: new.calls.append(f"ship {task.input.color}")
+    new.saga.steps[2].run.function.__annotations__["task"] = sagas.Task[Less]
+
+    async def main() -> None:
+        await opened_at(place, Shop(Old), "k")
+        async with sagas.open(place, [new.saga]) as store:
+            await store.finish("k", "ok")
+            assert (await store.wait("k", timeout=60)).ok and new.calls == ["ship none"]
+
+    run(main())

@@ -118,7 +118,8 @@ class SyncStore:
     def settled(self, timeout: float | None = None) -> None:
         """As `Store.settled`, at most `timeout` seconds; then `TimeoutError`."""
         try:
-            self._do(self._store.settled(), timeout)
+            store = self._store
+            self._do(store.settled() if timeout is None else store._inside.settled(), timeout)
         except TimeoutError as error:
             raise error if timeout is None else TimeoutError(f"sagas are still open after {timeout:g} s: list(phase='open') has them") from None
 

@@ -3,7 +3,8 @@ have the log."""
 
 from __future__ import annotations
 
-from collections.abc import Iterator
+import asyncio
+from collections.abc import AsyncIterator
 from typing import TYPE_CHECKING
 
 from .errors import StoreUnwritable
@@ -14,19 +15,23 @@ if TYPE_CHECKING:
     from .coordinator import Coordinator
     from .pump import Pump
 
+MANY = 32
+"""Sagas that are looked at in one turn of the loop."""
 PAUSE = 2.0
 """Seconds after which it is looked again whether another node has come."""
 REMEDY = "they wait for a program that can read them: give new fields a default"
 
 
-def found(pump: Pump, loaded: Loaded) -> Iterator[str]:
+async def found(pump: Pump, loaded: Loaded) -> AsyncIterator[str]:
     """Of each open saga of a log the first thing that cannot be read."""
     results: dict[int, dict[int, str]] = {}
     for id, step, word, _, outcome, value, _ in loaded.results:
         if outcome in ("commit", "ok") and word == "run":
             results.setdefault(id, {})[step] = value or "null"
-    for id, key, place, text in loaded.open:
+    for number, (id, key, place, text) in enumerate(loaded.open):
         kind = pump.kinds[place]
+        if number % MANY == MANY - 1:
+            await asyncio.sleep(0)
         if kind.reads and (why := kind.unread(text, results.get(id, {}))):
             yield f"saga {kind.name!r}, key {key!r}, {why}"
 
@@ -34,7 +39,7 @@ def found(pump: Pump, loaded: Loaded) -> Iterator[str]:
 async def is_left(pump: Pump, loaded: Loaded) -> bool:
     """Whether a log that is taken up is left to another node, which may be able to read what this
     one cannot. Else it is told what that is, once."""
-    faults = list(found(pump, loaded))
+    faults = [fault async for fault in found(pump, loaded)]
     if not faults:
         return False
     if not is_at_work(pump) and await pump.owner.store.spare(pump.log):

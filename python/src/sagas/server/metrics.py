@@ -19,7 +19,10 @@ if TYPE_CHECKING:
     from .service import Service
 
 SECONDS = (0.01, 0.03, 0.1, 0.3, 1, 3, 10, 30, 100, 300, 1000, 3600, 86400)
-TOLD = {"step_done": "done", "step_missed": "missed", "step_failed": "failed", "step_unknown": "unknown"}
+TOLD = {
+    "step_done": "done", "step_missed": "missed", "step_failed": "failed",
+    "step_unknown": "unknown", "step_cannot_decode": "cannot_decode",
+}  # fmt: skip
 FAULTS = ("child_died", "commit_failed", "audit_failed", "lease_lapsed", "log_lost")
 TYPE = CONTENT_TYPE_LATEST
 MOST_BEGUN = 100_000

@@ -65,7 +65,7 @@ if (live) {
     if (seconds) setTimeout(renew, 1000 * seconds + 100);
   };
   againLater();
-  const names = ["saga_started", "step_begun", "step_done", "step_missed", "step_failed", "step_unknown", "step_waits", "saga_planned", "saga_aborted", "saga_ended", "saga_stuck", "missed"];
+  const names = ["saga_started", "step_begun", "step_done", "step_missed", "step_failed", "step_unknown", "step_cannot_decode", "step_waits", "saga_planned", "saga_aborted", "saga_ended", "saga_stuck", "missed"];
   let source = null, since = document.body.dataset.since, later = 0;
   const lapsed = document.getElementById("lapsed");
   const opened = () => { // what happened while there was no stream is on a new page
