@@ -109,7 +109,8 @@ def test_the_types_of_fields(place: str, caplog: pytest.LogCaptureFixture) -> No
                 with pytest.raises(sagas.BadInput) as error:
                     await store.start(saga, f"wrong-{number}", {"amount": 1} | given)
                 assert f"saga 'simple', step 'a': input{text}" in str(error.value)
-                assert SECRET not in str(error.value) and store.get(f"wrong-{number}") is None
+                assert SECRET not in str(error.value)
+                assert await store.get(f"wrong-{number}") is None
             for number, given in enumerate(WELL):
                 assert (
                     await (await store.start(saga, f"well-{number}", given)).wait(timeout=60)
