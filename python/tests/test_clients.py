@@ -48,6 +48,24 @@ def inbox(url: str) -> int:
         return int(row[0])
 
 
+LOCKED = """
+SELECT count(*) FROM pg_stat_activity WHERE wait_event_type = 'Lock' AND application_name = 'sagas'
+"""
+
+
+async def connected(url: str, client: sagas.Client, kind: sagas.Saga, count: int) -> None:
+    """Starts so many sagas at once that the client has as many connections."""
+    with psycopg.connect(url) as link, psycopg.connect(url, autocommit=True) as eye:
+        link.execute("LOCK TABLE sagas.inbox")
+        some = [
+            asyncio.create_task(client.start(kind, f"first-{number}")) for number in range(count)
+        ]
+        while eye.execute(LOCKED).fetchone() != (count,):
+            await asyncio.sleep(0.05)
+        link.commit()
+        assert [(await one).new for one in some] == [True] * count
+
+
 def test_a_start_behind_the_server_s_restart(postgresql: Server, url: str) -> None:
     """Connections that have ended meanwhile are tried past, however many the client has: the start
     is made, and once."""
@@ -57,22 +75,7 @@ def test_a_start_behind_the_server_s_restart(postgresql: Server, url: str) -> No
         async with sagas.open(url, [kind], node="a"):
             pass  # makes the tables
         async with sagas.Client(url, connections=3) as client:
-            with psycopg.connect(
-                url
-            ) as link:  # so that each start holds its connection until all have one
-                link.execute("LOCK TABLE sagas.inbox")
-                starts = [
-                    asyncio.create_task(client.start(kind, f"before-{number}"))
-                    for number in range(3)
-                ]
-                backends = (
-                    "SELECT count(*) FROM pg_stat_activity "
-                    "WHERE wait_event_type = 'Lock' AND application_name = 'sagas'"
-                )
-                with psycopg.connect(url, autocommit=True) as eye:
-                    while eye.execute(backends).fetchone() != (3,):
-                        await asyncio.sleep(0.05)
-            assert [(await one).new for one in starts] == [True] * 3
+            await connected(url, client, kind, 3)
             for mode in ("fast", "immediate"):
                 postgresql.stop(mode)
                 postgresql.start()

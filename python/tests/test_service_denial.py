@@ -11,6 +11,7 @@ import socket
 import threading
 import time
 from collections.abc import Awaitable, Callable, Iterator
+from typing import Any
 
 import httpx
 import pytest
@@ -83,7 +84,7 @@ def test_bodies_that_trickle(tmp_path: pathlib.Path, head: str, part: bytes, tok
         token(tmp_path, "a", "caller")
         words += ["--token-file", str(tmp_path / "tokens.toml")]
     with served(tmp_path, DEFINITIONS, *words) as service, trickling(service, MOST + 1, head, part):
-        for _ in range(40):
+        for _ in range(25):
             with service.client() as client:
                 assert client.get("/health").json() == {"alive": True}
             time.sleep(0.05)
@@ -112,61 +113,54 @@ def answered(one: socket.socket) -> tuple[int, str]:
     return int(head.split(b" ")[1]), json.loads(body).get("error", "")
 
 
-def test_who_may_not_is_told_by_the_head_alone(tmp_path: pathlib.Path) -> None:
-    """Before a byte of the body is there, and before it is looked at; what comes of it is thrown
-    away, and the connection goes on."""
-    tokens = {role: token(tmp_path, role, role) for role in ("caller", "worker", "approver")}
-    with served(tmp_path, DEFINITIONS, "--token-file", str(tmp_path / "tokens.toml")) as service:
-        cases = [
-            (path, name, 401)
-            for path in (
-                "/sagas",
-                "/tasks/take",
-                "/sagas/x/steps/y",
-                "/sagas/x/abort",
-                "/sagas/x/resolve",
-                "/tasks/x/done",
-            )
-            for name in (None, "wrong")
-        ] + [
-            ("/sagas", "worker", 403),
-            ("/tasks/take", "caller", 403),
-            ("/sagas/x/steps/y", "caller", 403),
-            ("/sagas/x/abort", "approver", 403),
-            ("/ui/start", None, 403),
-        ]
-        for path, name, status in cases:
-            bearer = "" if name is None else f"Authorization: Bearer {tokens.get(name, name)}\r\n"
-            kind = (
-                "application/x-www-form-urlencoded"
-                if path.startswith("/ui")
-                else "application/json"
-            )
-            begin = f"POST {path} HTTP/1.1\r\nHost: {service.address}\r\n"
-            head = f"{begin}Content-Type: {kind}\r\n{bearer}"
-            with raw(service) as one:
-                one.sendall(f"{head}Content-Length: 100000\r\n\r\n".encode())
-                began = time.monotonic()
-                found = answered(one)
-                assert (
-                    found[0] in (status, 429 if status == 401 else status)
-                    and time.monotonic() - began < 10
-                ), (path, name, found)
-                one.sendall(b"[" * 100_000)  # no JSON, and deep: nobody reads it
-                one.sendall(f"GET /health HTTP/1.1\r\nHost: {service.address}\r\n\r\n".encode())
-                assert answered(one) == (200, "")
-        with service.client(tokens["worker"]) as client:
-            answer = client.post(
-                "/sagas", content=b"{", headers={"content-type": "application/json"}
-            )
-            assert (answer.status_code, answer.json()["error"]) == (403, "NotAllowed")
-        with service.client(tokens["caller"]) as client:
-            assert (
-                client.post(
-                    "/sagas", content=b"{", headers={"content-type": "application/json"}
-                ).status_code
-                == 422
-            )
+POSTS = ("/sagas", "/tasks/take", "/sagas/x/steps/y", "/sagas/x/abort", "/tasks/x/done")
+REFUSED: list[tuple[str, str | None, set[int]]] = [
+    *((path, name, {401, 429}) for path in POSTS for name in (None, "wrong")),
+    ("/sagas", "worker", {403}),
+    ("/tasks/take", "caller", {403}),
+    ("/sagas/x/steps/y", "caller", {403}),
+    ("/sagas/x/abort", "approver", {403}),
+    ("/sagas/x/resolve", "approver", {403}),
+    ("/ui/start", None, {403}),
+]  # fmt: skip
+
+
+@pytest.fixture(scope="module")
+def guarded(tmp_path_factory: pytest.TempPathFactory) -> Iterator[tuple[Served, dict[str, str]]]:
+    """A service with tokens, by their roles."""
+    folder = tmp_path_factory.mktemp("heads")
+    tokens = {role: token(folder, role, role) for role in ("caller", "worker", "approver")}
+    with served(folder, DEFINITIONS, "--token-file", str(folder / "tokens.toml")) as service:
+        yield service, tokens
+
+
+def test_who_may_not_is_told_by_the_head_alone(guarded: tuple[Served, dict[str, str]]) -> None:
+    """Before a byte of the body is there; what comes of it is thrown away, and the connection goes
+    on."""
+    service, tokens = guarded
+    for path, name, statuses in REFUSED:
+        form = "x-www-form-urlencoded" if path.startswith("/ui") else "json"
+        head = f"POST {path} HTTP/1.1\r\nHost: {service.address}\r\n"
+        head += f"Content-Type: application/{form}\r\n"
+        if name is not None:
+            head += f"Authorization: Bearer {tokens.get(name, name)}\r\n"
+        with raw(service) as one:
+            began = time.monotonic()
+            one.sendall(f"{head}Content-Length: 100000\r\n\r\n".encode())
+            status, error = answered(one)
+            assert status in statuses and time.monotonic() - began < 10, (path, name, error)
+            one.sendall(b"[" * 100_000)  # no JSON, and deep: nobody reads it
+            one.sendall(f"GET /health HTTP/1.1\r\nHost: {service.address}\r\n\r\n".encode())
+            assert answered(one) == (200, "")
+
+
+def test_a_body_is_looked_at_behind_the_token(guarded: tuple[Served, dict[str, str]]) -> None:
+    """What is no JSON is told only to who may send it."""
+    service, tokens = guarded
+    for role, status in (("worker", 403), ("approver", 403), ("caller", 422)):
+        with service.client(tokens[role]) as client:
+            headers = {"content-type": "application/json"}
+            assert client.post("/sagas", content=b"{", headers=headers).status_code == status
 
 
 Ask = Callable[[tuple[str, int]], Awaitable[None]]
@@ -217,62 +211,67 @@ def test_a_body_has_one_time(tmp_path: pathlib.Path, monkeypatch: pytest.MonkeyP
     inside(tmp_path, ask, body_time=1.0)
 
 
+class Browsing:
+    """Clients of a service: one for each token, and a browser that is logged in by the first."""
+
+    def __init__(self, address: tuple[str, int], tokens: dict[str, str]) -> None:
+        self.tokens = tokens
+        words: dict[str, Any] = {"trust_env": False, "timeout": LONG}
+        words["base_url"] = f"http://{address[0]}:{address[1]}"
+        self.clients = {
+            name: httpx.AsyncClient(headers={"Authorization": f"Bearer {text}"}, **words)
+            for name, text in tokens.items()
+        }
+        self.clients["page"] = httpx.AsyncClient(**words)
+        self.there: list[httpx.Response] = []
+
+    async def log_in(self) -> None:
+        await self.clients["page"].post(
+            "/ui/login", data={"token": next(iter(self.tokens.values()))}
+        )
+
+    async def stream(self, name: str) -> tuple[int, str]:
+        """Opens one; gives its status, and what was said where it was refused."""
+        path = "/ui/events" if name == "page" else "/events"
+        client = self.clients[name]
+        answer = await client.send(client.build_request("GET", path), stream=True)
+        self.there.append(answer)
+        return (
+            answer.status_code,
+            "" if answer.status_code == 200 else (await answer.aread()).decode(),
+        )
+
+    async def close(self) -> None:
+        for answer in self.there:
+            await answer.aclose()
+        for client in self.clients.values():
+            await client.aclose()
+
+
 def test_streams_are_shared(tmp_path: pathlib.Path, monkeypatch: pytest.MonkeyPatch) -> None:
     """A token has so many, and all tokens leave some to the dashboard; one that ends makes room."""
     monkeypatch.setenv("SAGAS_PROGRAM", program())
     tokens = {name: token(tmp_path, name, "operator") for name in "abc"}
 
     async def ask(address: tuple[str, int]) -> None:
-        async with contextlib.AsyncExitStack() as stack:
-            clients: dict[str, httpx.AsyncClient] = {}
-            for name, text in [*tokens.items(), ("page", "")]:
-                words = {"headers": {"Authorization": f"Bearer {text}"}} if text else {}
-                client = httpx.AsyncClient(
-                    base_url="http://%s:%d" % address, trust_env=False, timeout=LONG, **words
-                )
-                clients[name] = await stack.enter_async_context(client)
-            await clients["page"].post("/ui/login", data={"token": tokens["a"]})
+        some = Browsing(address, tokens)
+        await some.log_in()
+        assert [(await some.stream("a"))[0] for _ in range(3)] == [200] * 3
+        status, said = await some.stream("a")
+        assert status == 503 and "you have 3 event streams: close some" in said
+        assert [(await some.stream("b"))[0] for _ in range(2)] == [200] * 2
+        for name in "bc":
+            status, said = await some.stream(name)
+            assert status == 503 and "there are 5 event streams" in said
+        # the dashboard has its own, though its token has as many others as it may
+        assert [(await some.stream("page"))[0] for _ in range(3)] == [200, 200, 503]
+        await some.there[0].aclose()
+        while (await some.stream("c"))[0] != 200:
+            await asyncio.sleep(0.05)
+        await some.close()
 
-            async def stream(name: str) -> httpx.Response:
-                path = "/ui/events" if name == "page" else "/events"
-                return await clients[name].send(
-                    clients[name].build_request("GET", path), stream=True
-                )
-
-            there = [await stream("a") for _ in range(3)]
-            assert [one.status_code for one in there] == [200] * 3
-            more = await stream("a")
-            assert (
-                more.status_code == 503
-                and "you have 3 event streams: close some" in (await more.aread()).decode()
-            )
-            there += [await stream("b"), await stream("b")]
-            for name in "bc":
-                full = await stream(name)
-                assert (
-                    full.status_code == 503
-                    and "there are 5 event streams" in (await full.aread()).decode()
-                )
-            shown = [
-                await stream("page"),
-                await stream("page"),
-            ]  # though its token has as many others as it may
-            assert [one.status_code for one in there[3:] + shown] == [200] * 4
-            assert (await stream("page")).status_code == 503
-            await there[0].aclose()
-            while (one := await stream("c")).status_code != 200:
-                await asyncio.sleep(0.05)
-            for one in [one, *there, *shown]:
-                await one.aclose()
-
-    inside(
-        tmp_path,
-        ask,
-        most_streams=7,
-        most_streams_each=3,
-        kept_streams=2,
-        tokens=tmp_path / "tokens.toml",
-    )
+    few = {"most_streams": 7, "most_streams_each": 3, "kept_streams": 2}
+    inside(tmp_path, ask, tokens=tmp_path / "tokens.toml", **few)
 
 
 def test_idle_ones_give_way_before_those_at_work(tmp_path: pathlib.Path) -> None:

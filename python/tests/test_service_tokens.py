@@ -206,31 +206,28 @@ def test_an_approver_of_a_definition(world: World) -> None:
     world["operator"].post("/sagas/to-approve/abort", json={})
 
 
+def listened(world: World, path: str, ready: threading.Barrier, found: list[str]) -> None:
+    """What a stream tells, until it has told of the abort of the saga that is its own."""
+    client = world.service.client(world.tokens["of-trip"])
+    with client, client.stream("GET", path) as stream:
+        lines = stream.iter_lines()
+        assert next(lines).startswith("retry")
+        ready.wait(LONG)
+        for line in lines:
+            if line.startswith("data:"):
+                found.append(line[5:])
+                if '"saga_aborted"' in line:
+                    return
+
+
 def test_a_stream_has_its_definitions(world: World) -> None:
-    """Also of one key alone, and behind an id; what is of no definition is for those who see
-    all."""
-    names: dict[str, list[str]] = {}
-
-    def listen(path: str, ready: threading.Barrier) -> None:
-        with world.service.client(world.tokens["of-trip"]) as client, client.stream(
-            "GET", path
-        ) as stream:
-            lines = stream.iter_lines()
-            assert next(lines).startswith("retry")
-            ready.wait(LONG)
-            for line in lines:
-                if line.startswith("data:"):
-                    names.setdefault(path, []).append(line[5:])
-                    if (
-                        '"streamed-trip"' in line
-                        and "saga_started" not in line
-                        or "saga_aborted" in line
-                    ):
-                        return
-
+    """What happens to others is not in it; what is of no definition is for those who see all."""
     paths = ["/events", "/events?definition=trip"]
+    found: dict[str, list[str]] = {path: [] for path in paths}
     ready = threading.Barrier(len(paths) + 1)
-    threads = [threading.Thread(target=listen, args=(path, ready)) for path in paths]
+    threads = [
+        threading.Thread(target=listened, args=(world, path, ready, found[path])) for path in paths
+    ]
     for thread in threads:
         thread.start()
     ready.wait(LONG)
@@ -239,15 +236,22 @@ def test_a_stream_has_its_definitions(world: World) -> None:
     world["caller"].post("/sagas/streamed-trip/abort", json={})
     for thread in threads:
         thread.join(LONG)
-    assert all(
-        names[path] and all("order" not in text for text in names[path]) for path in paths
-    ), names
+    for path in paths:
+        assert found[path] and all('"saga": "trip"' in text for text in found[path]), found
+
+
+def test_a_stream_of_another_s_saga_has_nothing(world: World) -> None:
+    """By its definition it is refused; by its key it is one of a key that nobody has, also behind
+    an id."""
     assert told(world["of-trip"].get("/events?definition=order"))[:2] == (403, "NotAllowed")
-    with world["of-trip"].stream(
-        "GET", "/events?key=streamed-order", headers={"Last-Event-ID": last_id(world)}
-    ) as stream:
+    start(world["caller"], "order", "behind-an-id")
+    headers = {"Last-Event-ID": last_id(world)}
+    with world["of-trip"].stream("GET", "/events?key=behind-an-id", headers=headers) as stream:
         lines = stream.iter_lines()
-        assert [next(lines).strip() for _ in range(3)][2] == ": open"  # nothing of it is told again
+        assert [next(lines).strip() for _ in range(3)][2] == ": open"
+        start(world["caller"], "order", "behind-it")
+        quiet = next(line for line in lines if line.strip())  # the comment of a stream without news
+        assert quiet.startswith(":")
 
 
 def last_id(world: World) -> str:
@@ -295,75 +299,61 @@ def csrf_of(client: httpx.Client, path: str) -> str:
     return found[1]
 
 
+OTHERS = ("a-trip", "a-licence", "trip/", ">trip<", ">licence<")
+"""What a page of an operator who is kept to another definition does not have."""
+
+
 def test_the_dashboard_has_its_definitions(world: World) -> None:
-    """Its operator sees no other's sagas, figures, queues and workers, and does nothing to them."""
-    page = world.page("of-order")
+    """Its operator sees no other's sagas, figures, queues and workers."""
+    page, all_of_it = world.page("of-order"), world.page("operator")
     take(world["worker"], "trip/none", wait=0)
-    for path in (
-        "/ui",
-        "/ui/sagas",
-        "/ui/sagas?search=a-",
-        "/ui/sagas?definition=trip",
-        "/ui/sagas?phase=stuck",
-        "/ui/workers",
-        "/ui/start",
-    ):
+    queries = ("", "?search=a-", "?definition=trip", "?phase=stuck")
+    for path in ("/ui", "/ui/workers", "/ui/start", *(f"/ui/sagas{query}" for query in queries)):
         text = page.get(path).text
-        assert (
-            "a-trip" not in text
-            and "a-licence" not in text
-            and "trip/" not in text
-            and ">trip<" not in text
-            and ">licence<" not in text
-        ), path
-    assert "a-order" in page.get("/ui").text and "a-order" in page.get("/ui/sagas").text
-    assert (
-        "a-trip" in world.page("operator").get("/ui/sagas?search=a-").text
-        and "trip/none" in world.page("operator").get("/ui/workers").text
-    )
-    own = page.get("/ui").text
-    assert (
-        re.search(r"0 stuck · 0 unknown · \d+ to approve", own)
-        and "1 stuck" in world.page("operator").get("/ui").text
-    )
+        assert not [word for word in OTHERS if word in text], path
+    for path in ("/ui", "/ui/sagas"):
+        assert "a-order" in page.get(path).text
+    assert "a-trip" in all_of_it.get("/ui/sagas?search=a-").text
+    assert "trip/none" in all_of_it.get("/ui/workers").text
+    assert re.search(r"0 stuck · 0 unknown · \d+ to approve", page.get("/ui").text)
+    assert "1 stuck" in all_of_it.get("/ui").text
+
+
+FORMS: list[tuple[str, dict[str, str]]] = [
+    ("abort", {}), ("steps/flight/done", {"result": "1"}), ("steps/flight/failed", {"failed": "x"}),
+    ("resolve", {"note": "x"}),
+]  # fmt: skip
+
+
+def test_the_dashboard_does_nothing_to_others(world: World) -> None:
+    """Another's saga is there as one that nobody has, also for its forms."""
+    page = world.page("of-order")
     csrf = csrf_of(page, "/ui/sagas/a-order/abort")
     for key in ("a-trip", "no-trip"):
-        assert (
-            page.get(f"/ui/sagas/{key}").status_code == 404
-            and page.get(f"/ui/sagas/{key}/certificate").status_code == 404
-        )
-        assert f"No saga has the key {key}" in page.get(f"/ui/sagas/{key}").text
-        for path, form in (
-            ("abort", {}),
-            ("steps/flight/done", {"result": "1"}),
-            ("steps/flight/failed", {"failed": "x"}),
-            ("resolve", {"note": "x"}),
-        ):
+        missing = page.get(f"/ui/sagas/{key}")
+        assert missing.status_code == 404 and f"No saga has the key {key}" in missing.text
+        assert page.get(f"/ui/sagas/{key}/certificate").status_code == 404
+        for path, form in FORMS:
             answer = page.post(f"/ui/sagas/{key}/{path}", data={"csrf": csrf, **form})
-            assert (
-                answer.status_code == 409 and f"no saga has the key &#39;{key}&#39;" in answer.text
-            )
-    assert (
-        page.post(
-            "/ui/start", data={"csrf": csrf, "definition": "trip", "key": "by-page"}
-        ).status_code
-        == 403
-    )
-    taken = page.post("/ui/start", data={"csrf": csrf, "definition": "order", "key": "a-trip"})
-    assert (
-        taken.status_code == 409
-        and "is another saga&#39;s" in taken.text
-        and "secret" not in taken.text
-    )
+            assert answer.status_code == 409
+            assert f"no saga has the key &#39;{key}&#39;" in answer.text
     assert world["operator"].get("/sagas/a-trip").json()["aborted"] is False
     with page.stream("GET", "/ui/events?key=a-trip") as stream:
         assert stream.status_code == 200
-    assert (
-        page.post(
-            "/ui/sagas/a-order/steps/review/failed", data={"csrf": csrf, "failed": "no"}
-        ).status_code
-        == 303
-    )
+
+
+def test_the_dashboard_starts_its_definitions(world: World) -> None:
+    """No other; and a key that is another's saga is only said to be taken. What is its own it
+    does."""
+    page = world.page("of-order")
+    csrf = csrf_of(page, "/ui/sagas/a-order/abort")
+    other = {"csrf": csrf, "definition": "trip", "key": "by-page"}
+    assert page.post("/ui/start", data=other).status_code == 403
+    taken = page.post("/ui/start", data={"csrf": csrf, "definition": "order", "key": "a-trip"})
+    assert taken.status_code == 409 and "is another saga&#39;s" in taken.text
+    assert "secret" not in taken.text
+    refused = {"csrf": csrf, "failed": "no"}
+    assert page.post("/ui/sagas/a-order/steps/review/failed", data=refused).status_code == 303
 
 
 def soon(seconds: float) -> str:
