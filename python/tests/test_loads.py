@@ -86,7 +86,9 @@ def test_all_that_are_wanted_go_together(url: str, logs: list[int]) -> None:
             gone, unborn, there, born = await asyncio.gather(
                 loads.load(10**6, 7, None), loads.load(10**6 + 1, 7, BORN), loads.load(logs[2], 7, BORN), loads.load(logs[0], 7, BORN)
             )
-            assert gone is None and unborn == Loaded("", 0, 0, [], [], [], 8) and is_whole(there, 2, 4) and born is None
+            assert gone is None and is_whole(there, 2, 4) and born is None
+            ((line,),) = psycopg.connect(url).execute(f"SELECT {links.LINE}".encode()).fetchall()
+            assert unborn == Loaded("", 0, 0, [], [], [], 8, line) and there and there.line == line
 
     run(main())
 
