@@ -82,7 +82,7 @@ WRONG: list[tuple[dict[str, Any], str]] = [
     ({"at": SECRET}, ".at: it cannot be read as datetime"),
     ({"id": SECRET}, ".id: it cannot be read as UUID"),
     ({"way": SECRET}, ".way: it is one of 'sea', 'air'"),
-    ({"gift": {"name": 3}}, ".gift lacks 'price', which Item needs"),
+    ({"gift": {"name": "a"}}, ".gift lacks 'price', which Item needs"),
     ({"pair": [1, 2]}, ".pair[1]: a text is needed, and this is a whole number"),
     ({"numbers": [1, None, SECRET]}, ".numbers[2]: it is of none of the types"),
     ({"note": 7}, ".note: a text is needed, and this is a whole number"),

@@ -135,15 +135,20 @@ class Kind:
     def misfit(self, given: Any, text: str) -> BadInput | None:
         """Why the first steps cannot read an input, where they cannot. Of what is of a type
         already, a dataclass is looked at: its fields take anything."""
-        if not self.firsts or not (type(given) in PLAIN or dataclasses.is_dataclass(given)):
+        if not self.firsts:
+            return None
+        is_plain = type(given) in PLAIN
+        if not is_plain and not dataclasses.is_dataclass(given):
             return None
         for number, check in self.firsts.items():
             step, decoder = self.steps[number], self.inputs[number]
             assert decoder and step
             try:
-                decoder(values.read(text))
+                value = values.read(text)
                 if check:
-                    check(values.read(text))
+                    check(value)
+                if is_plain:
+                    decoder(value)
             except NameError:  # its hints name what is there for the checker alone: that is no fault of the input
                 continue
             except Exception as error:  # of the type's own code
