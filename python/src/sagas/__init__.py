@@ -17,7 +17,8 @@
 Each step is done, or undone where that costs least; whatever becomes of the program in between.
 
 - To declare: `Saga`, with `step`, `wait` and `approval`; `Step.compensation`, `Backoff`, `NEVER`.
-- In a function: `Task` (its `effect_token` is the idempotency key), `Fail`, `Unknown`.
+- In a function: `Task` (its `effect_token` is the idempotency key), `Fail`, `Unknown`; in an
+  approval's `Approved`, `Rejected`.
 - To run: `open`, `open_sync`; `Store`, with `start`, `wait`, `abort`, `finish`, `list`,
   `attention`, `resolve`; `Run`, `End`, `Plan`.
 - To test: `sagas.testing.run`.
