@@ -315,7 +315,7 @@ def test_the_dashboard_has_its_definitions(world: World) -> None:
         assert "a-order" in page.get(path).text
     assert "a-trip" in all_of_it.get("/ui/sagas?search=a-").text
     assert "trip/none" in all_of_it.get("/ui/workers").text
-    assert re.search(r"0 stuck · 0 unknown · \d+ to approve", page.get("/ui").text)
+    assert re.search(r"0 stuck · 0 undo failed · 0 unknown · \d+ to approve", page.get("/ui").text)
     assert "1 stuck" in all_of_it.get("/ui").text
 
 
