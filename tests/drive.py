@@ -11,6 +11,7 @@ import concurrent.futures
 import contextlib
 import errno
 import fcntl
+import itertools
 import json
 import os
 import pathlib
@@ -20,6 +21,7 @@ import signal
 import subprocess
 import sys
 import tempfile
+import threading
 import time
 import zlib
 
@@ -31,6 +33,9 @@ PROCESSORS = len(os.sched_getaffinity(0))
 HEADER = b'{"format":2}\n'
 NEXT, BUSY = {"do": "next"}, {"do": "busy"}
 NO_MEMORY = {"fault": "out-of-memory"}
+
+# So many bytes of requests are taken at once.
+AT_ONCE = 65_536
 
 # Definitions, by name. In `pair` step b needs step a; where b fails, a is undone, and where that fails too, a stays.
 DEFINITIONS = {
@@ -113,6 +118,14 @@ class Driven:
 
     def ask(self, request):
         return self.reply() if self.send(request) else None
+
+    def replies(self, count):
+        """So many replies, while the program waits for more requests; fewer where they do not come within a minute, and it is killed."""
+        late = threading.Timer(60, self.child.kill)
+        late.start()
+        found = list(itertools.takewhile(lambda reply: reply is not None, (self.reply() for _ in range(count))))
+        late.cancel()
+        return found
 
     def rest(self):
         """All replies that are still to come."""
@@ -522,6 +535,35 @@ def in_pieces(state):
     state.expect("500 long lines", state.ran(state.defined("pair"), None, b"".join(lines)), (0, line_of(none(True)) * 500, b""))
 
 
+def together(state):
+    """Requests that are taken together: as many bytes as a read takes, with no more behind them; and 4,000 in one write, of which the replies are more
+    than may wait. Each is answered while the program waits for more, once and in order."""
+    whole = Driven(state, state.defined("pair"))
+    asked = [{"do": "status"}] * (AT_ONCE // len(line_of({"do": "status"})))
+    whole.send(*asked)
+    none_yet = {"definitions": ["pair"], "ended": 0, "events": 0, "opened": 0, "room": 1000, "stuck": 0}
+    state.expect("a read's bytes", sum(map(len, map(line_of, asked))), AT_ONCE)
+    state.expect("a read's bytes: the replies", whole.replies(len(asked)), [none_yet] * len(asked))
+    state.expect("a read's bytes: the end", whole.end(), (0, ""))
+    log = state.folder / "at-once.log"
+    many = Driven(state, state.defined("pair"), log)
+    begin = [request for _ in range(8) for request in (opening(0), NEXT)]
+    many.send(*begin)
+    many.replies(len(begin))
+    taken = [task("run", saga, 0, "a") for saga in range(8)]
+    wanted = [{"busy": taken}] * 4000
+    state.expect("4,000 at once: the replies are many", len(line_of(wanted[0])) * 4000 > 1_048_576, True)
+    begun = log.read_bytes()
+    many.send(*[BUSY] * 3999, aborting(7))
+    found = many.replies(4000)
+    state.expect("4,000 at once: the replies", found[:-1], wanted[:-1])
+    last = {"event": {"event": "abort", "saga": 7}, "phase": "draining"}
+    state.expect("4,000 at once: the last", found[-1:], [last])
+    state.expect("4,000 at once: the log", log.read_bytes().removeprefix(begun), b"".join(told([last])))
+    state.expect("4,000 at once: the end", many.end(), (0, ""))
+    return len(asked) + len(begin) + 4000
+
+
 def said(state):
     """Conversations: with a log and without, line by line and at once; the last line without its line feed."""
     begun = [UNDONE[0], UNDONE[1]]
@@ -537,7 +579,7 @@ def said(state):
             state.expect(f"{name}, without a log", state.ran(state.defined(*definitions), None, at_once), (0, replies, b""))
         state.expect(f"{name}: the log, at once", log.read_bytes(), (state.folder / f"said.{name}.log").read_bytes())
     in_pieces(state)
-    count = hostile(state)
+    count = hostile(state) + together(state)
     many = line_of(opening(0)) * 1001
     wanted = b"".join(line_of(opened(saga)) for saga in range(1000)) + line_of({"refused": "full"})
     log = state.folder / "said.full.log"
@@ -788,6 +830,7 @@ def lines(state):
 # ---- the room of a log
 
 LOG_FULL = {"refused": "log-full"}
+OPENED = {"def": 0, "event": "open"}
 
 # Two definitions, by their steps and needs: a saga of each has room in one log to the byte; or there is a byte too little, and the second is refused.
 EDGES = [((651, 666), (692, 745), True), ((661, 687), (689, 688), False)]
@@ -868,7 +911,7 @@ def room(state):
     state.expect("room: after a kill", (one.fill(0), one.abort(3), one.fill(0)), (0, "ended", 1))
     one.end()
     shown_from(state, one, begun, before)
-    return len(one.pairs) + edges(state) + unlimited(state, definitions), "requests of full logs"
+    return len(one.pairs) + edges(state) + full(state) + unlimited(state, definitions), "requests of full logs"
 
 
 def shown_from(state, one, begun, before):
@@ -895,6 +938,38 @@ def edges(state):
 def one_more(one, definition):
     """Whether a saga is opened."""
     return one.ask(opening(definition)) != LOG_FULL
+
+
+START, DROP = b'{"event":"start_plan","saga":0}\n', b'{"event":"drop_plan","saga":0}\n'
+
+
+def filled(state, log, left):
+    """A log of two sagas, of which plans of the first were begun and dropped until so many bytes are left of the most that a log may have."""
+    log.write_bytes(HEADER)
+    begun = b"".join(event.encode() + b"\n" for event in map(written, [OPENED | {"saga": 0}, OPENED | {"saga": 1}, {"event": "abort", "saga": 0}]))
+    pairs, odd = divmod(follower.MAX_LOG - left - len(HEADER) - len(begun), len(START + DROP))
+    log.write_bytes(HEADER + begun.replace(b"{", b" " * odd + b"{", 1) + (START + DROP) * pairs)
+    state.expect("full: the log's bytes", log.stat().st_size, follower.MAX_LOG - left)
+
+
+def full(state):
+    """A log that plans fill, begun and dropped, to its last byte: what fits is written and told, and what does not is neither, not in part."""
+    pair = state.defined("pair")
+    log = state.folder / "full.log"
+    line = line_of({"event": "abort", "saga": 1})
+    wrong = f"sagas: cannot write {log}\n"
+    aborted = {"event": {"event": "abort", "saga": 1}, "phase": "draining"}
+    for left, more in [(len(line), True), (len(line) - 1, False)]:
+        filled(state, log, left)
+        beside(log).unlink(missing_ok=True)
+        before = log.read_bytes()
+        one = Driven(state, pair, log)
+        state.expect(f"full: an abort where {left} bytes are left", one.ask(aborting(1)), aborted if more else None)
+        state.expect(f"full: the next task where {left} bytes were left", one.ask(NEXT), None)
+        state.expect(f"full: the end where {left} bytes were left", one.end(), (4, wrong))
+        state.expect(f"full: what was written where {left} bytes were left", log.read_bytes().removeprefix(before), line if more else b"")
+        state.expect(f"full: a start where {left} bytes were left", state.ran(pair, log, b""), (0, b"", b""))
+    return 4
 
 
 def unlimited(state, definitions):
