@@ -1,8 +1,10 @@
 """The proved calls as a module of WebAssembly.
 
-library/build keeps the LLVM module from which the kit compiles the crate saga_c for x86-64, once it is proved. That module is retargeted
-to wasm64 (retarget.py), compiled and linked by the kit's own tools, with the heap of heap.c. The proof is that of the crate; the
-retargeting, the heap and the compiler's wasm64 are not covered by it, and are tested against the program byte for byte.
+library/build keeps the LLVM module from which the kit compiles the crate saga_c for x86-64, once
+it is proved. That module is retargeted to wasm64 (retarget.py), compiled and linked by the kit's
+own tools, with the heap of heap.c, and given a memory of 32 bits (narrow.py). The proof is that
+of the crate; these steps and the compiler are not covered by it, and are tested against the
+program byte for byte.
 """
 
 from __future__ import annotations
@@ -12,6 +14,7 @@ import sys
 import tempfile
 from pathlib import Path
 
+from narrow import narrowed
 from retarget import retargeted
 
 HERE = Path(__file__).resolve().parent
@@ -54,4 +57,4 @@ def made(module: Path) -> bytes:
         run("llvm-ar", "rcsD", "page.a", "module.o", "heap.o")
         linker = str(place / "bin" / "rattle-link")
         run(linker, "--target", "wasm64-unknown-unknown", "--toolchain", str(place / "toolchain"), "--stack", str(STACK), "-o", "sagas.wasm", "page.a", tool=linker)
-        return (folder / "sagas.wasm").read_bytes()
+        return narrowed((folder / "sagas.wasm").read_bytes())

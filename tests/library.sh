@@ -1,6 +1,7 @@
 #!/usr/bin/env bash
-# The C library of dist/, as others use it: from C by both of its forms and under sanitizers, from C++, Rust, Python and, where it is there, Go;
-# with faults, each room, refused memory and 16 threads; and whether it gives the same bytes as the program. Takes no kit.
+# The C library of dist/, as others use it: from C by both of its forms and under sanitizers, from C++, Rust, Python, JavaScript (by the module of
+# WebAssembly) and, where it is there, Go; with faults, each room, refused memory and 16 threads; and whether it gives the same bytes as the program.
+# Takes no kit.
 set -uo pipefail
 cd "$(dirname "$0")/.." || exit 1
 top=$PWD
@@ -37,7 +38,7 @@ answers() {
   [ "$found" = $'sagas: definition: not-toml\n3' ] || fail "$what, no definition: $found"
 }
 
-for it in cc,gcc c++,g++ pkg-config,pkg-config cargo,cargo; do
+for it in cc,gcc c++,g++ pkg-config,pkg-config cargo,cargo node,nodejs; do
   tests/need "${it%,*}" "${it#*,}" || exit 1
 done
 c=(-std=c99 -Wall -Wextra -Werror -pedantic -O1 -g -Idist)
@@ -66,6 +67,7 @@ export SAGAS_LIBRARY_DIR=$top/dist CARGO_TARGET_DIR=$work/target
 runs 'the crate in Rust' env -C "$work/rust" cargo test --offline -q
 runs 'the example in Rust' env -C "$work/rust" cargo build --offline -q --example plan
 answers 'the example in Rust' "$work/target/debug/examples/plan"
+answers 'the example in JavaScript' node examples/library/plan.mjs
 if command -v go >/dev/null; then
   runs 'the example in Go' env -C examples/library GOCACHE="$work/go" GOFLAGS=-mod=mod CGO_ENABLED=1 go build -o "$work/plan-go" plan.go
   answers 'the example in Go' "$work/plan-go"

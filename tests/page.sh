@@ -1,8 +1,8 @@
 #!/usr/bin/env bash
-# The page of dist/ in a real browser; its pictures go to out/page. Takes no kit.
+# The page of dist/ in real browsers, whose pictures go to out/page, and its module in Node. Takes no kit.
 set -uo pipefail
 cd "$(dirname "$0")/.." || exit 1
-for it in chromium,chromium chromedriver,chromium-driver python:selenium,python3-selenium python:pytest,python3-pytest; do
+for it in chromium,chromium chromedriver,chromium-driver firefox-esr,firefox-esr WebKitWebDriver,webkit2gtk-driver Xvfb,xvfb node,nodejs python:selenium,python3-selenium python:pytest,python3-pytest; do
   tests/need "${it%,*}" "${it#*,}" || exit 1
 done
 export SAGAS_PROGRAM PYTHONDONTWRITEBYTECODE=1

@@ -184,6 +184,9 @@ expect_piece 'a start with a changed byte' 'dist/sagas is not the program that d
 tree=$(fresh library)
 printf 'X' | dd of="$tree/dist/libsagas.so" bs=1 seek=5000 conv=notrunc status=none
 expect_piece './release --check of a changed byte of the library' 'dist/libsagas.so is not what dist/library.txt tells of' "$(check "$tree")"
+tree=$(fresh module)
+printf 'X' | dd of="$tree/dist/sagas.wasm" bs=1 seek=5000 conv=notrunc status=none
+expect_piece './release --check of a changed byte of the module' 'dist/sagas.wasm is not what dist/library.txt tells of' "$(check "$tree")"
 tree=$(fresh page)
 echo "/* changed */" >>"$tree/page/src/page.css"
 expect_piece './release --check of a changed page' 'dist/sagas.html is of other pages' "$(check "$tree")"

@@ -417,7 +417,7 @@ async function begin() {
   } catch (error) {
     document.body.dataset.rounds = '0';
     return tell('bad', 'This browser cannot run the page', String(error),
-      'The page needs WebAssembly with a memory of 64 bits: Chrome or Edge 133, Firefox 134, or later. Or use the program: ./sagas plan.');
+      'The page needs WebAssembly with BigInt: Chrome or Edge 85, Firefox 79, Safari 15, or later. Or use the program: ./sagas plan.');
   }
   listen();
   return take_example();
