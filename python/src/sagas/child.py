@@ -4,6 +4,7 @@ from __future__ import annotations
 
 import asyncio
 import contextlib
+import errno
 import fcntl
 import os
 import select
@@ -14,7 +15,7 @@ from collections.abc import Callable, Sequence
 from . import lines
 from .errors import ChildError
 from .forks import private
-from .program import memory_file
+from .program import Texts, memory_file, not_runnable
 
 PIPE = 1 << 20  # bytes
 READ = 1 << 16  # bytes that are read at once: what is larger is mapped, and given back, at each read
@@ -22,6 +23,10 @@ WAIT = 1  # milliseconds
 HUNG = 60.0  # seconds
 AGAIN = 32
 """Questions after one whose answer was late, until answers are waited for again."""
+AGAIN_LATER = 0.01  # seconds
+NOT_RUNNABLE = (errno.ENOEXEC, errno.EACCES, errno.ENOENT)
+"""What the system says of a program that it cannot run: for another processor, without the right,
+or without its loader."""
 Reply = str
 Answered = Callable[[list[Reply], str], None]
 """What is called with the replies to a batch, and the lines of the log that they came to."""
@@ -50,32 +55,31 @@ class Child:
         self._start(program, definitions, text)
 
     def _start(self, program: str, definitions: Sequence[str], text: str) -> None:
-        files: list[int] = []
         self._words = -1
+        self._texts: Texts | None = None
         try:
-            self._words = os.memfd_create("words", os.MFD_CLOEXEC)
-            files += [memory_file("definition", definition) for definition in definitions]
-            words = [f"/proc/self/fd/{fd}" for fd in files]
+            self._words = memory_file("words")
+            self._texts = Texts([*definitions, lines.HEADER + text] if text else definitions)
+            words = self._texts.paths
             if text:
-                files.append(memory_file("log", lines.HEADER + text))
-                words = ["--from", f"/proc/self/fd/{files[-1]}", *words]
+                words = ["--from", words[-1], *words[:-1]]
             self.process = subprocess.Popen(
                 [program, "drive", "--lines", *words], stdin=subprocess.PIPE, stdout=subprocess.PIPE, stderr=self._words, bufsize=0,
-                pass_fds=files, start_new_session=True,
+                pass_fds=self._texts.files, start_new_session=True,
             )  # fmt: skip
+            self._texts.given()
         except OSError as error:
-            if self._words >= 0:
-                os.close(self._words)
+            self._close_files()
+            if error.errno in NOT_RUNNABLE:
+                raise not_runnable(program, str(error.strerror)) from error
             raise ChildError(f"{program}: it cannot be started: {error.strerror}") from error
-        finally:
-            for fd in files:
-                os.close(fd)
         assert self.process.stdin and self.process.stdout
         self._to, self._back = self.process.stdin.fileno(), self.process.stdout.fileno()
         for fd in (self._to, self._back):
             private.add(fd)
             os.set_blocking(fd, False)
-            with contextlib.suppress(OSError):  # a user has so many pages of pipes, and no more
+            # (a user has so many pages of pipes, and no more; and not each system has it)
+            with contextlib.suppress(AttributeError, OSError):
                 fcntl.fcntl(fd, fcntl.F_SETPIPE_SZ, PIPE)
         self._loop.add_reader(self._back, self._readable)
         self._poll = select.poll()
@@ -183,11 +187,15 @@ class Child:
 
     def _bury(self) -> None:
         """Takes its status, once it is there: the loop does not stand still for it."""
-        if self.process.poll() is None:
-            end = os.pidfd_open(self.process.pid)
-            self._loop.add_reader(end, self._ended, end)
-        else:
+        if self.process.poll() is not None:
             self._forget()
+            return
+        try:
+            end = os.pidfd_open(self.process.pid)
+        except (AttributeError, OSError):  # the system has none: it is looked at again in a moment
+            self._loop.call_later(AGAIN_LATER, self._bury)
+            return
+        self._loop.add_reader(end, self._ended, end)
 
     def _ended(self, end: int) -> None:
         self._loop.remove_reader(end)
@@ -195,6 +203,12 @@ class Child:
         self.process.wait()
         self._forget()
 
+    def _close_files(self) -> None:
+        if self._words >= 0:
+            os.close(self._words)
+        if self._texts is not None:
+            self._texts.close()
+
     def _forget(self) -> None:
-        os.close(self._words)
+        self._close_files()
         self.buried.set_result(None)

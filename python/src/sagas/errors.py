@@ -119,6 +119,12 @@ class ChildError(SagasError):
     """`sagas drive` cannot be started or refuses a log. The text is its last line, and docs/ERRORS.md has the remedy."""
 
 
+class EngineNotRunnable(ChildError):
+    """This machine cannot run the program `sagas`: it is for another processor or system, say.
+
+    To try again does not help: the text says what does."""
+
+
 class Closed(SagasError):
     """The store is closed, or is closing. Sagas that are not over go on when it is opened again."""
 

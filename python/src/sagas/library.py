@@ -8,6 +8,7 @@ Texts are str, or bytes, of the forms of docs/FORMATS.md. A call keeps nothing, 
 
 from __future__ import annotations
 
+import contextlib
 import ctypes
 import functools
 import os
@@ -47,7 +48,7 @@ class _Span(ctypes.Structure):
 def path() -> pathlib.Path | None:
     """Where the library is: `$SAGAS_LIBRARY`, else the one that came with the package, else the release of the checkout that this is in."""
     told = os.environ.get("SAGAS_LIBRARY")
-    places = [pathlib.Path(told)] if told else [program.HERE / "bin" / "libsagas.so", *(above / "dist" / "libsagas.so" for above in program.HERE.parents[:4])]
+    places = [pathlib.Path(told)] if told else program.released("libsagas.so")
     return next((place for place in places if place.is_file()), None)
 
 
@@ -82,16 +83,9 @@ def call(library: ctypes.CDLL, name: str, texts: Sequence[bytes], spans: Sequenc
 
 def _by_program(command: str, texts: Sequence[bytes]) -> tuple[int, bytes]:
     """The same of the program: its status, and what it prints, or with status 3 its line on standard error."""
-    files = [os.memfd_create(command, os.MFD_CLOEXEC) for _ in texts]
-    try:
-        for fd, text in zip(files, texts):
-            with open(fd, "wb", closefd=False) as file:
-                file.write(text)
-        words = [program.path(), command, *(f"/proc/self/fd/{fd}" for fd in files)]
-        done = subprocess.run(words, capture_output=True, pass_fds=files, stdin=subprocess.DEVNULL, check=False)
-    finally:
-        for fd in files:
-            os.close(fd)
+    with contextlib.closing(program.Texts(texts)) as given:
+        words = [program.path(), command, *given.paths]
+        done = subprocess.run(words, capture_output=True, pass_fds=given.files, stdin=subprocess.DEVNULL, check=False)
     if done.returncode not in (YES, NO, BAD, NO_MEMORY):
         raise ChildError(f"sagas {command} ended with {done.returncode}: {done.stderr.decode(errors='replace').strip()}")
     return done.returncode, done.stderr if done.returncode == BAD else done.stdout

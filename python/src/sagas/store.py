@@ -94,7 +94,7 @@ class Store:
         for saga in self._shelf.sagas.values():
             for warning in saga.warnings():
                 logger.warning("%s", warning)
-        where = self._program or program.path()
+        where = program.path(self._program)
         database = databases.make(self._name, self._shelf, self._node, self._lease, self._most)
         self.path = database.path
         coordinator = self._coordinator = Coordinator(database, self._shelf, program=where, teller=self._teller, **self._words)  # type: ignore[arg-type]

@@ -15,7 +15,6 @@ import dataclasses
 import datetime
 import heapq
 import json
-import os
 import subprocess
 from collections import Counter
 from typing import Any
@@ -160,12 +159,14 @@ class _Drive:
     """`sagas drive` over one definition, one request at a time, with nothing kept."""
 
     def __init__(self, definition: str) -> None:
-        file = program.memory_file("definition", definition)
+        self._texts = program.Texts([definition])
         try:
-            words = [program.path(), "drive", f"/proc/self/fd/{file}"]
-            self._process = subprocess.Popen(words, stdin=subprocess.PIPE, stdout=subprocess.PIPE, pass_fds=[file], start_new_session=True)
-        finally:
-            os.close(file)
+            words = [program.path(), "drive", *self._texts.paths]
+            self._process = subprocess.Popen(words, stdin=subprocess.PIPE, stdout=subprocess.PIPE, pass_fds=self._texts.files, start_new_session=True)
+        except BaseException:
+            self._texts.close()
+            raise
+        self._texts.given()
 
     def __enter__(self) -> _Drive:
         return self
@@ -175,6 +176,7 @@ class _Drive:
         self._process.stdin.close()
         self._process.stdout.close()
         self._process.wait()
+        self._texts.close()
 
     def ask(self, request: str) -> Json:
         """The reply to a request."""

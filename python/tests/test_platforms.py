@@ -1,0 +1,150 @@
+"""Other systems and machines: what the package takes where the system lacks something, and what
+it says where the program cannot be run."""
+
+from __future__ import annotations
+
+import errno
+import fcntl
+import os
+import pathlib
+import shutil
+import struct
+from collections.abc import Callable
+
+import pytest
+
+import sagas
+import sagas.testing
+from driving import program
+from sagas import library
+from sagas import program as engine
+
+Lack = Callable[[pytest.MonkeyPatch], None]
+
+
+def refused(*_: object) -> int:
+    """As a system call that a kernel lacks."""
+    raise OSError(errno.ENOSYS, os.strerror(errno.ENOSYS))
+
+
+LACKS: dict[str, Lack] = {
+    "no memfd_create": lambda patch: patch.delattr(os, "memfd_create"),
+    "a kernel without memfd_create": lambda patch: patch.setattr(os, "memfd_create", refused),
+    "no pidfd_open": lambda patch: patch.delattr(os, "pidfd_open"),
+    "a kernel without pidfd_open": lambda patch: patch.setattr(os, "pidfd_open", refused),
+    "no F_SETPIPE_SZ": lambda patch: patch.delattr(fcntl, "F_SETPIPE_SZ"),
+    "no /proc": lambda patch: patch.setattr(engine, "descriptors", lambda: None),
+    "/dev/fd alone": lambda patch: patch.setattr(engine, "descriptors", lambda: "/dev/fd"),
+}
+
+
+def all_of_them(patch: pytest.MonkeyPatch) -> None:
+    """Nothing of what Linux alone has."""
+    for name in ("no memfd_create", "no pidfd_open", "no F_SETPIPE_SZ", "no /proc"):
+        LACKS[name](patch)
+
+
+LACKS["none of them"] = all_of_them
+
+
+def order() -> sagas.Saga:
+    """A saga whose second step fails."""
+    saga = sagas.Saga("order")
+
+    @saga.step
+    def charge(task: sagas.Task[int]) -> int:
+        return task.input
+
+    @charge.compensation
+    def refund(task: sagas.Task[int]) -> None:
+        assert task.result == task.input
+
+    @saga.step(needs=[charge])
+    def send(task: sagas.Task[int]) -> None:
+        raise sagas.Fail("no such address")
+
+    return saga
+
+
+@pytest.mark.parametrize("lack", list(LACKS.values()), ids=list(LACKS))
+def test_a_system_that_lacks(
+    lack: Lack,
+    monkeypatch: pytest.MonkeyPatch,
+    caplog: pytest.LogCaptureFixture,
+    tmp_path: pathlib.Path,
+) -> None:
+    """A saga is driven to its end, again after the store was opened anew, with texts of each
+    kind handed to the program; and nothing is left behind."""
+    monkeypatch.setenv("TMPDIR", str(tmp_path))
+    monkeypatch.setattr("tempfile.tempdir", None)
+    lack(monkeypatch)
+    saga = order()
+    for key in ("first", "second"):
+        with sagas.open_sync(tmp_path / "orders.db", [saga]) as store:
+            end = store.start(saga, key, 40).wait(60)
+            assert not end.ok and end.states == {"charge": "undone", "send": "failed"}
+    monkeypatch.setattr(library, "path", lambda: None)
+    definition = saga.toml()
+    assert sagas.plan(definition, '{"states":["committed","failed"]}').yes
+    assert "digraph" in engine.draw(definition)
+    assert [path.name for path in tmp_path.iterdir() if path.name.startswith("sagas-")] == []
+    assert [record.getMessage() for record in caplog.records if record.name == "asyncio"] == []
+
+
+def of_other_processor(place: pathlib.Path) -> None:
+    """The program, as it would be for ARM64 on x86-64, and the other way round."""
+    data = bytearray(pathlib.Path(program()).read_bytes())
+    struct.pack_into("<H", data, 18, 243)  # of RISC-V
+    place.write_bytes(data)
+    place.chmod(0o755)
+
+
+def without_its_loader(place: pathlib.Path) -> None:
+    """A program whose loader is not there."""
+    data = pathlib.Path(shutil.which("true") or "/bin/true").read_bytes()
+    assert data.count(b"/ld-linux") == 1
+    place.write_bytes(data.replace(b"/ld-linux", b"/ld-nobody"[:9]))
+    place.chmod(0o755)
+
+
+def without_rights(place: pathlib.Path) -> None:
+    """A program that may not be run."""
+    shutil.copyfile(program(), place)
+    place.chmod(0o644)
+
+
+@pytest.mark.parametrize(
+    "make",
+    [of_other_processor, without_its_loader, without_rights],
+    ids=["processor", "loader", "rights"],
+)
+@pytest.mark.parametrize("how", ["variable", "word"])
+def test_a_program_that_cannot_be_run(
+    make: Callable[[pathlib.Path], None],
+    how: str,
+    monkeypatch: pytest.MonkeyPatch,
+    tmp_path: pathlib.Path,
+) -> None:
+    """The store does not open: an error of its own says why, and what helps; to call again does
+    not."""
+    place = tmp_path / "sagas"
+    make(place)
+    words = {"program": str(place)} if how == "word" else {}
+    if how == "variable":
+        monkeypatch.setenv("SAGAS_PROGRAM", str(place))
+    with pytest.raises(
+        sagas.EngineNotRunnable, match="cannot be run on this machine .*SAGAS_PROGRAM"
+    ):
+        with sagas.open_sync(tmp_path / "orders.db", [order()], **words):
+            pass
+    assert not isinstance(sagas.EngineNotRunnable("x"), sagas.StoreUnwritable)
+
+
+def test_a_program_that_seems_to_be_for_another_machine_and_runs(
+    monkeypatch: pytest.MonkeyPatch, tmp_path: pathlib.Path
+) -> None:
+    """As an emulator of the system's may run it: it is taken."""
+    monkeypatch.setattr(engine, "PROCESSORS", {})
+    saga = order()
+    with sagas.open_sync(tmp_path / "orders.db", [saga]) as store:
+        assert store.start(saga, "only", 1).wait(60).states["charge"] == "undone"
