@@ -8,6 +8,7 @@ set -uo pipefail
 cd "$(dirname "$0")/.." || exit 1
 program=crates/saga_tool/out/saga_tool
 command -v rt >/dev/null || exit 77
+tests/need wasm2c wabt || exit 1
 [ -x "$program" ] || { echo "built: no program was built here"; exit 77; }
 [ -z "$(./sources --newer "$program" saga_tool)" ] || { echo "built: the program that was built here is older than its sources"; exit 77; }
 status=0

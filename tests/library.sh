@@ -1,6 +1,6 @@
 #!/usr/bin/env bash
 # The C library of dist/, as others use it: from C by both of its forms and under sanitizers, from C++, Rust, Python, JavaScript (by the module of
-# WebAssembly) and, where it is there, Go; with faults, each room, refused memory and 16 threads; and whether it gives the same bytes as the program.
+# WebAssembly) and, where it is there, Go; the calls as one C file, compiled here; with faults, each room, refused memory and 16 threads; and whether it gives the same bytes as the program.
 # Takes no kit.
 set -uo pipefail
 cd "$(dirname "$0")/.." || exit 1
@@ -38,7 +38,7 @@ answers() {
   [ "$found" = $'sagas: definition: not-toml\n3' ] || fail "$what, no definition: $found"
 }
 
-for it in cc,gcc c++,g++ pkg-config,pkg-config cargo,cargo node,nodejs; do
+for it in cc,gcc c++,g++ pkg-config,pkg-config cargo,cargo node,nodejs xz,xz-utils; do
   tests/need "${it%,*}" "${it#*,}" || exit 1
 done
 c=(-std=c99 -Wall -Wextra -Werror -pedantic -O1 -g -Idist)
@@ -61,6 +61,19 @@ answers 'the example in C' "$work/plan"
 runs 'the example in C++' c++ -std=c++17 -Wall -Wextra -Werror -Idist -o "$work/plan++" examples/library/plan.cpp dist/libsagas.a
 answers 'the example in C++' "$work/plan++"
 answers 'the example in Python' env PYTHONDONTWRITEBYTECODE=1 PYTHONPATH=python/src /usr/bin/python3 examples/library/plan.py
+
+xz -dc dist/sagas.c.xz >"$work/sagas.c"
+one_file=(cc -std=c11 -Wall -Wextra -Wno-unused -Wno-unused-parameter -Werror -O1 -fPIC -Idist)
+runs 'the C file' "${one_file[@]}" -c -o "$work/sagas.o" "$work/sagas.c"
+runs 'the calls of the C file' "${one_file[@]}" -o "$work/one-file" tests/library/calls.c "$work/sagas.o" -lm -lpthread
+runs 'calls of the C file' "$work/one-file" examples
+runs 'the example in C, by the C file' "${one_file[@]}" -o "$work/plan-by-c" examples/library/plan.c "$work/sagas.o" -lm
+answers 'the example in C, by the C file' "$work/plan-by-c"
+runs 'the C file as a program' "${one_file[@]}" -pedantic -o "$work/engine" dist/engine.c "$work/sagas.o" -lm
+# (what is kept beside a log, the program of the C file does not read)
+runs 'the rows, by the C file' env SAGAS="$work/engine" tests/rows.py plan check draw audit/changed audit/histories audit/limits audit/logs audit/program
+runs 'the C file as a library' "${one_file[@]}" -shared -o "$work/one-file.so" "$work/sagas.o" -lm
+runs 'the bytes of the C file' env PYTHONDONTWRITEBYTECODE=1 SAGAS_PROGRAM="$(tests/program)" SAGAS_LIBRARY="$work/one-file.so" /usr/bin/python3 tests/library/same.py 100
 
 cp -r examples/library/rust "$work/rust"
 export SAGAS_LIBRARY_DIR=$top/dist CARGO_TARGET_DIR=$work/target
