@@ -25,6 +25,10 @@
 #define UNLIKELY(x) (x)
 #define LIKELY(x) (x)
 #endif
+#if defined(__GNUC__)
+/* (so that where the memory is stays in registers) */
+#define inline __inline __attribute__((always_inline))
+#endif
 #define wasm_rt_memcpy memcpy
 #define WASM_RT_MEMCHECK_SIGNAL_HANDLER 0
 #define WASM_RT_USE_STACK_DEPTH_COUNT 0

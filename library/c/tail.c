@@ -1,6 +1,9 @@
 
 /* -- the calls of sagas.h, over the module */
 
+#if defined(__GNUC__)
+#undef inline
+#endif
 #if !defined(__STDC_NO_ATOMICS__)
 #include <stdatomic.h>
 #endif
