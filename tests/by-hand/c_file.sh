@@ -4,6 +4,7 @@
 # rows, deep texts and texts at random. LEVEL=-O0 makes it quick. Takes some minutes; tests/library.sh, a part of `./test`, has the first of them.
 set -uo pipefail
 cd "$(dirname "$0")/../.." || exit 1
+program=$(tests/program) || exit 1
 work=$(mktemp -d)
 trap 'rm -rf "$work"' EXIT
 wrong=0
@@ -27,9 +28,10 @@ called() {
 
 for compiler in gcc clang; do
   "$compiler" "${strict[@]}" -shared -fPIC -o "$work/$compiler.so" "$work/sagas.c" -lm || exit 1
-  SAGAS_LIBRARY=$work/$compiler.so SAGAS_PROGRAM=$(tests/program) /usr/bin/python3 -B tests/library/same.py "${1:-500}" || wrong=$((wrong + 1))
+  SAGAS_LIBRARY=$work/$compiler.so SAGAS_PROGRAM=$program /usr/bin/python3 -B tests/library/same.py "${1:-500}" || wrong=$((wrong + 1))
   called "$compiler" '' "$compiler" "${strict[@]}"
 done
 called arm64 qemu-aarch64-static aarch64-linux-gnu-gcc "${strict[@]}" -static
-called sanitized '' gcc "${strict[@]}" -g -fsanitize=address,undefined -fno-sanitize-recover=all
+# (what the sanitizers add takes more stack than sagas.h asks for)
+called sanitized '' gcc "${strict[@]}" -DSTACK=8388608 -fsanitize=address,undefined -fno-sanitize-recover=all
 [ "$wrong" = 0 ]

@@ -12,7 +12,9 @@
 #define THREADS 16
 #define ROUNDS 300
 #define MARK 0x5a
+#ifndef STACK
 #define STACK (256 * 1024)
+#endif
 
 struct text {
     uint8_t *at;
