@@ -145,12 +145,17 @@ def by_plain_store(place: str, kinds: list[sagas.Saga]) -> None:
         store.resolve("gone", "paid back")
 
 
-@pytest.mark.parametrize("who", [by_store, by_command, by_client, by_plain_client, by_plain_store])
+AT_A_FILE = [by_store, by_command, by_plain_store]
+EVERYBODY = [
+    *(("sqlite", who) for who in AT_A_FILE),
+    *(("postgresql", who) for who in (*AT_A_FILE, by_client, by_plain_client)),
+]
+
+
+@pytest.mark.parametrize(("place", "who"), EVERYBODY, indirect=["place"])
 def test_one_whose_compensation_failed_is_resolved(place: str, who: Any) -> None:
     """By whoever may: then nothing of it needs a person, and it is in the list of those that are
     resolved."""
-    if "client" in who.__name__ and not place.startswith("postgresql"):
-        pytest.skip("clients are of PostgreSQL")
     kinds = [shop(), must()]
 
     async def first() -> None:

@@ -35,12 +35,12 @@ async def asked(store: sagas.Store, step: str) -> None:
     await until(lambda: has_begun(store, step))
 
 
-@pytest.fixture(params=["store", "node", "client"])
-def who(request: pytest.FixtureRequest, place: str) -> str:
-    """Who says it: the program that has the saga, another one, or a client."""
-    if request.param != "store" and not place.startswith("postgresql"):
-        pytest.skip("a file is one program's")
-    return str(request.param)
+by_anybody = pytest.mark.parametrize(
+    ("place", "who"),
+    [("sqlite", "store"), *(("postgresql", who) for who in ("store", "node", "client"))],
+    indirect=["place"],
+)
+"""Who says it: the program that has the saga, another one, or a client; a file is one program's."""
 
 
 async def teller(stack: AsyncExitStack, who: str, place: str, store: sagas.Store) -> Say:
@@ -52,6 +52,7 @@ async def teller(stack: AsyncExitStack, who: str, place: str, store: sagas.Store
     return (await stack.enter_async_context(node)).finish
 
 
+@by_anybody
 def test_the_same_again_is_one(place: str, who: str) -> None:
     """At once, while the saga goes on, and when it is over; done or failed."""
     saga = signed()
@@ -92,6 +93,7 @@ def test_the_same_again_is_one(place: str, who: str) -> None:
     run(main())
 
 
+@by_anybody
 def test_two_answers_at_once(place: str, who: str) -> None:
     """One of them counts, and the other one is told so."""
     saga = signed()

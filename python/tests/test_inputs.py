@@ -133,12 +133,14 @@ class Newer:
     color: Optional[str] = None
 
 
-@pytest.mark.parametrize("client", [False, True])
+@pytest.mark.parametrize(
+    ("place", "client"),
+    [("sqlite", False), ("postgresql", False), ("postgresql", True)],
+    indirect=["place"],
+)
 def test_an_optional_field_that_was_added(place: str, client: bool) -> None:
     """The same start again is the same saga; another value is another input, in what the type knows
     and in what it does not."""
-    if client and not place.startswith("postgresql"):
-        pytest.skip("clients are of PostgreSQL")
     before, after = reads(Item), reads(Newer)
     raw = sagas.Saga("simple")
     raw.step(name="a")(after.steps[0].run.function)  # type: ignore[arg-type]
