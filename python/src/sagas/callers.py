@@ -186,8 +186,7 @@ class Callers:
             self._turns = _Turns()
             if inside and task.leave() is not None:
                 return self._wait(attempt, began, task, inside.end(attempt, task, _raised(error)))
-            outcome: Outcome | None = calling.interrupted(inside.raised(error) if inside else error, attempt.manner)
-            self._look(attempt, time.monotonic() - began)
+            self._failed(attempt, began, inside.raised(error) if inside else error)
         else:
             if waits_for is not turns.over:
                 self._turns = _Turns()
@@ -204,11 +203,15 @@ class Callers:
             self._over.append(attempt)
             if len(self._over) >= self._most:
                 self._tell()
-            return None
+        return None
+
+    def _failed(self, attempt: Attempt, began: float, error: BaseException) -> None:
+        """It has raised, before it waited for anything."""
+        outcome = calling.interrupted(error, attempt.manner)
+        self._look(attempt, time.monotonic() - began)
         if self._over:
             self._tell()
         self._ended(attempt, began, outcome)
-        return None
 
     def _late(self, attempt: Attempt, function: Function, began: float, task: Task[Any], rest: Awaitable[Any]) -> Coroutine[Any, Any, None]:
         """What is left of one that waits."""
