@@ -4,6 +4,7 @@ from __future__ import annotations
 
 import asyncio
 import contextlib
+import pathlib
 from collections.abc import AsyncIterator, Iterator
 from typing import Any
 
@@ -14,11 +15,12 @@ import pytest
 import sagas
 import sagas.celery
 from brokers import Broker, broker_at
-from cases import QUICK, Task, asked_of, run, until
+from cases import QUICK, Task, asked_of, ended, run, simple, until
 from sagas import command, reports_postgresql
 from sagas.calling import Outcome
 from sagas.desks import desk_of
 from sagas.remote import Order
+from test_faults import full
 
 
 @pytest.fixture(scope="module")
@@ -171,3 +173,35 @@ def test_a_program_that_comes_back_takes_a_report(late: Late) -> None:
             assert (await store.wait("k", 60)).results == {"once": "by the worker"}
 
     run(main())
+
+
+def test_a_start_that_is_not_kept(
+    broker: Broker, tmp_path: pathlib.Path, caplog: pytest.LogCaptureFixture
+) -> None:
+    """The disk is full as its saga is to be opened: nothing was ordered, so nothing is forgotten of
+    it, and its log is taken up again as ever."""
+    late, before = Late(broker, str(tmp_path / "store.db")), simple(lambda task: 1)
+
+    async def main() -> None:
+        async with sagas.open(late.place, [before, late.saga]) as store:
+            await ended(store, before, "before")  # there is an engine
+            with full():
+                with pytest.raises(sagas.StoreUnwritable):
+                    await store.start(late.saga, "k")
+            await until(lambda: started(store, late.saga))
+            await until(lambda: late.orders)
+            await until(lambda: asked_of(store), 30)
+            await store.finish("k", "once", "by hand")
+            assert (await store.wait("k", 60)).ok
+
+    run(main())
+    assert "was not understood" not in caplog.text
+
+
+async def started(store: sagas.Store, kind: sagas.Saga) -> bool:
+    """Whether it could be started by now."""
+    try:
+        await store.start(kind, "k")
+    except sagas.StoreUnwritable:
+        return False
+    return True

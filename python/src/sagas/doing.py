@@ -635,7 +635,7 @@ class Doing:
         """The store does not have it: it had not begun, or its report is there; or another node has
         its log."""
         attempt.drop_timer()
-        if attempt.is_remote:
+        if attempt.is_remote and attempt.live.pump:  # else its saga was never opened, nor it ordered
             self.owner.reports.forget(attempt.token())
         if attempt.why == "elsewhere":
             self.owner.elsewhere.gone(attempt)
