@@ -1,6 +1,6 @@
 """The proved calls as a module of WebAssembly.
 
-library/build keeps the LLVM module from which the kit compiles the crate saga_c for x86-64, once
+platforms/build keeps the LLVM module from which the kit compiles the crate saga_c for x86-64, once
 it is proved. That module is retargeted to wasm64 (retarget.py), compiled and linked by the kit's
 own tools, with the heap of heap.c, and given a memory of 32 bits (narrow.py). The proof is that
 of the crate; these steps and the compiler are not covered by it, and are tested against the

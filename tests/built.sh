@@ -1,6 +1,8 @@
 #!/usr/bin/env bash
-# Whether the program that was built here, as by `rt ci`, is the release byte for byte, once it is stripped; and, in the gate, whether the
-# library and the page, made anew of the crates that were built here, are. (The second proves saga_c: ./test --quick leaves it out.)
+# Whether the program that was built here, as by `rt ci`, is the release's object, linked as rt links it, byte for byte, and the release's program that
+# object; and, in the gate, whether the libraries for both processors, module, page and C file, made anew of the crates that were built here, are the
+# release. (The second proves saga_c: ./test --quick leaves it out. The program for ARM64 is not made anew, since saga_tool would be proved once
+# more for it, for minutes: its digest is compared, tests/platforms.sh runs it, and ./release --arm64 makes it anew.)
 #
 # Another kit of the same logic than the release was made with may link other bytes. Where it does, the program that was built here runs the
 # rows of tests/rows instead, as the release did before the proofs; tests/library.sh compares what the library of dist/ says with what it says.
@@ -8,7 +10,10 @@ set -uo pipefail
 cd "$(dirname "$0")/.." || exit 1
 program=crates/saga_tool/out/saga_tool
 command -v rt >/dev/null || exit 77
-tests/need wasm2c wabt || exit 1
+for it in gcc,gcc aarch64-linux-gnu-gcc,gcc-aarch64-linux-gnu wasm2c,wabt; do
+  tests/need "${it%,*}" "${it#*,}" || exit 1
+done
+tests/need aarch64-libc libc6-dev-arm64-cross || exit 1
 [ -x "$program" ] || { echo "built: no program was built here"; exit 77; }
 [ -z "$(./sources --newer "$program" saga_tool)" ] || { echo "built: the program that was built here is older than its sources"; exit 77; }
 status=0

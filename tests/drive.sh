@@ -12,5 +12,5 @@ tests/need gcc gcc || exit 1
 for library in unwritten power refusing; do
   gcc -O2 -shared -fPIC -o "$work/$library.so" tests/$library.c || { echo "the library $library is not built"; exit 1; }
 done
-program=${SAGAS:-$(tests/program)} || exit
+program=${SAGAS:-$(tests/program --dynamic)} || exit
 python3 tests/drive.py --program "$program" --libraries "$work" "$@"

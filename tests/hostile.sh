@@ -3,6 +3,6 @@
 set -uo pipefail
 tests=$(dirname "$0")
 "$tests/need" gcc gcc || exit 1
-SAGAS=${SAGAS:-$("$tests/program")} || exit
+SAGAS=${SAGAS:-$("$tests/program" --dynamic)} || exit
 export SAGAS
 exec python3 "$tests/hostile.py"

@@ -4,7 +4,7 @@
 set -uo pipefail
 tests=$(dirname "$0")
 "$tests/need" gcc gcc || exit 1
-SAGAS=${SAGAS:-$("$tests/program")} || exit
+SAGAS=${SAGAS:-$("$tests/program" --dynamic)} || exit
 export SAGAS
 [ "${1:-}" != commands ] || exec python3 "$tests/memory.py" commands
 TRIALS=$("$tests/trials")

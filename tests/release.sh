@@ -14,8 +14,9 @@ chmod 755 "$work"
 looked=0
 wrong=0
 
-# The newest C library that the program may ask for.
-most_libc=2.34
+# The newest C library that the libraries may ask for.
+most_libc=2.14
+most_libc_aarch64=2.17
 
 fail() {
   wrong=$((wrong + 1))
@@ -50,13 +51,25 @@ path_without_kit() {
   echo "${path#:}"
 }
 
-# runs_where_it_should FILE: Linux on x86-64, the C library and its own parts, and no instruction past x86-64-v2.
-runs_where_it_should() {
-  local needed newest beyond
-  needed=$(objdump -p "$1" | awk '$1 == "NEEDED" { print $2 }' | grep -vxE 'lib(c\.so\.6|m\.so\.6|gcc_s\.so\.1)|ld-linux-x86-64\.so\.2')
+# stands_alone FILE: a program that asks for no loader and no library.
+stands_alone() {
+  expect "what $1 asks for" '' "$(readelf -Wld "$1" | grep -E 'NEEDED|INTERP')"
+}
+
+# asks_for_libc FILE MOST: a library that asks for nothing but the C library, of a version that is at most this.
+asks_for_libc() {
+  local needed newest
+  needed=$(readelf -Wd "$1" | sed -n 's/.*(NEEDED).*\[\(.*\)\]/\1/p' | grep -vxE 'lib(c\.so\.6|m\.so\.6|gcc_s\.so\.1)|ld-linux-[a-z0-9-]*\.so\.[0-9]')
   expect "libraries beside the C library, of $1" '' "$needed"
-  newest=$(objdump -T "$1" | grep -oE 'GLIBC_[0-9.]+' | sort -uV | tail -n 1)
-  expect "the newest libc asked for, by $1" "GLIBC_$most_libc" "$(printf '%s\n' "$newest" "GLIBC_$most_libc" | sort -V | tail -n 1)"
+  newest=$(readelf -W --dyn-syms "$1" | grep -oE 'GLIBC_[0-9.]+' | sort -uV | tail -n 1)
+  expect "the newest libc asked for, by $1" "GLIBC_$2" "$(printf '%s\n' "$newest" "GLIBC_$2" | sort -V | tail -n 1)"
+  expect "the name of $1" libsagas.so.1 "$(readelf -Wd "$1" | sed -n 's/.*(SONAME).*\[\(.*\)\]/\1/p')"
+  expect "a stack that runs, in $1" '' "$(readelf -Wl "$1" | grep GNU_STACK | grep -o RWE)"
+}
+
+# runs_on_v2 FILE: code of ours for x86-64 has no instruction past x86-64-v2. (glibc, in the program, has others, and looks at the processor before.)
+runs_on_v2() {
+  local beyond
   looked=$((looked + 1))
   # (AVX and what came with it begin with v; tzcnt is bsf where there is no BMI)
   beyond=$(objdump -d --no-show-raw-insn "$1" | awk -F '\t' '
@@ -65,16 +78,19 @@ runs_where_it_should() {
   [ -z "$beyond" ] || fail "$1 has instructions past x86-64-v2: $(tr '\n' ' ' <<<"$beyond")"
 }
 
+# is_for FILE MACHINE: a program, library or object for this processor.
+is_for() {
+  expect "the processor of $1" "$2" "$(readelf -Wh "$1" | sed -n 's/^ *Machine: *//p' | sort -u)"
+}
+
 # What the libraries show to others: the calls of sagas.h, and nothing else. What they ask for: the C library's memory.
 shows_what_it_should() {
-  local calls asked
-  calls=$(sed -n 's/^uint32_t \(sagas_[a-z_]*\)(.*/\1/p' dist/sagas.h | sort | tr '\n' ' ')
-  expect 'the calls of libsagas.so' "$calls" "$(nm -D --defined-only dist/libsagas.so | awk '{ print $3 }' | sort | tr '\n' ' ')"
-  expect 'the calls of libsagas.a' "$calls" "$(nm -g --defined-only dist/libsagas.a | awk 'NF == 3 { print $3 }' | sort | tr '\n' ' ')"
-  asked=$(nm -g --undefined-only dist/libsagas.a | awk '$1 == "U" { print $2 }' | grep -vxE 'malloc|realloc|free|mem(cpy|move|set|cmp|chr)|bcmp|strlen' | tr '\n' ' ')
-  expect 'what libsagas.a asks for beside memory' '' "$asked"
-  expect 'the name of libsagas.so' libsagas.so.1 "$(objdump -p dist/libsagas.so | awk '$1 == "SONAME" { print $2 }')"
-  expect 'a stack that runs, in libsagas.so' '' "$(objdump -p dist/libsagas.so | grep -A 1 STACK | grep -o rwx)"
+  local calls asked archive=$1/libsagas.a
+  calls=$(sed -nE 's/^(uint32_t|void) (sagas_[a-z_]*)\(.*/\2/p' dist/sagas.h | sort | tr '\n' ' ')
+  expect "the calls of $1/libsagas.so" "$calls" "$(readelf -W --dyn-syms "$1/libsagas.so" | awk '$5 == "GLOBAL" && $7 != "UND" { print $8 }' | sort | tr '\n' ' ')"
+  expect "the calls of $archive" "$calls" "$(readelf -Ws "$archive" | awk '$5 == "GLOBAL" && $7 != "UND" { print $8 }' | sort | tr '\n' ' ')"
+  asked=$(readelf -Ws "$archive" | awk '$7 == "UND" && $8 != "" { print $8 }' | grep -vxE 'malloc|realloc|free|mem(cpy|move|set|cmp|chr)|bcmp|strlen' | sort -u | tr '\n' ' ')
+  expect "what $archive asks for beside memory" '' "$asked"
 }
 
 # fresh NAME: a copy of this tree, as a clone has it; gives its path.
@@ -103,9 +119,17 @@ tests/need objdump binutils || exit 1
 said=$(./release --check 2>&1)
 expect 'the release in dist/' '' "$said"
 [ -x dist/sagas ] || { echo "release: $looked looks, $wrong wrong"; exit 1; }
-runs_where_it_should dist/sagas
-runs_where_it_should dist/libsagas.so
-shows_what_it_should
+for place in . aarch64; do
+  machine='Advanced Micro Devices X86-64'
+  [ "$place" = . ] || machine=AArch64
+  stands_alone "dist/$place/sagas"
+  for file in sagas sagas.o runtime.o libsagas.so libsagas.a; do is_for "dist/$place/$file" "$machine"; done
+  shows_what_it_should "dist/$place"
+done
+asks_for_libc dist/libsagas.so "$most_libc"
+asks_for_libc dist/aarch64/libsagas.so "$most_libc_aarch64"
+runs_on_v2 dist/sagas.o
+runs_on_v2 dist/libsagas.so
 
 mkdir "$work/tree" "$work/kit"
 tar -C "$top" --exclude=./.git --exclude=out --exclude=__pycache__ -cf - . | tar -C "$work/tree" -xf -
@@ -126,6 +150,21 @@ kit=$(sed -n 's/^kit: //p' dist/sagas.txt)
 expect 'the version' "$(dist/sagas --version), proved with $kit (the release)" "$(cd "$tree" && PATH=$bare ./sagas --version)"
 expect 'an unknown word beside --version' "$(dist/sagas --version x 2>&1)" "$(cd "$tree" && PATH=$bare ./sagas --version x 2>&1)"
 expect 'a fresh copy, by ./release --check' 0 "$(check "$tree")"
+
+# On ARM64 it starts the other program, which does not run here.
+tree=$(fresh arm)
+mkdir "$work/arm64"
+printf '#!/bin/sh\necho aarch64\n' >"$work/arm64/uname"
+chmod +x "$work/arm64/uname"
+found=$(cd "$tree" && PATH=$work/arm64:$bare ./sagas --version 2>&1)
+case $found in
+  *'the release in dist/ does not run on this machine'* | "$(dist/sagas --version), proved with $kit (the release)") looked=$((looked + 1)) ;;
+  *) fail "a start on ARM64: $found" ;;
+esac
+printf 'X' | dd of="$tree/dist/aarch64/sagas" bs=1 seek=5000 conv=notrunc status=none
+expect_piece 'a start on ARM64 with a changed byte' 'dist/aarch64/sagas is not the program that dist/sagas.txt tells of' "$(cd "$tree" && PATH=$work/arm64:$bare ./sagas --version 2>&1)"
+expect_piece './release --check of a changed byte for ARM64' 'dist/aarch64/sagas is not what dist/sagas.txt tells of' "$(check "$tree")"
+tree=$work/first
 
 # It starts from elsewhere, through links, and in a folder with a blank in its name.
 mkdir "$work/other place"
@@ -179,7 +218,7 @@ expect 'a start with a source that is only newer' "$answer" "$(blocked "$tree")"
 tree=$(fresh byte)
 expect 'a start before a byte is changed' "$answer" "$(blocked "$tree")"
 printf 'X' | dd of="$tree/dist/sagas" bs=1 seek=5000 conv=notrunc status=none
-expect_piece './release --check of a changed byte' 'dist/sagas is not the program that dist/sagas.txt tells of' "$(check "$tree")"
+expect_piece './release --check of a changed byte' 'dist/sagas is not what dist/sagas.txt tells of' "$(check "$tree")"
 expect_piece 'a start with a changed byte' 'dist/sagas is not the program that dist/sagas.txt tells of' "$(blocked "$tree")"
 tree=$(fresh library)
 printf 'X' | dd of="$tree/dist/libsagas.so" bs=1 seek=5000 conv=notrunc status=none

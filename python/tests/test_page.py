@@ -2,12 +2,17 @@
 
 from __future__ import annotations
 
+import importlib
 import os
 import pathlib
+import platform
 import re
+import struct
 import subprocess
 import sys
 import zipfile
+from collections.abc import Iterator
+from typing import Any
 
 import pytest
 
@@ -112,26 +117,42 @@ def test_the_help(folder: pathlib.Path) -> None:
     assert "NAME\n    sagas" in told and "SyncStore" in told and "Error" not in told.splitlines()[-1] and "<function open_sync" in told.splitlines()[-1]
 
 
-def test_a_wheel_and_an_archive(folder: pathlib.Path, tmp_path: pathlib.Path) -> None:
-    """`pip wheel` needs no network; the archive builds the same wheel; the same sources give the same bytes."""
-    sys.path.insert(0, str(PACKAGE / "packaging"))
-    try:
-        import wheels  # type: ignore[import]
+@pytest.fixture
+def wheels(monkeypatch: pytest.MonkeyPatch) -> Iterator[Any]:
+    """What builds the wheels."""
+    monkeypatch.syspath_prepend(str(PACKAGE / "packaging"))
+    yield importlib.import_module("wheels")
+    sys.modules.pop("wheels", None)
 
-        first, second = (tmp_path / name for name in ("first", "second"))
-        for place in (first, second):
-            place.mkdir()
-        name = wheels.build_wheel(str(first))
-        assert wheels.build_wheel(str(second)) == name
-        assert (first / name).read_bytes() == (second / name).read_bytes()
-        archive = wheels.build_sdist(str(tmp_path))
-    finally:
-        sys.path.remove(str(PACKAGE / "packaging"))
-        sys.modules.pop("wheels", None)
-    words = [sys.executable, "-m", "pip", "wheel", "--no-index", "-q", "-w", str(tmp_path / "again"), str(tmp_path / archive)]
+
+@pytest.mark.parametrize(("processor", "machine"), [("x86_64", 62), ("aarch64", 183)])
+def test_a_wheel_and_an_archive(
+    tmp_path: pathlib.Path, wheels: Any, processor: str, machine: int
+) -> None:
+    """`pip wheel` needs no network; the archive builds the same wheel; the same sources give the
+    same bytes. It is for glibc and musl, and has its processor's files."""
+    first, second = (tmp_path / name for name in ("first", "second"))
+    for place in (first, second):
+        place.mkdir()
+    name = wheels.build_wheel(str(first), {"processor": processor})
+    assert wheels.build_wheel(str(second), {"processor": processor}) == name
+    assert name.endswith(f"-py3-none-manylinux_2_17_{processor}.musllinux_1_1_{processor}.whl")
+    assert (first / name).read_bytes() == (second / name).read_bytes()
+    archive = wheels.build_sdist(str(tmp_path))
+    is_other = processor != platform.machine()
+    settings = [f"--config-settings=processor={processor}"] if is_other else []
+    places = ["-w", str(tmp_path / "again"), str(tmp_path / archive)]
+    words = [sys.executable, "-m", "pip", "wheel", "--no-index", "-q", *settings, *places]
     subprocess.run(words, check=True, env=clean(), capture_output=True)
     assert (tmp_path / "again" / name).read_bytes() == (first / name).read_bytes()
     check_license(first / name)
+    with zipfile.ZipFile(first / name) as wheel:
+        carried = [wheel.read(f"sagas/bin/{part}") for part in ("sagas", "libsagas.so")]
+        told = wheel.read(f"{name.partition('-py3')[0]}.dist-info/WHEEL").decode().splitlines()
+    tags = [line.removeprefix("Tag: py3-none-") for line in told if line.startswith("Tag: ")]
+    assert [struct.unpack_from("<H", data, 18)[0] for data in carried] == [machine, machine]
+    assert b"ld-linux" not in carried[0]
+    assert tags == [f"manylinux_2_17_{processor}", f"musllinux_1_1_{processor}"]
 
 
 def check_license(wheel: pathlib.Path) -> None:
@@ -142,3 +163,19 @@ def check_license(wheel: pathlib.Path) -> None:
         assert archive.read(f"{told}/LICENSE") == (PACKAGE.parent / "LICENSE").read_bytes()
     wanted = {"License: Apache-2.0", "License-File: LICENSE", "Author: The sagas developers"}
     assert wanted <= set(metadata)
+
+
+OTHERS = [("Darwin", "arm64"), ("Windows", "AMD64"), ("Linux", "riscv64")]
+
+
+@pytest.mark.parametrize(("system", "machine"), OTHERS)
+def test_another_platform_is_refused_when_it_is_built(
+    tmp_path: pathlib.Path, wheels: Any, monkeypatch: pytest.MonkeyPatch, system: str, machine: str
+) -> None:
+    """It says for what there is a program, and what runs there all the same."""
+    monkeypatch.setattr(platform, "system", lambda: system)
+    monkeypatch.setattr(platform, "machine", lambda: machine)
+    said = f"Linux on x86_64 and aarch64, and this is {system} on {machine}.*dist/sagas.html"
+    with pytest.raises(SystemExit, match=said):
+        wheels.build_wheel(str(tmp_path))
+    assert list(tmp_path.iterdir()) == []
