@@ -20,6 +20,8 @@ import sagas
 
 PACKAGE = pathlib.Path(sagas.__file__).resolve().parents[2]
 PAGE = (PACKAGE / "README.md").read_text()
+INTERPRETER = 3
+"""The type of a program header that names a loader."""
 TIME = re.compile(r"\d{4}-\d\d-\d\d \d\d:\d\d:\d\dZ")
 
 
@@ -151,8 +153,17 @@ def test_a_wheel_and_an_archive(
         told = wheel.read(f"{name.partition('-py3')[0]}.dist-info/WHEEL").decode().splitlines()
     tags = [line.removeprefix("Tag: py3-none-") for line in told if line.startswith("Tag: ")]
     assert [struct.unpack_from("<H", data, 18)[0] for data in carried] == [machine, machine]
-    assert b"ld-linux" not in carried[0]
+    assert not asks_for_a_loader(carried[0])
     assert tags == [f"manylinux_2_17_{processor}", f"musllinux_1_1_{processor}"]
+
+
+def asks_for_a_loader(program: bytes) -> bool:
+    """Whether a program of 64 bits names a loader: one that is linked statically does not."""
+    (start,), (size, count) = (
+        struct.unpack_from(form, program, at) for form, at in (("<Q", 32), ("<HH", 54))
+    )
+    heads = range(start, start + size * count, size)
+    return any(struct.unpack_from("<I", program, head)[0] == INTERPRETER for head in heads)
 
 
 def check_license(wheel: pathlib.Path) -> None:
