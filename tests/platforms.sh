@@ -55,9 +55,10 @@ alone() {
   inside() { (cd "$root" && "${enter[@]}" "$root" "${run[@]}" "$@" 2>&1); }
   expect "$1 alone: check" 'least 38' "$(inside check trip.toml trip.case.json trip.answer.json)"
   expect "$1 alone: plan" "$(cat examples/trip.answer.json)" "$(inside plan trip.toml trip.case.json)"
-  expect "$1 alone: a run by four workers" 'sagas 4 ended 4 stuck 0 events 46' \
-    "$(inside run --workers 4 --shards 4 --script trip.script --log run.log trip.toml trip.toml trip.toml trip.toml | tail -n 1)"
-  expect "$1 alone: its audit" 'yes sagas 4 ended 4 stuck 0 events 46' "$(inside audit run.log trip.toml trip.toml trip.toml trip.toml)"
+  # (how many events there are depends on which worker is first)
+  last=$(inside run --workers 4 --shards 4 --script trip.script --log run.log trip.toml trip.toml trip.toml trip.toml | tail -n 1)
+  expect "$1 alone: a run by four workers" 'sagas 4 ended 4 stuck 0' "${last% events *}"
+  expect "$1 alone: its audit" "yes $last" "$(inside audit run.log trip.toml trip.toml trip.toml trip.toml)"
   expect "$1 alone: drive" "$(cat "$work/driven")" "$(inside drive --log drive.log trip.toml <examples/trip.requests)"
   expect "$1 alone: drive again" '{"busy":[{"attempt":1,"name":"car","saga":0,"step":1,"task":"run"}]}' "$(echo '{"do":"busy"}' | inside drive --log drive.log)"
 }
