@@ -49,7 +49,7 @@ alone() {
   [ "$(id -u)" = 0 ] || enter=(unshare -r chroot)
   "${enter[@]}" / true 2>/dev/null || { echo "platforms: no root folder can be entered here, so $1 is not tried alone"; return; }
   mkdir "$root"
-  cp examples/trip.* examples/booking.toml examples/trip.requests "$root"
+  cp examples/trip.* examples/booking.toml "$root"
   if [ "$1" = x86_64 ]; then cp dist/sagas "$root/sagas"; else cp dist/aarch64/sagas "$root/sagas"; fi
   [ "${programs[$1]}" != "$work/aarch64" ] || { cp "$qemu" "$root/qemu"; run=(/qemu /sagas); }
   inside() { (cd "$root" && "${enter[@]}" "$root" "${run[@]}" "$@" 2>&1); }
