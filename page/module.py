@@ -20,6 +20,11 @@ from retarget import retargeted
 HERE = Path(__file__).resolve().parent
 STACK = 4 * 1024 * 1024
 
+# The calls of a coordinator: the page and the module of JavaScript have none of them. The C file
+# throws a coordinator's memory away as a whole.
+COORDINATOR = frozenset({"sagas_open", "sagas_answer", "sagas_reply", "sagas_close"})
+CLOSING = frozenset({"sagas_close"})
+
 # The words by which the kit compiles a module for wasm64.
 WORDS = (
     "--target=wasm64-unknown-unknown -mcpu=lime1 -mllvm -expand-div-rem-bits=64 -mllvm -expand-fp-convert-bits=64 -ffunction-sections -fdata-sections "
@@ -38,8 +43,9 @@ def kit() -> Path:
     return Path(subprocess.run(["rt", "doc"], check=True, capture_output=True, text=True).stdout.strip()).parent
 
 
-def made(module: Path) -> bytes:
-    """The module of WebAssembly that an LLVM module for x86-64 is translated to."""
+def made(module: Path, left_out: frozenset[str] = COORDINATOR) -> bytes:
+    """The module of WebAssembly that an LLVM module for x86-64 is translated to, without some of
+    its calls."""
     place = kit()
     clang = str(place / "toolchain" / "bin" / "clang")
     with tempfile.TemporaryDirectory(prefix="sagas-page-") as name:
@@ -51,7 +57,8 @@ def made(module: Path) -> bytes:
                 fail(f"{words[0]} failed: {ran.stderr[-2000:]}")
 
         run("clang", "--target=x86_64-unknown-linux-gnu", "-S", "-emit-llvm", "-Xclang", "-disable-llvm-passes", "-x", "ir", str(module.resolve()), "-o", "module.ll")
-        (folder / "wasm.ll").write_text(retargeted((folder / "module.ll").read_text(encoding="utf-8")), encoding="utf-8")
+        text = (folder / "module.ll").read_text(encoding="utf-8")
+        (folder / "wasm.ll").write_text(retargeted(text, left_out), encoding="utf-8")
         run("clang", *WORDS, "-c", "-O3", "-x", "ir", "wasm.ll", "-o", "module.o")
         run("clang", *WORDS, "-c", "-O2", "-fwrapv", "-ffreestanding", "-nostdinc", "-fno-builtin", "-x", "c", str(HERE / "heap.c"), "-o", "heap.o")
         run("llvm-ar", "rcsD", "page.a", "module.o", "heap.o")

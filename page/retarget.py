@@ -95,6 +95,8 @@ def guarded(text: str, name: str, group: int) -> str:
     kind, given, inner = head[1], head[2], head[3]
     types = [word.strip().split(" ")[0] for word in given.split(",")]
     result = kind.split(" ")[-2]
+    if result == "void":
+        raise Unknown(f"{name}, which gives nothing")
     words = ", ".join(f"{kind_of} %a{i}" for i, kind_of in enumerate(types))
     outer = f"""define {kind}@{name}({given}) #{group} {{
 start:
@@ -122,10 +124,20 @@ def attributes(line: str) -> str:
     return line.replace(' "probe-stack"', f' {NO_LIBRARY}"probe-stack"')
 
 
-def retargeted(text: str) -> str:
-    """The module for wasm64, whose exports are those of the one for x86-64."""
+def without(text: str, left_out: frozenset[str]) -> str:
+    """The module without these exports."""
+    for name in left_out:
+        text, count = re.subn(rf"(?m)^define (?!internal|private)([^\n]*?@{name}\()", r"define internal \1", text)
+        if count != 1:
+            raise Unknown(f"no export {name} to be left out")
+    return text
+
+
+def retargeted(text: str, left_out: frozenset[str] = frozenset()) -> str:
+    """The module for wasm64, whose exports are those of the one for x86-64, but for those that are left out."""
     try:
         look(text)
+        text = without(text, left_out)
         exports = sorted(set(re.findall(r"(?m)^define (?!internal|private)[^\n]*?@(sagas_\w+)\(", text)))
         others = set(re.findall(r"(?m)^define (?!internal|private)[^\n]*?@(\w+)\(", text)) - set(exports)
         if others or not exports:

@@ -1,6 +1,6 @@
 #!/usr/bin/env bash
 # The C library of dist/, as others use it: from C by both of its forms and under sanitizers, from C++, Rust, Python, JavaScript (by the module of
-# WebAssembly) and, where it is there, Go; the calls as one C file, compiled here; with faults, each room, refused memory and 16 threads; and whether it gives the same bytes as the program.
+# WebAssembly) and, where it is there, Go; the calls as one C file, compiled here; with faults, each size of a buffer, refused memory and 16 threads; and whether it gives the same bytes as the program.
 # Takes no kit.
 set -uo pipefail
 cd "$(dirname "$0")/.." || exit 1
@@ -38,7 +38,17 @@ answers() {
   [ "$found" = $'sagas: definition: not-toml\n3' ] || fail "$what, no definition: $found"
 }
 
-for it in cc,gcc c++,g++ pkg-config,pkg-config cargo,cargo node,nodejs xz,xz-utils; do
+# drives WHAT COMMAND..: whether an example that is a coordinator answers as the program does, and tells a fault.
+drives() {
+  local what=$1
+  shift
+  looked=$((looked + 2))
+  "$@" examples/trip.toml <examples/trip.requests >"$work/driven" 2>&1
+  "$(tests/program)" drive --lines examples/trip.toml <examples/trip.requests | cmp -s - "$work/driven" || fail "$what: $(head -n 3 "$work/driven")"
+  ! "$@" examples/trip.case.json <examples/trip.requests >"$work/driven" 2>&1 || fail "$what, no definition"
+}
+
+for it in cc,gcc c++,g++ pkg-config,pkg-config cargo,cargo node,nodejs xz,xz-utils go,golang-go; do
   tests/need "${it%,*}" "${it#*,}" || exit 1
 done
 c=(-std=c99 -Wall -Wextra -Werror -pedantic -O1 -g -Idist)
@@ -56,10 +66,25 @@ runs 'C, memory refused' cc "${c[@]}" -o "$work/refusing" tests/library/refusing
 runs 'calls with memory refused' "$work/refusing" examples
 cat "$work/said"
 
+# The calls of a coordinator, over the shared library, under sanitizers, and with each growth of memory refused in turn.
+conversations() {
+  runs "$1" env PYTHONDONTWRITEBYTECODE=1 LD_LIBRARY_PATH="$work/lib" SAGAS="$(tests/program)" "${@:4}" /usr/bin/python3 tests/library/coordinated.py "$2" "$3"
+}
+# shellcheck disable=SC2046 # (words)
+runs 'C, a coordinator' cc "${c[@]}" -o "$work/coordinate" tests/library/coordinate.c $(PKG_CONFIG_PATH=dist pkg-config --cflags --libs sagas)
+conversations 'conversations' "$work/coordinate" 200
+runs 'C, a coordinator under sanitizers' cc "${c[@]}" -fsanitize=address,undefined -fno-sanitize-recover=all -o "$work/coordinate-sanitized" \
+  tests/library/coordinate.c dist/libsagas.a
+conversations 'conversations under sanitizers' "$work/coordinate-sanitized" 20
+runs 'C, a coordinator with memory refused' cc "${c[@]}" -DREFUSING -o "$work/coordinate-refusing" tests/library/coordinate.c dist/libsagas.a \
+  -Wl,--wrap=malloc,--wrap=realloc,--wrap=free
+conversations 'conversations with memory refused' "$work/coordinate-refusing" 3 REFUSE=1
+
 runs 'the example in C' cc "${c[@]}" -o "$work/plan" examples/library/plan.c dist/libsagas.a
 answers 'the example in C' "$work/plan"
 runs 'the example in C++' c++ -std=c++17 -Wall -Wextra -Werror -Idist -o "$work/plan++" examples/library/plan.cpp dist/libsagas.a
 answers 'the example in C++' "$work/plan++"
+drives 'a coordinator in Python' env PYTHONDONTWRITEBYTECODE=1 /usr/bin/python3 examples/library/coordinate.py
 answers 'the example in Python' env PYTHONDONTWRITEBYTECODE=1 PYTHONPATH=python/src /usr/bin/python3 examples/library/plan.py
 
 xz -dc dist/sagas.c.xz >"$work/sagas.c"
@@ -67,11 +92,12 @@ one_file=(cc -std=c11 -Wall -Wextra -Wno-unused -Wno-unused-parameter -Werror -O
 runs 'the C file' "${one_file[@]}" -c -o "$work/sagas.o" "$work/sagas.c"
 runs 'the calls of the C file' "${one_file[@]}" -o "$work/one-file" tests/library/calls.c "$work/sagas.o" -lm -lpthread
 runs 'calls of the C file' "$work/one-file" examples
+runs 'a coordinator, by the C file' "${one_file[@]}" -o "$work/coordinate-by-c" tests/library/coordinate.c "$work/sagas.o" -lm
+conversations 'conversations, by the C file' "$work/coordinate-by-c" 100
 runs 'the example in C, by the C file' "${one_file[@]}" -o "$work/plan-by-c" examples/library/plan.c "$work/sagas.o" -lm
 answers 'the example in C, by the C file' "$work/plan-by-c"
 runs 'the C file as a program' "${one_file[@]}" -pedantic -o "$work/engine" dist/engine.c "$work/sagas.o" -lm
-# (what is kept beside a log, the program of the C file does not read)
-runs 'the rows, by the C file' env SAGAS="$work/engine" tests/rows.py plan check draw audit/changed audit/histories audit/limits audit/logs audit/program
+runs 'the rows and conversations, by the C file' tests/library/engine.sh "$work/engine"
 runs 'the C file as a library' "${one_file[@]}" -shared -o "$work/one-file.so" "$work/sagas.o" -lm
 runs 'the bytes of the C file' env PYTHONDONTWRITEBYTECODE=1 SAGAS_PROGRAM="$(tests/program)" SAGAS_LIBRARY="$work/one-file.so" /usr/bin/python3 tests/library/same.py 100
 
@@ -81,12 +107,11 @@ runs 'the crate in Rust' env -C "$work/rust" cargo test --offline -q
 runs 'the example in Rust' env -C "$work/rust" cargo build --offline -q --example plan
 answers 'the example in Rust' "$work/target/debug/examples/plan"
 answers 'the example in JavaScript' node examples/library/plan.mjs
-if command -v go >/dev/null; then
-  runs 'the example in Go' env -C examples/library GOCACHE="$work/go" GOFLAGS=-mod=mod CGO_ENABLED=1 go build -o "$work/plan-go" plan.go
-  answers 'the example in Go' "$work/plan-go"
-else
-  echo 'library: go is not on this machine, so its example is left out'
-fi
+for it in plan coordinate; do
+  runs "the example $it in Go" env -C examples/library GOCACHE="$work/go" GOFLAGS=-mod=mod CGO_ENABLED=1 go build -o "$work/$it-go" "$it.go"
+done
+answers 'the example in Go' "$work/plan-go"
+drives 'a coordinator in Go' "$work/coordinate-go"
 
 PYTHONDONTWRITEBYTECODE=1 SAGAS_PROGRAM=$(tests/program) /usr/bin/python3 tests/library/same.py 500 || fail 'the library gives other bytes than the program'
 looked=$((looked + 1))

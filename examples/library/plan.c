@@ -4,7 +4,7 @@
 
 #include "sagas.h"
 
-static uint8_t definition[SAGAS_MAX_DEFINITION + 1], saga_case[65536], room[65536];
+static uint8_t definition[SAGAS_MAX_DEFINITION + 1], saga_case[65536], buffer[65536];
 
 static int read_file(const char *path, uint8_t *text, size_t most, size_t *size) {
     FILE *file = fopen(path, "rb");
@@ -26,8 +26,8 @@ int main(int count, char **given) {
     }
     if (!read_file(given[1], definition, sizeof definition, &definition_size)) return 4;
     if (!read_file(given[2], saga_case, sizeof saga_case, &case_size)) return 4;
-    status = sagas_plan(definition, definition_size, saga_case, case_size, room, sizeof room, &used);
-    if (status > SAGAS_BAD) return (int)status;
-    fwrite(room, 1, used, status == SAGAS_BAD ? stderr : stdout);
+    status = sagas_plan(definition, definition_size, saga_case, case_size, buffer, sizeof buffer, &used);
+    if (status > SAGAS_INVALID) return (int)status;
+    fwrite(buffer, 1, used, status == SAGAS_INVALID ? stderr : stdout);
     return (int)status;
 }

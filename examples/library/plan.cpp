@@ -1,4 +1,4 @@
-// The same in C++: a call that makes room as it is needed.
+// The same in C++: a call whose buffer grows as it is needed.
 //   c++ -std=c++17 -I dist examples/library/plan.cpp dist/libsagas.a -o plan && ./plan examples/trip.toml examples/trip.case.json
 #include <cstdlib>
 #include <fstream>
@@ -12,12 +12,12 @@
 static const uint8_t *bytes(const std::string &text) { return reinterpret_cast<const uint8_t *>(text.data()); }
 
 static std::pair<uint32_t, std::string> plan(const std::string &definition, const std::string &saga_case) {
-    std::string room(4096, '\0');
+    std::string buffer(4096, '\0');
     for (;;) {
         size_t used = 0;
-        uint32_t status = sagas_plan(bytes(definition), definition.size(), bytes(saga_case), saga_case.size(), reinterpret_cast<uint8_t *>(&room[0]), room.size(), &used);
-        room.resize(used);
-        if (status != SAGAS_NO_ROOM) return {status, room};
+        uint32_t status = sagas_plan(bytes(definition), definition.size(), bytes(saga_case), saga_case.size(), reinterpret_cast<uint8_t *>(&buffer[0]), buffer.size(), &used);
+        buffer.resize(used);
+        if (status != SAGAS_BUFFER_TOO_SMALL) return {status, buffer};
     }
 }
 
@@ -36,6 +36,6 @@ int main(int count, char **given) {
         return 2;
     }
     auto [status, text] = plan(read_file(given[1]), read_file(given[2]));
-    (status == SAGAS_BAD ? std::cerr : std::cout) << text;
+    (status == SAGAS_INVALID ? std::cerr : std::cout) << text;
     return static_cast<int>(status);
 }

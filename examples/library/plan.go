@@ -25,17 +25,17 @@ func start(text []byte) *C.uint8_t {
 
 // Plan gives the certificate, and whether it is a plan; else it is a chain, and nothing is allowed.
 func Plan(definition, sagaCase []byte) (text string, yes bool, err error) {
-	room := make([]byte, 4096)
+	buffer := make([]byte, 4096)
 	for {
 		var used C.size_t
-		status := C.sagas_plan(start(definition), C.size_t(len(definition)), start(sagaCase), C.size_t(len(sagaCase)), start(room), C.size_t(len(room)), &used)
+		status := C.sagas_plan(start(definition), C.size_t(len(definition)), start(sagaCase), C.size_t(len(sagaCase)), start(buffer), C.size_t(len(buffer)), &used)
 		switch status {
-		case C.SAGAS_YES, C.SAGAS_NO:
-			return string(room[:used]), status == C.SAGAS_YES, nil
-		case C.SAGAS_NO_ROOM:
-			room = make([]byte, used)
-		case C.SAGAS_BAD:
-			return "", false, errors.New(string(room[:used]))
+		case C.SAGAS_OK, C.SAGAS_REJECTED:
+			return string(buffer[:used]), status == C.SAGAS_OK, nil
+		case C.SAGAS_BUFFER_TOO_SMALL:
+			buffer = make([]byte, used)
+		case C.SAGAS_INVALID:
+			return "", false, errors.New(string(buffer[:used]))
 		default:
 			return "", false, errors.New("sagas: no memory")
 		}

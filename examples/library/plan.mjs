@@ -1,8 +1,8 @@
 // Plans how a saga shall end, in JavaScript: node plan.mjs DEFINITION CASE
 import { readFileSync } from 'node:fs';
-import { BAD, load } from '../../dist/sagas.mjs';
+import { INVALID, load } from '../../dist/sagas.mjs';
 
 const sagas = await load();
 const { status, text } = sagas.plan(...process.argv.slice(2).map(path => readFileSync(path)));
-(status === BAD ? process.stderr : process.stdout).write(text);
+(status === INVALID ? process.stderr : process.stdout).write(text);
 process.exitCode = status;

@@ -8,7 +8,7 @@ import sagas
 definition, case = (pathlib.Path(path).read_bytes() for path in sys.argv[1:3])
 try:
     verdict = sagas.plan(definition, case)
-except sagas.BadText as bad:
+except sagas.InvalidText as bad:
     print(bad, file=sys.stderr)
     sys.exit(3)
 print(verdict.text)

@@ -2,20 +2,35 @@
  *
  *     cc -std=c11 -O1 -o sagas engine.c sagas.c -lm
  *
- *     sagas plan DEF CASE           sagas check DEF CASE ANSWER
+ *     sagas plan DEF CASE               sagas check DEF CASE ANSWER
  *     sagas draw DEF [CASE [ANSWER]]    sagas audit LOG DEF..
+ *     sagas drive [--lines] [--from F] DEF..
  *
- * What it prints, and its status, are those of the program `sagas` for the same texts: 0 yes, 1 no, 3 a text is not of its form, 4 the system or memory
- * refused something, 2 it was called otherwise.
+ * What it prints, and its status, are those of the program `sagas` for the same texts: 0 ok, 1 rejected, 3 a text is not of its form, 4 the system or
+ * memory refused something, 2 it was called otherwise. It keeps no log: `drive --log`, `run` and a certificate on standard input are not there; and a
+ * drive without --lines has the room of a log, too.
  */
+#include <signal.h>
 #include <stdint.h>
 #include <stdio.h>
 #include <stdlib.h>
 #include <string.h>
 
+/* Of a system of the kind of Unix, a read that gives what has arrived: requests that were sent together are answered together. */
+#if defined(__unix__) || defined(__APPLE__)
+#include <unistd.h>
+#define HAS_READ 1
+#else
+#define HAS_READ 0
+#endif
+
 #include "sagas.h"
 
-enum { MISUSED = 2, CANNOT = 4, FIRST_ROOM = 65536 };
+#ifndef SAGAS_VERSION
+#define SAGAS_VERSION "of engine.c"
+#endif
+
+enum { MISUSED = 2, INVALID = 3, CANNOT = 4, FIRST_SIZE = 65536, MOST_WAITING = 1048576 };
 
 struct text {
     uint8_t *bytes;
@@ -28,28 +43,28 @@ static void stop(const char *what, const char *of) {
     exit(CANNOT);
 }
 
-static void *room_for(void *at, size_t size) {
-    void *room = realloc(at, size ? size : 1);
-    if (!room) {
+static void *memory_for(void *at, size_t size) {
+    void *memory = realloc(at, size ? size : 1);
+    if (!memory) {
         stop("out of memory", "");
     }
-    return room;
+    return memory;
 }
 
 /* A file's bytes, no more than one past the most that a text may have. */
 static struct text read_file(const char *path) {
     struct text text = {NULL, 0};
-    size_t room = 0;
+    size_t held = 0;
     FILE *file = strcmp(path, "-") == 0 ? stdin : fopen(path, "rb");
     if (!file) {
         stop("cannot read ", path);
     }
     while (text.size <= SAGAS_MAX_LOG) {
-        if (text.size == room) {
-            room = room ? room * 2 : FIRST_ROOM;
-            text.bytes = room_for(text.bytes, room);
+        if (text.size == held) {
+            held = held ? held * 2 : FIRST_SIZE;
+            text.bytes = memory_for(text.bytes, held);
         }
-        size_t count = fread(text.bytes + text.size, 1, room - text.size, file);
+        size_t count = fread(text.bytes + text.size, 1, held - text.size, file);
         text.size += count;
         if (count == 0) {
             break;
@@ -64,12 +79,12 @@ static struct text read_file(const char *path) {
     return text;
 }
 
-/* The definitions of an audit in one text, with their spans. */
+/* The definitions of an audit or a drive in one text, with their spans. */
 static struct text joined(char **paths, int count, struct sagas_span *spans) {
-    struct text all = {room_for(NULL, 1), 0};
+    struct text all = {memory_for(NULL, 1), 0};
     for (int i = 0; i < count; i++) {
         struct text one = read_file(paths[i]);
-        all.bytes = room_for(all.bytes, all.size + one.size);
+        all.bytes = memory_for(all.bytes, all.size + one.size);
         if (one.size) {
             memcpy(all.bytes + all.size, one.bytes, one.size);
         }
@@ -80,6 +95,208 @@ static struct text joined(char **paths, int count, struct sagas_span *spans) {
     }
     return all;
 }
+
+/* -- drive */
+
+/* What waits to be written to standard output. */
+struct output {
+    uint8_t *bytes;
+    size_t size, held;
+};
+
+static void add(struct output *output, const void *bytes, size_t size) {
+    if (size > output->held - output->size) {
+        while (size > output->held - output->size) {
+            output->held = output->held ? output->held * 2 : FIRST_SIZE;
+        }
+        output->bytes = memory_for(output->bytes, output->held);
+    }
+    if (size) {
+        memcpy(output->bytes + output->size, bytes, size);
+    }
+    output->size += size;
+}
+
+/* Adds lines of the log, each behind a plus. */
+static void add_lines(struct output *output, const uint8_t *lines, size_t size) {
+    while (size) {
+        const uint8_t *end = memchr(lines, '\n', size);
+        size_t count = end ? (size_t)(end - lines) + 1 : size;
+        add(output, "+", 1);
+        add(output, lines, count);
+        lines += count;
+        size -= count;
+    }
+}
+
+static void write_out(struct output *output) {
+    if (output->size && fwrite(output->bytes, 1, output->size, stdout) != output->size) {
+        stop("cannot write ", "-");
+    }
+    if (fflush(stdout) != 0) {
+        stop("cannot write ", "-");
+    }
+    output->size = 0;
+}
+
+/* Words of a drive, and what goes on while it drives: the coordinator, a buffer for what it gives, and what waits to be told. */
+struct drive {
+    int shows;
+    const char *from;
+    char **definitions;
+    int count;
+    struct sagas_coordinator coordinator;
+    uint8_t *buffer;
+    size_t buffer_size;
+    struct output output;
+};
+
+static void make_buffer(struct drive *drive, size_t size) {
+    free(drive->buffer);
+    drive->buffer = memory_for(NULL, size);
+    drive->buffer_size = size;
+}
+
+/* Opens the coordinator. Gives the status of the drive where there is none. */
+static int open_coordinator(struct drive *drive) {
+    static struct sagas_span spans[SAGAS_MAX_DEFINITIONS];
+    struct text definitions = joined(drive->definitions, drive->count, spans), log = {NULL, 0};
+    size_t used = 0, log_used = 0;
+    uint32_t status = SAGAS_BUFFER_TOO_SMALL;
+    if (drive->from) {
+        log = read_file(drive->from);
+    }
+    make_buffer(drive, FIRST_SIZE);
+    while (status == SAGAS_BUFFER_TOO_SMALL) {
+        if (used > drive->buffer_size) {
+            make_buffer(drive, used);
+        }
+        status = sagas_open(&drive->coordinator, definitions.bytes, definitions.size, spans, (size_t)drive->count, log.bytes, log.size, &log_used,
+                            drive->buffer, drive->buffer_size, &used);
+    }
+    free(definitions.bytes);
+    free(log.bytes);
+    if (status == SAGAS_INVALID) {
+        fwrite(drive->buffer, 1, used, stderr);
+        return INVALID;
+    }
+    if (status != SAGAS_OK) {
+        stop("out of memory", "");
+    }
+    if (log_used < log.size) {
+        fprintf(stderr, "sagas: log: cut line taken away: %lu bytes\n", (unsigned long)(log.size - log_used));
+    }
+    if (drive->shows) {
+        add_lines(&drive->output, drive->buffer, used);
+    }
+    return 0;
+}
+
+/* Answers a request. What it comes to waits to be written. */
+static void answer(struct drive *drive, const uint8_t *request, size_t size) {
+    size_t used, lines;
+    uint32_t status = sagas_answer(&drive->coordinator, request, size, drive->buffer, drive->buffer_size, &used, &lines);
+    while (status == SAGAS_BUFFER_TOO_SMALL) {
+        make_buffer(drive, used);
+        status = sagas_reply(&drive->coordinator, drive->buffer, drive->buffer_size, &used, &lines);
+    }
+    if (status != SAGAS_OK) {
+        stop("out of memory", "");
+    }
+    if (drive->shows) {
+        add_lines(&drive->output, drive->buffer, lines);
+    }
+    add(&drive->output, drive->buffer + lines, used - lines);
+    if (drive->output.size >= MOST_WAITING) {
+        write_out(&drive->output);
+    }
+}
+
+/* Takes what has arrived, at least a byte, of standard input: at most so many bytes; 0 at its end. */
+static size_t arrived(uint8_t *at, size_t most) {
+#if HAS_READ
+    ssize_t count = read(0, at, most);
+    if (count < 0) {
+        stop("cannot read ", "-");
+    }
+    return (size_t)count;
+#else
+    size_t count = 0;
+    int byte = 0;
+    while (count < most && byte != '\n' && (byte = getchar()) != EOF) {
+        at[count++] = (uint8_t)byte;
+    }
+    if (ferror(stdin)) {
+        stop("cannot read ", "-");
+    }
+    return count;
+#endif
+}
+
+/* The requests of standard input, a line each, until it ends. Of a line that is too long only the beginning is kept, which tells that it is. */
+static void converse(struct drive *drive) {
+    static uint8_t line[SAGAS_MAX_REQUEST + 1], buffer[FIRST_SIZE];
+    size_t size = 0, count;
+    while ((count = arrived(buffer, sizeof buffer)) > 0) {
+        for (size_t at = 0; at < count;) {
+            const uint8_t *end = memchr(buffer + at, '\n', count - at);
+            size_t part = end ? (size_t)(end - (buffer + at)) : count - at, left = sizeof line - size;
+            memcpy(line + size, buffer + at, part < left ? part : left);
+            size += part < left ? part : left;
+            at += part + (end != NULL);
+            if (end) {
+                answer(drive, line, size);
+                size = 0;
+            }
+        }
+        write_out(&drive->output);
+    }
+    if (size) {
+        answer(drive, line, size);
+    }
+    write_out(&drive->output);
+}
+
+/* The words behind `drive`; whether they are of its form. */
+static int read_words(struct drive *drive, int count, char **words) {
+    int is_only_files = 0;
+    drive->definitions = words;
+    for (int i = 0; i < count; i++) {
+        if (!is_only_files && strcmp(words[i], "--") == 0) {
+            is_only_files = 1;
+        } else if (!is_only_files && strcmp(words[i], "--lines") == 0 && !drive->shows) {
+            drive->shows = 1;
+        } else if (!is_only_files && strcmp(words[i], "--from") == 0 && !drive->from && i + 1 < count) {
+            drive->from = words[++i];
+        } else if (!is_only_files && strncmp(words[i], "--from=", 7) == 0 && !drive->from) {
+            drive->from = words[i] + 7;
+        } else if (!is_only_files && words[i][0] == '-' && words[i][1]) {
+            return 0;
+        } else {
+            drive->definitions[drive->count++] = words[i];
+        }
+    }
+    return drive->count > 0 && (drive->shows || !drive->from);
+}
+
+static int run_drive(int count, char **words) {
+    static struct drive drive;
+    if (!read_words(&drive, count, words)) {
+        return MISUSED;
+    }
+    if (drive.count > SAGAS_MAX_DEFINITIONS) {
+        fputs("sagas: too many definitions\n", stderr);
+        return INVALID;
+    }
+    int status = open_coordinator(&drive);
+    if (status == 0) {
+        converse(&drive);
+        sagas_close(&drive.coordinator);
+    }
+    return status;
+}
+
+/* -- the other commands */
 
 enum command { PLAN, CHECK, DRAW, AUDIT, NONE };
 
@@ -92,18 +309,18 @@ struct asked {
     size_t span_count;
 };
 
-static uint32_t ask(const struct asked *asked, uint8_t *room, size_t size, size_t *used) {
+static uint32_t ask(const struct asked *asked, uint8_t *buffer, size_t size, size_t *used) {
     const struct text *t = asked->texts;
     switch (asked->command) {
-    case PLAN: return sagas_plan(t[0].bytes, t[0].size, t[1].bytes, t[1].size, room, size, used);
-    case CHECK: return sagas_check(t[0].bytes, t[0].size, t[1].bytes, t[1].size, t[2].bytes, t[2].size, room, size, used);
-    case AUDIT: return sagas_audit_all(t[0].bytes, t[0].size, t[1].bytes, t[1].size, asked->spans, asked->span_count, room, size, used);
+    case PLAN: return sagas_plan(t[0].bytes, t[0].size, t[1].bytes, t[1].size, buffer, size, used);
+    case CHECK: return sagas_check(t[0].bytes, t[0].size, t[1].bytes, t[1].size, t[2].bytes, t[2].size, buffer, size, used);
+    case AUDIT: return sagas_audit_all(t[0].bytes, t[0].size, t[1].bytes, t[1].size, asked->spans, asked->span_count, buffer, size, used);
     default: break;
     }
     switch (asked->count) {
-    case 1: return sagas_draw(t[0].bytes, t[0].size, room, size, used);
-    case 2: return sagas_draw_case(t[0].bytes, t[0].size, t[1].bytes, t[1].size, room, size, used);
-    default: return sagas_draw_answer(t[0].bytes, t[0].size, t[1].bytes, t[1].size, t[2].bytes, t[2].size, room, size, used);
+    case 1: return sagas_draw(t[0].bytes, t[0].size, buffer, size, used);
+    case 2: return sagas_draw_case(t[0].bytes, t[0].size, t[1].bytes, t[1].size, buffer, size, used);
+    default: return sagas_draw_answer(t[0].bytes, t[0].size, t[1].bytes, t[1].size, t[2].bytes, t[2].size, buffer, size, used);
     }
 }
 
@@ -122,27 +339,27 @@ static enum command command_of(int count, char **words) {
 }
 
 /* Prints what was answered, and gives the status. */
-static int told(uint32_t status, const uint8_t *room, size_t used) {
-    FILE *to = status == SAGAS_BAD ? stderr : stdout;
+static int told(uint32_t status, const uint8_t *buffer, size_t used) {
+    FILE *to = status == SAGAS_INVALID ? stderr : stdout;
     if (status == SAGAS_NO_MEMORY) {
         stop("out of memory", "");
     }
-    if (fwrite(room, 1, used, to) != used || fflush(to) != 0) {
+    if (fwrite(buffer, 1, used, to) != used || fflush(to) != 0) {
         stop("cannot write ", "-");
     }
     return (int)status;
 }
 
-int main(int count, char **words) {
+/* A command that answers once. */
+static int answered(int count, char **words) {
     static struct asked asked;
     asked.command = command_of(count, words);
     if (asked.command == NONE) {
-        fputs("usage: sagas plan DEF CASE | check DEF CASE ANSWER | draw DEF [CASE [ANSWER]] | audit LOG DEF..\n", stderr);
         return MISUSED;
     }
     if (asked.command == AUDIT && count - 3 > SAGAS_MAX_DEFINITIONS) {
         fputs("sagas: too many definitions\n", stderr);
-        return SAGAS_BAD;
+        return INVALID;
     }
     if (asked.command == AUDIT) {
         asked.texts[0] = read_file(words[2]);
@@ -153,13 +370,31 @@ int main(int count, char **words) {
             asked.texts[asked.count] = read_file(words[2 + asked.count]);
         }
     }
-    size_t size = FIRST_ROOM, used;
-    uint8_t *room = room_for(NULL, size);
-    uint32_t status = ask(&asked, room, size, &used);
-    if (status == SAGAS_NO_ROOM) {
+    size_t size = FIRST_SIZE, used;
+    uint8_t *buffer = memory_for(NULL, size);
+    uint32_t status = ask(&asked, buffer, size, &used);
+    if (status == SAGAS_BUFFER_TOO_SMALL) {
         size = used;
-        room = room_for(room, size);
-        status = ask(&asked, room, size, &used);
+        buffer = memory_for(buffer, size);
+        status = ask(&asked, buffer, size, &used);
     }
-    return told(status, room, used);
+    int result = told(status, buffer, used);
+    free(buffer);
+    return result;
+}
+
+int main(int count, char **words) {
+#ifdef SIGPIPE
+    signal(SIGPIPE, SIG_IGN);
+#endif
+    if (count == 2 && strcmp(words[1], "--version") == 0) {
+        puts("sagas " SAGAS_VERSION);
+        return 0;
+    }
+    int is_drive = count > 1 && strcmp(words[1], "drive") == 0;
+    int status = is_drive ? run_drive(count - 2, words + 2) : answered(count, words);
+    if (status == MISUSED) {
+        fputs("usage: sagas plan DEF CASE | check DEF CASE ANSWER | draw DEF [CASE [ANSWER]] | audit LOG DEF.. | drive [--lines] [--from F] DEF..\n", stderr);
+    }
+    return status;
 }

@@ -3,7 +3,7 @@
  *     cc -std=c11 -O1 -c sagas.c
  *
  * It is the module of WebAssembly of the same release, sagas.wasm, translated by wasm2c (of wabt, Apache License 2.0), between a head and a tail that
- * are written by hand: the memory that the module has, and the calls over it. Every access to that memory is checked against its size.
+ * are written by hand: the memory that the module has, and the calls over it. No access leaves that memory: each address is checked against its size.
  */
 #include <math.h>
 #include <setjmp.h>
@@ -25,7 +25,7 @@
 #define UNLIKELY(x) (x)
 #define LIKELY(x) (x)
 #endif
-#if defined(__GNUC__)
+#if defined(__OPTIMIZE__)
 /* (so that where the memory is stays in registers) */
 #define inline __inline __attribute__((always_inline))
 #endif
@@ -34,7 +34,8 @@
 #define WASM_RT_USE_STACK_DEPTH_COUNT 0
 #define WABT_BIG_ENDIAN 0
 
-enum { PAGE = 65536, MOST_PAGES = 65535 };
+/* The memory's units; how much of it is taken at first, and how much lies behind it. */
+enum { PAGE = 65536, MOST_PAGES = 65535, FIRST_ROOM = 16 * 1024 * 1024, BEHIND = 65536 };
 
 typedef enum {
     WASM_RT_TRAP_NONE,
@@ -49,7 +50,8 @@ typedef enum {
 
 typedef enum { WASM_RT_I32, WASM_RT_I64, WASM_RT_F32, WASM_RT_F64 } wasm_rt_type_t;
 
-/* The module's memory: `size` bytes of it are there, and room for `room`. */
+/* The module's memory: `size` bytes of it are there, and room for `room`, all zero above `size`. Behind the room lie BEHIND bytes, so that what an
+ * instruction adds to an address need not be checked with it. */
 typedef struct {
     uint8_t *data;
     uint32_t pages, max_pages;
@@ -88,12 +90,27 @@ static bool wasm_rt_is_initialized(void) {
     return true;
 }
 
+/* Gives the memory so much room, and takes along what it has; where the system gives no more, it stays as it is. */
+static bool give_room(wasm_rt_memory_t *memory, uint64_t room) {
+    uint8_t *data = room > SIZE_MAX - BEHIND ? NULL : calloc(1, (size_t)room + BEHIND);
+    if (!data) {
+        return false;
+    }
+    if (memory->data) {
+        memcpy(data, memory->data, (size_t)memory->size);
+        free(memory->data);
+    }
+    memory->data = data;
+    memory->room = room;
+    return true;
+}
+
 static void wasm_rt_allocate_memory(wasm_rt_memory_t *memory, uint32_t pages, uint32_t most) {
     memory->pages = pages;
     memory->max_pages = most < MOST_PAGES ? most : MOST_PAGES;
-    memory->size = memory->room = (uint64_t)pages * PAGE;
-    memory->data = calloc(1, (size_t)memory->room);
-    if (!memory->data) {
+    memory->size = (uint64_t)pages * PAGE;
+    memory->data = NULL;
+    if (!(memory->size < FIRST_ROOM && give_room(memory, FIRST_ROOM)) && !give_room(memory, memory->size)) {
         wasm_rt_trap(WASM_RT_TRAP_EXHAUSTION);
     }
 }
@@ -105,20 +122,13 @@ static void wasm_rt_free_memory(wasm_rt_memory_t *memory) {
 /* Room for twice as much as there was, or for as much as is wanted, where no more is given. */
 static uint32_t wasm_rt_grow_memory(wasm_rt_memory_t *memory, uint32_t more) {
     uint32_t before = memory->pages;
-    uint64_t wanted = (uint64_t)(before + (uint64_t)more) * PAGE;
-    if (more > memory->max_pages - before || wanted > SIZE_MAX) {
+    uint64_t wanted = ((uint64_t)before + more) * PAGE, ample = memory->room * 2;
+    if (more > memory->max_pages - before) {
         return UINT32_MAX;
     }
-    if (wanted > memory->room) {
-        uint64_t ample = wanted > memory->room * 2 || memory->room * 2 > SIZE_MAX ? wanted : memory->room * 2;
-        uint8_t *data = realloc(memory->data, (size_t)ample);
-        if (!data && !(data = realloc(memory->data, (size_t)(ample = wanted)))) {
-            return UINT32_MAX;
-        }
-        memory->data = data;
-        memory->room = ample;
+    if (wanted > memory->room && !(wanted < ample && give_room(memory, ample)) && !give_room(memory, wanted)) {
+        return UINT32_MAX;
     }
-    memset(memory->data + memory->size, 0, (size_t)(wanted - memory->size));
     memory->size = wanted;
     memory->pages = before + more;
     return before;
@@ -140,5 +150,28 @@ static uint32_t wasm_rt_register_func_type(uint32_t given, uint32_t results, ...
     (void)results;
     return 0;
 }
+
+/* Whether an access of so many bytes at so much behind an address would leave the memory. What is added is a constant, and nearly always small: then
+ * the address alone is looked at, once for all that lies behind it. */
+#define LEAVES(memory, address, added, count) ((added) > BEHIND - 16 ? (uint64_t)(address) + (added) + (count) > (memory)->size : (address) >= (memory)->size)
+
+#define MEMORY_LOAD(name, held, widened, given)                                                     \
+    static inline given name(const wasm_rt_memory_t *memory, uint32_t address, uint32_t added) {    \
+        held value;                                                                                 \
+        if (UNLIKELY(LEAVES(memory, address, added, sizeof value))) {                               \
+            wasm_rt_trap(WASM_RT_TRAP_OOB);                                                         \
+        }                                                                                           \
+        memcpy(&value, memory->data + address + added, sizeof value);                               \
+        return (given)(widened)value;                                                               \
+    }
+
+#define MEMORY_STORE(name, held, taken)                                                                         \
+    static inline void name(const wasm_rt_memory_t *memory, uint32_t address, uint32_t added, taken given) {    \
+        held value = (held)given;                                                                               \
+        if (UNLIKELY(LEAVES(memory, address, added, sizeof value))) {                                           \
+            wasm_rt_trap(WASM_RT_TRAP_OOB);                                                                     \
+        }                                                                                                       \
+        memcpy(memory->data + address + added, &value, sizeof value);                                           \
+    }
 
 /* -- what wasm2c has made of the module */

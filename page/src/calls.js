@@ -1,14 +1,14 @@
 // The proved calls of a module of WebAssembly: bytes in, a status and bytes out. Both the page and sagas.mjs have this file.
 
-const YES = 0, NO = 1, BAD = 3, NO_MEMORY = 4, NO_ROOM = 5;
-const FIRST_ROOM = 65536;
+const OK = 0, REJECTED = 1, INVALID = 3, NO_MEMORY = 4, BUFFER_TOO_SMALL = 5;
+const FIRST_SIZE = 65536;
 
 // The part of the module's memory from an address on. (It is asked for anew each time, since the memory may have grown.)
 const part = (library, at, size) => new Uint8Array(library.memory.buffer, Number(at), size);
 
-// Room for so many bytes, for one call.
-function room_of(library, size) {
-  const at = library.sagas_room(BigInt(size));
+// Memory for so many bytes, for one call.
+function memory_of(library, size) {
+  const at = library.sagas_memory(BigInt(size));
   if (at === 0n) throw new RangeError('no memory');
   return at;
 }
@@ -16,7 +16,7 @@ function room_of(library, size) {
 // The words of a text: its address and its length.
 function words_of(library, text) {
   if (text.length === 0) return [0n, 0n];
-  const at = room_of(library, text.length);
+  const at = memory_of(library, text.length);
   part(library, at, text.length).set(text);
   return [at, BigInt(text.length)];
 }
@@ -24,7 +24,7 @@ function words_of(library, text) {
 // The words of spans: pairs of places, 8 bytes each.
 function words_of_spans(library, spans) {
   if (spans.length === 0) return [0n, 0n];
-  const at = room_of(library, spans.length * 16);
+  const at = memory_of(library, spans.length * 16);
   const view = new DataView(library.memory.buffer, Number(at), spans.length * 16);
   spans.flat().forEach((place, i) => view.setBigUint64(8 * i, BigInt(place), true));
   return [at, BigInt(spans.length)];
@@ -35,16 +35,16 @@ function called(library, name, texts, spans) {
   library.sagas_clear();
   const words = texts.map(text => words_of(library, text)).flat();
   if (spans) words.push(...words_of_spans(library, spans));
-  const used = room_of(library, 8);
+  const used = memory_of(library, 8);
   const length = () => Number(new DataView(library.memory.buffer).getBigUint64(Number(used), true));
-  let size = FIRST_ROOM, room = room_of(library, size);
-  let status = library[name](...words, room, BigInt(size), used);
-  if (status === NO_ROOM) {
+  let size = FIRST_SIZE, buffer = memory_of(library, size);
+  let status = library[name](...words, buffer, BigInt(size), used);
+  if (status === BUFFER_TOO_SMALL) {
     size = length();
-    room = room_of(library, size);
-    status = library[name](...words, room, BigInt(size), used);
+    buffer = memory_of(library, size);
+    status = library[name](...words, buffer, BigInt(size), used);
   }
-  return { status, bytes: part(library, room, length()).slice() };
+  return { status, bytes: part(library, buffer, length()).slice() };
 }
 
 const bytes_of = text => new TextEncoder().encode(text);

@@ -136,7 +136,7 @@ function outline({ x, y, w, h, step }, grow, kind) {
 function node_of(box, marked, is_chain) {
   const { step, number, x, y } = box;
   const words = [step.name, ...(step.state ? [step.state] : []), ...step.lines];
-  const mark = marked.has(number) ? (is_chain ? 'in the chain' : 'stands') : '';
+  const mark = marked.has(number) ? (is_chain ? 'shows it' : 'kept') : '';
   const node = svg('g', { class: 'node', tabindex: 0, role: 'button', 'data-step': number,
     'aria-label': `${step.name}: ${step.state || 'no state'}${mark && ', ' + mark}. Press for the next state.` });
   if (mark) node.append(outline(box, 4.5, is_chain ? 'ring chain' : 'ring'));

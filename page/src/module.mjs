@@ -6,7 +6,7 @@
 //
 // `load` takes sagas.wasm from beside this file; or what it is given: its bytes, or a WebAssembly.Module, where a platform compiles it itself
 // (import module from './sagas.wasm'; await load(module)). Texts are strings or bytes (Uint8Array), of the forms of docs/FORMATS.md. `status`
-// is that of the program: YES 0, NO 1, or BAD 3, whose text is the program's line on standard error. Where memory is refused a call throws
+// is that of the program: OK 0, REJECTED 1, or INVALID 3, whose text is the program's line on standard error. Where memory is refused a call throws
 // a RangeError, and later calls go on.
 @CALLS@
 const given = text => typeof text === 'string' ? bytes_of(text) : text;
@@ -32,17 +32,17 @@ class Sagas {
     return { status: reply.status, text: text_of(reply.bytes) };
   }
 
-  // How a saga shall end that stands as the case says: YES with a plan that costs least, NO with a chain that shows that nothing is allowed.
+  // How a saga shall end that stands as the case says: OK with a plan that costs least, REJECTED with a chain that shows that nothing is allowed.
   plan(definition, saga_case) {
     return this.#ask('sagas_plan', [definition, saga_case]);
   }
 
-  // Judges an answer, whoever made it: YES with `least N` or `blocked`, NO with `no FAULT`.
+  // Judges an answer, whoever made it: OK with `least N` or `blocked`, REJECTED with `no FAULT`.
   check(definition, saga_case, answer) {
     return this.#ask('sagas_check', [definition, saga_case, answer]);
   }
 
-  // Audits a log over its definitions, in their order: YES with numbers, NO with the first event that was not allowed.
+  // Audits a log over its definitions, in their order: OK with numbers, REJECTED with the first event that was not allowed.
   audit(log, ...definitions) {
     const texts = definitions.map(given);
     const spans = [];
@@ -71,4 +71,4 @@ export async function load(module) {
   return new Sagas(compiled, await WebAssembly.instantiate(compiled, {}));
 }
 
-export { YES, NO, BAD };
+export { OK, REJECTED, INVALID };

@@ -33,7 +33,7 @@ function tell(kind, verdict, checked = '', remedy = '') {
 function entry_of(line) {
   for (const letters of ['', 'N', 'P', 'K']) {
     const entry = LINES[letters ? line.replace(/\d+/, letters) : line];
-    if (entry) return { cause: quoted_words(entry[0]), remedy: quoted_words(entry[1].replace('`sagas plan`', 'plan it here, or by `sagas plan`')) };
+    if (entry) return { cause: quoted_words(entry[0]), remedy: quoted_words(entry[1].replace('run `sagas plan`', 'plan it here, or run `sagas plan`').replace('Run `sagas plan`', 'Plan it here, or run `sagas plan`')) };
   }
   return { cause: '', remedy: '' };
 }
@@ -78,7 +78,7 @@ const PLACES = { definition: 'definition', case: 'case', answer: 'certificate', 
 async function line_not_toml(text) {
   const lines = text.split('\n'), is_toml = async count => {
     const reply = await call('draw', [bytes_of(lines.slice(0, count).join('\n') + '\n')]);
-    return reply.status === YES || (reply.status === BAD && !text_of(reply.bytes).includes(': not-toml'));
+    return reply.status === OK || (reply.status === INVALID && !text_of(reply.bytes).includes(': not-toml'));
   };
   let good = 0;
   for (let bad = lines.length; bad - good > 1;) {
@@ -94,7 +94,7 @@ async function line_not_toml(text) {
 
 // Tells what is wrong with a text: `sagas: FIELD: WORD`, with the number of a line or of a definition where there is one.
 async function tell_fault(reply) {
-  if (reply.status === NO_MEMORY) return tell('bad', 'The page has no memory left', reply.error || '', 'Try a smaller saga, or use the program.');
+  if (reply.status === NO_MEMORY) return tell('bad', 'The page is out of memory', reply.error || '', 'Try a smaller saga, or use the program.');
   const line = text_of(reply.bytes).trimEnd();
   const [, field, numbers] = /^sagas: (definition|case|answer|log)\b(.*)$/.exec(line) || [, 'definition', ''];
   let quoted = '', word = line;
@@ -107,7 +107,7 @@ async function tell_fault(reply) {
     const shelf = at('definition').value.split(PARTED), number = of_shelf ? Number(of_shelf[1]) : 0;
     const before = shelf.slice(0, number).reduce((sum, part) => sum + part.split('\n').length, 0);
     const place = before + await line_not_toml(shelf[number] || '');
-    other = `look at line ${place}: it is the first that cannot be read`;
+    other = `look at line ${place}: it is the first that cannot be parsed`;
     quoted = line_of(at('definition').value, place);
     mark_line('definition', place);
   }
@@ -143,8 +143,8 @@ function show_picture(drawing, marked, is_chain, title) {
     at('picture').replaceChildren(button);
   } else fill();
   const words = [];
-  if (marked.size) words.push(element('span', {}, element('i', { class: is_chain ? 'chain' : '' }), is_chain ? 'the chain that shows it' : 'stands at the end'));
-  words.push(element('span', {}, 'Arrows lead to what a step needs.'), element('span', {}, 'Click a step to change where it stands.'));
+  if (marked.size) words.push(element('span', {}, element('i', { class: is_chain ? 'chain' : '' }), is_chain ? 'the steps that show it' : 'is kept'));
+  words.push(element('span', {}, 'Arrows lead to what a step needs.'), element('span', {}, 'Click a step to change its state.'));
   at('legend').replaceChildren(...words);
 }
 
@@ -165,8 +165,8 @@ function row_of(drawing, beside, kept, i, is_aborted) {
   return element('tr', {},
     element('td', { class: 'name' }, step.name),
     element('td', { class: 'is' }, chooser(step, i)),
-    price('if it stands', to_stand(step, is_aborted), kept && is_kept),
-    price('if not', to_leave(step), kept && !is_kept),
+    price('cost to keep', to_stand(step, is_aborted), kept && is_kept),
+    price('cost to drop', to_leave(step), kept && !is_kept),
     element('td', { class: `shall ${is_kept ? 'stands' : 'gone'}` }, kept ? shall(step, is_kept) : ''),
     element('td', { class: 'why' }, kept ? why(drawing, beside, kept, i, is_aborted) : ''));
 }
@@ -182,7 +182,7 @@ function show_steps(drawing, kept, cost) {
   fill(MOST_ROWS);
   at('all').textContent = `Show all ${drawing.steps.length} steps`;
   at('all').onclick = () => fill(drawing.steps.length);
-  at('steps').querySelector('tfoot').replaceChildren(...(kept ? [element('tr', {}, element('td', { colspan: 6 }, `All marked prices together: ${cost}`))] : []));
+  at('steps').querySelector('tfoot').replaceChildren(...(kept ? [element('tr', {}, element('td', { colspan: 6 }, `Sum of the marked costs: ${cost}`))] : []));
   at('steps').classList.toggle('bare', !kept);
   at('steps').hidden = false;
   if (focused !== undefined) body.querySelector(`select[data-step="${focused}"]`)?.focus({ preventScroll: true });
@@ -215,7 +215,7 @@ function show_chain(drawing, chain) {
   const steps = chain.map(i => drawing.steps[i]), last = steps.length - 1, is_aborted = at('aborted').checked;
   const lines = steps.map((step, k) => element('li', {}, element('b', {}, step.name), ': ',
     [k === 0 ? why_forced(step) : '', k === last ? why_barred(step, is_aborted) : `it needs ${steps[k + 1].name}`].filter(word => word).join(', and ')));
-  at('chain').replaceChildren(element('h2', {}, 'The chain that shows it'), element('ol', {}, ...lines));
+  at('chain').replaceChildren(element('h2', {}, 'Why no plan is feasible'), element('ol', {}, ...lines));
   at('chain').hidden = false;
 }
 
@@ -223,16 +223,16 @@ const listed = (list, steps) => list.slice(0, 6).map(i => steps[i].name).join(',
 
 // Shows an answer that the checker found right. `says` is what it said: the cost is read there.
 function show_right(drawing, answer, says, is_planned) {
-  const checked = `${is_planned ? 'Planned, then judged' : 'Judged'} here by the proved checker: ${says}.`;
+  const checked = `${is_planned ? 'Planned, then verified' : 'Verified'} here by the proved checker: ${says}.`;
   if (answer.kind === 'plan') {
     const cost = says.split(' ')[1], kept = new Set(answer.kept);
     const undone = drawing.steps.flatMap((step, i) => step.state === 'committed' && !kept.has(i) ? [i] : []);
     const ends = [answer.kept.length ? `keep ${listed(answer.kept, drawing.steps)}` : 'keep nothing', ...(undone.length ? [`undo ${listed(undone, drawing.steps)}`] : [])];
-    tell('good', `${is_planned ? 'Least plan' : 'Right: a least plan'}, cost ${cost}: ${ends.join('; ')}`, checked, 'No allowed plan costs less; the flow in the certificate shows it.');
+    tell('good', `${is_planned ? 'Plan of minimum cost' : 'Valid: a plan of minimum cost'} ${cost}: ${ends.join('; ')}`, checked, 'No allowed plan costs less. The flow in the certificate proves it.');
     show_picture(drawing, kept, false, `${drawing.name}: plan of cost ${cost}`);
     show_steps(drawing, kept, cost);
   } else {
-    tell('no', `${is_planned ? '' : 'Right: '}No set of steps is allowed`, checked, 'Give a price in place of a never, or change where a step stands.');
+    tell('no', is_planned ? 'No plan is feasible' : 'Valid: no plan is feasible', checked, 'Replace a never by a cost, or change the state of a step.');
     show_picture(drawing, new Set(answer.chain), true, `${drawing.name}: blocked`);
     show_chain(drawing, answer.chain);
     show_steps(drawing, null, '');
@@ -249,7 +249,7 @@ function show_certificate(text) {
 async function drawn() {
   for (const [name, texts] of [['draw_case', ['definition', 'case']], ['draw', ['definition']]]) {
     const reply = await call(name, texts.map(given));
-    if (reply.status !== YES) continue;
+    if (reply.status !== OK) continue;
     const drawing = read_drawing(text_of(reply.bytes)), states = states_typed();
     drawing.steps.forEach((step, i) => { step.state ||= STATES.includes(states[i]) ? states[i] : 'waiting'; });
     return drawing;
@@ -280,16 +280,16 @@ async function plan_or_judge() {
   let answer = given('answer');
   if (is_planned) {
     const planned = await call('plan', [given('definition'), given('case')]);
-    if (planned.status > NO) return refused(planned);
+    if (planned.status > REJECTED) return refused(planned);
     answer = planned.bytes;
   }
   const judged = await call('check', [given('definition'), given('case'), answer]);
-  if (judged.status > NO) return refused(judged);
+  if (judged.status > REJECTED) return refused(judged);
   shown = await drawn();
   const says = text_of(judged.bytes).trimEnd();
-  if (judged.status === NO) {
+  if (judged.status === REJECTED) {
     const { cause, remedy } = tell_at('answer', says);
-    tell('no', 'This certificate is not right', `Judged here by the proved checker: ${says}. ${sentence(cause)}`, sentence(remedy));
+    tell('no', 'This certificate is not valid', `Verified here by the proved checker: ${says}. ${sentence(cause)}`, sentence(remedy));
     show_picture(shown, none, false, shown.name);
     return show_steps(shown, null, '');
   }
@@ -302,7 +302,7 @@ async function refused(reply) {
   shown = await drawn();
   await tell_fault(reply);
   if (!shown) return;
-  if (at('case').hasAttribute('aria-invalid')) at('remedy').textContent += ' Or set a step below: the case is then written anew, with a state for each.';
+  if (at('case').hasAttribute('aria-invalid')) at('remedy').textContent += ' Or set a step below: this writes a new case, with a state for each step.';
   show_picture(shown, none, false, shown.name);
   show_steps(shown, null, '');
 }
@@ -325,11 +325,11 @@ const line_of_event = (log, event) => event + (/^\s*\{\s*"format"/.test(log) ? 2
 async function audit() {
   const { all, spans } = shelf_of(at('definition').value);
   const reply = await call('audit_all', [given('log'), all], spans);
-  if (reply.status > NO) return tell_fault(reply);
+  if (reply.status > REJECTED) return tell_fault(reply);
   const says = text_of(reply.bytes).trimEnd(), checked = `Audited here by the proved auditor: ${says}.`;
-  if (reply.status === YES) {
+  if (reply.status === OK) {
     const numbers = says.split(' ').slice(1);
-    tell('good', 'Yes: each event was allowed after those before it', checked, 'Each plan that was adopted is least, and each ended saga has its goal.');
+    tell('good', 'Valid: every event was allowed', checked, 'Every adopted plan has minimum cost, and every ended saga reached its goal.');
     const of = [];
     for (let i = 0; i < numbers.length; i += 2) of.push(element('div', {}, element('dt', {}, numbers[i]), element('dd', {}, Number(numbers[i + 1]).toLocaleString('en'))));
     at('numbers').replaceChildren(element('dl', {}, ...of));
@@ -339,7 +339,7 @@ async function audit() {
   const event = Number(says.split(' ')[1]), number = line_of_event(at('log').value, event);
   const { cause, remedy } = tell_at('log', says, line_of(at('log').value, number));
   mark_line('log', number);
-  return tell('no', `No: event ${event}, in line ${number}, was not allowed`, `${checked} ${sentence(cause)}`, sentence(remedy));
+  return tell('no', `Invalid: event ${event}, in line ${number}, was not allowed`, `${checked} ${sentence(cause)}`, sentence(remedy));
 }
 
 // ---- What is chosen and typed.
@@ -369,9 +369,9 @@ async function copy() {
     at('copied').textContent = 'The certificate is copied.';
   } catch {
     getSelection().selectAllChildren(at('text'));
-    at('copied').textContent = 'The certificate is marked: copy it by the keyboard.';
+    at('copied').textContent = 'The certificate is selected: copy it with the keyboard.';
   }
-  at('copy').textContent = getSelection().isCollapsed ? 'Copied' : 'Marked';
+  at('copy').textContent = getSelection().isCollapsed ? 'Copied' : 'Selected';
   setTimeout(() => { at('copy').textContent = 'Copy'; }, 1600);
 }
 

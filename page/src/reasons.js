@@ -24,14 +24,14 @@ function neighbours_of(drawing) {
 }
 
 // Why a step cannot be without.
-const why_forced = step => step.state === 'fixed' ? 'it could not be undone'
-  : step.state === 'committed' && step.undo === NEVER ? 'it can never be undone' : 'it must not be left out';
+const why_forced = step => step.state === 'fixed' ? 'its compensation failed'
+  : step.state === 'committed' && step.undo === NEVER ? 'it cannot be undone' : 'it is mandatory';
 
 // Why a step cannot stand.
 const why_barred = (step, is_aborted) => step.state === 'failed' ? 'it has failed'
-  : step.state === 'undone' ? 'it is undone'
+  : step.state === 'undone' ? 'it was undone'
   : step.state === 'waiting' && is_aborted ? 'the saga was aborted'
-  : step.state === 'waiting' && step.run === NEVER ? 'it must never be run' : 'its effect must not stay';
+  : step.state === 'waiting' && step.run === NEVER ? 'it must not run' : 'its effect must not stay';
 
 const names = (list, steps) => list.slice(0, 3).map(i => steps[i].name).join(', ') + (list.length > 3 ? ` and ${list.length - 3} more` : '');
 
@@ -42,14 +42,14 @@ function why(drawing, { needs, users }, kept, i, is_aborted) {
     if (leave === NEVER) return why_forced(step);
     const standing = users[i].filter(user => kept.has(user));
     if (stand > leave || (stand === leave && standing.length)) return `${names(standing, drawing.steps)} ${standing.length > 1 ? 'need' : 'needs'} it`;
-    return stand === leave ? 'either costs the same' : 'that costs less';
+    return stand === leave ? 'both cost the same' : 'this costs less';
   }
   if (stand === NEVER) return why_barred(step, is_aborted);
-  if (leave < stand) return 'that costs less';
+  if (leave < stand) return 'this costs less';
   const lacking = needs[i].filter(need => !kept.has(need));
-  if (lacking.length) return `${names(lacking, drawing.steps)} ${lacking.length > 1 ? 'do' : 'does'} not stand, and it needs ${lacking.length > 1 ? 'them' : 'it'}`;
-  return leave === stand ? 'either costs the same' : 'that costs less together with others';
+  if (lacking.length) return `it needs ${names(lacking, drawing.steps)}, which ${lacking.length > 1 ? 'are' : 'is'} dropped`;
+  return leave === stand ? 'both cost the same' : 'this costs less together with other steps';
 }
 
-// What a step is to do: it is kept or not.
-const shall = (step, is_kept) => is_kept ? (step.state === 'waiting' ? 'be run' : 'stand') : step.state === 'committed' ? 'be undone' : 'be left out';
+// What a plan does with a step: it is kept or not.
+const shall = (step, is_kept) => is_kept ? (step.state === 'waiting' ? 'run' : 'keep') : step.state === 'committed' ? 'undo' : 'skip';

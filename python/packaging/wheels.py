@@ -1,10 +1,9 @@
 """Builds the wheel and the source archive of this package, with nothing but the standard library
 (PEP 517, PEP 660).
 
-The wheel is for Linux on one processor, that of this machine or the one that `--config-settings
-processor=aarch64` names. It carries the program and the library that were released for it: of
-the checkout's `dist/`, or of the `dist/` in an unpacked source archive, which has those of all
-processors. The program is linked statically, so it runs over glibc and over musl."""
+The wheel is for one system and processor: those of this machine, or Linux on the processor that
+`--config-settings processor=aarch64` names. It carries the engine for it (`engines.py`): what was
+released, or on other machines what the machine's C compiler makes of the released C file."""
 
 from __future__ import annotations
 
@@ -12,7 +11,7 @@ import base64
 import hashlib
 import io
 import pathlib
-import platform
+import re
 import sys
 import tarfile
 import zipfile
@@ -24,58 +23,26 @@ if sys.version_info < (3, 11):
 
 import tomllib  # of Python 3.11
 
+import engines
+
 HERE = pathlib.Path(__file__).resolve().parent.parent
 SOURCE = HERE / "src" / "sagas"
-CARRIED = ("sagas", "libsagas.so")
-FOLDERS = {"x86_64": "", "aarch64": "aarch64"}
-"""By processor, where its files are below `dist/`."""
+PACKAGING = ("packaging/wheels.py", "packaging/engines.py")
 TIME = (2020, 1, 1, 0, 0, 0)
 
 
 def project() -> dict[str, Any]:
+    """What pyproject.toml says of the package, with its version, which the package itself has."""
     told: dict[str, Any] = tomllib.loads((HERE / "pyproject.toml").read_text())["project"]
-    return told
+    version = re.search(r'^__version__ = "(.*)"$', (SOURCE / "__init__.py").read_text(), re.M)
+    assert version, "the package has no __version__"
+    return told | {"version": version[1]}
 
 
-def processor_of(config_settings: dict[str, Any] | None) -> str:
-    """The processor that a wheel is for."""
-    told = (config_settings or {}).get("processor")
-    if told is None and platform.system() != "Linux":
-        refuse(f"{platform.system()} on {platform.machine()}")
-    found = str(told or platform.machine())
-    if found not in FOLDERS:
-        refuse(f"Linux on {found}")
-    return found
-
-
-def refuse(machine: str) -> None:
-    """Ends the build: a package without its program would install, and its first call would
-    fail."""
-    raise SystemExit(
-        f"sagas carries its program for Linux on {' and '.join(FOLDERS)}, and this is {machine}. "
-        "Install it there; plans and judgements run anywhere, in a browser (dist/sagas.html) "
-        "or in Node (dist/sagas.mjs)"
-    )
-
-
-def tags(processor: str) -> list[str]:
-    """What systems the wheel is for: glibc of 2.17 or later, which the library asks for, and
-    musl."""
-    return [f"py3-none-manylinux_2_17_{processor}", f"py3-none-musllinux_1_1_{processor}"]
-
-
-def released(processor: str) -> Iterator[tuple[str, bytes]]:
-    """The released program and library, each with its path in `dist/`."""
-    for name in CARRIED:
-        path = pathlib.PurePosixPath("dist", FOLDERS[processor], name).as_posix()
-        places = (HERE / path, HERE.parent / path)
-        found = next((place for place in places if place.is_file()), None)
-        if found is None:
-            raise FileNotFoundError(
-                f"{name} is not there: {places[1]}. "
-                "Build from a whole checkout, or from the source archive"
-            )
-        yield path, found.read_bytes()
+def engine_for(config_settings: dict[str, Any] | None) -> engines.Engine:
+    """What a wheel carries."""
+    processor = (config_settings or {}).get("processor")
+    return engines.engine(None if processor is None else str(processor), project()["version"])
 
 
 def license_text() -> bytes:
@@ -91,7 +58,9 @@ def license_text() -> bytes:
 
 def sources() -> Iterator[tuple[str, bytes]]:
     for path in sorted(SOURCE.rglob("*")):
-        if path.is_file() and path.suffix in (".py", ".typed", ".html", ".css", ".js", ".svg"):
+        if path.is_file() and path.suffix in (
+            ".py", ".typed", ".html", ".css", ".js", ".json", ".svg"
+        ):
             yield path.relative_to(HERE / "src").as_posix(), path.read_bytes()
 
 
@@ -105,6 +74,7 @@ def metadata() -> str:
         f"Author: {', '.join(author['name'] for author in told['authors'])}",
         f"License: {told['license']}",
         f"Keywords: {','.join(told['keywords'])}",
+        *(f"Project-URL: {name}, {place}" for name, place in told["urls"].items()),
         *(f"License-File: {name}" for name in told["license-files"]),
         f"Requires-Python: {told['requires-python']}",
         *(f"Classifier: {word}" for word in told["classifiers"]),
@@ -138,8 +108,8 @@ def named() -> str:
 class Wheel:
     """A zip whose last file has the digests of the others. The same sources give the same bytes."""
 
-    def __init__(self, folder: str, processor: str) -> None:
-        self.tags = tags(processor)
+    def __init__(self, folder: str, tags: list[str]) -> None:
+        self.tags = tags
         systems = ".".join(tag.removeprefix("py3-none-") for tag in self.tags)
         self.name = f"{named()}-py3-none-{systems}.whl"
         self._zip = zipfile.ZipFile(pathlib.Path(folder) / self.name, "w", zipfile.ZIP_DEFLATED)
@@ -165,19 +135,25 @@ class Wheel:
 def build_wheel(
     wheel_directory: str, config_settings: Any = None, metadata_directory: str | None = None
 ) -> str:
-    processor = processor_of(config_settings)
-    wheel = Wheel(wheel_directory, processor)
+    engine = engine_for(config_settings)
+    wheel = Wheel(wheel_directory, engine.tags)
     for name, data in sources():
         wheel.add(name, data)
-    for path, data in released(processor):
-        wheel.add(f"sagas/bin/{pathlib.PurePosixPath(path).name}", data, 0o755)
+    for name, data in engine.files.items():
+        wheel.add(f"sagas/bin/{name}", data, 0o755)
     return wheel.end()
 
 
 def build_editable(
     wheel_directory: str, config_settings: Any = None, metadata_directory: str | None = None
 ) -> str:
-    wheel = Wheel(wheel_directory, processor_of(config_settings))
+    if not engines.has_release():
+        raise SystemExit(
+            "sagas: an editable install takes the program of dist/, and none was released for this "
+            "machine: install it without -e, or set PYTHONPATH to python/src and SAGAS_PROGRAM to "
+            "the program"
+        )
+    wheel = Wheel(wheel_directory, engine_for(config_settings).tags)
     wheel.add("__editable__.sagas.pth", f"{HERE / 'src'}\n".encode())
     return wheel.end()
 
@@ -191,13 +167,14 @@ def build_sdist(sdist_directory: str, config_settings: Any = None) -> str:
             *((f"src/{path}", data) for path, data in sources()),
             *(
                 (path, (HERE / path).read_bytes())
-                for path in ("pyproject.toml", "README.md", "packaging/wheels.py")
+                for path in ("pyproject.toml", "README.md", *PACKAGING)
             ),
-            *(one for processor in FOLDERS for one in released(processor)),
+            *engines.archived(),
             ("LICENSE", license_text()),
             ("PKG-INFO", metadata().encode()),
         ]:
             entry = tarfile.TarInfo(f"{named()}/{path}")
-            entry.size, entry.mode = len(data), 0o755 if path.startswith("dist/") else 0o644
+            is_program = path.startswith("dist/") and path.endswith(engines.RELEASED)
+            entry.size, entry.mode = len(data), 0o755 if is_program else 0o644
             archive.addfile(entry, io.BytesIO(data))
     return name

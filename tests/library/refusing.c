@@ -1,4 +1,4 @@
-/* Refuses each growth of memory in turn, alone and with all behind it: refusing EXAMPLES. Each call then says SAGAS_NO_MEMORY and leaves the room as
+/* Refuses each growth of memory in turn, alone and with all behind it: refusing EXAMPLES. Each call then says SAGAS_NO_MEMORY and leaves the buffer as
  * it was, or answers rightly; no block is lost, and the same call succeeds afterwards. To be linked with libsagas.a and
  * -Wl,--wrap=malloc,--wrap=realloc,--wrap=free. */
 #include <stdio.h>
@@ -45,40 +45,40 @@ void __wrap_free(void *at) {
 static uint8_t texts[4][16384];
 static size_t sizes[4];
 
-static uint32_t call(int which, uint8_t *room, size_t size, size_t *used) {
+static uint32_t call(int which, uint8_t *buffer, size_t size, size_t *used) {
     switch (which) {
-    case 0: return sagas_plan(texts[0], sizes[0], texts[1], sizes[1], room, size, used);
-    case 1: return sagas_check(texts[0], sizes[0], texts[1], sizes[1], texts[2], sizes[2], room, size, used);
-    case 2: return sagas_draw_answer(texts[0], sizes[0], texts[1], sizes[1], texts[2], sizes[2], room, size, used);
-    default: return sagas_audit(texts[3], sizes[3], texts[0], sizes[0], room, size, used);
+    case 0: return sagas_plan(texts[0], sizes[0], texts[1], sizes[1], buffer, size, used);
+    case 1: return sagas_check(texts[0], sizes[0], texts[1], sizes[1], texts[2], sizes[2], buffer, size, used);
+    case 2: return sagas_draw_answer(texts[0], sizes[0], texts[1], sizes[1], texts[2], sizes[2], buffer, size, used);
+    default: return sagas_audit(texts[3], sizes[3], texts[0], sizes[0], buffer, size, used);
     }
 }
 
 /* How often a call was refused memory before it went through, or -1 where something is wrong. */
 static long tried(int which) {
-    static uint8_t room[4096], was[4096], right[4096];
+    static uint8_t buffer[4096], was[4096], right[4096];
     size_t length = 0, used;
     long most, refused = 0;
     memset(was, 7, sizeof was);
-    if (call(which, right, sizeof right, &length) != SAGAS_YES) return -1;
+    if (call(which, right, sizeof right, &length) != SAGAS_OK) return -1;
     for (most = 0;; most++) {
         uint32_t status;
-        memset(room, 7, sizeof room);
+        memset(buffer, 7, sizeof buffer);
         used = 99, left = most, held = 0;
-        status = call(which, room, sizeof room, &used);
+        status = call(which, buffer, sizeof buffer, &used);
         {
             int is_through = left > 0;
             left = -1;
             if (held != 0) return -1;
-            if (status == SAGAS_YES) {
-                if (used != length || memcmp(room, right, length) != 0) return -1;
+            if (status == SAGAS_OK) {
+                if (used != length || memcmp(buffer, right, length) != 0) return -1;
                 if (is_through) return refused;
                 continue;
             }
         }
-        if (status != SAGAS_NO_MEMORY || used != 0 || memcmp(room, was, sizeof room) != 0) return -1;
+        if (status != SAGAS_NO_MEMORY || used != 0 || memcmp(buffer, was, sizeof buffer) != 0) return -1;
         refused++;
-        if (call(which, room, sizeof room, &used) != SAGAS_YES) return -1;
+        if (call(which, buffer, sizeof buffer, &used) != SAGAS_OK) return -1;
     }
 }
 

@@ -25,7 +25,7 @@ sys.path[:0] = [str(TOP / "tests"), str(TOP / "python" / "src")]
 
 import making  # noqa: E402
 import rows  # noqa: E402
-from sagas import library  # noqa: E402
+from sagas.engine import library  # noqa: E402
 
 Reply = tuple[int, bytes]
 Question = tuple[str, list[bytes]]

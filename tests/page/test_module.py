@@ -7,6 +7,7 @@ import base64
 import json
 import os
 import random
+import re
 import shutil
 import subprocess
 import sys
@@ -22,9 +23,10 @@ sys.path[:0] = [
     str(TOP / "page"),
 ]
 
+import module as translation  # noqa: E402
 import narrow  # noqa: E402
 import same  # noqa: E402
-from sagas import library  # noqa: E402
+from sagas.engine import library  # noqa: E402
 
 NODE = os.environ.get("NODE") or "node"
 
@@ -68,17 +70,18 @@ def test_the_programs_bytes(tmp_path: Path) -> None:
 
 
 def test_the_module_asks_for_nothing() -> None:
-    """No import, one memory of 32 bits, and the calls of sagas.h beside the two that make room."""
+    """No import, one memory of 32 bits, and the calls of sagas.h without those of a coordinator,
+    beside the three that have to do with memory."""
     module = (TOP / "dist" / "sagas.wasm").read_bytes()
     found = dict(narrow.sections(module))
     assert 2 not in found and found[narrow.MEMORY][:2] == bytes([1, 0])
     names = {name for name in narrow.exports(module) if name.startswith("sagas_")}
     header = (TOP / "dist" / "sagas.h").read_text()
-    assert names - {"sagas_clear", "sagas_room"} == {
-        line[9:].partition("(")[0]
-        for line in header.splitlines()
-        if line.startswith("uint32_t sagas_")
-    }
+    calls = set(re.findall(r"^(?:uint32_t|void) (sagas_\w+)\(", header, re.M))
+    assert translation.COORDINATOR < calls
+    assert names - {"sagas_clear", "sagas_memory", "sagas_give_back"} == (
+        calls - translation.COORDINATOR
+    )
 
 
 def section(kind: int, data: bytes) -> bytes:

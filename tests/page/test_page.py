@@ -20,7 +20,7 @@ sys.path[:0] = [str(TOP / "tests"), str(TOP / "tests" / "library"), str(TOP / "p
 
 import making  # noqa: E402
 import same  # noqa: E402
-from sagas import library  # noqa: E402
+from sagas.engine import library  # noqa: E402
 
 PAGE = TOP / "dist" / "sagas.html"
 PICTURES = Path(os.environ.get("PAGE_PICTURES") or TOP / "out" / "page")
@@ -74,19 +74,19 @@ def page(browser: Chromium) -> Iterator[Chromium]:
     browser.said()
     yield browser
     assert browser.said() == []
-    assert browser.driver.title == "sagas: how shall it end?"
+    assert browser.driver.title == "sagas: recovery planner"
 
 
 EXAMPLES: list[tuple[str, int, str, str, int, list[str]]] = [
-    ("plan", 0, "good", "Least plan, cost 38: keep flight, car", 2, ["stand", "stand", "be left out", "be left out"]),
-    ("plan", 1, "good", "Least plan, cost 8: keep nothing; undo reserve, charge, pack", 0, ["be undone", "be undone", "be undone", "be left out"]),
-    ("plan", 2, "good", "Least plan, cost 20: keep machine, disk", 2, ["stand", "stand", "be left out", "be left out"]),
-    ("plan", 3, "no", "No set of steps is allowed", 2, ["", ""]),
-    ("judge", 0, "good", "Right: a least plan, cost 38: keep flight, car", 2, ["stand", "stand", "be left out", "be left out"]),
-    ("judge", 3, "no", "Right: No set of steps is allowed", 2, ["", ""]),
-    ("judge", 4, "no", "This certificate is not right", 0, ["", "", "", ""]),
-    ("audit", 0, "good", "Yes: each event was allowed after those before it", 0, []),
-    ("audit", 1, "no", "No: event 2, in line 4, was not allowed", 0, []),
+    ("plan", 0, "good", "Plan of minimum cost 38: keep flight, car", 2, ["keep", "keep", "skip", "skip"]),
+    ("plan", 1, "good", "Plan of minimum cost 8: keep nothing; undo reserve, charge, pack", 0, ["undo", "undo", "undo", "skip"]),
+    ("plan", 2, "good", "Plan of minimum cost 20: keep machine, disk", 2, ["keep", "keep", "skip", "skip"]),
+    ("plan", 3, "no", "No plan is feasible", 2, ["", ""]),
+    ("judge", 0, "good", "Valid: a plan of minimum cost 38: keep flight, car", 2, ["keep", "keep", "skip", "skip"]),
+    ("judge", 3, "no", "Valid: no plan is feasible", 2, ["", ""]),
+    ("judge", 4, "no", "This certificate is not valid", 0, ["", "", "", ""]),
+    ("audit", 0, "good", "Valid: every event was allowed", 0, []),
+    ("audit", 1, "no", "Invalid: event 2, in line 4, was not allowed", 0, []),
     ("audit", 2, "bad", "The log cannot be read", 0, []),
 ]
 
@@ -105,7 +105,7 @@ def test_examples(page: Chromium, served: str, way: str) -> None:
 def test_the_certificate_is_the_programs(page: Chromium) -> None:
     assert page.show("plan", 0)["text"] == TRIP_ANSWER
     judged = page.change("document.getElementById('judge').click()")
-    assert judged["verdict"].startswith("Right: a least plan, cost 38")
+    assert judged["verdict"].startswith("Valid: a plan of minimum cost 38")
     page.show("plan", 0)
     page.run("document.getElementById('copy').click()")
     assert page.until("return document.getElementById('copied').textContent").startswith("The certificate is")
@@ -158,7 +158,7 @@ def test_a_line_that_is_no_toml_is_named(page: Chromium) -> None:
 
 def test_faults_of_certificates_and_logs(page: Chromium) -> None:
     page.show("judge", 0)
-    for answer, kind, checked in (("[]", "bad", "sagas: answer: kind"), (HOSTILE, "bad", "sagas: answer: not-json"), (TRIP_ANSWER.replace("[0,1]", "[0]", 1), "no", "Judged here")):
+    for answer, kind, checked in (("[]", "bad", "sagas: answer: kind"), (HOSTILE, "bad", "sagas: answer: not-json"), (TRIP_ANSWER.replace("[0,1]", "[0]", 1), "no", "Verified here")):
         found = page.put({"answer": answer})
         assert (found["kind"], found["faults"]) == (kind, ["answer"]) and found["checked"].startswith(checked)
     page.show("audit", 0)
@@ -169,7 +169,7 @@ def test_faults_of_certificates_and_logs(page: Chromium) -> None:
     found = page.put({"log": ""})
     assert (found["faults"], found["checked"]) == (["definition"], "sagas: definition 1: not-toml")
     found = page.put({"definition": TRIP + "---\n" + TRIP})
-    assert found["verdict"].startswith("Yes")
+    assert found["verdict"].startswith("Valid")
 
 
 def test_states_by_clicks_and_keys(page: Chromium) -> None:
@@ -186,7 +186,7 @@ def test_states_by_clicks_and_keys(page: Chromium) -> None:
     assert json.loads(found["case"])["states"] == ["waiting", "failed", "undone", "waiting"]
     found = page.change("document.getElementById('aborted').click()")
     assert json.loads(found["case"]) == {"aborted": True, "states": ["waiting", "failed", "undone", "waiting"]}
-    assert found["shall"] == ["be left out"] * 4
+    assert found["shall"] == ["skip"] * 4
 
 
 def test_by_the_keyboard_alone(page: Chromium) -> None:
@@ -242,7 +242,7 @@ def test_prices_and_reasons(page: Chromium) -> None:
         reasons = page.run("return [...document.querySelectorAll('#steps td.why')].map(it => it.textContent)")
         if found["kind"] == "good":
             plans += 1
-            cost = found["checked"].removeprefix("Planned, then judged here by the proved checker: least ").rstrip(".")
+            cost = found["checked"].removeprefix("Planned, then verified here by the proved checker: least ").rstrip(".")
             assert sum(int(price.replace(",", "")) for price in prices) == int(cost)
             assert len(reasons) == count and all(reasons)
     assert plans > 5

@@ -39,6 +39,14 @@ def test_what_changes() -> None:
     assert "  %b = add i64 %a, 1\n  ret i64 %b\n}" in made
 
 
+def test_an_export_that_is_left_out() -> None:
+    other = MODULE.replace("define i32 @sagas_plan", "define noundef i32 @sagas_open(ptr %a) #0 {\n  ret i32 1\n}\n\ndefine i32 @sagas_plan")
+    made = retargeted(other, frozenset({"sagas_open"}))
+    assert "define internal noundef i32 @sagas_open(ptr %a) #0 {" in made and '"wasm-export-name"="sagas_open"' not in made
+    with pytest.raises(SystemExit, match="no export sagas_reply"):
+        retargeted(other, frozenset({"sagas_reply"}))
+
+
 @pytest.mark.parametrize(
     "line",
     [

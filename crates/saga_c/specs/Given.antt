@@ -8,7 +8,7 @@ use Rattle.saga_texts.specs.declared.outputs.Output.{Output}
 abbrev pub text_of : Output → List ℕ
 text_of output = if nat_eq output.status 3 then string_bytes output.err else string_bytes output.out
 
--- the text where it fits, at the beginning of the room, whose rest is as it was
+-- the text where it fits, at the beginning of the buffer, whose rest is as it was
 pub record Fits (output : Output) (old new : List ℕ) (status : ℕ) : Type 0 where
   pub enough : length (text_of output) ≤ length old
   pub put : new ≡ text_of output ++ drop (length (text_of output)) old
@@ -39,3 +39,8 @@ pub record IsAnswered (Is : Output → Type 0) (old new : List ℕ) (used status
 
 abbrev pub IsGiven : (Output → Type 0) → List ℕ → List ℕ → ℕ → ℕ → Type 0
 IsGiven Is old new used status = IsAnswered Is old new used status ⊎ IsRefused old new used status
+
+-- a text stands at the beginning of the buffer, and the status is 0; or the buffer is too small and as it was, and the status is 5
+abbrev pub Shows : List ℕ → List ℕ → List ℕ → ℕ → Type 0
+Shows text old new status =
+    ((length text ≤ length old) × (new ≡ text ++ drop (length text) old) × (status ≡ 0)) ⊎ ((length old < length text) × (new ≡ old) × (status ≡ 5))

@@ -1,8 +1,8 @@
 //! The functions that C calls.
 //!
-//! Each gives a status, and in `used` how many bytes the text of its output has; the text stands at the beginning of the room. 0, 1
+//! Each gives a status, and in `used` how many bytes the text of its output has; the text stands at the beginning of the buffer. 0, 1
 //! and 3 are the statuses of the program, and the text is what it prints there; a fault of a text is told as the program tells
-//! it on standard error. 4: memory was refused, and nothing was written. 5: the room is too small, and nothing was written.
+//! it on standard error. 4: memory was refused, and nothing was written. 5: the buffer is too small, and nothing was written.
 ghost use Rattle.std.specs.Prelude.{[], ◌∷◌, IfOk, map};
 ghost use Rattle.saga_texts.specs.Texts.{IsCheckOutput, IsDrawOutput, IsPlanOutput};
 ghost use Rattle.saga_texts.specs.Audits.{IsAuditOutput};
@@ -22,13 +22,13 @@ pub extern "C" fn sagas_check(
     definition: &[u8],
     case: &[u8],
     answer: &[u8],
-    room: &mut [u8],
+    buffer: &mut [u8],
     used: &mut usize,
 ) -> u32
     ensures { IsGiven (IsCheckOutput definition.now case.now answer.now)
-        room.old room.new used.new result }
+        buffer.old buffer.new used.new result }
 {
-    give(check_text(alloc, definition, case, answer), room, used)
+    give(check_text(alloc, definition, case, answer), buffer, used)
 }
 
 /// Plans how a case of a definition shall end: 0 with a plan, 1 with a chain.
@@ -38,12 +38,12 @@ pub extern "C" fn sagas_plan(
     alloc: Global,
     definition: &[u8],
     case: &[u8],
-    room: &mut [u8],
+    buffer: &mut [u8],
     used: &mut usize,
 ) -> u32
-    ensures { IsGiven (IsPlanOutput definition.now case.now) room.old room.new used.new result }
+    ensures { IsGiven (IsPlanOutput definition.now case.now) buffer.old buffer.new used.new result }
 {
-    give(plan_text(alloc, definition, case), room, used)
+    give(plan_text(alloc, definition, case), buffer, used)
 }
 
 /// Audits the log of sagas of one definition: 0 with `yes` and numbers, 1 with `no P REASON`.
@@ -53,12 +53,12 @@ pub extern "C" fn sagas_audit(
     alloc: Global,
     log: &[u8],
     definition: &[u8],
-    room: &mut [u8],
+    buffer: &mut [u8],
     used: &mut usize,
 ) -> u32
-    ensures { IsGiven (IsAuditOutput log.now (definition.now ∷ [])) room.old room.new used.new result }
+    ensures { IsGiven (IsAuditOutput log.now (definition.now ∷ [])) buffer.old buffer.new used.new result }
 {
-    give(audit_text_alone(alloc, log, &[definition]), room, used)
+    give(audit_text_alone(alloc, log, &[definition]), buffer, used)
 }
 
 /// The audit of a log over the pieces of a text.
@@ -82,13 +82,13 @@ pub extern "C" fn sagas_audit_all(
     log: &[u8],
     definitions: &[u8],
     spans: &[Span],
-    room: &mut [u8],
+    buffer: &mut [u8],
     used: &mut usize,
 ) -> u32
     ensures { IsGiven (IsAuditOutput log.now (map (piece definitions.now) spans.now))
-        room.old room.new used.new result }
+        buffer.old buffer.new used.new result }
 {
-    give(audited(alloc, log, definitions, spans), room, used)
+    give(audited(alloc, log, definitions, spans), buffer, used)
 }
 
 /// Draws a definition: 0 with the picture in Graphviz's language.
@@ -97,12 +97,16 @@ pub extern "C" fn sagas_audit_all(
 pub extern "C" fn sagas_draw(
     alloc: Global,
     definition: &[u8],
-    room: &mut [u8],
+    buffer: &mut [u8],
     used: &mut usize,
 ) -> u32
-    ensures { IsGiven (IsDrawOutput [] definition.now) room.old room.new used.new result }
+    ensures { IsGiven (IsDrawOutput [] definition.now) buffer.old buffer.new used.new result }
 {
-    give(draw_text(alloc, definition, Scene::Definition), room, used)
+    give(
+        draw_text(alloc, definition, Scene::Definition),
+        buffer,
+        used,
+    )
 }
 
 /// Draws a case.
@@ -112,13 +116,17 @@ pub extern "C" fn sagas_draw_case(
     alloc: Global,
     definition: &[u8],
     case: &[u8],
-    room: &mut [u8],
+    buffer: &mut [u8],
     used: &mut usize,
 ) -> u32
     ensures { IsGiven (IsDrawOutput (case.now ∷ []) definition.now)
-        room.old room.new used.new result }
+        buffer.old buffer.new used.new result }
 {
-    give(draw_text(alloc, definition, Scene::Case(case)), room, used)
+    give(
+        draw_text(alloc, definition, Scene::Case(case)),
+        buffer,
+        used,
+    )
 }
 
 /// Draws a case with what an answer marks; 1 with `no FAULT` where the answer is not right.
@@ -129,15 +137,15 @@ pub extern "C" fn sagas_draw_answer(
     definition: &[u8],
     case: &[u8],
     answer: &[u8],
-    room: &mut [u8],
+    buffer: &mut [u8],
     used: &mut usize,
 ) -> u32
     ensures { IsGiven (IsDrawOutput (case.now ∷ answer.now ∷ []) definition.now)
-        room.old room.new used.new result }
+        buffer.old buffer.new used.new result }
 {
     give(
         draw_text(alloc, definition, Scene::Answer(case, answer)),
-        room,
+        buffer,
         used,
     )
 }

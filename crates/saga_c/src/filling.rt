@@ -1,22 +1,31 @@
-//! An output, put into a caller's room.
+//! An output, put into a caller's buffer.
 ghost use Rattle.std.specs.Prelude.{◌≡◌, ◌++◌, ◌≤◌, drop, length};
-ghost use Rattle.saga_c.specs.Given.{GivesBy, text_of};
+ghost use Rattle.saga_c.specs.Given.{GivesBy, Shows, text_of};
+ghost use Rattle.saga_c.specs.Sessions.{whole_of};
+ghost use Rattle.saga_drive.specs.Replies.{lines_of};
 
+use saga_drive::Reply;
 use saga_texts::Output;
 use std::alloc::AllocError;
+
+/// The status where what was asked is done.
+pub const OK: u32 = 0;
+
+/// The status where a call is not allowed as a coordinator stands.
+pub const REJECTED: u32 = 1;
 
 /// The status where memory was refused.
 const NO_MEMORY: u32 = 4;
 
-/// The status where the room is too small.
-const NO_ROOM: u32 = 5;
+/// The status where the buffer is too small.
+pub const BUFFER_TOO_SMALL: u32 = 5;
 
-/// Puts a text at the beginning of a room.
-fn put(text: &[u8], room: &mut [u8])
-    requires { length text.now ≤ length room.old }
-    ensures { room.new ≡ text.now ++ drop (length text.now) room.old }
+/// Puts a text at the beginning of a buffer.
+fn put(text: &[u8], buffer: &mut [u8])
+    requires { length text.now ≤ length buffer.old }
+    ensures { buffer.new ≡ text.now ++ drop (length text.now) buffer.old }
 {
-    room[..text.len()].copy_from_slice(text);
+    buffer[..text.len()].copy_from_slice(text);
 }
 
 /// The text of an output: what it prints, or the fault that it tells.
@@ -31,8 +40,8 @@ fn text_of(output: &Output) -> &str
 }
 
 /// Gives an output to the caller: how long its text is, and the text where it fits.
-pub fn give(output: Result<Output, AllocError>, room: &mut [u8], used: &mut usize) -> u32
-    ensures { GivesBy output room.old room.new used.new result }
+pub fn give(output: Result<Output, AllocError>, buffer: &mut [u8], used: &mut usize) -> u32
+    ensures { GivesBy output buffer.old buffer.new used.new result }
 {
     *used = 0;
     let Ok(output) = output else {
@@ -40,9 +49,62 @@ pub fn give(output: Result<Output, AllocError>, room: &mut [u8], used: &mut usiz
     };
     let text = text_of(&output).as_bytes();
     *used = text.len();
-    if text.len() > room.len() {
-        return NO_ROOM;
+    if text.len() > buffer.len() {
+        return BUFFER_TOO_SMALL;
     }
-    put(text, room);
+    put(text, buffer);
     u32::from(output.status)
+}
+
+/// What a call tells beside its text: a status, how many bytes of a log are gone on with, and of the text how many bytes are lines of the
+/// log, and how many it has.
+#[derive(Clone, Copy)]
+pub struct Told {
+    pub status: u32,
+    pub log: usize,
+    pub lines: usize,
+    pub used: usize,
+}
+
+/// Nothing happened.
+pub fn rejected() -> Told
+    ensures { result ≡ record { status = 1; log = 0; lines = 0; used = 0 } }
+{
+    Told {
+        status: REJECTED,
+        log: 0,
+        lines: 0,
+        used: 0,
+    }
+}
+
+/// Puts two texts at the beginning of a buffer, one behind the other.
+fn put_both(first: &[u8], second: &[u8], buffer: &mut [u8])
+    requires { length (first.now ++ second.now) ≤ length buffer.old }
+    ensures { buffer.new
+        ≡ (first.now ++ second.now) ++ drop (length (first.now ++ second.now)) buffer.old }
+{
+    put(first, buffer);
+    put(second, &mut buffer[first.len()..]);
+}
+
+/// Gives a reply where it fits, with its lines before it, and tells so. Else nothing is written.
+pub fn give_reply(reply: &Reply, buffer: &mut [u8]) -> Told
+    ensures used { result.used ≡ length (whole_of reply.now) }
+    ensures lines { result.lines ≡ length (lines_of reply.now) }
+    ensures given { Shows (whole_of reply.now) buffer.old buffer.new result.status }
+{
+    let lines = reply.lines().as_bytes();
+    let text = reply.text().as_bytes();
+    let used = lines.len() + text.len();
+    let fits = used <= buffer.len();
+    if fits {
+        put_both(lines, text, buffer);
+    }
+    Told {
+        status: if fits { OK } else { BUFFER_TOO_SMALL },
+        log: 0,
+        lines: lines.len(),
+        used,
+    }
 }

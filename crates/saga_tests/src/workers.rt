@@ -33,22 +33,28 @@ struct Waiting<'a, R: Abort + Clock> {
 }
 
 impl<R: Abort + Clock> Waiting<'_, R> {
-    /// Waits until so many have begun, and answers whether they did, after so many turns at most.
+    /// Waits until so many have begun, and answers whether they did. It gives up after 20 seconds or more, so that a processor
+    /// that is busy with other work is not taken for a worker that does not come.
     fn waits(&self, wanted: u64) -> bool {
-        for _ in 0..1_000_000u32 {
+        for turn in 0..120_000u32 {
             if self.begun.load(Ordering::SeqCst) >= wanted {
                 return true;
             }
-            thread::yield_now();
+            if turn < 20_000 {
+                thread::yield_now();
+            } else {
+                thread::sleep(self.rt, Duration::from_micros(200));
+            }
         }
         false
     }
 
     /// A step's action in pairs. The second of a pair, on which the next one rests, lasts a little longer than the first, each
-    /// time another while; so who did the first looks for something to do while the second is reported.
+    /// time another while; so who did the first looks for something to do while the second is reported. The others last three
+    /// times as long as a pair may wait, since what they report would call a worker that was left alone.
     fn pair(&self, saga: u32, step: u16) {
         if saga > 0 {
-            for _ in 0..50_000u32 {
+            for _ in 0..300_000u32 {
                 if self.begun.load(Ordering::SeqCst) >= self.wanted {
                     return;
                 }

@@ -35,36 +35,36 @@ impl fmt::Display for Error {
 
 impl std::error::Error for Error {}
 
-const YES: c_uint = 0;
-const NO: c_uint = 1;
-const BAD: c_uint = 3;
-const NO_ROOM: c_uint = 5;
-const FIRST_ROOM: usize = 4096;
+const OK: c_uint = 0;
+const REJECTED: c_uint = 1;
+const INVALID: c_uint = 3;
+const BUFFER_TOO_SMALL: c_uint = 5;
+const FIRST_SIZE: usize = 4096;
 
 extern "C" {
-    fn sagas_plan(definition: *const u8, definition_size: usize, case: *const u8, case_size: usize, room: *mut u8, room_size: usize, used: *mut usize) -> c_uint;
+    fn sagas_plan(definition: *const u8, definition_size: usize, case: *const u8, case_size: usize, buffer: *mut u8, buffer_size: usize, used: *mut usize) -> c_uint;
     fn sagas_check(
-        definition: *const u8, definition_size: usize, case: *const u8, case_size: usize, answer: *const u8, answer_size: usize, room: *mut u8,
-        room_size: usize, used: *mut usize,
+        definition: *const u8, definition_size: usize, case: *const u8, case_size: usize, answer: *const u8, answer_size: usize, buffer: *mut u8,
+        buffer_size: usize, used: *mut usize,
     ) -> c_uint;
-    fn sagas_audit(log: *const u8, log_size: usize, definition: *const u8, definition_size: usize, room: *mut u8, room_size: usize, used: *mut usize) -> c_uint;
+    fn sagas_audit(log: *const u8, log_size: usize, definition: *const u8, definition_size: usize, buffer: *mut u8, buffer_size: usize, used: *mut usize) -> c_uint;
 }
 
-/// Makes a call with room, and again with as much as its text takes.
-fn with_room(call: impl Fn(*mut u8, usize, *mut usize) -> c_uint) -> Result<Answer, Error> {
-    let mut room = vec![0; FIRST_ROOM];
+/// Makes a call with a buffer, and again with one as large as its text takes.
+fn with_buffer(call: impl Fn(*mut u8, usize, *mut usize) -> c_uint) -> Result<Answer, Error> {
+    let mut buffer = vec![0; FIRST_SIZE];
     loop {
         let mut used = 0;
-        let status = call(room.as_mut_ptr(), room.len(), &mut used);
-        if status == NO_ROOM {
-            room = vec![0; used];
+        let status = call(buffer.as_mut_ptr(), buffer.len(), &mut used);
+        if status == BUFFER_TOO_SMALL {
+            buffer = vec![0; used];
             continue;
         }
-        room.truncate(used);
-        let text = String::from_utf8_lossy(&room).into_owned();
+        buffer.truncate(used);
+        let text = String::from_utf8_lossy(&buffer).into_owned();
         return match status {
-            YES | NO => Ok(Answer { yes: status == YES, text }),
-            BAD => Err(Error::BadText(text)),
+            OK | REJECTED => Ok(Answer { yes: status == OK, text }),
+            INVALID => Err(Error::BadText(text)),
             _ => Err(Error::NoMemory),
         };
     }
@@ -73,16 +73,16 @@ fn with_room(call: impl Fn(*mut u8, usize, *mut usize) -> c_uint) -> Result<Answ
 /// Plans how a saga shall end: yes with a plan that costs least, no with a chain that shows that nothing is allowed.
 pub fn plan(definition: impl AsRef<[u8]>, case: impl AsRef<[u8]>) -> Result<Answer, Error> {
     let (definition, case) = (definition.as_ref(), case.as_ref());
-    // SAFETY: texts and room are slices of their lengths, and the room is borrowed by nobody else.
-    with_room(|room, size, used| unsafe { sagas_plan(definition.as_ptr(), definition.len(), case.as_ptr(), case.len(), room, size, used) })
+    // SAFETY: texts and buffer are slices of their lengths, and the buffer is borrowed by nobody else.
+    with_buffer(|buffer, size, used| unsafe { sagas_plan(definition.as_ptr(), definition.len(), case.as_ptr(), case.len(), buffer, size, used) })
 }
 
 /// Judges an answer: yes with `least N` or `blocked`, no with `no FAULT`.
 pub fn check(definition: impl AsRef<[u8]>, case: impl AsRef<[u8]>, answer: impl AsRef<[u8]>) -> Result<Answer, Error> {
     let (definition, case, answer) = (definition.as_ref(), case.as_ref(), answer.as_ref());
     // SAFETY: as in `plan`.
-    with_room(|room, size, used| unsafe {
-        sagas_check(definition.as_ptr(), definition.len(), case.as_ptr(), case.len(), answer.as_ptr(), answer.len(), room, size, used)
+    with_buffer(|buffer, size, used| unsafe {
+        sagas_check(definition.as_ptr(), definition.len(), case.as_ptr(), case.len(), answer.as_ptr(), answer.len(), buffer, size, used)
     })
 }
 
@@ -90,5 +90,5 @@ pub fn check(definition: impl AsRef<[u8]>, case: impl AsRef<[u8]>, answer: impl 
 pub fn audit(log: impl AsRef<[u8]>, definition: impl AsRef<[u8]>) -> Result<Answer, Error> {
     let (log, definition) = (log.as_ref(), definition.as_ref());
     // SAFETY: as in `plan`.
-    with_room(|room, size, used| unsafe { sagas_audit(log.as_ptr(), log.len(), definition.as_ptr(), definition.len(), room, size, used) })
+    with_buffer(|buffer, size, used| unsafe { sagas_audit(log.as_ptr(), log.len(), definition.as_ptr(), definition.len(), buffer, size, used) })
 }

@@ -1,0 +1,112 @@
+#!/usr/bin/env python3
+"""Whether the calls of a coordinator do what `sagas drive --lines` does: coordinated.py PROGRAM [COUNT [SEED]]
+
+PROGRAM is coordinate.c, compiled. It and the program `sagas` are given the conversations of tests/rows/drive, and COUNT random ones (300
+where it is not said), each with a buffer of some size; what they print has to be the same. With REFUSE set PROGRAM was compiled to
+refuse memory: each growth of some conversations is refused in turn, and what is printed does not change.
+"""
+
+from __future__ import annotations
+
+import os
+import random
+import subprocess
+import sys
+import tempfile
+from collections.abc import Iterator
+from pathlib import Path
+
+TOP = Path(__file__).resolve().parent.parent.parent
+sys.path[:0] = [str(TOP / "tests")]
+
+import rows  # noqa: E402
+
+SIZES = (0, 1, 64, 200, 1 << 16)
+PAIR = b'format = 2\nname = "pair"\nstep = [{ name = "a", undo = 1 }, { name = "b", needs = ["a"], undo = 2, tries = 2 }]\n'
+REQUESTS = (
+    '{"def":0,"do":"open"}', '{"do":"next"}', '{"do":"next","most":3}', '{"do":"busy"}', '{"do":"status"}', '{"do":"list"}', '{"do":"ready"}',
+    '{"do":"report","outcome":"done","saga":SAGA,"step":STEP}', '{"do":"report","outcome":"fail","saga":SAGA,"step":STEP}',
+    '{"do":"report","outcome":"unknown","saga":SAGA,"step":STEP}', '{"do":"take","saga":SAGA,"step":STEP}', '{"do":"take","saga":SAGA}',
+    '{"do":"show","saga":SAGA}', '{"do":"abort","saga":SAGA}', "{", '{"do":"fly"}',
+)  # fmt: skip
+
+Talk = tuple[str, list[bytes], bytes, bytes]
+
+
+def of_rows() -> Iterator[Talk]:
+    """The conversations of the rows: a name, definitions, a log and requests."""
+    for path in sorted((rows.ROWS / "drive").glob("*.toml")):
+        for row in rows.rows_of(path):
+            said = row.keys.get("def")
+            if said is None or not isinstance(row.keys.get("stdin", ""), str) or row.keys.get("stdin", "").startswith(("/dev", "terminal", "closed")):
+                continue
+            definitions = [row.text(text) for text in (said if isinstance(said, list) else [said])] * row.keys.get("times", 1)
+            log = row.keys.get("log", "")
+            if 1 <= len(definitions) <= 65 and not isinstance(log, list):
+                yield row.place, definitions, row.text(log), row.text(row.keys.get("stdin", ""))
+
+
+def at_random(count: int, chance: random.Random) -> Iterator[Talk]:
+    """Random conversations; each second one goes on from a log that another one wrote, cut anywhere."""
+    log = b""
+    # (where memory lacks for the second of several tasks, the first is told alone)
+    requests_of = [request for request in REQUESTS if not (os.environ.get("REFUSE") and "most" in request)]
+    for number in range(count):
+        asked = [chance.choice(requests_of).replace("SAGA", str(chance.randrange(3))).replace("STEP", str(chance.randrange(2))) for _ in range(40)]
+        requests = "\n".join(asked).encode() + b"\n"
+        yield f"random {number}", [PAIR], log, requests
+        lines = ran([rows.program(), "drive", "--lines"], [PAIR], b"", requests).stdout
+        whole = b"".join(line[1:] + b"\n" for line in lines.split(b"\n") if line.startswith(b"+"))
+        log = whole[: chance.randrange(len(whole) + 1)] if number % 2 == 0 else b""
+
+
+def ran(words: list[str], definitions: list[bytes], log: bytes, requests: bytes, **more: str) -> subprocess.CompletedProcess[bytes]:
+    """Runs either program: its words, then the log where there is one, and the definitions."""
+    with tempfile.TemporaryDirectory() as folder:
+        paths = [Path(folder, str(place)) for place in range(len(definitions))]
+        for path, text in zip(paths, definitions):
+            path.write_bytes(text)
+        (Path(folder) / "log").write_bytes(log)
+        given = ["--from", f"{folder}/log"] if words[1] == "drive" and log else []
+        given = given if words[1] == "drive" else [f"{folder}/log" if log else "-"]
+        return subprocess.run([*words, *given, *map(str, paths)], input=requests, capture_output=True, env={**os.environ, **more}, check=False)
+
+
+def refusals(program: str, size: int, talk: Talk, wanted: bytes) -> Iterator[str]:
+    """Refuses each growth of memory in turn."""
+    name, definitions, log, requests = talk
+    growths = int(ran([program, str(size)], definitions, log, requests).stderr.split()[-2])
+    for number in range(growths):
+        found = ran([program, str(size)], definitions, log, requests, REFUSED=str(number))
+        if (found.returncode, found.stdout) != (0, wanted):
+            yield f"{name}: growth {number} of {growths} refused: {found.returncode}, {found.stderr[-200:]!r}"
+
+
+def main() -> int:
+    program, count, seed = (sys.argv[1:] + ["300", "1"][len(sys.argv) - 2 :])[:3]
+    chance = random.Random(int(seed))
+    wrong: list[str] = []
+    known = list(of_rows())
+    talks = (chance.sample(known, 12) if os.environ.get("REFUSE") else known) + list(at_random(int(count), chance))
+    looked = 0
+    for talk in talks:
+        name, definitions, log, requests = talk
+        size = chance.choice(SIZES)
+        wanted = ran([rows.program(), "drive", "--lines"], definitions, log, requests)
+        found = ran([program, str(size)], definitions, log, requests)
+        if os.environ.get("REFUSE"):
+            if wanted.returncode == 0 and len(requests) < 4096 and b"most" not in requests:
+                looked += 1
+                wrong += list(refusals(program, size, talk, wanted.stdout))
+            continue
+        looked += 1
+        if (found.returncode, found.stdout, found.stderr) != (wanted.returncode, wanted.stdout, wanted.stderr):
+            wrong.append(f"{name}, {size}: {found.returncode} {found.stderr[-200:]!r}, wanted {wanted.returncode} {wanted.stderr[-200:]!r}")
+    for line in wrong[:20]:
+        print(f"wrong: {line}")
+    print(f"coordinated: {looked} conversations, {len(wrong)} wrong")
+    return 1 if wrong or not looked else 0
+
+
+if __name__ == "__main__":
+    sys.exit(main())
