@@ -92,8 +92,13 @@ class Shared(Each):
         self.busy = False
 
 
+UNDONE = 1000
+"""The number of the row that undoes step 0; a step that fails has such a row, too."""
+
+
 class Machine:
-    """Runs the steps of a saga one behind the other."""
+    """Runs the steps of a saga one behind the other. Where one raises `LookupError`, those before it are undone, the last one first,
+    by the first one's function, each by a change of its own."""
 
     def __init__(self, store: Each, steps: Sequence[Callable[[Any], Awaitable[Any]]]) -> None:
         self.store, self.steps, self.next = store, steps, 0
@@ -103,5 +108,15 @@ class Machine:
         id, self.next = self.next, self.next + 1
         await self.store.write((id, key, json.dumps(given)), None)
         for number, step in enumerate(self.steps):
-            value = await step(given)
+            try:
+                value = await step(given)
+            except LookupError:
+                await self._back(id, number, given)
+                return
             await self.store.write(None, (id, number, json.dumps(value), time.time(), "ended" if number == len(self.steps) - 1 else "going"))
+
+    async def _back(self, id: int, failed: int, given: Any) -> None:
+        await self.store.write(None, (id, UNDONE + failed, "null", time.time(), "undoing"))
+        for number in reversed(range(failed)):
+            await self.steps[0](given)
+            await self.store.write(None, (id, UNDONE + number, "null", time.time(), "undoing" if number else "ended"))

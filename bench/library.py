@@ -22,7 +22,7 @@ from pathlib import Path
 ROOT = Path(__file__).resolve().parent.parent
 sys.path.insert(0, str(ROOT / "python" / "src"))
 
-from sagas import library  # noqa: E402
+from sagas.engine import library  # noqa: E402
 
 Work = tuple[str, str, list[bytes]]
 LEAST = {4: 20.0, 1024: 1.0}

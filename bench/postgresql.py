@@ -1,7 +1,7 @@
 """Sagas a second over PostgreSQL, beside coordinators by hand; what a saga takes in rows, bytes and commits; what a node costs that only waits;
 how soon another takes over, and goes on after a start; how long starts wait while ended sagas are let go.
 
-    /usr/bin/python3 bench/postgresql.py [speed|nodes|size|idle|takeover|opening|prune ..] [--turns N] [--scale F] [--at 1,16,..]
+    /usr/bin/python3 bench/postgresql.py [speed|failing|nodes|size|idle|takeover|opening|prune ..] [--turns N] [--scale F] [--at 1,16,..]
 
 needs the package's program (`SAGAS_PROGRAM`, or dist/sagas), psycopg, and Debian's postgresql; it starts a server of its own. Three trivial
 steps, small results, `synchronous_commit=on`, `fsync=on`; the median of the turns, each over an empty database.
@@ -61,6 +61,29 @@ def trip(inside: bool = False, gate: asyncio.Event | None = None, called: list[f
     async def three(task: sagas.Task[object]) -> int:
         return 3
 
+    return saga
+
+
+def failing() -> sagas.Saga:
+    """The third of three steps fails for good, and the others are undone."""
+    saga = sagas.Saga("back")
+
+    @saga.step(keep=2)
+    async def one(task: sagas.Task[object]) -> int:
+        return 1
+
+    @saga.step(needs=[one], keep=2)
+    async def two(task: sagas.Task[object]) -> int:
+        return 2
+
+    @saga.step(needs=[two])
+    async def three(task: sagas.Task[object]) -> None:
+        raise sagas.Fail("sold out")
+
+    async def undo(task: sagas.Task[object]) -> None: ...
+
+    one.compensation(undo)
+    two.compensation(undo)
     return saga
 
 
@@ -140,14 +163,17 @@ async def resting(url: str) -> AsyncIterator[Links]:
             await one.close()
 
 
-async def hand(store: by_hand.Each, count: int, together: int) -> float:
-    """By hand."""
+async def hand(store: by_hand.Each, count: int, together: int, fails: bool = False) -> float:
+    """By hand. `fails`: the third step does, and the others are undone."""
 
     async def step(given: object) -> int:
         return 1
 
+    async def sold_out(given: object) -> int:
+        raise LookupError("sold out")
+
     await store.open()
-    machine = by_hand.Machine(store, [step] * 3)
+    machine = by_hand.Machine(store, [step, step, sold_out if fails else step])
 
     async def go(number: int) -> None:
         await machine.run(f"{together}-{number}-{random.random()}", {"n": number})
@@ -190,18 +216,29 @@ WAYS: dict[str, Callable[[str, int, int], Awaitable[float]]] = {
 }
 
 
-def speed(server: Server, words: argparse.Namespace) -> None:
+FAILING: dict[str, Callable[[str, int, int], Awaitable[float]]] = {
+    "sagas, the third step fails": lambda url, count, together: driven(url, failing(), count, together, max(16, together)),
+    "by hand, commits shared, the third step fails": lambda url, count, together: hand(by_hand.Shared(url), count, together, True),
+}
+
+
+def undone(server: Server, words: argparse.Namespace) -> None:
+    """Sagas a second that are undone."""
+    speed(server, words, FAILING)
+
+
+def speed(server: Server, words: argparse.Namespace, ways: dict[str, Callable[[str, int, int], Awaitable[float]]] = WAYS) -> None:
     """Sagas a second, at four concurrencies. The ways take turns, so that a slow minute of the machine is a slow minute of each, and each second time in
     the opposite order, since one that follows another finds the disk as that left it."""
     turns: dict[tuple[str, int], list[float]] = collections.defaultdict(list)
     for together in words.at:
         for turn in range(words.turns):
-            for name, way in [*WAYS.items()][:: -1 if turn % 2 else 1]:
+            for name, way in [*ways.items()][:: -1 if turn % 2 else 1]:
                 url = server.create()
                 turns[name, together].append(asyncio.run(way(url, max(20, int(SIZES[together] * words.scale)), together)))  # type: ignore[arg-type]
                 server.drop(url)
     print("| sagas a second, so many at once |", " | ".join(map(str, words.at)), "|")
-    for name in WAYS:
+    for name in ways:
         print(f"| {name} | {' | '.join(f'{statistics.median(turns[name, together]):.0f}' for together in words.at)} |", flush=True)
 
 
@@ -291,7 +328,10 @@ def spent_by(server: Server) -> float:
     return ticks / os.sysconf("SC_CLK_TCK")
 
 
-TABLES = ("sagas", "results", "lines", "logs", "shelves", "held", "requests", "inbox")
+TABLES = (
+    "sagas", "attempts", "event_log", "shards", "definition_sets", "suspensions", "operator_commands",
+    "pending_starts",
+)  # fmt: skip
 
 
 def size(server: Server, words: argparse.Namespace) -> None:
@@ -333,10 +373,10 @@ def size(server: Server, words: argparse.Namespace) -> None:
 
 
 COPY = """
-INSERT INTO sagas.logs(log, name, shelf, owner, epoch, closed, audit) SELECT {to}, name || '-{to}', shelf, NULL, epoch, closed, audit FROM sagas.logs WHERE log = {log};
-INSERT INTO sagas.lines SELECT {to}, first, at, text FROM sagas.lines WHERE log = {log};
-INSERT INTO sagas.sagas SELECT id + ({to} - {log}) * 1000, key || '-{to}', saga, def, input, at, phase, "end", ended, note FROM sagas.sagas WHERE id / 1000 = {log};
-INSERT INTO sagas.results SELECT id + ({to} - {log}) * 1000, step, kind, attempt, outcome, value, at FROM sagas.results WHERE id / 1000 = {log};
+INSERT INTO sagas.shards(shard, name, definition_set, owner, epoch, closed, audit) SELECT {to}, name || '-{to}', definition_set, NULL, epoch, closed, audit FROM sagas.shards WHERE shard = {log};
+INSERT INTO sagas.event_log SELECT {to}, first_seq, committed_at, text FROM sagas.event_log WHERE shard = {log};
+INSERT INTO sagas.sagas(id, key, saga, definition_index, input, at, phase, outcome, ended, note) SELECT id + ({to} - {log}) * 1000, key || '-{to}', saga, definition_index, input, at, phase, outcome, ended, note FROM sagas.sagas WHERE id / 1000 = {log};
+INSERT INTO sagas.attempts SELECT id + ({to} - {log}) * 1000, step, action, number, event, value, at FROM sagas.attempts WHERE id / 1000 = {log};
 """
 
 
@@ -350,12 +390,12 @@ async def ended(url: str, logs: int) -> None:
 
         await rate(go, 1000, 256)
         database = store._inside.store
-        while not any(said for (said,) in await database.read("SELECT closed FROM logs")):
+        while not any(said for (said,) in await database.read("SELECT closed FROM shards")):
             await asyncio.sleep(0.05)
     with psycopg.connect(url, autocommit=True) as link:
-        ((log,),) = link.execute("SELECT log FROM sagas.logs WHERE closed = 1").fetchall()
+        ((log,),) = link.execute("SELECT shard FROM sagas.shards WHERE closed = 1").fetchall()
         for _ in range(logs - 1):
-            ((to,),) = link.execute("SELECT nextval('sagas.numbers')").fetchall()
+            ((to,),) = link.execute("SELECT nextval('sagas.shard_numbers')").fetchall()
             link.execute(COPY.format(log=log, to=to))  # type: ignore[arg-type]
         link.execute("UPDATE sagas.sagas SET ended = ended - 40 * 86400 WHERE ended IS NOT NULL")
         link.execute("VACUUM ANALYZE")
@@ -363,13 +403,13 @@ async def ended(url: str, logs: int) -> None:
 
 def opening(server: Server, words: argparse.Namespace) -> None:
     """From a start on 100,000 ended sagas and 1,000 open ones until the open steps are called, where these stand in one log, and in a hundred."""
-    import sagas.kinds
+    import sagas.definition.compiled
 
     async def opened(url: str) -> float:
         called: list[float] = []
         saga = trip(gate=asyncio.Event(), called=called)
-        async with sagas.open(url, [saga], concurrency=1000, grace=0.0) as store:
-            if not store._coordinator.pumps:  # type: ignore[union-attr]
+        async with sagas.open(url, [saga], concurrency=1000, shutdown_timeout=0.0) as store:
+            if not store._inside.shards.runners:  # type: ignore[union-attr]
                 for first in range(0, 1000, 100):
                     await asyncio.gather(*(store.start(saga, f"open-{number}") for number in range(first, first + 100)))
             while len(called) < 1000:
@@ -377,10 +417,10 @@ def opening(server: Server, words: argparse.Namespace) -> None:
         return max(called)
 
     for room in (1000, 10):
-        setattr(sagas.kinds, "ROOM", 1000)
+        setattr(sagas.definition.compiled, "SHARD_CAPACITY", 1000)
         url = server.create()
         asyncio.run(ended(url, max(2, int(100 * words.scale))))
-        setattr(sagas.kinds, "ROOM", room)
+        setattr(sagas.definition.compiled, "SHARD_CAPACITY", room)
         asyncio.run(opened(url))
         times = []
         for _ in range(words.turns):
@@ -388,16 +428,16 @@ def opening(server: Server, words: argparse.Namespace) -> None:
             times.append(asyncio.run(opened(url)) - began)
         print(f"opening: {int(100_000 * words.scale)} ended, 1,000 open sagas in {1000 // room} logs: {statistics.median(times):.2f} s until all are called", flush=True)
         server.drop(url)
-        setattr(sagas.kinds, "ROOM", 1000)
+        setattr(sagas.definition.compiled, "SHARD_CAPACITY", 1000)
 
 
 def prune(server: Server, words: argparse.Namespace) -> None:
     """How long a start waits while logs of a thousand ended sagas are deleted, and without that; and what such a log takes."""
-    from sagas import retention
+    from sagas.runtime import retention
 
     async def starts(url: str, until: Callable[[], bool]) -> list[float]:
         saga, waits = trip(gate=asyncio.Event()), []
-        async with sagas.open(url, [saga], concurrency=16, grace=0.0) as store:
+        async with sagas.open(url, [saga], concurrency=16, shutdown_timeout=0.0) as store:
             while not until():
                 began = time.perf_counter()
                 await store.start(saga, f"new-{random.random()}")
@@ -433,7 +473,7 @@ def takeover(server: Server, words: argparse.Namespace) -> None:
         called: list[float] = []
         gate = asyncio.Event()
         saga = trip(gate=gate, called=called)
-        async with sagas.open(url, [saga], lease=LEASE, concurrency=1000, grace=0.0):
+        async with sagas.open(url, [saga], lease=LEASE, concurrency=1000, shutdown_timeout=0.0):
             process = child(url, 1000, "waits")
             assert process.stdout
             await asyncio.to_thread(process.stdout.readline)
@@ -455,12 +495,12 @@ def main() -> None:
     if sys.argv[1:2] == ["child"]:
         be_child(sys.argv[2], int(sys.argv[3]), sys.argv[4])
         return
-    parts = {"speed": speed, "nodes": nodes, "size": size, "idle": idle, "takeover": takeover, "opening": opening, "prune": prune}
+    parts = {"speed": speed, "failing": undone, "nodes": nodes, "size": size, "idle": idle, "takeover": takeover, "opening": opening, "prune": prune}
     parser = argparse.ArgumentParser(description=__doc__, formatter_class=argparse.RawDescriptionHelpFormatter)
     parser.add_argument("parts", nargs="*", choices=[*parts, []], default=[])
     parser.add_argument("--turns", type=int, default=3)
     parser.add_argument("--scale", type=float, default=1.0)
-    parser.add_argument("--at", type=lambda text: [int(one) for one in text.split(",")], default=[*SIZES], help="of `speed`: how many at once, as 1,16")
+    parser.add_argument("--at", type=lambda text: [int(one) for one in text.split(",")], default=[*SIZES], help="of `speed` and `failing`: how many at once, as 1,16")
     words = parser.parse_args()
     print(f"{os.cpu_count()} processors, load {os.getloadavg()[0]:.1f}")
     with serving({"fsync": "on", "synchronous_commit": "on", "shared_buffers": "256MB"}) as server:

@@ -1,7 +1,7 @@
 #!/usr/bin/env python3
 """Times the Python package beside the same written by hand, in one run.
 
-    PYTHONPATH=python/src python3 bench/python.py [--turns N] [--scale X] [--at 1,16,256,1000]
+    PYTHONPATH=python/src python3 bench/python.py [--turns N] [--scale X] [--at 1,16,256,1000] [--failing]
     PYTHONPATH=python/src python3 bench/python.py --open N [--each M]
     PYTHONPATH=python/src python3 bench/python.py --ended N
 
@@ -11,6 +11,10 @@ Three steps in a row, each with a small result, on one SQLite file with durable 
 - `by hand`: a state machine in a table, one transaction for each change of state: a saga's start, and each step's end, with which
   the next step begins. Nothing is planned and nothing compensated.
 - `by hand, shared`: the same, and one commit takes all changes that wait.
+
+With `--failing` the third step fails for good, and both others are undone, by two compensations in the package and by hand. The package
+plans that. By hand each is undone by a change of its own, since a program that is killed has to know which ones are. The table also has
+how many transactions the package writes a saga, beside a saga that goes well.
 
 Each turn runs them all at each concurrency, so that a slower moment of the machine meets each. The table has the middle turn.
 CPU is that of the Python process, all its threads, a saga; that of the deciding child is not in it.
@@ -25,6 +29,7 @@ from __future__ import annotations
 import argparse
 import asyncio
 import concurrent.futures
+import dataclasses
 import json
 import pathlib
 import shutil
@@ -48,6 +53,8 @@ CREATE TABLE saga(id INTEGER PRIMARY KEY, key TEXT NOT NULL UNIQUE, input TEXT N
 CREATE TABLE result(saga INTEGER NOT NULL, step INTEGER NOT NULL, value TEXT, at REAL, PRIMARY KEY(saga, step)) WITHOUT ROWID;
 """
 
+WARM = 20
+"""So many sagas run before those that are timed."""
 Step = Callable[[Any], Awaitable[Any]]
 One = Callable[[str, Any], Awaitable[None]]
 
@@ -82,7 +89,21 @@ class Done:
         db.execute("UPDATE saga SET step = ?, phase = ? WHERE id = ?", (self.step + 1, self.phase, self.id))
 
 
-Change = Started | Done
+@dataclass(frozen=True)
+class Undone:
+    """A step has failed, or is undone, and what is undone next is begun."""
+
+    id: int
+    step: int
+    at: float
+    phase: str
+
+    def write(self, db: sqlite3.Connection) -> None:
+        db.execute("INSERT INTO result VALUES(?, ?, NULL, ?)", (self.id, -1 - self.step, self.at))
+        db.execute("UPDATE saga SET step = ?, phase = ? WHERE id = ?", (self.step, self.phase, self.id))
+
+
+Change = Started | Done | Undone
 
 
 class Table:
@@ -128,24 +149,39 @@ class Table:
 
 
 class ByHand:
-    """Steps in a row, each kept before the next begins."""
+    """Steps in a row, each kept before the next begins. Where one fails, those before it are undone, the last one first."""
 
-    def __init__(self, table: Table, steps: list[Step]) -> None:
-        self.table, self.steps, self.started = table, steps, 0
+    def __init__(self, table: Table, steps: list[Step], undo: Step) -> None:
+        self.table, self.steps, self.undo, self.started = table, steps, undo, 0
 
     async def run(self, key: str, given: Any) -> None:
         """One saga, from its start to its end."""
         id, self.started = self.started, self.started + 1
         await self.table.write(Started(id, key, json.dumps(given, sort_keys=True)))
         for number, step in enumerate(self.steps):
-            value = await step(given)
+            try:
+                value = await step(given)
+            except LookupError:
+                await self._back(id, number, given)
+                return
             phase = "ended" if number + 1 == len(self.steps) else "going"
             await self.table.write(Done(id, number, json.dumps(value), time.time(), phase))
+
+    async def _back(self, id: int, failed: int, given: Any) -> None:
+        await self.table.write(Undone(id, failed, time.time(), "undoing"))
+        for number in reversed(range(failed)):
+            await self.undo(given)
+            await self.table.write(Undone(id, number, time.time(), "undoing" if number else "ended"))
 
 
 async def small(given: Any) -> Any:
     """A step that has nothing to do."""
     return {"id": 17}
+
+
+async def fails(given: Any) -> Any:
+    """A step that cannot be done."""
+    raise LookupError("sold out")
 
 
 # -- with the package ----------------------------------------------------------------------------------------------
@@ -176,6 +212,37 @@ async def third(task: sagas.Task[Any]) -> dict[str, int]:
     return {"id": 17}
 
 
+back = sagas.Saga("back")
+
+
+@back.step(keep=2)
+async def one(task: sagas.Task[Any]) -> dict[str, int]:
+    """The first of three."""
+    return {"id": 17}
+
+
+@one.compensation
+async def not_one(task: sagas.Task[Any]) -> None:
+    """Undoes it."""
+
+
+@back.step(needs=[one], keep=2)
+async def two(task: sagas.Task[Any]) -> dict[str, int]:
+    """The second of three."""
+    return {"id": 17}
+
+
+@two.compensation
+async def not_two(task: sagas.Task[Any]) -> None:
+    """Undoes it."""
+
+
+@back.step(needs=[two])
+async def sold_out(task: sagas.Task[Any]) -> None:
+    """The third one fails."""
+    raise sagas.Fail("sold out")
+
+
 # -- times ---------------------------------------------------------------------------------------------------------
 
 
@@ -189,6 +256,8 @@ class Timing:
     """Milliseconds from a saga's start to its end, the middle one."""
     cpu: float
     """Microseconds of this process's CPU, a saga."""
+    commits: float = 0.0
+    """Transactions that the package wrote, a saga."""
 
 
 async def timed(one: One, count: int, together: int) -> Timing:
@@ -201,7 +270,7 @@ async def timed(one: One, count: int, together: int) -> Timing:
             await one(f"key-{together}-{key}", {"n": 1})
             spent.append(time.perf_counter() - began)
 
-    warm = iter([f"warm-{number}" for number in range(20)])
+    warm = iter([f"warm-{number}" for number in range(WARM)])
     await asyncio.gather(*(worker(warm) for _ in range(4)))
     spent.clear()
     keys, cpu, began = iter(range(count)), time.process_time(), time.perf_counter()
@@ -210,33 +279,36 @@ async def timed(one: One, count: int, together: int) -> Timing:
     return Timing(count / took, statistics.median(spent) * 1e3, cpu / count * 1e6)
 
 
-async def with_package(folder: pathlib.Path, count: int, together: int) -> Timing:
+async def with_package(folder: pathlib.Path, saga: sagas.Saga, count: int, together: int) -> Timing:
     """The package's turn."""
-    async with sagas.open(folder / "sagas.db", [row], concurrency=max(16, together)) as store:
+    async with sagas.open(folder / "sagas.db", [saga], concurrency=max(16, together)) as store:
 
         async def one(key: str, given: Any) -> None:
-            run = await store.start(row, key=key, input=given)
-            await run.wait()
+            run = await store.start(saga, key=key, input=given)
+            end = await run.wait()
+            assert end.ok if saga is row else end.states["one"] == "undone", end
 
-        return await timed(one, count, together)
+        timing = await timed(one, count, together)
+        return dataclasses.replace(timing, commits=store.commits / (count + WARM))
 
 
-async def by_hand(folder: pathlib.Path, count: int, together: int, shared: bool) -> Timing:
+async def by_hand(folder: pathlib.Path, failing: bool, count: int, together: int, shared: bool) -> Timing:
     """The hand-written one's turn."""
     table = Table(folder / "table.db", shared)
     try:
-        return await timed(ByHand(table, [small] * 3).run, count, together)
+        steps = [small, small, fails if failing else small]
+        return await timed(ByHand(table, steps, small).run, count, together)
     finally:
         table.close()
 
 
-def turn(way: str, count: int, together: int) -> Timing:
+def turn(way: str, failing: bool, count: int, together: int) -> Timing:
     """One way, on a store of its own."""
     folder = pathlib.Path(tempfile.mkdtemp(prefix="sagas-bench-"))
     try:
         if way == "sagas":
-            return asyncio.run(with_package(folder, count, together))
-        return asyncio.run(by_hand(folder, count, together, way.endswith("shared")))
+            return asyncio.run(with_package(folder, back if failing else row, count, together))
+        return asyncio.run(by_hand(folder, failing, count, together, way.endswith("shared")))
     finally:
         shutil.rmtree(folder)
 
@@ -265,7 +337,7 @@ def memory(pid):
     return next(int(line.split()[1]) for line in text.splitlines() if line.startswith("Pss:"))
 
 async def main():
-    sagas.kinds.ROOM = each
+    sagas.definition.compiled.SHARD_CAPACITY = each
     async with sagas.open(path, [saga]) as store:
         if not again:
             for place in range(0, count, 500):
@@ -349,6 +421,7 @@ def main() -> int:
     parser.add_argument("--each", type=int, default=1_000, metavar="M", help="at most so many of them in a log")
     parser.add_argument("--ended", type=int, metavar="N", help="open a store with so many ended sagas")
     parser.add_argument("--at", default=",".join(map(str, COUNTS)), help="the concurrencies")
+    parser.add_argument("--failing", action="store_true", help="the third step fails, and the others are undone")
     words = parser.parse_args()
     if words.open:
         open_again(words.open, words.each)
@@ -368,7 +441,7 @@ def compare(words: argparse.Namespace) -> None:
         for size in sizes:
             for way in WAYS:
                 count = max(20, int(COUNTS.get(size, 6 * size) * words.scale))
-                timings[size, way].append(turn(way, min(count, 1_500) if way == "by hand" else count, size))
+                timings[size, way].append(turn(way, words.failing, min(count, 1_500) if way == "by hand" else count, size))
     print(f"{'':>11}  {'':16} {'sagas/s':>8} {'(least, most)':>17} {'latency ms':>11} {'CPU us':>7}")
     for (size, way), ones in timings.items():
         one, rates = middle(ones), [timing.rate for timing in ones]
@@ -377,6 +450,10 @@ def compare(words: argparse.Namespace) -> None:
         if way == WAYS[-1]:
             rate = {name: middle(timings[size, name]).rate for name in WAYS}
             print(f"{'':>11}  sagas is {rate['sagas'] / rate['by hand']:.2f} of by hand, {rate['sagas'] / rate[way]:.2f} of shared")
+            if words.failing:
+                well = turn("sagas", False, max(20, int(COUNTS.get(size, 6 * size) * words.scale)), size).commits
+                commits = middle(timings[size, "sagas"]).commits
+                print(f"{'':>11}  {commits:.3f} transactions a saga, {commits / well:.2f} of those of a saga that goes well")
 
 
 if __name__ == "__main__":

@@ -127,9 +127,9 @@ async def tasks(address: str, count: int, together: int, most: int) -> Done:
     async def work(client: Client) -> None:
         nonlocal done
         while done < count:
-            _, text = await client.ask("POST", "/tasks/take", {"steps": ["one/a"], "most": most, "wait": 1, "lease": 600})
+            _, text = await client.ask("POST", "/v1/tasks/claim", {"steps": ["one/a"], "limit": most, "wait": 1, "lease": 600})
             for task in json.loads(text)["tasks"]:
-                status, text = await client.ask("POST", f"/tasks/{task['token']}/done", {"lease": task["lease"], "result": None})
+                status, text = await client.ask("POST", f"/v1/tasks/{task['attempt_id']}/complete", {"lease": task["lease"], "result": None})
                 assert status == 200, text
                 done += 1
 
@@ -142,21 +142,22 @@ async def tasks(address: str, count: int, together: int, most: int) -> Done:
 async def chained(address: str, count: int, together: int, most: int) -> Done:
     """The same, where the report of the last task in hand takes so many."""
     done = 0
-    wanted = {"steps": ["one/a"], "lease": 600, "most": most}
+    wanted = {"steps": ["one/a"], "lease": 600, "limit": most}
 
     async def work(client: Client) -> None:
         nonlocal done
         tasks: list[Any] = []
         while done < count or tasks:
             if not tasks:
-                _, text = await client.ask("POST", "/tasks/take", {**wanted, "wait": 1})
+                _, text = await client.ask("POST", "/v1/tasks/claim", {**wanted, "wait": 1})
             else:
                 task = tasks.pop(0)
                 more = {} if tasks or done + 1 >= count else {"next": wanted}
-                status, text = await client.ask("POST", f"/tasks/{task['token']}/done", {"lease": task["lease"], "result": None, **more})
+                status, text = await client.ask("POST", f"/v1/tasks/{task['attempt_id']}/complete", {"lease": task["lease"], "result": None, **more})
                 assert status == 200, text
                 done += 1
-            tasks += json.loads(text).get("tasks", [])
+            told = json.loads(text)
+            tasks += (told.get("next") or told).get("tasks", [])
 
     some = await clients(address, together)
     began = time.perf_counter()
@@ -221,9 +222,9 @@ def turn(folder: pathlib.Path, count: int, together: int, server: Server | None,
         all_of_them, pids = " ".join(one.address for one in some), [one.process.pid for one in some if one.process]
 
         def begin(name: str, count: int) -> Coroutine[Any, Any, Done]:
-            return starts(all_of_them, "/sagas", count, together, lambda number: {"definition": "one", "key": f"{name}{number}", "input": {"n": number}})
+            return starts(all_of_them, "/v1/sagas", count, together, lambda number: {"definition": "one", "key": f"{name}{number}", "input": {"n": number}})
 
-        found["POST /sagas"] = measured(pids, begin("k", count))
+        found["POST /v1/sagas"] = measured(pids, begin("k", count))
         manners: dict[str, tuple[Callable[[str, int, int, int], Coroutine[Any, Any, Done]], int]] = {
             "each by itself": (tasks, 1), "with the report": (chained, 1), "ten at a time": (tasks, 10), "as sagas.Worker takes short ones": (chained, 10),
         }  # fmt: skip
@@ -237,7 +238,7 @@ def listed(folder: pathlib.Path) -> float:
     """The list over 100,000 sagas, in milliseconds."""
     service = Served(folder, {"one.toml": ONE})
     service.start()
-    asyncio.run(starts(service.address, "/sagas", 1, 1, lambda number: {"definition": "one", "key": "first", "input": None}))
+    asyncio.run(starts(service.address, "/v1/sagas", 1, 1, lambda number: {"definition": "one", "key": "first", "input": None}))
     service.stop()
     fill(pathlib.Path(service.store), 100_000)
     service.start()

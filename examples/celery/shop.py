@@ -34,17 +34,17 @@ class Car:
 trip = sagas.Saga("trip")
 
 
-@trip.step(run_on=flights)
+@trip.step(queue=flights)
 def flight(task: sagas.Task[Order]) -> str:
     """No compensation: it can never be undone."""
-    print(f"a seat to {task.input.to}, under the key {task.effect_token}")
+    print(f"a seat to {task.input.to}, under the key {task.idempotency_key}")
     return "12A"
 
 
-@trip.step(run_on=cars, needs=[flight], undo=5, keep=30)
+@trip.step(queue=cars, needs=[flight], undo=5, keep=30)
 def car(task: sagas.Task[Order]) -> Car:
     """5 to give it back; 30 that it stands for nothing."""
-    print(f"a car for seat {task.of(flight)}")
+    print(f"a car for seat {task.result_of(flight)}")
     return Car(7)
 
 
@@ -54,7 +54,7 @@ def cancel_car(task: sagas.Task[Order]) -> None:
     print(f"car {task.result.id} is given back")
 
 
-@trip.step(needs=[car], skip=10, tries=3, backoff=sagas.Backoff(first=0.1))
+@trip.step(needs=[car], skip=10, tries=3, backoff=sagas.Backoff(initial=0.1))
 def tour(task: sagas.Task[Order]) -> str:
     """In the program that has the store: not every step needs a worker."""
     if task.input.wish == "a tour that is full":

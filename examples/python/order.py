@@ -46,26 +46,26 @@ order = sagas.Saga("order")
 @order.step
 def reserve(task: sagas.Task[Order]) -> str:
     """Takes the item from the stock."""
-    return service.do(task.effect_token, f"reserve one {task.input.item}")
+    return service.do(task.idempotency_key, f"reserve one {task.input.item}")
 
 
 @reserve.compensation(tries=5)
 def release(task: sagas.Task[Order]) -> None:
     """Puts it back."""
-    service.do(task.effect_token, f"put the {task.input.item} back")
+    service.do(task.idempotency_key, f"put the {task.input.item} back")
 
 
-@order.step(needs=[reserve], tries=3, backoff=sagas.Backoff(first=0.1))
+@order.step(needs=[reserve], tries=3, backoff=sagas.Backoff(initial=0.1))
 def charge(task: sagas.Task[Order]) -> int:
     """Charges the card."""
-    service.do(task.effect_token, f"charge {task.input.amount} euros")
+    service.do(task.idempotency_key, f"charge {task.input.amount} euros")
     return task.input.amount
 
 
 @charge.compensation(tries=5)
 def refund(task: sagas.Task[Order]) -> None:
     """Gives the money back: what the step returned is `task.result`."""
-    service.do(task.effect_token, f"give {task.result} euros back")
+    service.do(task.idempotency_key, f"give {task.result} euros back")
 
 
 @order.step(needs=[charge])
@@ -73,7 +73,7 @@ async def send(task: sagas.Task[Order]) -> None:
     """Sends the parcel. Raising says that nothing was sent."""
     if task.input.item == "piano":
         raise sagas.Fail("a piano does not fit into a parcel")
-    service.do(task.effect_token, f"send the {task.input.item}")
+    service.do(task.idempotency_key, f"send the {task.input.item}")
 
 
 async def main(path: pathlib.Path) -> None:

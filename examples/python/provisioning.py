@@ -7,7 +7,7 @@ Three days are half a second here. The first request is approved and goes well. 
 The third cannot be billed after its days: the server is removed and then its address given back, since the server needs that.
 
 With a path behind it, as `servers.db`, the store stays: an operator sees the same by `python3 -m sagas store servers.db list`, also while it runs,
-and says of a step that waits `python3 -m sagas store servers.db finish KEY approve`.
+and says of a step that waits `python3 -m sagas store servers.db complete KEY approve`.
 """
 
 from __future__ import annotations
@@ -39,16 +39,16 @@ async def free_address(task: sagas.Task[Wanted]) -> None:
     print(f"  {task.key}: give {task.result} back")
 
 
-@provisioning.approval(needs=[address], within=datetime.timedelta(days=7))
+@provisioning.approval(needs=[address], timeout=datetime.timedelta(days=7))
 async def approve(task: sagas.Task[Wanted]) -> None:
-    """Asks somebody. Whoever answers calls `store.finish(key, "approve", ..)`; here a queue stands for the mail."""
+    """Asks somebody. Whoever answers calls `store.complete(key, "approve", ..)`; here a queue stands for the mail."""
     mailbox.put_nowait((task.key, task.input["size"]))
 
 
 @provisioning.step(needs=[approve, address], tries=3, timeout=60)
 async def server(task: sagas.Task[Wanted]) -> str:
     """Starts the server at its address."""
-    print(f"  {task.key}: start a {task.input['size']} server at {task.of(address)}, approved by {task.results['approve']}")
+    print(f"  {task.key}: start a {task.input['size']} server at {task.result_of(address)}, approved by {task.results['approve']}")
     return "server 4"
 
 
@@ -80,9 +80,9 @@ async def manager(store: sagas.Store) -> None:
     while True:
         key, size = await mailbox.get()
         if size == "huge":
-            await store.finish(key, approve, failed="too expensive")
+            await store.fail(key, approve, "too expensive")
         else:
-            await store.finish(key, approve, "Ada")
+            await store.complete(key, approve, "Ada")
 
 
 async def main(path: pathlib.Path) -> None:

@@ -31,7 +31,7 @@ async def flight(task: sagas.Task[Trip]) -> str:
 @trip.step(needs=[flight], undo=5, keep=30)
 async def car(task: sagas.Task[Trip]) -> str:
     """Hires a car where the flight goes."""
-    print(f"  car in {task.of(flight)}")
+    print(f"  car in {task.result_of(flight)}")
     return "car 7"
 
 
@@ -41,13 +41,13 @@ async def cancel_car(task: sagas.Task[Trip]) -> None:
     print(f"  give {task.result} back")
 
 
-@trip.step(needs=[flight], skip=25, tries=3, backoff=sagas.Backoff(first=0.05, most=0.1))
+@trip.step(needs=[flight], skip=25, tries=3, backoff=sagas.Backoff(initial=0.05, maximum=0.1))
 async def hotel(task: sagas.Task[Trip]) -> str:
     """Books a hotel, if one has a room."""
     if not task.input["rooms"]:
-        print(f"  hotel in {task.of(flight)}: full (attempt {task.attempt})")
+        print(f"  hotel in {task.result_of(flight)}: full (attempt {task.attempt})")
         raise LookupError("no room is free")
-    print(f"  hotel in {task.of(flight)}")
+    print(f"  hotel in {task.result_of(flight)}")
     return "room 12"
 
 
@@ -57,7 +57,7 @@ async def tour(task: sagas.Task[Trip]) -> str:
     if not task.input["seats"]:
         print("  tour: sold out")
         raise sagas.Fail("no seat is free")
-    print(f"  tour from {task.of(hotel)}, by {task.of(car)}")
+    print(f"  tour from {task.result_of(hotel)}, by {task.result_of(car)}")
     return "seat 3"
 
 

@@ -11,11 +11,12 @@ if (!url) {
 }
 const pause = (ms) => new Promise((go) => setTimeout(go, ms));
 
+const LEASE = 10; // seconds
 class Unknown extends Error {} // nobody knows whether it had its effect
 
 async function hotel(method, task) {
   if (!process.env.HOTEL) return;
-  const headers = { "idempotency-key": task.effect_token }; // a task that is done twice books once
+  const headers = { "idempotency-key": task.idempotency_key }; // a task that is done twice books once
   const signal = AbortSignal.timeout(5000);
   const answer = await fetch(process.env.HOTEL, { method, headers, signal });
   if (answer.status >= 500) throw new Unknown(`the hotel answers ${answer.status}`);
@@ -26,7 +27,7 @@ const functions = {
   "trip/hotel": async (task) => {
     if (task.input?.wish === "full") throw new Error("the hotel is full");
     await hotel("POST", task);
-    return { room: 4, key: task.effect_token };
+    return { room: 4, key: task.idempotency_key };
   },
   "trip/hotel/undo": async (task) => {
     await hotel("DELETE", task);
@@ -39,6 +40,7 @@ const isUnknown = (error) =>
   error instanceof Unknown || ["AbortError", "TimeoutError"].includes(error?.name)
   || Boolean(error?.cause?.code ?? error?.code);
 
+const REPEAT = [408, 429, 500, 502, 503, 504]; // as a claim's `repeat_statuses` says
 let lacks = false; // whether it has been said that the service does not answer
 
 async function post(path, body) {
@@ -47,7 +49,8 @@ async function post(path, body) {
       const headers = { "content-type": "application/json", ...(token && { authorization: `Bearer ${token}` }) };
       const answer = await fetch(url + path, { method: "POST", headers, body: JSON.stringify(body) });
       lacks = false;
-      if (answer.status < 500 && answer.status !== 429) return { status: answer.status, ...(await answer.json()) };
+      const { status } = answer;
+      if (!REPEAT.includes(status)) return { status, ...(await answer.json()) };
     } catch (error) {
       if (!lacks) console.error(`${url} does not answer: ${error.cause?.message || error.cause?.code || error.message}: asking again and again`);
       lacks = true;
@@ -56,23 +59,26 @@ async function post(path, body) {
   }
 }
 
-async function work(task) {
+async function work(task, every) {
   const lease = { lease: task.lease };
-  const beat = setInterval(() => post(`/tasks/${task.token}/beat`, { ...lease, seconds: 10 }), 3000);
-  let path = "done", told;
+  const path_of = (verb) => `/v1/tasks/${task.attempt_id}/${verb}`;
+  const renew = () => post(path_of("heartbeat"), { ...lease, seconds: LEASE });
+  const beat = setInterval(renew, 1000 * every);
+  let path = "complete", told;
   try {
-    told = { result: (await functions[`${task.saga}/${task.step}${task.undo ? "/undo" : ""}`](task)) ?? null };
-  } catch (error) { // "failed" says that it had no effect
-    path = isUnknown(error) ? "unknown" : "failed";
+    told = { result: (await functions[task.name](task)) ?? null };
+  } catch (error) { // "fail" says that it had no effect
+    path = isUnknown(error) ? "unknown" : "fail";
     told = { error: [error, error?.cause].filter(Boolean).join(": ") };
   }
   clearInterval(beat);
-  const answer = await post(`/tasks/${task.token}/${path}`, { ...lease, ...told });
-  if (answer.status !== 200) console.error(task.token, answer.error, answer.detail);
+  const answer = await post(path_of(path), { ...lease, ...told });
+  if (answer.status !== 200) console.error(task.attempt_id, answer.type, answer.detail);
 }
 
 for (;;) {
-  const { tasks, detail } = await post("/tasks/take", { steps: Object.keys(functions), worker: "node", wait: 20, lease: 10 });
+  const wanted = { steps: Object.keys(functions), worker: "node", wait: 20, lease: LEASE };
+  const { tasks, heartbeat_seconds, detail } = await post("/v1/tasks/claim", wanted);
   if (!tasks) throw new Error(detail);
-  await Promise.all(tasks.map(work));
+  await Promise.all(tasks.map((task) => work(task, heartbeat_seconds)));
 }

@@ -14,7 +14,7 @@ worker = sagas.Worker(*sys.argv[1:3], lease=10)
 
 @worker.step("trip", "flight")
 def flight(task):
-    return {"seat": "12A", "key": task.effect_token}
+    return {"seat": "12A", "key": task.idempotency_key}
 
 
 @worker.step("trip", "car")

@@ -19,18 +19,18 @@ post() { # PATH BODY: until it is answered, since the service may be about to st
 first() { # the first task's token, lease and input
   python3 -c '
 import json, sys
-task = (json.load(sys.stdin)["tasks"] or [{"token": "none", "lease": "none", "input": None}])[0]
-print(task["token"], task["lease"], json.dumps(task["input"]))'
+task = (json.load(sys.stdin)["tasks"] or [{"attempt_id": "none", "lease": "none", "input": None}])[0]
+print(task["attempt_id"], task["lease"], json.dumps(task["input"]))'
 }
 
 while true; do
-  took=$(post /tasks/take '{"steps":["trip/tour"],"worker":"shell","wait":20,"lease":30}') || exit 1
+  took=$(post /v1/tasks/claim '{"steps":["trip/tour"],"worker":"shell","wait":20,"lease":30}') || exit 1
   read -r task lease input < <(first <<<"$took")
   case $task:$input in # what is done here, with $task as its key
     none:*) continue ;;
-    *'"sold-out"'*) word=failed told='"error":"the tour is sold out"' ;;
+    *'"sold-out"'*) word=fail told='"error":"the tour is sold out"' ;;
     *'"hazy"'*) word=unknown told='"error":"the line went dead"' ;;
-    *) word=done told='"result":"booked"' ;;
+    *) word=complete told='"result":"booked"' ;;
   esac
-  post "/tasks/$task/$word" "{\"lease\":\"$lease\",$told}" >/dev/null
+  post "/v1/tasks/$task/$word" "{\"lease\":\"$lease\",$told}" >/dev/null
 done

@@ -15,8 +15,8 @@ import sagas
 
 T = TypeVar("T")
 Task = sagas.Task[Any]
-QUICK = sagas.Backoff(first=0.01, most=0.02)
-HOUR = sagas.Backoff(first=3600, most=3600)
+QUICK = sagas.Backoff(initial=0.01, maximum=0.02)
+HOUR = sagas.Backoff(initial=3600, maximum=3600)
 
 
 def run(main: Coroutine[Any, Any, T]) -> T:
@@ -31,17 +31,17 @@ def simple(function: Callable[[Task], Any], **words: Any) -> sagas.Saga:
     return saga
 
 
-async def ended(store: sagas.Store, saga: sagas.Saga, key: str = "k", given: Any = None) -> sagas.End:
+async def ended(store: sagas.Store, saga: sagas.Saga, key: str = "k", given: Any = None) -> sagas.SagaResult:
     """A saga from its start to its end."""
     return await (await store.start(saga, key=key, input=given)).wait()
 
 
-async def surely_ended(store: sagas.Store, saga: sagas.Saga, key: str = "k", given: Any = None) -> sagas.End:
+async def surely_ended(store: sagas.Store, saga: sagas.Saga, key: str = "k", given: Any = None) -> sagas.SagaResult:
     """The same, asked again while the store is away."""
     while True:
         try:
             return await ended(store, saga, key, given)
-        except sagas.StoreUnwritable:
+        except sagas.StoreUnavailable:
             await asyncio.sleep(0.02)
 
 
@@ -57,7 +57,7 @@ async def until(found: Callable[[], Any], seconds: float = 120) -> Any:
             await asyncio.sleep(0.005)
 
 
-async def asked_of(store: sagas.Store) -> list[sagas.Held]:
+async def asked_of(store: sagas.Store) -> list[sagas.UnknownAttempt]:
     """The attempts of which a person has to say what they did."""
     return [held for held in await store.unknown() if held.asked]
 

@@ -11,12 +11,12 @@ import time
 from typing import Any
 
 import celery
+from brokers import Broker, Program
+from cases import QUICK
+from driving import program
 
 import sagas
 import sagas.celery
-from driving import program
-from brokers import Broker, Program
-from cases import QUICK
 
 WORDS = "SAGAS_TEST_SHOP"
 BIG = 300_000
@@ -74,7 +74,8 @@ class Shop:
 
     def note(self, task: Any, **more: Any) -> None:
         """A call, as a line."""
-        told = {"key": task.key, "step": task.step, "undo": task.undo, "attempt": task.attempt, "token": task.token, "effect": task.effect_token, "pid": os.getpid()}
+        told = {"key": task.key, "step": task.step, "undo": task.is_compensation, "attempt": task.attempt, "token": task.attempt_id, "effect": task.idempotency_key, "pid": os.getpid()}
+        told["deadline"] = task.deadline and task.deadline.timestamp()
         with open(self.notes, "a", encoding="utf-8") as notes:
             notes.write(json.dumps(told | more) + "\n")
 
@@ -93,34 +94,34 @@ class Shop:
 
         @flight.compensation
         async def cancel_flight(task: sagas.Task[Trip]) -> None:
-            self.note(task, row=task.result.row, of=task.action_token)
+            self.note(task, row=task.result.row, of=task.original_idempotency_key)
 
         @trip.step(needs=[flight], keep=9, undo=1)  # this one is called where the store is
         def meal(task: sagas.Task[Trip]) -> str:
             self.note(task)
             return "soup"
 
-        @meal.compensation(run_on=self.queue)
+        @meal.compensation(queue=self.queue)
         def cancel_meal(task: sagas.Task[Trip]) -> None:
             self.note(task, result=task.result)
 
-        @trip.step(needs=[flight, meal], tries=3, backoff=QUICK, run_on=self.queue)
+        @trip.step(needs=[flight, meal], tries=3, backoff=QUICK, queue=self.queue)
         async def tour(task: sagas.Task[Trip]) -> dict[str, Any]:
-            self.note(task, row=task.of(flight).row, meal=task.of(meal))
+            self.note(task, row=task.result_of(flight).row, meal=task.result_of(meal))
             if task.input.wish == "full":
                 raise ValueError("full")
             if task.input.wish == "never":
                 raise sagas.Fail("never")
             if task.input.wish == "lost" and len(self.calls(task.key)) < 5:
                 raise sagas.Unknown("who knows") if len(self.calls(task.key)) < 4 else ConnectionError("lost")
-            return {"seat": task.of(flight).name}
+            return {"seat": task.result_of(flight).name}
 
         return trip
 
     def _large(self) -> sagas.Saga:
         large = sagas.Saga("large")
 
-        @large.step(run_on=self.queue, keep=9, undo=1)
+        @large.step(queue=self.queue, keep=9, undo=1)
         def first(task: Any) -> str:
             return str(task.input["letter"]) * BIG
 
@@ -128,9 +129,9 @@ class Shop:
         def undo_first(task: Any) -> None:
             self.note(task, size=len(task.result), input=len(task.input["more"]))
 
-        @large.step(needs=[first], run_on=self.queue)
+        @large.step(needs=[first], queue=self.queue)
         def second(task: Any) -> Any:
-            self.note(task, size=len(task.of(first)), letter=task.of(first)[0], input=len(task.input["more"]))
+            self.note(task, size=len(task.result_of(first)), letter=task.result_of(first)[0], input=len(task.input["more"]))
             if task.input["fail"]:
                 raise ValueError("no")
             return object()  # cannot be written as JSON
@@ -140,7 +141,7 @@ class Shop:
     def _odd(self) -> sagas.Saga:
         odd = sagas.Saga("odd")
 
-        @odd.step(run_on=sagas.celery.Queue(self.app, str(self.words["queue"]), soft_time_limit=1, time_limit=60, priority=3), backoff=QUICK, unknown_most=0)
+        @odd.step(queue=sagas.celery.Queue(self.app, str(self.words["queue"]), soft_time_limit=1, time_limit=60, priority=3), backoff=QUICK, max_unknown=0)
         def long(task: Any) -> None:
             self.note(task)
             time.sleep(60)  # longer than its limit
@@ -150,7 +151,7 @@ class Shop:
     def _slow(self) -> sagas.Saga:
         slow = sagas.Saga("slow")
 
-        @slow.step(run_on=self.queue, timeout=1, backoff=QUICK, unknown_most=0)
+        @slow.step(queue=self.queue, timeout=1, backoff=QUICK, max_unknown=0)
         def once(task: Any) -> str:
             self.note(task)
             return "late"
@@ -160,7 +161,7 @@ class Shop:
     def _held(self) -> sagas.Saga:
         held = sagas.Saga("held")
 
-        @held.step(run_on=self.queue, timeout=120)
+        @held.step(queue=self.queue, timeout=120)
         def once(task: Any) -> None:
             self.note(task)
             until = time.monotonic() + 60
@@ -181,10 +182,10 @@ class Shop:
         bank = sagas.Saga("bank")
         row = "INSERT INTO book(key, step, token) VALUES(%s, %s, %s)"
 
-        @bank.step(run_on=self.queue, transaction=True, tries=2, backoff=QUICK, keep=9, undo=1, timeout=60)
+        @bank.step(queue=self.queue, transaction=True, tries=2, backoff=QUICK, keep=9, undo=1, timeout=60)
         def book(task: Any) -> str:
             self.note(task)
-            task.connection.execute(row, (task.key, "book", task.effect_token))
+            task.connection.execute(row, (task.key, "book", task.idempotency_key))
             if task.input == "once" and task.attempt == 1:
                 raise ValueError("behind its row")
             until = time.monotonic() + 30
@@ -195,7 +196,7 @@ class Shop:
         @book.compensation(timeout=60)
         async def unbook(task: Any) -> None:
             self.note(task)
-            await task.connection.execute(row, (task.key, "unbook", task.effect_token))
+            await task.connection.execute(row, (task.key, "unbook", task.idempotency_key))
 
         @bank.step(needs=[book])
         def check(task: Any) -> None:

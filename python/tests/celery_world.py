@@ -24,12 +24,12 @@ from typing import Any
 
 import celery
 import psycopg
+from witness import Witness
+from world import QUICK, Eye, World, chance, one
 
 import sagas
 import sagas.celery
-from sagas.remote import Order
-from witness import Witness
-from world import QUICK, Eye, World, chance, one
+from sagas.core.dispatch import Order
 
 PAUSE = 0.001
 TIMEOUT = 4.0
@@ -101,26 +101,26 @@ class Remote(World):
         """Three steps in a row, with misses and compensations."""
         chain, there = sagas.Saga("chain"), self.queue
 
-        @chain.step(keep=9, undo=1, run_on=there, timeout=TIMEOUT, backoff=QUICK)
+        @chain.step(keep=9, undo=1, queue=there, timeout=TIMEOUT, backoff=QUICK)
         async def reserve(task: Any) -> Any:
             await asyncio.sleep(PAUSE)
             return self.act(task, 0.05)
 
-        @reserve.compensation(tries=3, backoff=QUICK, timeout=TIMEOUT)
+        @reserve.compensation(tries=3, backoff=QUICK, timeout=TIMEOUT, on_exhausted="fail")
         async def release(task: Any) -> None:
             self.act(task, 0.3)
 
-        @chain.step(needs=[reserve], tries=3, backoff=QUICK, keep=9, undo=1, run_on=there, timeout=TIMEOUT)
+        @chain.step(needs=[reserve], tries=3, backoff=QUICK, keep=9, undo=1, queue=there, timeout=TIMEOUT)
         def charge(task: Any) -> Any:
             return self.act(task, 0.3, unknown=0.1)
 
-        @charge.compensation(backoff=QUICK, timeout=TIMEOUT)
+        @charge.compensation(backoff=QUICK, timeout=TIMEOUT, on_exhausted="fail")
         def refund(task: Any) -> None:
             self.act(task, 0.05, unknown=0.1)
 
         if not self._old:
 
-            @chain.step(needs=[charge], tries=2, backoff=QUICK, run_on=there, timeout=TIMEOUT)
+            @chain.step(needs=[charge], tries=2, backoff=QUICK, queue=there, timeout=TIMEOUT)
             def ship(task: Any) -> Any:
                 return self.act(task, 0.4)
 
@@ -130,27 +130,27 @@ class Remote(World):
         """A diamond with prices."""
         trip, there = sagas.Saga("trip"), self.queue
 
-        @trip.step(run_on=there, timeout=TIMEOUT, backoff=QUICK)
+        @trip.step(queue=there, timeout=TIMEOUT, backoff=QUICK)
         def flight(task: Any) -> Any:
             return self.act(task, 0.1)
 
-        @trip.step(needs=[flight], keep=8, undo=2, backoff=QUICK, run_on=there, timeout=TIMEOUT)
+        @trip.step(needs=[flight], keep=8, undo=2, backoff=QUICK, queue=there, timeout=TIMEOUT)
         def hotel(task: Any) -> Any:
             return self.act(task, 0.2, unknown=0.1)
 
-        @hotel.compensation(timeout=TIMEOUT)
+        @hotel.compensation(timeout=TIMEOUT, on_exhausted="fail")
         def cancel_hotel(task: Any) -> None:
             self.act(task, 0.0)
 
-        @trip.step(needs=[flight], keep=8, undo=5, tries=2, backoff=QUICK, run_on=there, timeout=TIMEOUT)
+        @trip.step(needs=[flight], keep=8, undo=5, tries=2, backoff=QUICK, queue=there, timeout=TIMEOUT)
         def car(task: Any) -> Any:
             return self.act(task, 0.2)
 
-        @car.compensation(timeout=TIMEOUT)
+        @car.compensation(timeout=TIMEOUT, on_exhausted="fail")
         def cancel_car(task: Any) -> None:
             self.act(task, 0.1)
 
-        @trip.step(needs=[hotel, car], skip=3, run_on=there, timeout=TIMEOUT, backoff=QUICK)
+        @trip.step(needs=[hotel, car], skip=3, queue=there, timeout=TIMEOUT, backoff=QUICK)
         def tour(task: Any) -> Any:
             return self.act(task, 0.3)
 
@@ -160,7 +160,7 @@ class Remote(World):
         """A saga that may be stuck."""
         must, there = sagas.Saga("must"), self.queue
 
-        @must.step(skip=sagas.NEVER, tries=2, backoff=QUICK, run_on=there, timeout=TIMEOUT)
+        @must.step(skip=sagas.NEVER, tries=2, backoff=QUICK, queue=there, timeout=TIMEOUT)
         def machine(task: Any) -> Any:
             return self.act(task, 0.4)
 
@@ -178,7 +178,7 @@ class Remote(World):
         async def order(task: Any) -> Any:
             return self.act(task, 0.05, unknown=0.1)
 
-        @order.compensation(tries=2, backoff=QUICK, run_on=there, timeout=TIMEOUT)
+        @order.compensation(tries=2, backoff=QUICK, queue=there, timeout=TIMEOUT, on_exhausted="fail")
         def cancel_order(task: Any) -> None:
             self.act(task, 0.2)
 
@@ -186,7 +186,7 @@ class Remote(World):
         async def pause(task: Any) -> Any:
             return self.act(task, 0.1)
 
-        @mixed.step(needs=[pause], limit=2, run_on=there, timeout=TIMEOUT, backoff=QUICK)
+        @mixed.step(needs=[pause], concurrency=2, queue=there, timeout=TIMEOUT, backoff=QUICK)
         async def go(task: Any) -> Any:
             return self.act(task, 0.3)
 
@@ -210,17 +210,17 @@ async def surely(world: World, store: sagas.Store, number: int) -> None:
     while True:
         try:
             return await one(world, store, number)
-        except sagas.StoreUnwritable:
+        except sagas.StoreUnavailable:
             await asyncio.sleep(0.1)
 
 
 async def main(world: World, store: str, count: int) -> None:
     """Opens the store, again and again while it is away."""
     while True:
-        opened = sagas.open(store, world.sagas, concurrency=32, children=4, grace=0.5, node=os.environ.get("SAGAS_TEST_NODE", "owner"), lease=LEASE)
+        opened = sagas.open(store, world.sagas, concurrency=32, engine_processes=4, shutdown_timeout=0.5, node=os.environ.get("SAGAS_TEST_NODE", "owner"), lease=LEASE)
         try:
             await opened.__aenter__()
-        except sagas.StoreUnwritable:
+        except sagas.StoreUnavailable:
             await asyncio.sleep(0.1)
             continue
         try:

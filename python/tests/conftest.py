@@ -6,8 +6,11 @@ import pathlib
 from collections.abc import Iterator
 
 import pytest
-
 from server import Server, serving
+
+from sagas.core import states
+
+states.Check.is_on = True
 
 
 @pytest.fixture(scope="session")

@@ -11,7 +11,6 @@ import pkgutil
 import shutil
 
 import pytest
-
 import wrong_stores
 from kills_nodes import play
 from server import Server

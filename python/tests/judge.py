@@ -90,6 +90,17 @@ def ends_of(log: LogRows, steps: list[str], number: int) -> Iterator[Event]:
         misses[step, kind] += word in ("missed", "undo_missed")
 
 
+KEPT = {"completed": "ended", "recovered": "ended", "stuck": "stuck"}
+"""The phases that a caller is told, and what the store keeps of them."""
+
+
+def told(phase: str | None, end: Json) -> tuple[str, list[str]]:
+    """The phase and the states that a caller is told of an end."""
+    by_plan = (end["answer"] or {}).get("kind") == "plan"
+    words = ["undo_failed" if state == "fixed" else state for state in end["states"]]
+    return "stuck" if phase == "stuck" else "recovered" if by_plan else "completed", words
+
+
 class Judge:
     """One store, one witness."""
 
@@ -170,7 +181,7 @@ class Judge:
         for note in self.notes:
             what, key = note["what"], note.get("key")
             if what in ("started", "finished", "aborted", "over"):
-                if not note["there"] or what == "over" and note["there"] != note["phase"]:
+                if not note["there"] or what == "over" and note["there"] != KEPT.get(note["phase"]):
                     fault("told-early", note)
                 row = sagas.get(key or "")
                 if row is None or what == "aborted" and not (row.end and row.end["aborted"]):
@@ -180,9 +191,9 @@ class Judge:
 
     def _over(self, note: Json, row: SagaRow) -> None:
         states = list(note["states"].values())
-        if row.end is None or (note["phase"], states) != (row.phase, row.end["states"]):
+        if row.end is None or (note["phase"], states) != told(row.phase, row.end):
             self.verdict.fault("told-otherwise", f"{note}: kept is {row.phase} {row.end}")
-        standing = {step for step, state in note["states"].items() if state in ("committed", "fixed")}
+        standing = {step for step, state in note["states"].items() if state in ("committed", "undo_failed")}
         if set(note["results"]) != standing:
             self.verdict.fault("told-otherwise", f"{note['key']}: results of {set(note['results'])}, {standing} stand")
         for step, value in note["results"].items():
@@ -202,7 +213,7 @@ class Judge:
                 fault("begun-early", note)
             if note["input"] != {"i": int(note["key"][1:])}:
                 fault("input", note)
-            if note["token"] != f"{note['effect_token']}-{note['attempt']}":
+            if note["token"] != f"{note['idempotency_key']}-{note['attempt']}":
                 fault("tokens", note)
         for attempt, given in tokens.items():
             if len(given) > 1:

@@ -29,7 +29,6 @@ from collections import Counter
 from dataclasses import dataclass
 
 import psycopg
-
 from judge import judge
 from kills import Round, Striker
 from relay import Relay, relaying
@@ -43,7 +42,7 @@ CREATE TABLE kinds(kind text PRIMARY KEY); INSERT INTO kinds VALUES ('good');
 CREATE TABLE book(token text, note text, kind text REFERENCES kinds DEFERRABLE INITIALLY DEFERRED);
 """
 """Where the steps inside have their effects."""
-TABLES = ("nodes", "logs", "lines", "sagas", "results", "held")
+TABLES = ("nodes", "shards", "event_log", "sagas", "attempts", "suspensions")
 
 
 @dataclass

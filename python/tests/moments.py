@@ -15,17 +15,24 @@ from collections.abc import AsyncIterator, Awaitable, Callable, Iterator, Sequen
 from typing import Any
 
 import psycopg
-
-import sagas
 from cases import until
 from judge import judge
-from relay import Relay, relaying
 from kills_nodes import BOOK, noted
-from sagas import carried, leases, loads_postgresql, postgresql, postgresql_commit, step_commit
-from sagas.coordinator import Coordinator
+from relay import Relay, relaying
 from server import Server
 from witness import Witness, witness_at
-from world import Eye, World, started
+from world import ROW, Eye, World, started
+
+import sagas
+from sagas.runtime.coordinator import Coordinator
+from sagas.storage.postgresql import (
+    commit_statement,
+    node_lease,
+    shard_loader,
+    step_commit,
+    step_connections,
+    storage,
+)
 
 COMMIT = b'"event":"commit"'  # as a word of its own: there is one row of each kind
 """What stands in the statement that keeps a step's end."""
@@ -39,6 +46,7 @@ class Node(World):
         self.called: list[tuple[str, str]] = []
         self.gates: dict[tuple[str, str], asyncio.Event] = defaultdict(asyncio.Event)
         self.gated, self.loop = gates, asyncio.get_running_loop()
+        self.refused: set[tuple[str, str]] = set()
         super().__init__(witness, Eye(url))
         self.sagas = [self.pair(inside), self.plain()] if inside else [self.pair(inside)]
 
@@ -47,6 +55,9 @@ class Node(World):
 
         async def call(task: Any) -> Any:
             self.called.append((task.key, task.step))
+            if inside and (task.key, task.step) in self.refused:
+                self.refused.discard((task.key, task.step))
+                await task.connection.execute(ROW, (*self.row(task, 0.0)[:2], "bad"))
             value = await self.write(task, 0.0) if inside else self.act(task, 0.0)
             await self.passes(task)
             return value
@@ -144,11 +155,11 @@ class Stage:
 
     def give(self, key: str, name: str) -> None:
         """The log of a saga is another node's from now on, who hears of it; who had it does not."""
-        of = "log = (SELECT id / 1000 FROM sagas.sagas WHERE key = %s)"
+        of = "shard = (SELECT id / 1000 FROM sagas.sagas WHERE key = %s)"
         with psycopg.connect(self.url) as link:
-            taken = link.execute(f"UPDATE sagas.logs SET owner = node, epoch = epoch + 1 FROM sagas.nodes n WHERE {of} AND n.name = %s", (key, name))
+            taken = link.execute(f"UPDATE sagas.shards SET owner = node, epoch = epoch + 1 FROM sagas.nodes n WHERE {of} AND n.name = %s", (key, name))
             assert taken.rowcount == 1
-            link.execute("NOTIFY sagas, 'logs'")
+            link.execute("NOTIFY sagas_nodes, 'logs'")
 
     @contextlib.contextmanager
     def locked(self, table: str) -> Iterator[None]:
@@ -160,8 +171,8 @@ class Stage:
 
 def inner(store: sagas.Store) -> Coordinator:
     """The inside of a store."""
-    assert store._coordinator
-    return store._coordinator
+    assert store._inside
+    return store._inside
 
 
 async def nothing_happens(stage: Stage) -> int:
@@ -180,7 +191,7 @@ async def another_node_has_the_log(stage: Stage) -> int:
         async with stage.node("same") as (second, other):
             await until(lambda: len(second.called) == 2)
             first.gates["k0", "a"].set()
-            await stage.happens(lambda: ("k0", "b") in first.called or not inner(store).pumps)
+            await stage.happens(lambda: ("k0", "b") in first.called or not inner(store).shards.runners)
             for key in ("k0", "k1"):
                 second.gates[key, "a"].set()
             await stage.happens(lambda: len(second.called) == 4)
@@ -198,7 +209,7 @@ async def in_one_commit(stage: Stage, node: Node, store: sagas.Store, keys: Sequ
         await until(stage.waiting)
         for key in keys:
             node.gates[key, "a"].set()
-        await until(lambda: len(inner(store)._queue) == len(keys))
+        await until(lambda: len(inner(store).commits._queue) == len(keys))
     return work
 
 
@@ -212,9 +223,9 @@ async def another_node_has_one_of_two_logs(stage: Stage) -> int:
         before = store.commits
         work.append(await in_one_commit(stage, first, store, ("k0", "k1"), 2))
         await until(lambda: ("k0", "b") in first.called)
-        await until(lambda: ("k1", "b") in first.called or len(inner(store).pumps) == 2)
+        await until(lambda: ("k1", "b") in first.called or len(inner(store).shards.runners) == 2)
         assert store.commits == before + 2
-        if stage.ask("SELECT 1 FROM results JOIN sagas USING (id) WHERE key = 'k1'"):
+        if stage.ask("SELECT 1 FROM attempts JOIN sagas USING (id) WHERE key = 'k1'"):
             stage.found.add("not-its-own")
         second.open_all()
         first.open_all()
@@ -231,8 +242,8 @@ async def another_node_has_the_only_log(stage: Stage) -> int:
         stage.give("k0", "two")
         await until(lambda: second.called)
         first.gates["k0", "a"].set()
-        await until(lambda: ("k0", "b") in first.called or not inner(store).pumps)
-        if stage.ask("SELECT 1 FROM results"):
+        await until(lambda: ("k0", "b") in first.called or not inner(store).shards.runners)
+        if stage.ask("SELECT 1 FROM attempts"):
             stage.found.add("not-its-own")
         second.open_all()
         first.open_all()
@@ -248,15 +259,15 @@ async def a_commit_of_two_logs_comes_late(stage: Stage) -> int:
             await until(lambda: len(node.called) == 4)
             work.append(await in_one_commit(stage, node, store, ("k0", "k1"), 4))  # the statement is prepared behind it, and not parsed when it is cut
             await until(lambda: len(node.called) == 7)
-            with stage.locked("results"):
+            with stage.locked("attempts"):
                 work.append(await in_one_commit(stage, node, store, ("k2", "k3"), 5))
-                late = await until(lambda: not inner(store)._queue and stage.waiting())
+                late = await until(lambda: not inner(store).commits._queue and stage.waiting())
                 relay.before = 1.0
                 relay.cut()
                 with psycopg.connect(stage.url) as link:
-                    link.execute("UPDATE sagas.logs SET epoch = epoch + 1")
+                    link.execute("UPDATE sagas.shards SET epoch = epoch + 1")
             await stage.gone(late)
-            if stage.ask("SELECT 1 FROM results JOIN sagas USING (id) WHERE key IN ('k2', 'k3')"):
+            if stage.ask("SELECT 1 FROM attempts JOIN sagas USING (id) WHERE key IN ('k2', 'k3')"):
                 stage.found.add("came-late")
             relay.before = 0.0
             node.open_all()
@@ -274,10 +285,10 @@ async def a_refused_start_comes_late(stage: Stage) -> int:
                 start = asyncio.create_task(store.start(node.sagas[0], key="late", input={}))
                 late = await until(stage.waiting)
                 relay.cut()
-                with contextlib.suppress(sagas.StoreUnwritable):
+                with contextlib.suppress(sagas.StoreUnavailable):
                     await start
                     stage.found.add("not-refused")
-                await until(lambda: stage.ask("SELECT epoch FROM logs") > [(1,)])
+                await until(lambda: stage.ask("SELECT epoch FROM shards") > [(1,)])
             await stage.gone(late)
     return 2
 
@@ -308,7 +319,7 @@ async def the_commit_takes_long(stage: Stage) -> int:
     async with stage.node("one") as (node, store):
         first = asyncio.create_task(node.one(store, 0))
         await until(lambda: node.called)
-        with stage.locked("lines"):
+        with stage.locked("event_log"):
             second = asyncio.create_task(node.one(store, 1))
             node.gates["k0", "a"].set()
             await until(stage.waiting)
@@ -332,7 +343,7 @@ async def at_once(stage: Stage, looks: bool) -> int:
     """Two nodes whose starts of one key wait for the same table."""
     async with stage.node("one", gates=False) as (first, store), stage.node("two", gates=False) as (second, other):
         for one in (store, other):
-            one._guessing.told(was_there=looks)  # so that its next keys are looked for, or are not
+            one._lookup.guessing.told(was_there=looks)  # so that its next keys are looked for, or are not
         with stage.locked("sagas"):
             work = [asyncio.create_task(first.one(store, 0)), asyncio.create_task(second.one(other, 0))]
             await until(lambda: len(stage.waiting()) == 2)
@@ -357,7 +368,7 @@ async def a_node_lives(stage: Stage) -> int:
 
 
 async def steps_are_inside(stage: Stage) -> int:
-    """As `nothing_happens`, of steps inside the database, each of which is alone."""
+    """As `nothing_happens`, of steps inside the database."""
     async with stage.node("one", gates=False, inside=True) as (node, store):
         for number in range(4):
             await stage.over(node.one(store, number))
@@ -365,14 +376,14 @@ async def steps_are_inside(stage: Stage) -> int:
 
 
 async def another_node_has_the_log_of_a_step_inside(stage: Stage) -> int:
-    """A step inside ends, alone, when its log is another's, who has called it too."""
+    """A step inside ends when its log is another's, who has called it too."""
     async with stage.node("same", inside=True) as (first, store):
         work = asyncio.create_task(first.one(store, 0))
         await until(lambda: first.called)
         async with stage.node("same", inside=True) as (second, other):
             await until(lambda: second.called)
             first.gates["k0", "a"].set()
-            await stage.happens(lambda: ("k0", "b") in first.called or not inner(store).pumps)
+            await stage.happens(lambda: ("k0", "b") in first.called or not inner(store).shards.runners)
             second.open_all()
             await stage.happens(lambda: all(phase for (phase,) in stage.ask("SELECT phase FROM sagas")))
             first.open_all()
@@ -389,8 +400,8 @@ async def another_node_has_the_logs_of_steps_inside(stage: Stage) -> int:
             await until(lambda: len(second.called) == 3)
             for number in range(3):
                 first.gates[f"k{number}", "a"].set()
-            await until(lambda: not inner(store).pumps)
-            if stage.ask("SELECT id FROM results UNION ALL SELECT 0 FROM public.book"):
+            await until(lambda: not inner(store).shards.runners)
+            if stage.ask("SELECT id FROM attempts UNION ALL SELECT 0 FROM public.book"):
                 stage.found.add("not-its-own")
             second.open_all()
             first.open_all()
@@ -398,26 +409,17 @@ async def another_node_has_the_logs_of_steps_inside(stage: Stage) -> int:
     return 3
 
 
-async def the_commit_of_a_step_inside_takes_long(stage: Stage) -> int:
-    """Nobody can write lines while a step inside ends, alone; another saga's was there before, so that the next step has a connection."""
-    async with stage.node("one", inside=True) as (node, store):
-        work, other = asyncio.create_task(node.one(store, 0)), asyncio.create_task(node.one(store, 1))
-        await until(lambda: len(node.called) == 2)
-        for name in ("a", "b"):
-            node.gates["k1", name].set()
-        await stage.over(other)
-        with stage.locked("lines"):
-            node.gates["k0", "a"].set()
-            await until(stage.waiting)
-            await asyncio.sleep(0.05)  # what would be done before the commit is done by now
-        node.open_all()
-        await stage.over(work)
-    return 2
+async def the_commit_of_a_step_inside_is_refused(stage: Stage) -> int:
+    """By a constraint that is looked at in the commit, at the first try."""
+    async with stage.node("one", gates=False, inside=True) as (node, store):
+        node.refused.add(("k0", "a"))
+        await stage.over(node.one(store, 0))
+    return 1
 
 
 async def the_answer_to_a_step_inside_is_lost(stage: Stage) -> int:
     """The same, of a step's own transaction."""
-    return await the_answer_to_a_commit_is_lost(stage, b"EXECUTE sagas_carry(", inside=True)
+    return await the_answer_to_a_commit_is_lost(stage, b"EXECUTE sagas_record(", inside=True)
 
 
 MOMENTS = {
@@ -426,7 +428,7 @@ MOMENTS = {
         nothing_happens, another_node_has_the_log, another_node_has_one_of_two_logs,
         another_node_has_the_only_log, a_commit_of_two_logs_comes_late, a_refused_start_comes_late,
         the_answer_to_a_commit_is_lost, the_commit_takes_long, two_nodes_start_a_key_at_once, two_nodes_guess_a_key_at_once, a_node_lives, steps_are_inside,
-        another_node_has_the_log_of_a_step_inside, another_node_has_the_logs_of_steps_inside, the_commit_of_a_step_inside_takes_long,
+        another_node_has_the_log_of_a_step_inside, another_node_has_the_logs_of_steps_inside, the_commit_of_a_step_inside_is_refused,
         the_answer_to_a_step_inside_is_lost,
     )
 }
@@ -436,11 +438,11 @@ MOMENTS = {
 def applied(name: str | None) -> Iterator[None]:
     """A wrong store in place of the right one, until the block ends."""
     owners: list[Any] = [
-        postgresql, postgresql.PostgreSQL, postgresql_commit, postgresql_commit.Commit, leases, loads_postgresql, carried.Carried, step_commit,
+        storage, storage.PostgreSQL, commit_statement, commit_statement.Commit, node_lease, shard_loader, step_commit, step_connections.AsyncStepLink,
     ]  # fmt: skip
     before = [dict(vars(owner)) for owner in owners]
-    parts = dict(postgresql_commit.PARTS)
-    postgresql_commit.statement.cache_clear()
+    parts = dict(commit_statement.PARTS)
+    commit_statement.statement.cache_clear()
     if name:
         importlib.import_module(f"wrong_stores.{name}").apply()
     try:
@@ -452,9 +454,9 @@ def applied(name: str | None) -> Iterator[None]:
                     setattr(owner, word, was[word])
                 else:  # as what a warning leaves in the module that it was told in
                     delattr(owner, word)
-        postgresql_commit.PARTS.clear()
-        postgresql_commit.PARTS.update(parts)
-        postgresql_commit.statement.cache_clear()
+        commit_statement.PARTS.clear()
+        commit_statement.PARTS.update(parts)
+        commit_statement.statement.cache_clear()
 
 
 def play(server: Server, name: str, wrong: str | None = None) -> tuple[set[str], list[str]]:

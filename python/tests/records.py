@@ -6,12 +6,12 @@ import contextlib
 import json
 import pathlib
 import sqlite3
-import tomllib
 from collections.abc import Callable, Iterator
 from dataclasses import dataclass, field
 from typing import Any
 
 import psycopg
+import tomllib
 
 Json = dict[str, Any]
 ROOM = 1000
@@ -95,17 +95,17 @@ def read(store: pathlib.Path | str) -> Records:
     with rows(store) as ask:
         logs = {
             log: LogRows(log, name, bool(closed), json.loads(texts))
-            for log, name, closed, texts in ask("SELECT log, name, closed, texts FROM logs JOIN shelves USING (shelf) ORDER BY log")
+            for log, name, closed, texts in ask("SELECT shard, name, closed, texts FROM shards JOIN definition_sets USING (definition_set) ORDER BY shard")
         }
-        for log, first, text in ask("SELECT log, first, text FROM lines ORDER BY log, first"):
+        for log, first, text in ask("SELECT shard, first_seq, text FROM event_log ORDER BY shard, first_seq"):
             logs[log].chunks.append((first, text))
         sagas = {
             key: SagaRow(id, key, place, json.loads(text), phase, json.loads(end) if end else None)
-            for id, key, place, text, phase, end in ask('SELECT id, key, def, input, phase, "end" FROM sagas')
+            for id, key, place, text, phase, end in ask('SELECT id, key, definition_index, input, phase, outcome FROM sagas')
         }
         results = {
             (id, step, kind, attempt): Outcome(outcome, json.loads(value) if value else None)
-            for id, step, kind, attempt, outcome, value in ask("SELECT id, step, kind, attempt, outcome, value FROM results")
+            for id, step, kind, attempt, outcome, value in ask("SELECT id, step, action, number, event, value FROM attempts")
         }
         return Records(logs, sagas, results)
 

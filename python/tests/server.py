@@ -16,7 +16,7 @@ from collections.abc import Iterator
 
 import psycopg
 
-from sagas import command
+from sagas.cli import store_command
 
 OTHER = 65534
 """The user as whom the server runs where this one is root, as whom it refuses."""
@@ -116,7 +116,7 @@ class Server:
         with psycopg.connect(url, autocommit=True) as link:
             if link.execute("SELECT 1 FROM pg_roles WHERE rolname = 'app'").fetchone() is None:
                 link.execute("CREATE ROLE app LOGIN")
-        assert command.main([url, "init", "--role", "app"]) == 0
+        assert store_command.main([url, "init", "--role", "app"]) == 0
         return self.url(url.rpartition("/")[2], user="app")
 
     def drop(self, url: str) -> None:

@@ -100,16 +100,16 @@ class Callers:
     def _one(self, clients: list[httpx.Client], number: int) -> None:
         key, note = f"k{number}", self.witness.note
         body = {"definition": NAMES[number % 4], "key": key, "input": {"i": number}}
-        answer = self._ask(clients, lambda client: client.post("/sagas", json=body))
+        answer = self._ask(clients, lambda client: client.post("/v1/sagas", json=body))
         if answer.status_code not in (200, 201):
             self.faults.append(f"{key}: {answer.status_code} {answer.text}")
             return
         note(what="started", key=key, there=self.eye.phase(key)[0])
-        if number % 17 == 0 and self._ask(clients, lambda client: client.post(f"/sagas/{key}/abort", json={"note": "for a try"})).json()["aborted"]:
+        if number % 17 == 0 and self._ask(clients, lambda client: client.post(f"/v1/sagas/{key}/abort", json={"note": "for a try"})).json()["aborted"]:
             note(what="aborted", key=key, there=self.eye.aborts(key))
         end: dict[str, Any] = {"over": False}
         while not end["over"]:
-            end = self._ask(clients, lambda client: client.get(f"/sagas/{key}/wait?seconds=5")).json()
+            end = self._ask(clients, lambda client: client.get(f"/v1/sagas/{key}/wait?seconds=5")).json()
         told = {"phase": end["phase"], "states": end["states"], "results": end["results"], "cost": (end["plan"] or {}).get("cost"), "aborted": end["aborted"]}
         note(what="over", key=key, there=self.eye.phase(key)[1], **told)
 
@@ -120,7 +120,7 @@ class Callers:
                     clients.append(clients.pop(0))
                     for key in self.eye.asked():
                         value = expected(key, "approve")
-                        if clients[0].post(f"/sagas/{key}/steps/approve", json={"result": value}).status_code == 200:
+                        if clients[0].post(f"/v1/sagas/{key}/steps/approve/complete", json={"result": value}).status_code == 200:
                             self.witness.note(what="finished", key=key, there=self.eye.finished(key, value))
                 self.over.wait(0.1)
 

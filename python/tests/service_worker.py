@@ -11,11 +11,12 @@ import pathlib
 import random
 from typing import Any
 
-import sagas
-from sagas.server import definitions
-from sagas.worker import ServiceRefused
 from witness import Witness
 from world import Eye, World
+
+import sagas
+from sagas.api.service_connection import ServiceRefused
+from sagas.server import definition_files
 
 LATE = """format = 2
 name = "late"
@@ -59,17 +60,22 @@ class Bare(World):
 
     def __init__(self, witness: Any, eye: Eye, folder: pathlib.Path) -> None:
         self.witness, self.eye = witness, eye
-        self.sagas = definitions.read(folder)
+        self.sagas = definition_files.read(folder)
 
 
 class Twice(sagas.Worker):
     """It sends some reports twice; the second one is found to be the same."""
 
-    def _until_told(self, path: str, body: dict[str, Any], giving_up: bool = False) -> dict[str, Any] | None:
-        told = super()._until_told(path, body, giving_up)
+    def __init__(self, *words: Any, **more: Any) -> None:
+        super().__init__(*words, **more)
+        self._right = self._service.until_told
+        self._service.until_told = self._twice  # type: ignore[method-assign]
+
+    def _twice(self, path: str, body: dict[str, Any], giving_up: bool = False) -> dict[str, Any] | None:
+        told = self._right(path, body, giving_up)
         if told and "kept" in told and random.random() < 0.2:
             try:
-                again = super()._until_told(path, {name: value for name, value in body.items() if name != "next"})
+                again = self._right(path, {name: value for name, value in body.items() if name != "next"})
                 assert again and again["repeated"], (path, body, again)
             except ServiceRefused as refusal:  # of an unknown outcome a service knows no more when it has started again, and its lease is none
                 assert refusal.status == 409 and path.endswith("/unknown"), (path, body, refusal)
@@ -83,7 +89,8 @@ def texts() -> dict[str, str]:
     found["late.toml"] = LATE
     for name in ("chain", "trip", "must", "late"):
         steps = [step for saga, step, kind in RATES if saga == name and kind == "run"]
-        found[f"{name}.service.toml"] = "".join(f"[step.{step}]\nbackoff = {{ first = 0.01, most = 0.05 }}\n" for step in steps)
+        manner = 'backoff = { initial = 0.01, maximum = 0.05 }\nundo_on_exhausted = "fail"\n'
+        found[f"{name}.service.toml"] = "".join(f"[step.{step}]\n{manner}" for step in steps)
     found["late.service.toml"] += '[step.approve]\nkind = "approval"\n'
     return found
 

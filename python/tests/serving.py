@@ -12,8 +12,8 @@ from collections.abc import Iterator, Sequence
 from contextlib import contextmanager
 from typing import Any
 
+import contract
 import httpx
-
 from driving import program
 
 HERE = pathlib.Path(__file__).resolve().parent
@@ -71,12 +71,13 @@ undo = "never"
 """
 DEFINITIONS = {
     "trip.toml": TRIP,
-    "trip.service.toml": "[step.tour]\nbackoff = { first = 0.05 }\nunknown_most = 0\n",
+    "trip.service.toml": "[step.tour]\nbackoff = { initial = 0.05 }\nmax_unknown = 0\n"
+    '[step.car]\nundo_on_exhausted = "fail"\n',
     "order.toml": ORDER,
     "order.service.toml": '[step.review]\nkind = "approval"\n',
     "licence.toml": LICENCE,
     "few.toml": FEW,
-    "few.service.toml": "[step.a]\nlimit = 2\nbackoff = { first = 0.05 }\n",
+    "few.service.toml": "[step.a]\nconcurrency = 2\nbackoff = { initial = 0.05 }\n",
 }
 
 
@@ -147,7 +148,8 @@ class Served:
     def client(self, token: str | None = None, **words: Any) -> httpx.Client:
         """A client of it; it does not follow anybody's proxy."""
         headers = {"Authorization": f"Bearer {token}"} if token else {}
-        return httpx.Client(base_url=self.url, timeout=LONG, trust_env=False, headers=headers, **words)
+        hooks = {"response": [contract.check]}  # each answer is as the OpenAPI document has it
+        return httpx.Client(base_url=self.url, timeout=LONG, trust_env=False, headers=headers, event_hooks=hooks, **words)
 
     def told(self) -> str:
         """What it has logged."""
@@ -173,27 +175,33 @@ def token(folder: pathlib.Path, name: str, *roles: str) -> str:
 
 def take(client: httpx.Client, *steps: str, wait: float = 30, lease: float = 600, most: int = 1) -> list[dict[str, Any]]:
     """Takes tasks."""
-    answer = client.post("/tasks/take", json={"steps": steps, "wait": wait, "lease": lease, "most": most, "worker": "w"})
+    answer = client.post("/v1/tasks/claim", json={"steps": steps, "wait": wait, "lease": lease, "limit": most, "worker": "w"})
     assert answer.status_code == 200, answer.text
     found: list[dict[str, Any]] = answer.json()["tasks"]
     return found
 
 
-def report(client: httpx.Client, task: dict[str, Any], word: str = "done", **more: Any) -> httpx.Response:
+def error_of(answer: httpx.Response) -> str:
+    """The name of an answer's problem."""
+    told: dict[str, Any] = answer.json()
+    return str(told["type"]).rpartition(":")[2]
+
+
+def report(client: httpx.Client, task: dict[str, Any], word: str = "complete", **more: Any) -> httpx.Response:
     """Reports a task."""
-    return client.post(f"/tasks/{task['token']}/{word}", json={"lease": task["lease"], **more})
+    return client.post(f"/v1/tasks/{task['attempt_id']}/{word}", json={"lease": task["lease"], **more})
 
 
 def start(client: httpx.Client, definition: str, key: str, given: Any = None) -> httpx.Response:
     """Starts a saga."""
-    return client.post("/sagas", json={"definition": definition, "key": key, "input": given})
+    return client.post("/v1/sagas", json={"definition": definition, "key": key, "input": given})
 
 
 def all_done(client: httpx.Client, *steps: str, failing: Sequence[str] = ()) -> None:
     """Does these tasks, one after the other, each once it is there."""
     for step in steps:
         (task,) = take(client, step)
-        answer = report(client, task, "failed", error="no", final=True) if step in failing else report(client, task, result={"of": task["step"]})
+        answer = report(client, task, "fail", error="no", final=True) if step in failing else report(client, task, result={"of": task["step"]})
         assert answer.status_code == 200, answer.text
 
 
@@ -201,4 +209,4 @@ def stuck(client: httpx.Client, key: str) -> None:
     """A saga that is stuck."""
     assert start(client, "licence", key).status_code == 201
     all_done(client, "licence/server", "licence/licence", failing=["licence/licence"])
-    assert client.get(f"/sagas/{key}/wait").json()["phase"] == "stuck"
+    assert client.get(f"/v1/sagas/{key}/wait").json()["phase"] == "stuck"

@@ -5,19 +5,19 @@ from __future__ import annotations
 import pytest
 
 import sagas
-from sagas import requests
+from sagas.storage import operator_requests
 
 
 @pytest.mark.parametrize("name", ["annotations", "SagasError", "Later", "__doc__", "", "no: "])
 def test_an_answer_that_names_no_error_of_this_release(name: str) -> None:
     """It is an error all the same: what answers may be of another release."""
     with pytest.raises(sagas.SagasError) as raised:
-        requests.told({"error": f"{name}: why" if name else "why"})
+        operator_requests.told({"error": f"{name}: why" if name else "why"})
     assert type(raised.value) is sagas.SagasError and str(raised.value)
 
 
 def test_an_answer_that_names_an_error() -> None:
     """It is raised, with why; whatever else is answered is given."""
-    with pytest.raises(sagas.NotWaiting, match="^it is over: it is done$"):
-        requests.told({"error": "NotWaiting: it is over: it is done"})
-    assert requests.told(True) is True and requests.told({"a": 1}) == {"a": 1}
+    with pytest.raises(sagas.StepNotWaiting, match="^it is over: it is done$"):
+        operator_requests.told({"error": "StepNotWaiting: it is over: it is done"})
+    assert operator_requests.told(True) is True and operator_requests.told({"a": 1}) == {"a": 1}

@@ -4,14 +4,16 @@ from __future__ import annotations
 
 import json
 import logging
+import re
 from typing import Any
 
 import pytest
+from cases import QUICK, Task, asked_of, run, until
 
 import sagas
-from cases import QUICK, Task, asked_of, run, until
-from sagas import command
-from sagas.looks import Looks
+from sagas.cli import store_command
+from sagas.inspection import lists
+from sagas.inspection.question import StoreReader
 
 
 def shop() -> sagas.Saga:
@@ -25,12 +27,12 @@ def shop() -> sagas.Saga:
             raise sagas.Fail("none is left")
         return 1
 
-    @take.compensation
+    @take.compensation(on_exhausted="fail")
     def give(task: Task) -> None:
         if task.input == "gone":
             raise sagas.Fail("it is gone")
 
-    @shop.step(needs=[take], unknown_most=0, backoff=QUICK)
+    @shop.step(needs=[take], max_unknown=0, backoff=QUICK)
     def send(task: Task) -> None:
         if task.input == "unknown":
             raise sagas.Unknown("no answer")
@@ -52,7 +54,7 @@ def must() -> sagas.Saga:
 
 Entry = tuple[str, str, str, str | None, bool, str | None]
 WANTED: list[Entry] = [
-    ("stuck", "must", "stuck", None, False, "because of machine"),
+    ("stuck", "must", "stuck", "machine", False, "because of machine: sagas.Fail: broken"),
     ("gone", "shop", "undo_failed", "take", True, "sagas.Fail: it is gone"),
     ("unknown", "shop", "unknown", "send", False, "sagas.Unknown: no answer"),
 ]
@@ -69,7 +71,7 @@ async def fill(store: sagas.Store, kinds: list[sagas.Saga]) -> None:
     await (await store.start(kinds[0], "well-undone")).wait()
     end = await (await store.start(kinds[0], "gone", "gone")).wait()
     first, *_ = str(end).splitlines()
-    assert first == "shop gone: ended, but the compensation of take failed for good"
+    assert first == "shop gone: recovered, but the compensation of take failed permanently"
     await store.start(kinds[0], "unknown", "unknown")
     await until(lambda: asked_of(store))
 
@@ -86,16 +88,17 @@ def test_what_needs_a_person(
         async with sagas.open(place, kinds, on_event=events.append) as store:
             await fill(store, kinds)
             assert told(await store.attention()) == WANTED
-            assert told(await store.attention(most=1)) == WANTED[:1]
-            with pytest.raises(ValueError, match="most=0"):
-                await store.attention(most=0)
+            assert told(await store.attention(limit=1)) == WANTED[:1]
+            with pytest.raises(ValueError, match="limit=0"):
+                await store.attention(limit=0)
             (failed,) = [one for one in events if one.name == "saga_undo_failed"]
-            assert failed.key == "gone" and "the compensation failed for good" in str(failed.detail)
-            looks = Looks(store.reader())
+            assert failed.key == "gone" and "the compensation failed permanently" in str(failed.detail)
+            looks = StoreReader(store.reader())
             try:
-                assert told(looks.attention()) == WANTED
-                assert looks.asked() == {
-                    "stuck": 1, "undo_failed": 1, "unknown": 1, "cannot_decode": 0, "approval": 0,
+                assert told(looks.ask(lists.attention())) == WANTED
+                assert looks.ask(lists.asked()) == {
+                    "stuck": 1, "undo_failed": 1, "unknown": 1, "exhausted": 0, "cannot_decode": 0,
+                    "approval": 0,
                 }
             finally:
                 looks.close()
@@ -104,30 +107,37 @@ def test_what_needs_a_person(
         run(main())
     assert "saga_undo_failed key=gone saga=shop" in caplog.text
     capsys.readouterr()
-    assert command.main([place, "attention", "--json"]) == 0
+    assert store_command.main([place, "attention", "--json"]) == 0
     shown = json.loads(capsys.readouterr().out)
     assert [tuple(one.values())[:-1] for one in shown] == WANTED
-    assert command.main([place, "attention"]) == 0
-    assert "gone     shop  undo failed   take (undo)" in capsys.readouterr().out
+    assert store_command.main([place, "attention"]) == 0
+    assert "gone     shop  undo failed      take (undo)" in capsys.readouterr().out
 
 
 async def by_store(place: str, kinds: list[sagas.Saga]) -> None:
     async with sagas.open(place, kinds) as store:
         await store.resolve("gone", "paid back", by="ann")
-        with pytest.raises(sagas.NotWaiting, match="'well-undone' needs nobody to resolve it"):
+        await store.resolve("gone", "paid back")
+        with pytest.raises(sagas.StepNotWaiting, match="'gone' .* The first note stays"):
+            await store.resolve("gone", "again", by="bob")
+        with pytest.raises(sagas.StepNotWaiting, match="'well-undone' does not need to be resolved"):
             await store.resolve("well-undone", "x")
 
 
 async def by_command(place: str, kinds: list[sagas.Saga]) -> None:
-    assert command.main([place, "resolve", "gone", "--note", "paid back"]) == 0
-    assert command.main([place, "resolve", "well-undone", "--note", "x"]) == 1
+    for note, status in (("paid back", 0), ("again", 1), ("paid back", 0)):
+        assert store_command.main([place, "resolve", "gone", "--note", note]) == status
+    assert store_command.main([place, "resolve", "well-undone", "--note", "x"]) == 1
 
 
 async def by_client(place: str, kinds: list[sagas.Saga]) -> None:
     async with sagas.Client(place) as client:
         assert told(await client.attention()) == WANTED
         await client.resolve("gone", "paid back", by="ann")
-        with pytest.raises(sagas.NotWaiting, match="'well-undone' needs nobody to resolve it"):
+        await client.resolve("gone", "paid back")
+        with pytest.raises(sagas.StepNotWaiting, match="'gone' .* The first note stays"):
+            await client.resolve("gone", "again", by="bob")
+        with pytest.raises(sagas.StepNotWaiting, match="'well-undone' does not need to be resolved"):
             await client.resolve("well-undone", "x")
         with pytest.raises(sagas.NoSuchSaga):
             await client.resolve("nobody", "x")
@@ -135,7 +145,7 @@ async def by_client(place: str, kinds: list[sagas.Saga]) -> None:
 
 def by_plain_client(place: str) -> None:
     with sagas.SyncClient(place) as client:
-        assert told(client.attention(most=2)) == WANTED[:2]
+        assert told(client.attention(limit=2)) == WANTED[:2]
         client.resolve("gone", "paid back")
 
 
@@ -153,9 +163,11 @@ EVERYBODY = [
 
 
 @pytest.mark.parametrize(("place", "who"), EVERYBODY, indirect=["place"])
-def test_one_whose_compensation_failed_is_resolved(place: str, who: Any) -> None:
+def test_one_whose_compensation_failed_is_resolved(
+    place: str, who: Any, capsys: pytest.CaptureFixture[str]
+) -> None:
     """By whoever may: then nothing of it needs a person, and it is in the list of those that are
-    resolved."""
+    resolved. Its first note stays, with its time."""
     kinds = [shop(), must()]
 
     async def first() -> None:
@@ -167,10 +179,10 @@ def test_one_whose_compensation_failed_is_resolved(place: str, who: Any) -> None
             assert told(await store.attention()) == [WANTED[0], WANTED[2]]
             (one,) = await store.list(phase="resolved")
             assert (one.key, one.phase, one.note) == ("gone", "resolved", "paid back")
-            assert await store.list(phase="undo-failed") == []
-            assert [one.key for one in await store.list(phase="ended")] == ["well-undone"]
+            assert await store.list(phase="undo_failed") == []
+            assert [one.key for one in await store.list(phase="recovered")] == ["well-undone"]
             end = await store.wait("gone")
-            assert (end.phase, end.note, end.states["take"]) == ("ended", "paid back", "fixed")
+            assert (end.phase, end.note, end.states["take"]) == ("resolved", "paid back", "undo_failed")
 
     run(first())
     if who is by_plain_client:
@@ -180,3 +192,16 @@ def test_one_whose_compensation_failed_is_resolved(place: str, who: Any) -> None
     else:
         run(who(place, kinds))
     run(then())
+
+    def shell(*words: str) -> str:
+        capsys.readouterr()
+        assert store_command.main([place, *words]) == 0
+        return capsys.readouterr().out
+
+    text = shell("show", "gone")
+    assert re.search(r"^resolved 2.*Z( by ann)?\nnote     paid back$", text, re.M), text
+    log, export = json.loads(shell("log", "gone", "--json")), json.loads(shell("export", "gone"))
+    for notes in (log[-1:], export["notes"]):
+        (one,) = notes
+        assert (one["event"], one["value"]["what"]) == ("note", "resolve")
+        assert one["value"]["note"] == "paid back" and one["at"] > 0

@@ -10,14 +10,18 @@ import pathlib
 from typing import Any
 
 import pytest
+from cases import HOUR, Task, run, until
 
 import sagas
-from cases import HOUR, Task, run, until
-from sagas import command
-from sagas.looks import Looks, SagaView, Stretch, Waits
-from sagas.server.begun import known
+from sagas.cli import store_command
+from sagas.inspection.activity import known
+from sagas.core.history import Stretch
+from sagas.inspection import lists
+from sagas.inspection import saga as one_saga
+from sagas.inspection.question import StoreReader
+from sagas.inspection.views import SagaView, Waits
 
-BOUNDS: dict[str, dict[str, Any]] = {"limit": {"limit": 1}, "fleet_limit": {"fleet_limit": 1}, "rate": {"rate": (1, 3600)}}
+BOUNDS: dict[str, dict[str, Any]] = {"concurrency": {"concurrency": 1}, "fleet_concurrency": {"fleet_concurrency": 1}, "rate_limit": {"rate_limit": (1, 3600)}}
 
 
 def kinds(gate: asyncio.Event) -> dict[str, sagas.Saga]:
@@ -33,18 +37,18 @@ def kinds(gate: asyncio.Event) -> dict[str, sagas.Saga]:
     for word, words in BOUNDS.items():
         found[word].step(name="a", **words)(wait)
     found["backoff"].step(name="a", tries=2, backoff=HOUR)(fail)
-    found["worker"].step(name="a", handler=None)
+    found["worker"].step(name="a", external=True)
     return found
 
 
 def test_without_async(tmp_path: pathlib.Path) -> None:
     """The same."""
     saga = sagas.Saga("one")
-    saga.step(name="a", handler=None)
+    saga.step(name="a", external=True)
     with sagas.open_sync(tmp_path / "x.db", [saga]) as store:
         store.start(saga, "k")
-        run(until(lambda: [one.waits for one in store.begun("k")] == ["worker"]))
-        store.finish("k", "a")
+        run(until(lambda: [one.waits for one in store.active_attempts("k")] == ["worker"]))
+        store.complete("k", "a")
 
 
 def test_what_waited_for_its_time_is_called(place: str) -> None:
@@ -56,13 +60,13 @@ def test_what_waited_for_its_time_is_called(place: str) -> None:
         await gate.wait()
 
     async def main() -> None:
-        async with sagas.open(place, [late], grace=0.0) as store:
-            with contextlib.closing(Looks(store.reader())) as looks:
+        async with sagas.open(place, [late], shutdown_timeout=0.0) as store:
+            with contextlib.closing(StoreReader(store.reader())) as looks:
                 await store.start(late, "k")
-                await until(lambda: [one.waits for one in store.begun("k")] == [""])
-                view = looks.saga("k")
-                assert view and view.held == [] and looks.waits(person=False) == []
-                told = known(view, store.begun("k"), store.now())
+                await until(lambda: [one.waits for one in store.active_attempts("k")] == [""])
+                view = looks.ask(one_saga.view("k"))
+                assert view and view.held == [] and looks.ask(lists.waits(person=False)) == []
+                told = known(view, store.active_attempts("k"), store.now())
                 assert told.running == {("then", False)} and told.held == []
 
     run(main())
@@ -74,21 +78,23 @@ def test_the_store_and_its_program_together() -> None:
     def held(why: str, until: float | None, said: str | None = None, attempt: int = 1) -> Waits:
         return Waits(1, "k", "s", "a", False, attempt, why, 2, 5.0, until, said)
 
-    def told(rows: list[Waits], *begun: sagas.Begun) -> tuple[list[tuple[str, str | None]], bool]:
-        view = SagaView(1, "k", "s", "open", 0.0, None, None, False, None, {}, [], None, rows, [], [Stretch("a", False, 1, 3.0, None, None)], [], "", "x-1")
+    def told(rows: list[Waits], *begun: sagas.ActiveAttempt) -> tuple[list[tuple[str, str | None]], bool]:
+        summary = sagas.Summary(1, "k", "s", "open", 0.0, None, None)
+        stretch = Stretch("a", False, 1, 3.0, None, None)
+        view = SagaView(summary, False, None, None, {}, [], None, rows, [], [], [stretch], [], [], "", "x-1")
         found = known(view, begun, 100.0)
         return [(one.why, one.said) for one in found.held], ("a", False) in found.running
 
-    def begun(waits: str, attempt: int = 1) -> sagas.Begun:
-        return sagas.Begun("a", False, attempt, waits, None)
+    def begun(waits: str, attempt: int = 1) -> sagas.ActiveAttempt:
+        return sagas.ActiveAttempt("a", False, attempt, waits, None)
 
     assert told([]) == ([], False) and told([], begun("")) == ([], True) and told([], begun("", 2)) == ([], False)
-    assert told([], begun("limit")) == ([("limit", None)], False)
-    assert told([held("elsewhere", 101.0, "w")]) == ([("elsewhere", "w")], True)
-    lapsed = [("worker", "the lease of w ran out")], False
-    assert told([held("elsewhere", 99.0, "w")]) == told([held("elsewhere", 99.0, "w")], begun("worker")) == lapsed
+    assert told([], begun("concurrency")) == ([("concurrency", None)], False)
+    assert told([held("external", 101.0, "w")]) == ([("external", "w")], True)
+    lapsed = [("worker", "the lease of w expired")], False
+    assert told([held("external", 99.0, "w")]) == told([held("external", 99.0, "w")], begun("worker")) == lapsed
     assert told([held("unknown", 99.0, "odd")], begun("")) == ([], True)
-    assert told([held("unknown", 99.0, "odd")], begun("limit")) == ([("limit", None)], False)
+    assert told([held("unknown", 99.0, "odd")], begun("concurrency")) == ([("concurrency", None)], False)
     assert told([held("unknown", None, "odd")], begun("unknown")) == ([("unknown", "odd")], False)
 
 
@@ -96,16 +102,16 @@ def test_what_has_begun_says_for_what_it_waits(place: str, capsys: pytest.Captur
     """Its limit, its rate, a back-off, or somebody elsewhere; of what is called the program says that, and of both the command that it has begun."""
 
     async def shown(key: str, *words: str) -> str:
-        assert await asyncio.to_thread(command.main, [place, "show", key, *words]) == 0
+        assert await asyncio.to_thread(store_command.main, [place, "show", key, *words]) == 0
         return capsys.readouterr().out
 
     async def main() -> None:
         gate = asyncio.Event()
         there = kinds(gate)
-        async with sagas.open(place, there.values(), grace=0.0) as store:
+        async with sagas.open(place, there.values(), shutdown_timeout=0.0) as store:
 
             def waits(key: str) -> list[str]:
-                return [one.waits for one in store.begun(key)]
+                return [one.waits for one in store.active_attempts(key)]
 
             for word, kind in there.items():
                 if word in BOUNDS:
@@ -115,13 +121,13 @@ def test_what_has_begun_says_for_what_it_waits(place: str, capsys: pytest.Captur
                 await until(lambda: waits(f"{word}-2") == [word])
                 for key in [f"{word}-1", f"{word}-2"] if word in BOUNDS else [f"{word}-2"]:
                     assert " begun " in await shown(key) and [step["state"] for step in json.loads(await shown(key, "--json"))["steps"]] == ["begun"]
-            ((backoff,),) = [store.begun("backoff-2")]
+            ((backoff,),) = [store.active_attempts("backoff-2")]
             assert (backoff.step, backoff.undo, backoff.attempt) == ("a", False, 2) and backoff.until is not None and backoff.until > store.now() + 3000
-            assert store.begun("nobody") == []
-            for key, says in (("limit-1", "it is called now"), ("limit-2", "it waits for a place of its limit"), ("backoff-2", "it waits for its next try")):
-                with pytest.raises(sagas.NotWaiting, match=f"nobody has to say how it ended: {says}"):
-                    await store.finish(key, "a")
+            assert store.active_attempts("nobody") == []
+            for key, says in (("concurrency-1", "it runs now"), ("concurrency-2", "it waits for a slot of its concurrency"), ("backoff-2", "it waits for its next attempt")):
+                with pytest.raises(sagas.StepNotWaiting, match=f"does not wait for a report: {says}"):
+                    await store.complete(key, "a")
             gate.set()
-            assert (await store.wait("limit-2")).ok and store.begun("limit-2") == []
+            assert (await store.wait("concurrency-2")).ok and store.active_attempts("concurrency-2") == []
 
     run(main())

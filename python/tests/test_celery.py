@@ -12,16 +12,17 @@ from typing import Any, TypeVar
 import celery
 import psycopg
 import pytest
+from brokers import Broker, broker_at
+from cases import ended, until
+from celery_shop import BIG, Seat, Shop, Trip, shop_in
 
 import sagas
 import sagas.celery
 import sagas.testing
-from brokers import Broker, broker_at
-from cases import ended, until
-from celery_shop import BIG, Seat, Shop, Trip, shop_in
-from sagas.calling import Outcome, failure
-from sagas.desks import desk_of
-from sagas.remote import MOST_CARRIED, Order
+from sagas.core.outcomes import SUCCEEDED, Outcome, failure, unknown
+from sagas.core.dispatch import Order
+from sagas.runtime.remote_steps import MOST_CARRIED
+from sagas.storage.worker_session import desk_of
 
 T = TypeVar("T")
 
@@ -50,12 +51,12 @@ def either(broker: Broker, tmp_path: pathlib.Path, place: str) -> Shop:
     return shop_in(broker, tmp_path, place)
 
 
-def order(log: str, number: int = 0, attempt: int = 1, sending: str = "one") -> Order:
-    return Order("slow", 1, "k", log, number, "once", "run", attempt, sending, "null", {}, None)
+def order(log: str, number: int = 0, attempt: int = 1, lease: int = 5) -> Order:
+    return Order("slow", 1, "k", log, number, "once", "run", attempt, lease, "null", {}, None)
 
 
 def done(value: str) -> Outcome:
-    return Outcome("done", f'"{value}"')
+    return Outcome(SUCCEEDED, f'"{value}"')
 
 
 # -- how a step is declared
@@ -76,7 +77,7 @@ def test_tasks_have_names_and_late_acknowledgement(shop: Shop) -> None:
 def test_the_functions_are_still_functions(shop: Shop) -> None:
     """In tests a step is called as it is, and whole sagas run in memory, without a broker."""
     told = sagas.testing.run(shop.trip, Trip("Rome"))
-    assert told.phase == "ended" and told.results["tour"] == {"seat": "Rome"}
+    assert told.phase == "completed" and told.results["tour"] == {"seat": "Rome"}
 
 
 def test_what_cannot_be_declared(shop: Shop, tmp_path: pathlib.Path) -> None:
@@ -90,7 +91,7 @@ def test_what_cannot_be_declared(shop: Shop, tmp_path: pathlib.Path) -> None:
 
     def saga(app: Any, **words: Any) -> sagas.Saga:
         one = sagas.Saga("one")
-        one.step(name="a", run_on=sagas.celery.Queue(app, "q", **words))(lambda task: None)
+        one.step(name="a", queue=sagas.celery.Queue(app, "q", **words))(lambda task: None)
         return one
 
     broker = shop.words["broker"]
@@ -101,8 +102,8 @@ def test_what_cannot_be_declared(shop: Shop, tmp_path: pathlib.Path) -> None:
     app = celery.Celery("c", broker=broker)
     saga(app, store=path)
     run(refused(app, saga(app, store=path), sagas.DefinitionError, "another step has its task"))
-    with pytest.raises(sagas.DefinitionError, match="handler=None"):
-        sagas.Saga("two").step(handler=None, name="a", run_on=shop.queue)  # type: ignore[call-overload]
+    with pytest.raises(sagas.DefinitionError, match="external=True"):
+        sagas.Saga("two").step(external=True, name="a", queue=shop.queue)  # type: ignore[call-overload]
 
 
 def test_a_message_shows_its_attempt() -> None:
@@ -110,7 +111,7 @@ def test_a_message_shows_its_attempt() -> None:
     app = celery.Celery("routed", broker="memory://")
     app.conf.update(sagas_store="unused.db", task_routes={"sagas.slow.once.run": {"queue": "there"}})
     queue = sagas.celery.Queue(app, priority=7, expires=900)
-    sagas.Saga("slow").step(name="once", run_on=queue)(lambda task: None)
+    sagas.Saga("slow").step(name="once", queue=queue)(lambda task: None)
     sent = order("0" * 16)
     run(queue.send(sent))
     with app.connection_for_read() as link, contextlib.closing(link.SimpleQueue("there")) as there:
@@ -136,13 +137,19 @@ async def _a_saga(shop: Shop) -> None:
     async with shop.open() as store:
         good = await ended(store, shop.trip, "good", Trip("Rome"))
         assert good.results == {"flight": Seat(12, "Rome"), "meal": "soup", "tour": {"seat": "Rome"}}
-        assert good.phase == "ended" and good.cost is None
+        assert good.phase == "completed" and good.cost is None
         full = await ended(store, shop.trip, "full", Trip("Rome", "full"))
         assert full.states == {"flight": "undone", "meal": "undone", "tour": "failed"}
         never = await ended(store, shop.trip, "never", Trip("Rome", "never"))
         assert never.states["tour"] == "failed"
         lost = await ended(store, shop.trip, "lost", Trip("Rome", "lost"))
-        assert lost.phase == "ended" and lost.states["tour"] == "committed"
+        assert lost.phase == "completed" and lost.states["tour"] == "committed"
+        assert {call["deadline"] for call in shop.calls()} == {None}
+        timed = await store.start(shop.trip, "timed", Trip("Rome", "never"), deadline=3600)
+        assert (await timed.wait(60)).phase == "recovered"
+        (summary,) = [one for one in await store.list() if one.key == "timed"]
+        told = {(call["step"], call["undo"]): call["deadline"] for call in shop.calls("timed")}
+        assert len(told) == 5 and [*told.values()] == pytest.approx([summary.deadline] * 5, abs=1e-3)
         assert all(said.startswith("yes") for said in (await store.audit()).values())
     own = {call["pid"] for call in shop.calls("good") if call["step"] == "meal"}
     assert own.isdisjoint(call["pid"] for call in shop.calls() if call["step"] != "meal")
@@ -180,7 +187,7 @@ def test_large_texts_are_fetched(either: Shop, tmp_path: pathlib.Path) -> None:
     assert len(sent) == 5 and max(len(repr(order.written())) for order in sent) < MOST_CARRIED
 
 
-async def _large(shop: Shop, fail: bool) -> sagas.End:
+async def _large(shop: Shop, fail: bool) -> sagas.SagaResult:
     async with shop.open() as store:
         end = await ended(store, shop.large, f"large-{fail}", {"letter": "x", "more": "m" * BIG, "fail": fail})
         if not fail:
@@ -202,7 +209,7 @@ async def _soft(shop: Shop) -> None:
         going = await store.start(shop.odd, "k")
         (held,) = await until(store.unknown, 60)
         assert held.error is not None and "SoftTimeLimitExceeded" in held.error
-        await store.finish("k", "long", "by hand")
+        await store.complete("k", "long", "by hand")
         assert (await going.wait()).results == {"long": "by hand"}
 
 
@@ -235,14 +242,14 @@ def test_a_message_is_sent_again(either: Shop, tmp_path: pathlib.Path) -> None:
             await send(order)
 
     either.queue.send = lost  # type: ignore[method-assign]
-    either.slow.steps[0].run.unknown_most = None
+    either.slow.steps[0].run.max_unknown = None
     worker = either.worker(tmp_path)
     try:
         run(_again(either, orders))
-        worker.wait_for("late or came twice", 2)
+        worker.wait_for("a late or repeated message", 2)
     finally:
         worker.kill()
-    assert len({order.token for order in orders}) == 1 and len({order.sending for order in orders}) == len(orders) >= 3
+    assert len({order.token for order in orders}) == 1 and len({order.lease for order in orders}) == len(orders) >= 3
     assert len(either.calls("k")) == 1
 
 
@@ -255,7 +262,7 @@ async def _again(shop: Shop, orders: list[Order]) -> None:
 
 def test_a_worker_of_an_older_definition(shop: Shop, tmp_path: pathlib.Path) -> None:
     """It drops the message of a step that it does not know; one that knows it gets it after the step's time, with the same token."""
-    shop.slow.steps[0].run.unknown_most = None
+    shop.slow.steps[0].run.max_unknown = None
     older = shop.worker(tmp_path, name="older", lacks="sagas.slow.once.run")
 
     async def main() -> None:
@@ -281,12 +288,12 @@ def test_a_program_that_comes_back_finds_the_report(either: Shop, tmp_path: path
     worker = either.worker(tmp_path)
 
     async def sent() -> None:
-        async with either.open(grace=0) as store:
+        async with either.open(shutdown_timeout=0) as store:
             await store.start(either.slow, "k")
             await until(lambda: store.log("k"), 60)
             either.queue.send = held  # type: ignore[method-assign]
             await until(lambda: orders, 60)
-            assert [one.waits for one in store.begun("k")] == ["ordered"]
+            assert [one.waits for one in store.active_attempts("k")] == ["ordered"]
 
     async def held(order: Order) -> None:
         orders.append(order)
@@ -386,7 +393,7 @@ async def _booked(shop: Shop) -> None:
 
 def row(store: str, token: str) -> tuple[str, str]:
     """A report, as the store has it."""
-    query = "SELECT outcome, value FROM reports WHERE token = "
+    query = "SELECT outcome, value FROM external_attempts WHERE attempt = "
     if store.startswith("postgresql:"):
         with psycopg.connect(store, options="-csearch_path=sagas") as link:
             return link.execute(query + "%s", (token,)).fetchone()  # type: ignore[return-value]
@@ -394,8 +401,21 @@ def row(store: str, token: str) -> tuple[str, str]:
         return db.execute(query + "?", (token,)).fetchone()  # type: ignore[no-any-return]
 
 
+def offer(store: str, token: str) -> None:
+    """The row of an attempt that was sent under lease 5."""
+    values = "(?, 0, 5, 0, 'run', 1, '', 0.0, 5)"
+    query = f"INSERT INTO external_attempts(attempt, shard, id, step, action, number, task, offered_at, lease) VALUES {values}"
+    if store.startswith("postgresql:"):
+        with psycopg.connect(store, options="-csearch_path=sagas") as link:
+            link.execute(query.replace("?", "%s"), (token,))  # type: ignore[arg-type]
+    else:
+        with sqlite3.connect(store) as db:
+            db.execute(query, (token,))
+
+
 def test_equal_reports(either: Shop, place: str) -> None:
-    """The first stays; done takes the place of a failure; unknown gives way; once the attempt is settled nothing is taken."""
+    """The first stays; done takes the place of a failure, and of what nobody knew; failures count under the newest lease alone, and
+    nothing under one that was never issued; once the attempt is settled nothing is taken."""
     run(_equal(either, place))
 
 
@@ -408,26 +428,33 @@ async def _equal(shop: Shop, place: str) -> None:
     shop.queue.send = held  # type: ignore[method-assign]
     shop.slow.steps[0].run.timeout = 60.0
     desk = desk_of(place)
-    async with shop.open(concurrency=1, grace=0) as store:
+    async with shop.open(concurrency=1, shutdown_timeout=0) as store:
         going = await store.start(shop.slow, "k")
         await until(lambda: orders, 60)
         log = orders[0].log
 
-        def reported(outcome: Outcome, attempt: int, sending: str = "one") -> tuple[str, str]:
-            told = order(log, 5, attempt, sending)
+        def reported(outcome: Outcome, attempt: int, lease: int = 5) -> tuple[str, str]:
+            told = order(log, 5, attempt, lease)
             desk.report(told, outcome)
             return row(place, told.token)
 
-        for late in (done("a"), done("b"), failure("no"), Outcome("unknown", "x")):
-            assert reported(late, 7) == ("done", '"a"')
-        assert reported(failure("no"), 8)[0] == reported(failure("other", final=True), 8)[0] == reported(Outcome("unknown", "x"), 8)[0] == "failed"
-        assert reported(done("c"), 8) == reported(failure("no"), 8) == ("done", '"c"')
-        assert reported(Outcome("unknown", "x"), 9) == ("unknown", "x") and reported(Outcome("unknown", "y"), 9) == ("unknown", "y")
-        assert reported(failure("no"), 9)[0] == "failed"
+        for attempt in (7, 8, 9, 10):
+            offer(place, order(log, 5, attempt).token)
+        for late in (done("a"), done("b"), failure("no"), unknown("x")):
+            assert reported(late, 7) == ("succeeded", '"a"')
+        assert reported(failure("no"), 8)[0] == reported(failure("other", final=True), 8)[0] == reported(unknown("x"), 8)[0] == "failed"
+        assert reported(done("c"), 8) == reported(failure("no"), 8) == ("succeeded", '"c"')
+        assert reported(unknown("x"), 9) == reported(unknown("y"), 9) == reported(failure("no"), 9) == ("unknown", "x")
+        assert reported(done("d"), 9) == ("succeeded", '"d"')
+        for late, lease in ((failure("no"), 4), (failure("no"), 6), (done("e"), 6)):
+            assert reported(late, 10, lease) == (None, None)
+        assert reported(done("f"), 10, 4) == ("succeeded", '"f"')
+        desk.report(order(log, 5, 11), done("g"))
+        assert row(place, order(log, 5, 11).token) is None
         desk.report(orders[0], done("first"))
         assert (await going.wait()).results == {"once": "first"}
         desk.report(orders[0], done("second"))
-        assert desk.begin(orders[0]) is None and row(place, orders[0].token) == ("taken", None)
+        assert desk.begin(orders[0]) is None and row(place, orders[0].token) == ("settled", None)
         with pytest.raises(sagas.WrongStore, match="another store"):
             desk.begin(order("0" * 16))
     desk.close()
@@ -435,7 +462,7 @@ async def _equal(shop: Shop, place: str) -> None:
 
 def test_a_file_that_is_not_there(tmp_path: pathlib.Path) -> None:
     """A worker makes no store."""
-    with pytest.raises(sagas.WrongStore, match="no such file"):
+    with pytest.raises(sagas.WrongStore, match="does not exist"):
         desk_of(str(tmp_path / "none.db")).begin(order("0" * 16))
     assert not (tmp_path / "none.db").exists()
 
@@ -458,7 +485,7 @@ def test_reports_go_with_their_log(shop: Shop, tmp_path: pathlib.Path) -> None:
         more.step(name="a")(lambda task: None)
         async with sagas.open(path, [*shop.sagas, more]) as store:
             with sqlite3.connect(path) as db:
-                await until(lambda: db.execute("SELECT closed FROM logs").fetchall() == [(1,)], 60)
+                await until(lambda: db.execute("SELECT closed FROM shards").fetchall() == [(1,)], 60)
                 await ended(store, more, "m")
 
     shop.queue.send = answered  # type: ignore[method-assign]
@@ -466,9 +493,9 @@ def test_reports_go_with_their_log(shop: Shop, tmp_path: pathlib.Path) -> None:
     run(first())
     run(other())
     with sqlite3.connect(path) as db:
-        assert db.execute("SELECT count(*) FROM reports").fetchone() == (0,)
+        assert db.execute("SELECT count(*) FROM external_attempts").fetchone() == (0,)
     assert desk.begin(orders[0]) is None
     desk.report(orders[0], done("y"))
     with sqlite3.connect(path) as db:
-        assert db.execute("SELECT count(*) FROM reports").fetchone() == (0,)
+        assert db.execute("SELECT count(*) FROM external_attempts").fetchone() == (0,)
     desk.close()

@@ -9,7 +9,6 @@ import pathlib
 from collections.abc import Iterator
 
 import pytest
-
 from brokers import Broker, broker_at
 from celery_kills import KINDS, NODES, play
 from server import Server

@@ -1,4 +1,4 @@
-"""CELERY.md is run: its code saved, its commands given, their outputs compared; and the example."""
+"""The guide to Celery is run: its code saved, its commands given, their outputs compared; and the example."""
 
 from __future__ import annotations
 
@@ -8,12 +8,13 @@ import re
 import subprocess
 import sys
 
-import sagas
 from brokers import Program, free_port
 
+import sagas
+
 PACKAGE = pathlib.Path(sagas.__file__).resolve().parents[2]
-PAGE = (PACKAGE / "CELERY.md").read_text()
 TOP = PACKAGE.parent
+PAGE = (TOP / "docs" / "guides" / "celery.md").read_text()
 READY = {"redis-server": "Ready to accept", "celery": r" ready\."}
 
 
@@ -63,7 +64,7 @@ def test_the_example() -> None:
     done = subprocess.run([sys.executable, path], cwd=TOP, env=environment, capture_output=True, text=True, timeout=180, check=False)
     assert done.returncode == 0, done.stderr
     said = done.stdout.splitlines()
-    first, second = said.index("trip order-1: ended"), said.index("trip order-2: ended, plan of cost 15")
+    first, second = said.index("trip order-1: completed"), said.index("trip order-2: recovered, plan of cost 15")
     assert said[first + 1 : second] == ["  committed flight", "  committed car", "  committed tour", "all went well"]
     assert said[second + 1 : second + 4] == ["  committed flight", "  undone    car", "  failed    tour: RuntimeError: the tour is full"]
     worker = said[said.index("what the worker did:") + 1 :]

@@ -11,16 +11,18 @@ from typing import Any
 import celery
 import psycopg
 import pytest
+from brokers import Broker, broker_at
+from cases import QUICK, Task, asked_of, ended, run, simple, until
+from test_faults import full
 
 import sagas
 import sagas.celery
-from brokers import Broker, broker_at
-from cases import QUICK, Task, asked_of, ended, run, simple, until
-from sagas import command, reports_postgresql
-from sagas.calling import Outcome
-from sagas.desks import desk_of
-from sagas.remote import Order
-from test_faults import full
+from sagas.cli import store_command
+from sagas.core import outcomes
+from sagas.core.outcomes import Outcome
+from sagas.core.dispatch import Order
+from sagas.storage.worker_session import desk_of
+from sagas.storage.postgresql import worker_session
 
 
 @pytest.fixture(scope="module")
@@ -42,7 +44,7 @@ class Late:
         queue.send = self._lose  # type: ignore[method-assign]
         self.saga = sagas.Saga("late")
 
-        @self.saga.step(run_on=queue, unknown_most=0, backoff=QUICK)
+        @self.saga.step(queue=queue, max_unknown=0, backoff=QUICK)
         def once(task: Task) -> str:
             return "never called here"
 
@@ -55,22 +57,23 @@ class Late:
         async with sagas.open(self.place, [self.saga]) as store:
             await store.start(self.saga, "k")
             await until(lambda: asked_of(store), 30)
+            external = store._inside.external
+            await until(lambda: not (external._is_looking or external._looks_again))
             yield store
 
     @property
     def words(self) -> dict[str, Any]:
         """What its worker's transaction reports."""
         order = self.orders[0]
-        told = {"token": order.token, "log": order.log, "sending": order.sending}
-        return told | {"value": '"by the worker"'}
+        return {"attempt": order.token, "lease": order.lease, "value": '"by the worker"'}
 
 
 @pytest.fixture
 def late(broker: Broker, place: str, monkeypatch: pytest.MonkeyPatch) -> Late:
     """Over both databases; the program hears of no report by itself."""
-    monkeypatch.setattr("sagas.reports_sqlite.LOOK", 3600.0)
-    monkeypatch.setattr("sagas.reports_postgresql.LOOK", 3600.0)
-    monkeypatch.setattr("sagas.reports_postgresql.SAY", "SELECT %(token)s")
+    monkeypatch.setattr("sagas.runtime.external_queue.LOOK", 3600.0)
+    monkeypatch.setattr("sagas.runtime.external_queue.LOOK_AT_FILE", 3600.0)
+    monkeypatch.setattr("sagas.storage.postgresql.worker_session.TELL", "SELECT 1")
     return Late(broker, place)
 
 
@@ -82,14 +85,14 @@ def test_done_was_reported_before(
 
     async def main() -> None:
         async with late.held() as store:
-            desk_of(late.place).report(late.orders[0], Outcome("done", '"by the worker"'))
+            desk_of(late.place).report(late.orders[0], Outcome(outcomes.SUCCEEDED, '"by the worker"'))
             if by == "program":
-                with pytest.raises(sagas.NotWaiting, match="its worker has reported"):
-                    await store.finish("k", "once", failed="I gave up")
+                with pytest.raises(sagas.StepNotWaiting, match="its worker has reported"):
+                    await store.fail("k", "once", "I gave up")
             else:
-                words = [late.place, "finish", "k", "once", "--failed", "I gave up"]
-                assert await asyncio.to_thread(command.main, words) == 1
-                assert "its worker has reported that it is done" in capsys.readouterr().err
+                words = [late.place, "fail", "k", "once", "I gave up"]
+                assert await asyncio.to_thread(store_command.main, words) == 1
+                assert "its worker has reported success" in capsys.readouterr().err
             end = await store.wait("k", 60)
             assert end.ok and end.results == {"once": "by the worker"}
 
@@ -101,9 +104,9 @@ def test_a_failure_that_was_reported_before(late: Late) -> None:
 
     async def main() -> None:
         async with late.held() as store:
-            report = Outcome("failed", '{"error": "no", "final": false, "called": true}')
+            report = Outcome(outcomes.FAILED, '{"error": "no", "final": false, "called": true}')
             desk_of(late.place).report(late.orders[0], report)
-            await store.finish("k", "once", "by hand")
+            await store.complete("k", "once", "by hand")
             assert (await store.wait("k", 60)).results == {"once": "by hand"}
 
     run(main())
@@ -112,7 +115,7 @@ def test_a_failure_that_was_reported_before(late: Late) -> None:
 @pytest.fixture
 def inside(broker: Broker, url: str, monkeypatch: pytest.MonkeyPatch) -> Late:
     """Over PostgreSQL."""
-    monkeypatch.setattr("sagas.reports_postgresql.LOOK", 3600.0)
+    monkeypatch.setattr("sagas.runtime.external_queue.LOOK", 3600.0)
     return Late(broker, url)
 
 
@@ -126,12 +129,12 @@ def test_its_transaction_is_open(inside: Late, commits: bool) -> None:
             await link.execute("CREATE TABLE public.book(key text)")
             await link.commit()
             await link.execute("INSERT INTO public.book VALUES ('k')")
-            assert await (await link.execute(reports_postgresql.RECORD, inside.words)).fetchall()
-            said = asyncio.create_task(store.finish("k", "once", failed="I gave up"))
+            assert await (await link.execute(worker_session.RECORD, inside.words)).fetchall()
+            said = asyncio.create_task(store.fail("k", "once", "I gave up"))
             await until(lambda: blocked(inside.place) or said.done(), 30)
             await (link.commit() if commits else link.rollback())
             if commits:
-                with pytest.raises(sagas.NotWaiting, match="its worker has reported"):
+                with pytest.raises(sagas.StepNotWaiting, match="its worker has reported"):
                     await said
             else:
                 await said
@@ -148,9 +151,9 @@ def test_the_operator_was_first(inside: Late) -> None:
     async def main() -> None:
         link = await psycopg.AsyncConnection.connect(inside.place)
         async with inside.held() as store, link:
-            await store.finish("k", "once", failed="I gave up")
+            await store.fail("k", "once", "I gave up")
             assert not (await store.wait("k", 60)).ok
-            recorded = await link.execute(reports_postgresql.RECORD, inside.words)
+            recorded = await link.execute(worker_session.RECORD, inside.words)
             assert not await recorded.fetchall()
 
     run(main())
@@ -168,7 +171,7 @@ def test_a_program_that_comes_back_takes_a_report(late: Late) -> None:
     async def main() -> None:
         async with late.held():
             pass
-        desk_of(late.place).report(late.orders[0], Outcome("done", '"by the worker"'))
+        desk_of(late.place).report(late.orders[0], Outcome(outcomes.SUCCEEDED, '"by the worker"'))
         async with sagas.open(late.place, [late.saga]) as store:
             assert (await store.wait("k", 60)).results == {"once": "by the worker"}
 
@@ -186,12 +189,12 @@ def test_a_start_that_is_not_kept(
         async with sagas.open(late.place, [before, late.saga]) as store:
             await ended(store, before, "before")  # there is an engine
             with full():
-                with pytest.raises(sagas.StoreUnwritable):
+                with pytest.raises(sagas.StoreUnavailable):
                     await store.start(late.saga, "k")
             await until(lambda: started(store, late.saga))
             await until(lambda: late.orders)
             await until(lambda: asked_of(store), 30)
-            await store.finish("k", "once", "by hand")
+            await store.complete("k", "once", "by hand")
             assert (await store.wait("k", 60)).ok
 
     run(main())
@@ -202,6 +205,6 @@ async def started(store: sagas.Store, kind: sagas.Saga) -> bool:
     """Whether it could be started by now."""
     try:
         await store.start(kind, "k")
-    except sagas.StoreUnwritable:
+    except sagas.StoreUnavailable:
         return False
     return True

@@ -14,7 +14,6 @@ from collections.abc import Iterator
 
 import pytest
 import redis
-
 import wrong_workers
 from brokers import Broker, Program, broker_at
 from cases import run, until
@@ -84,7 +83,7 @@ def test_while_the_function_runs(broker: Broker, tmp_path: pathlib.Path, name: s
                 told = await until(lambda: shop.app.control.inspect().active(), 60)  # asks each second, until a worker answers
                 assert [(task["id"], task["name"]) for task in sum(told.values(), [])] == [(shop.calls("k")[0]["token"], "sagas.held.once.run")]
             shop.release()
-            assert (await going.wait()).phase == "ended"
+            assert (await going.wait()).phase == "completed"
 
     with worker(shop, tmp_path, name):
         run(look())
@@ -97,7 +96,7 @@ def test_when_the_store_cannot_be_written(broker: Broker, tmp_path: pathlib.Path
     shop = shop_in(broker, tmp_path, patience=0.2)
 
     async def look(started: Program) -> None:
-        async with shop.open(grace=0) as store:
+        async with shop.open(shutdown_timeout=0) as store:
             await store.start(shop.held, "k")
             await until(lambda: shop.calls("k"), 60)
             with contextlib.closing(sqlite3.connect(tmp_path / "store.db", isolation_level=None)) as db:

@@ -12,12 +12,12 @@ from collections.abc import Callable
 from typing import Any, Optional
 
 import pytest
+from cases import QUICK, Task, run, until
 
 import sagas
-from cases import QUICK, Task, run, until
-from sagas import values
-from sagas.definition import Manner
-from sagas.task import Told
+from sagas.definition import decoders
+from sagas.definition.step import Manner
+from sagas.definition.task import Told
 
 
 @dataclasses.dataclass
@@ -88,7 +88,7 @@ class Shop:
 
     def shipping(self, hint: Any) -> Callable[[Task], Any]:
         def ship(task: Task) -> None:
-            amount, _ = task.input.amount, task.of("charge")
+            amount, _ = task.input.amount, task.result_of("charge")
             self.calls.append(f"ship {amount}")
             if self.fails:
                 raise TypeError("the application's own")
@@ -104,27 +104,27 @@ async def opened_at(place: str, shop: Shop, *keys: str) -> None:
             await store.start(shop.saga, key, {"amount": 314159})
         await until(
             lambda: sum(any(one.waits == "approval"
-            for one in store.begun(key)) for key in keys) == len(keys)
+            for one in store.active_attempts(key)) for key in keys) == len(keys)
         )
 
 
 async def parked(store: sagas.Store, key: str = "k") -> list[sagas.Attention]:
     """What needs a person, once the saga waits for another program."""
-    await until(lambda: any(one.waits == "cannot_decode" for one in store.begun(key)))
+    await until(lambda: any(one.waits == "cannot_decode" for one in store.active_attempts(key)))
     while not (found := await store.attention()):  # its row is on its way
         await asyncio.sleep(0.005)
     return found
 
 
 @pytest.mark.parametrize("change, why", [
-    ({"ship_as": Wants}, "saga 'shop', step 'ship': input lacks 'address', which Wants needs"),
+    ({"ship_as": Wants}, "saga 'shop', step 'ship': input: missing 'address', which Wants requires"),
     (
         {"ship_as": Old, "gives": Fewer},
-        "saga 'shop', step 'ship': result of 'charge': it is none of the values of Fewer",
+        "saga 'shop', step 'ship': result of 'charge': not a value of Fewer",
     ),
     (
         {"ship_as": Optional[Wants]},
-        "saga 'shop', step 'ship': input lacks 'address', which Wants needs",
+        "saga 'shop', step 'ship': input: missing 'address', which Wants requires",
     ),
 ])
 def test_a_type_that_changed_parks_the_attempt(
@@ -138,16 +138,16 @@ def test_a_type_that_changed_parks_the_attempt(
     async def main() -> None:
         await opened_at(place, Shop(Old), "k")
         async with sagas.open(place, [new.saga], on_event=told.append) as store:
-            told_of = "1 open saga cannot be read by this program"
+            told_of = "this program cannot read 1 open saga"
             assert told_of in caplog.text and "314159" not in caplog.text
-            await store.finish("k", "ok")
+            await store.complete("k", "ok")
             (one,) = await parked(store)
             assert (one.key, one.why, one.step, one.undo, one.detail) == (
                 "k", "cannot_decode", "ship", False, why
             )
             assert one.why is sagas.AttentionReason.CANNOT_DECODE
             with pytest.raises(
-                TimeoutError, match="ship waits for a program that can read what is stored for it"
+                TimeoutError, match="ship waits for a program that can read its stored values"
             ):
                 await store.wait("k", timeout=0.05)
         async with sagas.open(place, [new.saga]) as store:  # it is so again
@@ -160,7 +160,7 @@ def test_a_type_that_changed_parks_the_attempt(
     with caplog.at_level(logging.WARNING):
         run(main())
     assert [one.detail for one in told if one.name == "step_cannot_decode"] == [why]
-    assert not [one for one in told if one.name in ("step_missed", "step_failed", "saga_planned")]
+    assert not [one for one in told if one.name in ("step_retrying", "step_failed", "plan_adopted")]
 
 
 def test_a_compensation_that_cannot_read_waits(place: str) -> None:
@@ -170,7 +170,7 @@ def test_a_compensation_that_cannot_read_waits(place: str) -> None:
     async def main() -> None:
         await opened_at(place, Shop(Old), "k")
         async with sagas.open(place, [new.saga]) as store:
-            await store.finish("k", "ok")
+            await store.complete("k", "ok")
             (one,) = await parked(store)
             assert (one.step, one.undo, one.why) == ("charge", True, "cannot_decode")
             assert "the compensation of step 'charge'" in str(one.detail)
@@ -190,11 +190,11 @@ def test_a_person_may_say_how_it_ended(place: str) -> None:
     async def main() -> None:
         await opened_at(place, Shop(Old), "k")
         async with sagas.open(place, [new.saga]) as store:
-            await store.finish("k", "ok")
+            await store.complete("k", "ok")
             await parked(store)
             # does not wait for what is parked: nothing begins any more
             assert await store.abort("k")
-            await store.finish("k", "ship", failed="it was never shipped")
+            await store.fail("k", "ship", "it was never shipped")
             end = await store.wait("k")
             assert end.aborted and end.states["charge"] == "undone" and new.calls == [
                 "refund 314159"
@@ -246,11 +246,11 @@ def test_another_node_has_it(url: str) -> None:
     async def main() -> None:
         await opened_at(url, Shop(Old), "k", "other")
         async with sagas.open(url, [new.saga], node="new") as store:
-            await store.finish("k", "ok")
+            await store.complete("k", "ok")
             await parked(store)
             async with sagas.open(url, [old.saga], node="old") as older:
                 assert (await older.wait("k", timeout=60)).ok and old.calls == ["ship 314159"]
-                await store.finish("other", "ok")
+                await store.complete("other", "ok")
                 assert (await store.wait("other", timeout=60)).ok
         assert new.calls == []
 
@@ -266,7 +266,7 @@ def test_two_nodes_of_which_none_can(url: str) -> None:
         async with sagas.open(url, [one.saga], node="one") as here, sagas.open(
             url, [two.saga], node="two"
         ):
-            await asyncio.wait_for(here.finish("k", "ok"), 60)
+            await asyncio.wait_for(here.complete("k", "ok"), 60)
             found: list[sagas.Attention] = []
             while not found:
                 found = await here.attention()
@@ -286,10 +286,10 @@ def test_a_worker_of_celery_that_cannot_read_its_order() -> None:
     def reads(task: sagas.Task[Wants]) -> None:
         assert task.input
 
-    hint = values.hints(reads)[0]
+    hint = decoders.hints(reads)[0]
     about = Told("shop", "k", "ship", False, 1, "log-0", '{"amount":314159}', {}, None, hint)
     outcome = worker._call(reads, Manner(reads), sagas.Task(about))
-    said = "saga 'shop', step 'ship': input lacks 'address', which Wants needs"
+    said = "saga 'shop', step 'ship': input: missing 'address', which Wants requires"
     assert (outcome.kind, outcome.value) == ("unknown", said)
 
 
@@ -311,7 +311,7 @@ async def left_open(place: str, saga: sagas.Saga) -> None:
     """A saga that waits to be approved, as a program leaves it."""
     async with sagas.open(place, [saga]) as store:
         await store.start(saga, "old")
-        await until(lambda: any(one.waits == "approval" for one in store.begun("old")))
+        await until(lambda: any(one.waits == "approval" for one in store.active_attempts("old")))
 
 
 def test_a_step_that_was_added(place: str) -> None:
@@ -323,13 +323,13 @@ def test_a_step_that_was_added(place: str) -> None:
     async def main() -> None:
         await left_open(place, before)
         async with sagas.open(place, [after]) as store:
-            await store.finish("old", "ok")
+            await store.complete("old", "ok")
             assert (await store.wait("old", timeout=60)).states == {
                 "ok": "committed", "a": "committed"
             }
             run = await store.start(after, "new")
-            await until(lambda: any(one.waits == "approval" for one in store.begun("new")))
-            await run.finish("ok")
+            await until(lambda: any(one.waits == "approval" for one in store.active_attempts("new")))
+            await run.complete("ok")
             assert list((await run.wait(timeout=60)).states) == ["ok", "a", "b"]
 
     run(main())
@@ -349,11 +349,11 @@ def test_a_step_that_is_gone_or_renamed(place: str) -> None:
                 with pytest.raises(TimeoutError):
                     await store.wait("old", timeout=0.2)
         else:
-            with pytest.raises(sagas.MissingHandler, match="step 'b' has no function"):
+            with pytest.raises(sagas.MissingStep, match="step 'b' has no function"):
                 async with sagas.open(place, [after]):
                     pass
         async with sagas.open(place, [before]) as store:
-            await store.finish("old", "ok")
+            await store.complete("old", "ok")
             assert (await store.wait("old", timeout=60)).ok
 
     run(main())
@@ -368,11 +368,11 @@ def test_both_versions(place: str) -> None:
     async def main() -> None:
         await left_open(place, one)
         async with sagas.open(place, [one, two]) as store:
-            await store.finish("old", "ok")
+            await store.complete("old", "ok")
             assert (await store.wait("old", timeout=60)).ok
             run = await store.start(two, "new")
-            await until(lambda: any(one.waits == "approval" for one in store.begun("new")))
-            await run.finish("ok")
+            await until(lambda: any(one.waits == "approval" for one in store.active_attempts("new")))
+            await run.complete("ok")
             assert (await run.wait(timeout=60)).ok
 
     run(main())
@@ -393,7 +393,7 @@ def test_a_field_that_is_gone_and_a_result_that_has_more(place: str) -> None:
     async def main() -> None:
         await opened_at(place, Shop(Old), "k")
         async with sagas.open(place, [new.saga]) as store:
-            await store.finish("k", "ok")
+            await store.complete("k", "ok")
             assert (await store.wait("k", timeout=60)).ok and new.calls == ["ship none"]
 
     run(main())

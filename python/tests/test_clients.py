@@ -10,14 +10,15 @@ from typing import Any
 
 import psycopg
 import pytest
-from psycopg.rows import dict_row
-
 import records
-import sagas
 from cases import Task, hears, in_child, run, until
 from kills import children
+from psycopg.rows import dict_row
 from server import Server
-from sagas import command, requests as asked
+
+import sagas
+from sagas.cli import store_command
+from sagas.storage import operator_requests as asked
 
 
 def shop() -> sagas.Saga:
@@ -43,7 +44,7 @@ def shop() -> sagas.Saga:
 def inbox(url: str) -> int:
     """How many starts no log has yet."""
     with psycopg.connect(url) as link:
-        row = link.execute("SELECT count(*) FROM sagas.inbox").fetchone()
+        row = link.execute("SELECT count(*) FROM sagas.pending_starts").fetchone()
         assert row
         return int(row[0])
 
@@ -56,7 +57,7 @@ SELECT count(*) FROM pg_stat_activity WHERE wait_event_type = 'Lock' AND applica
 async def connected(url: str, client: sagas.Client, kind: sagas.Saga, count: int) -> None:
     """Starts so many sagas at once that the client has as many connections."""
     with psycopg.connect(url) as link, psycopg.connect(url, autocommit=True) as eye:
-        link.execute("LOCK TABLE sagas.inbox")
+        link.execute("LOCK TABLE sagas.pending_starts")
         some = [
             asyncio.create_task(client.start(kind, f"first-{number}")) for number in range(count)
         ]
@@ -86,7 +87,7 @@ def test_a_start_behind_the_server_s_restart(postgresql: Server, url: str) -> No
                 await client.start(kind, "fast-1", 5)
             postgresql.stop("fast")
             try:
-                with pytest.raises(sagas.StoreUnwritable):
+                with pytest.raises(sagas.StoreUnavailable):
                     await client.start(kind, "nowhere")
             finally:
                 postgresql.start()
@@ -109,12 +110,12 @@ def test_a_client_starts_and_waits(url: str) -> None:
                 with pytest.raises(sagas.KeyConflict):
                     await other.start(kind, "bad", "other input")
                 assert await other.get("bad") is not None and await other.get("none") is None
-                assert len(await other.list(most=1000)) == 41 and [row.key for row in await one.list(phase="stuck")] == []
+                assert len(await other.list(limit=1000)) == 41 and [row.key for row in await one.list(phase="stuck")] == []
                 with pytest.raises(sagas.NoSuchSaga):
                     await one.wait("none")
-                with pytest.raises(sagas.BadKey):
+                with pytest.raises(sagas.InvalidKey):
                     await one.start(kind, "")
-                with pytest.raises(sagas.NotJson, match=r"input\[0\]: object is not JSON"):
+                with pytest.raises(sagas.NotSerializable, match=r"input\[0\]: object is not JSON"):
                     await one.start(kind, "new", [object()])
         with pytest.raises(sagas.Closed):
             await one.start(kind, "late")
@@ -126,9 +127,9 @@ def test_a_client_starts_and_waits(url: str) -> None:
 def test_what_a_client_is_not_made_with() -> None:
     """Told before it connects."""
     for url in (None, 5, "store.db"):
-        with pytest.raises(sagas.StoreFault, match="no URL of a database"):
+        with pytest.raises(sagas.InvalidStore, match="not a URL of a PostgreSQL database"):
             sagas.Client(url)  # type: ignore[arg-type]
-    with pytest.raises(ValueError, match="connections=0: it is a whole number from 1 on"):
+    with pytest.raises(ValueError, match="connections=0: must be an integer >= 1"):
         sagas.SyncClient("postgresql://h/a", connections=0)
 
 
@@ -148,11 +149,11 @@ def test_a_start_waits_for_a_node(url: str, capsys: pytest.CaptureFixture[str]) 
                     await client.start(other, "k")
                 assert (await (await client.start(other, "x")).wait()).ok
                 assert inbox(url) == 1 and (await store.start(other, "y")) is not None
-                assert await asyncio.to_thread(command.main, [url, "nodes"]) == 0
+                assert await asyncio.to_thread(store_command.main, [url, "nodes"]) == 0
                 said = capsys.readouterr().out
-                assert "No node has taken these starts:" in said and "shop (version 1)" in said
-                assert await asyncio.to_thread(command.main, [url, "show", "k"]) == 1
-                assert "k has not begun: its start waits for a node that has shop (version 1)" in capsys.readouterr().err
+                assert "No node has accepted these starts:" in said and "shop (version 1)" in said
+                assert await asyncio.to_thread(store_command.main, [url, "show", "k"]) == 1
+                assert "k has not started: it waits for a node that has shop (version 1)" in capsys.readouterr().err
                 async with sagas.open(url, [kind]):
                     assert (await started.wait()).ok
 
@@ -167,30 +168,30 @@ def test_a_start_that_no_node_has_taken_is_withdrawn(url: str, capsys: pytest.Ca
     def sign(task: Task) -> None: ...
 
     async def asked(*words: str) -> str:
-        assert await asyncio.to_thread(command.main, [url, *words]) == 0
+        assert await asyncio.to_thread(store_command.main, [url, *words]) == 0
         return capsys.readouterr().out
 
     async def main() -> None:
         async with sagas.open(url, [other]), sagas.Client(url) as client:
             started = await client.start(kind, "t1")
-            (one,) = json.loads(await asked("waiting", "--json"))
+            (one,) = json.loads(await asked("pending", "--json"))
             assert (one["key"], one["kind"], one["why"], one["saga"], one["version"], one["step"]) == ("t1", "start", "node", "signed", 1, None)
-            assert "a node with signed version 1" in await asked("waiting")
-            assert await asked("abort", "t1") == "t1: its start is withdrawn: no node had taken it, and nothing of it has begun\n"
-            assert inbox(url) == 0 and json.loads(await asked("waiting", "--json")) == []
+            assert "a node with signed version 1" in await asked("pending")
+            assert await asked("abort", "t1") == "t1: start withdrawn; no node had accepted it, and nothing has started\n"
+            assert inbox(url) == 0 and json.loads(await asked("pending", "--json")) == []
             with pytest.raises(sagas.NoSuchSaga):
                 await started.wait()
-            assert await asyncio.to_thread(command.main, [url, "abort", "t1"]) == 1 and "no saga has the key t1" in capsys.readouterr().err
+            assert await asyncio.to_thread(store_command.main, [url, "abort", "t1"]) == 1 and "no saga has the key t1" in capsys.readouterr().err
             await client.start(kind, "t2")
             with psycopg.connect(url, autocommit=True) as link:  # a node is about to open it
-                link.execute("UPDATE sagas.inbox SET node = (SELECT node FROM sagas.nodes)")
-            assert json.loads(await asked("waiting", "--json")) == []
-            abort = asyncio.create_task(asked("abort", "t2", "--patience", "60"))
+                link.execute("UPDATE sagas.pending_starts SET node = (SELECT node FROM sagas.nodes)")
+            assert json.loads(await asked("pending", "--json")) == []
+            abort = asyncio.create_task(asked("abort", "t2", "--timeout", "60"))
             await until(lambda: requests(url))
             assert not abort.done() and inbox(url) == 1
             async with sagas.open(url, [kind]) as store:
                 with psycopg.connect(url, autocommit=True) as link:
-                    link.execute("UPDATE sagas.inbox SET node = NULL")
+                    link.execute("UPDATE sagas.pending_starts SET node = NULL")
                 assert await abort == "t2: aborted\n" and (await store.wait("t2")).aborted
 
     run(main())
@@ -199,9 +200,9 @@ def test_a_start_that_no_node_has_taken_is_withdrawn(url: str, capsys: pytest.Ca
 def requests(url: str) -> int:
     """How many requests nobody has answered."""
     with psycopg.connect(url) as link:
-        text = "SELECT count(*) FROM sagas.requests WHERE answer IS NULL"
+        text = "SELECT count(*) FROM sagas.operator_commands WHERE answer IS NULL"
         of_sagas = link.execute(text).fetchone()
-        text = "SELECT coalesce(sum(jsonb_array_length(asked)), 0) FROM sagas.inbox"
+        text = "SELECT coalesce(sum(jsonb_array_length(commands)), 0) FROM sagas.pending_starts"
         of_starts = link.execute(text).fetchone()
         assert of_sagas and of_starts
         return int(of_sagas[0] + of_starts[0])
@@ -271,13 +272,13 @@ def test_an_abort_whose_start_goes_away_hears_of_it(url: str) -> None:
             for key in ("gone", "withdrawn", "back"):
                 run = await client.start(kind, key)
                 with psycopg.connect(url) as link:
-                    link.execute("UPDATE sagas.inbox SET node = 'other/1'")
+                    link.execute("UPDATE sagas.pending_starts SET node = 'other/1'")
                 abort = asyncio.create_task(run.abort())
                 await until(lambda: requests(url))
                 with psycopg.connect(url, options="-c search_path=sagas") as link:
-                    link.execute("UPDATE inbox SET node = NULL")
+                    link.execute("UPDATE pending_starts SET node = NULL")
                     if key == "gone":
-                        link.execute("DELETE FROM inbox")
+                        link.execute("DELETE FROM pending_starts")
                     elif key == "withdrawn":
                         assert link.execute(asked.WITHDRAW.replace("?", "%s"), (key,)).fetchall()
                 async with asyncio.timeout(60):
@@ -299,7 +300,7 @@ def test_a_finish_of_a_start_that_is_withdrawn_hears_of_it(url: str) -> None:
     async def main() -> None:
         async with sagas.Client(url) as client, sagas.Client(url) as other:
             run = await client.start(kind, "k")
-            finish = asyncio.create_task(run.finish("reserve"))
+            finish = asyncio.create_task(run.complete("reserve"))
             await until(lambda: requests(url))
             assert await other.abort("k") is True and requests(url) == inbox(url) == 0
             with pytest.raises(sagas.NoSuchSaga):
@@ -355,7 +356,7 @@ def test_a_start_is_in_the_inbox_or_in_a_log(url: str) -> None:
 
     def places() -> list[int]:
         with psycopg.connect(url) as link:
-            text = "SELECT count(*) FROM (SELECT key FROM sagas.inbox UNION ALL SELECT key FROM sagas.sagas) one GROUP BY key"
+            text = "SELECT count(*) FROM (SELECT key FROM sagas.pending_starts UNION ALL SELECT key FROM sagas.sagas) one GROUP BY key"
             return [count for (count,) in link.execute(text).fetchall()]
 
     async def main() -> None:
@@ -363,9 +364,9 @@ def test_a_start_is_in_the_inbox_or_in_a_log(url: str) -> None:
             for number in range(40):
                 await client.start(kind, f"k{number}")
             with psycopg.connect(url) as link:
-                link.execute("UPDATE sagas.inbox SET node = 'gone' WHERE id % 2 = 0")
+                link.execute("UPDATE sagas.pending_starts SET node = 'gone' WHERE id % 2 = 0")
             assert inbox(url) == 40
-            async with sagas.open(url, [kind], grace=0.0):
+            async with sagas.open(url, [kind], shutdown_timeout=0.0):
                 await until(lambda: inbox(url) < 40 and places() == [1] * 40)
             assert places() == [1] * 40
             async with sagas.open(url, [kind]):
@@ -376,7 +377,7 @@ def test_a_start_is_in_the_inbox_or_in_a_log(url: str) -> None:
                 assert all(end.ok for end in await work)
 
     async def make() -> None:
-        async with sagas.open(url, [kind], new=False):
+        async with sagas.open(url, [kind], accept_new=False):
             pass
 
     run(make())
@@ -403,7 +404,7 @@ def test_a_start_that_somebody_is_at_holds_up_no_other(url: str) -> None:
         async with sagas.Client(url) as client:
             runs = [await client.start(kind, f"k{number}") for number in range(5)]
             with psycopg.connect(url) as stranger:
-                stranger.execute("SELECT 1 FROM sagas.inbox WHERE key = 'k2' FOR UPDATE")
+                stranger.execute("SELECT 1 FROM sagas.pending_starts WHERE key = 'k2' FOR UPDATE")
                 async with sagas.open(url, [kind]):
                     async with asyncio.timeout(15):
                         assert all(end.ok for end in await asyncio.gather(*(one.wait() for one in runs if one.key != "k2")))
@@ -424,7 +425,7 @@ def test_a_client_drives_nothing(url: str) -> None:
         async with sagas.Client(url) as client:
             await client.start(kind, "k")
             with psycopg.connect(url) as link:
-                for table in ("nodes", "logs"):
+                for table in ("nodes", "shards"):
                     assert link.execute(f"SELECT count(*) FROM sagas.{table}").fetchone() == (0,)
             assert set(children(os.getpid())) <= others
 
@@ -445,10 +446,10 @@ def test_abort_and_finish_by_a_client(url: str) -> None:
                 await until(lambda: inbox(url) == 0)  # else the start is withdrawn
                 assert await one.abort() is True and await one.abort() is False
                 assert (await one.wait()).aborted
-                await two.finish("sign", {"by": "Ada"})
+                await two.complete("sign", {"by": "Ada"})
                 assert (await two.wait()).results == {"sign": {"by": "Ada"}}
-                with pytest.raises(sagas.NotWaiting):
-                    await two.finish(sign)
+                with pytest.raises(sagas.StepNotWaiting):
+                    await two.complete(sign)
 
     run(main())
 
@@ -497,14 +498,14 @@ def test_a_client_without_async(url: str) -> None:
 def test_a_client_in_a_forked_child(url: str) -> None:
     """With async and without it says at once that it is another process's, and its closing there does nothing to that one's."""
     kind = shop()
-    text = "the client was opened in another process, before a fork: make one in this process"
+    text = "the client was opened in another process, before a fork. Create and open one in this process"
     with sagas.open_sync(url, [kind]), sagas.SyncClient(url) as client:
         calls: list[Any] = [lambda: client.start(kind, "c"), lambda: client.wait("k", timeout=60), client.list, client.__enter__]
         for call in calls:
             said = in_child(call)
             assert said.startswith("Closed: ") and text in said
         assert in_child(client.close) == "None"
-        inner = client._client
+        inner = client._inner
         calls = [lambda: inner.start(kind, "c"), lambda: inner.wait("k"), lambda: inner.abort("k"), inner.__aenter__]
         for call in calls:
             assert text in in_child(lambda: asyncio.run(call()))
@@ -520,14 +521,14 @@ def test_a_client_that_is_entered_twice(url: str) -> None:
         async with sagas.open(url, [kind]):
             client = sagas.Client(url)
             async with client:
-                with pytest.raises(RuntimeError, match="the client is open already: enter it once"):
+                with pytest.raises(RuntimeError, match="the client is already open. Enter it once"):
                     async with client:
                         pass
                 assert (await (await client.start(kind, "k")).wait()).ok
 
     run(main())
     with sagas.open_sync(url, [kind]), sagas.SyncClient(url) as client:
-        with pytest.raises(RuntimeError, match="the client is open already: enter it once"), client:
+        with pytest.raises(RuntimeError, match="the client is already open. Enter it once"), client:
             pass
         assert client.start(kind, "two").wait(200).ok
 
@@ -535,7 +536,7 @@ def test_a_client_that_is_entered_twice(url: str) -> None:
 def test_a_client_by_the_other_kind_of_with() -> None:
     """`with` and `async with` each say what is meant."""
     url = "postgresql://a@127.0.0.1/b"
-    with pytest.raises(TypeError, match=r"^a sagas.Client is used by `async with`; without async use `with sagas\.SyncClient\(\.\.\)`$"):
+    with pytest.raises(TypeError, match=r"^a sagas.Client needs `async with`. Without async, use `with sagas\.SyncClient\(\.\.\.\)`$"):
         with sagas.Client(url):  # type: ignore[attr-defined]
             pass
 
@@ -543,7 +544,7 @@ def test_a_client_by_the_other_kind_of_with() -> None:
         async with sagas.SyncClient(url):  # type: ignore[attr-defined]
             pass
 
-    with pytest.raises(TypeError, match=r"is used by `with`; with async use `async with sagas\.Client"):
+    with pytest.raises(TypeError, match=r"needs `with`. With async, use `async with sagas\.Client"):
         run(main())
 
 
@@ -576,7 +577,7 @@ def test_what_a_clients_run_tells(url: str) -> None:
             again, found = await client.start(kind, "bad", "fails"), await client.get("bad")
             assert run.new and not again.new and found and not found.new
             assert await run.log() == [] and await run.plan() is None
-            with pytest.raises(TimeoutError, match="'bad' is still open after 0.01 s: no node has begun it yet"):
+            with pytest.raises(TimeoutError, match="'bad' is still open after 0.01 s: no node has started it yet"):
                 await run.wait(timeout=0.01)
             async with sagas.open(url, [kind]) as store:
                 assert (await run.wait(timeout=60)).states == {"reserve": "undone", "charge": "failed"}
@@ -602,7 +603,7 @@ def test_a_client_waits_too_long(url: str) -> None:
     with sagas.open_sync(url, [saga]), sagas.SyncClient(url) as client:
         started = client.start(saga, "k")
         hears(lambda: started.wait(0.01), "'k' is still open after 0.01 s: sign waits for an approval")
-        client.finish("k", sign)
+        client.complete("k", sign)
         assert client.wait("k", timeout=60).ok
 
 
@@ -642,12 +643,12 @@ def test_a_start_that_fails_at_first_is_taken_again(url: str, where: str, monkey
             async def later(*words: Any) -> Any:
                 told = await right(*words)
                 if told != [] and failed():
-                    raise sagas.StoreUnwritable("lost")
+                    raise sagas.StoreUnavailable("lost")
                 return told
 
             def now() -> Any:
                 if failed():
-                    raise sagas.StoreUnwritable("none at hand")
+                    raise sagas.StoreUnavailable("none at hand")
                 return right()
 
             monkeypatch.setattr(database, where, now if where == "new_log" else later)
@@ -690,7 +691,7 @@ def test_faults_of_the_given_connection_are_told_as_its_own(url: str, postgresql
     def tried(to: str, spoil: str) -> str:
         with sagas.SyncClient(url) as client, psycopg.connect(to) as link:
             spoilt(link, spoil)
-            with pytest.raises(sagas.StoreUnwritable) as told:
+            with pytest.raises(sagas.StoreUnavailable) as told:
                 client.start(kind, "k", connection=link)
             return str(told.value)
 
@@ -701,16 +702,16 @@ def test_faults_of_the_given_connection_are_told_as_its_own(url: str, postgresql
             elif spoil:
                 with contextlib.suppress(psycopg.Error):
                     await link.execute(spoil)
-            with pytest.raises(sagas.StoreUnwritable) as told:
+            with pytest.raises(sagas.StoreUnavailable) as told:
                 await client.start(kind, "k", connection=link)
             return str(told.value)
 
     texts = {
-        (url, "close"): "the connection that was given is closed: nothing was written: give one that is open",
-        (url, "SELECT 1 / 0"): "in which a statement failed: nothing was written: roll it back, and start the saga in the next one",
-        (url, "SET TRANSACTION READ ONLY"): "by the connection that was given: cannot execute INSERT in a read-only transaction",
-        (bare, ""): "the connection that was given is to another database (database '",
-        (other, ""): "nothing was written: give one to the store's database",
+        (url, "close"): "the given connection is closed. Nothing was written. Give an open one",
+        (url, "SELECT 1 / 0"): "in which a statement failed. Nothing was written. Roll it back, and start the saga in the next one",
+        (url, "SET TRANSACTION READ ONLY"): "by the given connection: cannot execute INSERT in a read-only transaction",
+        (bare, ""): "the given connection is to another database (database '",
+        (other, ""): "Nothing was written. Give a connection to the store's database",
     }
     for (to, spoil), text in texts.items():
         assert text in (tried(to, spoil) if plain else run(tried_async(to, spoil)))
@@ -759,7 +760,7 @@ def test_a_store_and_a_client_wait_by_key_for_some_time(url: str) -> None:
     async def main() -> None:
         async with sagas.open(url, [kind]) as store, sagas.Client(url) as client:
             await client.start(later, "k")
-            text = "'k' is still open after 0.01 s: no node has begun it yet"
+            text = "'k' is still open after 0.01 s: no node has started it yet"
             with pytest.raises(TimeoutError, match=text):
                 await client.wait("k", timeout=0.01)
             with pytest.raises(TimeoutError, match=text):

@@ -11,16 +11,20 @@ import logging
 import pathlib
 import re
 import sqlite3
+import subprocess
 from typing import Any
 
 import pytest
+from cases import Task, run, until
 
 import sagas
-from cases import Task, run, until
-from sagas import command, sources, spoken
-from sagas.command import tables
-from sagas.looks import Looks
-from sagas.server import logs, words
+from sagas.cli import formatting, store_command
+from sagas.base import program, wording
+from sagas.inspection import wording as words
+from sagas.inspection import saga as one_saga
+from sagas.inspection.question import StoreReader
+from sagas.server import log_format
+from sagas.storage import admin
 
 Json = dict[str, Any]
 
@@ -33,7 +37,7 @@ class Shell:
 
     def __call__(self, *words: str, status: int = 0) -> str:
         self.capsys.readouterr()
-        assert command.main([str(self.path), *words]) == status
+        assert store_command.main([str(self.path), *words]) == status
         return self.capsys.readouterr().out
 
     def json(self, *words: str, status: int = 0) -> Any:
@@ -52,7 +56,7 @@ def shop() -> sagas.Saga:
     @reserve.compensation
     def release(task: Task) -> None: ...
 
-    @shop.step(needs=[reserve], skip=sagas.NEVER, tries=2, backoff=sagas.Backoff(first=0.01), unknown_most=1)
+    @shop.step(needs=[reserve], skip=sagas.NEVER, tries=2, backoff=sagas.Backoff(initial=0.01), max_unknown=1)
     def charge(task: Task) -> str:
         if task.input == "fails":
             raise ValueError("the card is refused")
@@ -85,8 +89,8 @@ def signed() -> sagas.Saga:
 
 def held(path: str) -> list[tuple[Any, ...]]:
     """What the store holds for a person: keys and why."""
-    with contextlib.closing(sources.connect(path)) as link:
-        return link.ask("SELECT key, why FROM held JOIN sagas USING (id) WHERE why = 'approval' OR why = 'unknown' AND until IS NULL")
+    with contextlib.closing(admin.connect(path)) as link:
+        return link.ask("SELECT key, reason FROM suspensions JOIN sagas USING (id) WHERE reason = 'approval' OR reason = 'unknown' AND until IS NULL")
 
 
 async def filled(path: str, store: sagas.Store, sagas_: list[sagas.Saga]) -> None:
@@ -126,30 +130,30 @@ def test_list(shell: Shell) -> None:
     """In order of their starts, by phase, by name, and page by page."""
     text = shell("list")
     assert text.splitlines()[0].split() == ["KEY", "SAGA", "PHASE", "STARTED", "ENDED"]
-    assert [line.split()[:3] for line in text.splitlines()[1:3]] == [["good", "shop", "ended"], ["bad", "shop", "stuck"]]
+    assert [line.split()[:3] for line in text.splitlines()[1:3]] == [["good", "shop", "completed"], ["bad", "shop", "stuck"]]
     assert [row["key"] for row in shell.json("list")] == ["good", "bad", "odd", "letter-1", "letter-2"]
     assert [row["key"] for row in shell.json("list", "--phase", "open", "--saga", "signed")] == ["letter-1", "letter-2"]
-    assert [row["key"] for row in shell.json("list", "--after", "bad", "--most", "1")] == ["odd"]
-    assert [row["key"] for row in shell.json("list", "--newest", "--most", "2")] == ["letter-2", "letter-1"]
+    assert [row["key"] for row in shell.json("list", "--after", "bad", "--limit", "1")] == ["odd"]
+    assert [row["key"] for row in shell.json("list", "--newest", "--limit", "2")] == ["letter-2", "letter-1"]
     assert [row["key"] for row in shell.json("list", "--newest", "--after", "odd")] == ["bad", "good"]
 
 
 def test_show(shell: Shell) -> None:
     """A saga's steps, its plan and what it waits for."""
     text = shell("show", "bad")
-    assert "phase    stuck" in text and "none is allowed, because of charge" in text and "the card is refused" in text
+    assert "phase    stuck" in text and "no plan is feasible, because of charge" in text and "the card is refused" in text
     assert shell("draw", "bad").startswith("digraph") and shell("draw", "good").startswith("digraph")
     assert shell("draw", "bad", "--svg").startswith("<svg") and shell.json("draw", "bad", "--svg")["svg"].endswith("</svg>")
     told = shell.json("show", "good")
-    assert [(step["step"], step["state"], step["said"]) for step in told["steps"]] == [
+    assert [(step["step"], step["state"], step["result"]) for step in told["steps"]] == [
         ("reserve", "committed", {"place": 17}), ("charge", "committed", "charged"),
     ]
     assert "an approval" in shell("show", "letter-1")
     assert [step["attempts"] for step in shell.json("show", "bad")["steps"]] == [1, 2]
-    assert re.search(r"^STEP +STATE +TRIES +BEGAN +ENDED +SAID$", text, re.M)
+    assert re.search(r"^STEP +STATE +TRIES +STARTED +ENDED +DETAIL$", text, re.M)
     assert len(re.findall(r" \d{4}-\d\d-\d\d \d\d:\d\d:\d\dZ", text)) == 2 + 2 * 2  # of the saga, and of its steps
     reserve, charge = told["steps"]
-    assert told["at"] <= reserve["began"] <= reserve["ended"] <= charge["began"] <= charge["ended"] <= told["ended"]
+    assert told["at"] <= reserve["started"] <= reserve["ended"] <= charge["started"] <= charge["ended"] <= told["ended"]
 
 
 def test_log_and_plan(shell: Shell) -> None:
@@ -158,27 +162,26 @@ def test_log_and_plan(shell: Shell) -> None:
     assert [(one["event"], one["step"]) for one in events[:3]] == [("open", None), ("start_run", "reserve"), ("commit", "reserve")]
     assert events[2]["value"] == {"place": 17} and all(a["at"] <= b["at"] for a, b in zip(events, events[1:]))
     text = shell("log", "bad")
-    assert text.splitlines()[0].split() == ["TIME", "EVENT", "STEP", "SAID"] and re.search(r"Z  fail +charge +.*the card is refused", text)
-    assert "none is allowed, because of charge" in shell("plan", "bad")
+    assert text.splitlines()[0].split() == ["TIME", "EVENT", "STEP", "DETAIL"] and re.search(r"Z  fail +charge +.*the card is refused", text)
+    assert "no plan is feasible, because of charge" in shell("plan", "bad")
     assert set(shell.json("plan", "bad")) == {"definition", "case", "answer"} and shell.json("plan", "good") is None
     assert shell("plan", "good", status=1) == ""
 
 
 def test_counts_stuck_and_waiting(shell: Shell) -> None:
     """How many there are, which are stuck and why, and what waits for a person."""
-    assert shell.json("counts") == {
-        "sagas": {"shop": {"open": 1, "ended": 1, "stuck": 1, "resolved": 0}, "signed": {"open": 2, "ended": 0, "stuck": 0, "resolved": 0}},
-        "ended by plan": 0,
-        "undo failed": 0,
-        "wait for a person": 3,
+    assert shell.json("stats") == {
+        "sagas": {"shop": {"open": 1, "completed": 1, "recovered": 0, "stuck": 1, "resolved": 0}, "signed": {"open": 2, "completed": 0, "recovered": 0, "stuck": 0, "resolved": 0}},
+        "undo_failed": 0,
+        "attention_required": 3,
     }
-    assert "3 wait for a person" in shell("counts")
-    assert [(one["key"], one["chain"]) for one in shell.json("stuck")] == [("bad", ["charge"])]
-    assert {(one["key"], one["step"], one["why"]) for one in shell.json("waiting")} == {
+    assert "3 wait for a person" in shell("stats")
+    assert [(one["key"], one["blocking_steps"]) for one in shell.json("stuck")] == [("bad", ["charge"])]
+    assert {(one["key"], one["step"], one["why"]) for one in shell.json("pending")} == {
         ("odd", "charge", "unknown"), ("letter-1", "sign", "approval"), ("letter-2", "sign", "approval"),
     }
-    assert "a person: nobody knows what came of it (2 times)" in shell("waiting")
-    assert [one["count"] for one in shell.json("waiting") if one["key"] == "odd"] == [2]
+    assert "a person: unknown outcome (2 times)" in shell("pending")
+    assert [one["count"] for one in shell.json("pending") if one["key"] == "odd"] == [2]
 
 
 def test_audit_and_export(shell: Shell, path: str, tmp_path: pathlib.Path, capsys: pytest.CaptureFixture[str]) -> None:
@@ -192,7 +195,7 @@ def test_audit_and_export(shell: Shell, path: str, tmp_path: pathlib.Path, capsy
     spoilt = tmp_path / "spoilt.db"
     source, copy = sqlite3.connect(path), sqlite3.connect(spoilt)
     source.backup(copy)
-    copy.execute("""UPDATE lines SET text = replace(text, '"event":"fail"', '"event":"commit"')""")
+    copy.execute("""UPDATE event_log SET text = replace(text, '"event":"fail"', '"event":"commit"')""")
     copy.commit()
     for link in (source, copy):
         link.close()
@@ -208,8 +211,8 @@ def test_progress_on_a_terminal(path: str, monkeypatch: pytest.MonkeyPatch) -> N
 
     said = Terminal()
     monkeypatch.setattr("sys.stderr", said)
-    assert command.main([path, "audit"]) == 0
-    assert re.findall(r"logs: \d+ of \d+", said.getvalue())[-1] == "logs: 1 of 1"
+    assert store_command.main([path, "audit"]) == 0
+    assert re.findall(r"shards: \d+ of \d+", said.getvalue())[-1] == "shards: 1 of 1"
 
 
 def test_what_is_not_there(shell: Shell, tmp_path: pathlib.Path, capsys: pytest.CaptureFixture[str]) -> None:
@@ -219,9 +222,9 @@ def test_what_is_not_there(shell: Shell, tmp_path: pathlib.Path, capsys: pytest.
     none = tmp_path / "none.db"
     assert Shell(none, capsys)("list", status=4) == "" and not none.exists()
     none.write_text("no store")
-    Shell(none, capsys)("counts", status=4)
+    Shell(none, capsys)("stats", status=4)
     for path in (tmp_path, pathlib.Path(":memory:")):
-        Shell(path, capsys)("counts", status=4)
+        Shell(path, capsys)("stats", status=4)
     with pytest.raises(SystemExit) as usage:
         shell("burn")
     assert usage.value.code == 2
@@ -235,7 +238,7 @@ def test_show_says_why(tmp_path: pathlib.Path, capsys: pytest.CaptureFixture[str
     def take(task: Task) -> Json:
         return {"called": False}
 
-    @take.compensation(tries=3)
+    @take.compensation(tries=3, on_exhausted="fail")
     def give(task: Task) -> None:
         raise sagas.Fail("it is gone")
 
@@ -250,10 +253,16 @@ def test_show_says_why(tmp_path: pathlib.Path, capsys: pytest.CaptureFixture[str
             assert (await (await store.start(must, "k")).wait()).phase == "stuck"
 
     run(main())
-    told = Shell(path, capsys)("show", "k")
+    told = (shell := Shell(path, capsys))("show", "k")
+    for words in (["abort", "k"], ["complete", "k", "take", "--undo"], ["fail", "k", "send", "x"]):
+        assert store_command.main([str(path), *words]) == 1
+        assert "k is stuck" in (said := capsys.readouterr().err) and "run `resolve`" in said
+    text = shell("plan", "k", "--text")
+    checked = subprocess.run([program.path()], input=text, capture_output=True, text=True)
+    assert (checked.stdout, checked.returncode) == ("blocked\n", 0)
     assert re.search(r'take  undo failed +1  .*Z  .*Z  \{"called": false\}; its compensation: \{"error": "sagas.Fail: it is gone"', told), told
-    assert re.search(r'send  failed +3  .*Z  .*Z  \{"error": "sagas.Fail: no address"', told), told
-    assert [step["state"] for step in Shell(path, capsys).json("show", "k")["steps"]] == ["fixed", "failed"]
+    assert re.search(r'send  failed +1  .*Z  .*Z  \{"error": "sagas.Fail: no address"', told), told
+    assert [step["state"] for step in Shell(path, capsys).json("show", "k")["steps"]] == ["undo_failed", "failed"]
 
 
 def test_texts_that_the_output_has_no_characters_for(place: str, capsys: pytest.CaptureFixture[str], caplog: pytest.LogCaptureFixture) -> None:
@@ -287,13 +296,13 @@ def test_texts_that_the_output_has_no_characters_for(place: str, capsys: pytest.
         told = shell(*words)
         assert words[0] in ("plan", "draw") or "\\ud800 of" in told, told
         shell.json(*words)
-    for words in (["list"], ["waiting"], ["counts"], ["stuck"]):
+    for words in (["list"], ["pending"], ["stats"], ["stuck"]):
         shell(*words)
     assert shell.json("show", "k")["input"] == odd
-    assert command.main([place, "finish", "l", odd]) == 1 and "\\ud800 of" in capsys.readouterr().err
+    assert store_command.main([place, "complete", "l", odd]) == 1 and "\\ud800 of" in capsys.readouterr().err
     plain = io.TextIOWrapper(io.BytesIO(), encoding="ascii")
     with contextlib.redirect_stdout(plain):
-        assert command.main([place, "show", "k"]) == 0 and command.main([place, "show", "k", "--json"]) == 0
+        assert store_command.main([place, "show", "k"]) == 0 and store_command.main([place, "show", "k", "--json"]) == 0
     plain.seek(0)
     text, _, rest = plain.read().partition("\n{")
     assert "\\xe9" in text and json.loads("{" + rest)["input"] == odd
@@ -307,7 +316,7 @@ def test_a_compensation_that_failed_is_seen(place: str, capsys: pytest.CaptureFi
     def take(task: Task) -> int:
         return 1
 
-    @take.compensation
+    @take.compensation(on_exhausted="fail")
     def give(task: Task) -> None:
         if task.input == "gone":
             raise sagas.Fail("it is gone")
@@ -319,21 +328,21 @@ def test_a_compensation_that_failed_is_seen(place: str, capsys: pytest.CaptureFi
     async def main() -> None:
         async with sagas.open(place, [row]) as store:
             end = await (await store.start(row, "bad", "gone")).wait()
-            assert end.states["take"] == "fixed" and "\n  undo failed take: sagas.Fail: it is gone\n  failed      send:" in str(end)
-            assert re.search(r"take  undo failed +5  never  stands", str(await store.plan("bad")))
+            assert end.states["take"] == "undo_failed" and "\n  undo failed take: sagas.Fail: it is gone\n  failed      send:" in str(end)
+            assert re.search(r"take  undo failed +5 +never  stands", str(await store.plan("bad")))
             await (await store.start(row, "undone")).wait()
-            listed = [(one.key, one.planned, one.undo_failed) for one in await store.list()]
-            assert listed == [("bad", True, True), ("undone", True, False)]
-            assert [one.key for one in await store.list(phase="undo-failed")] == ["bad"]
+            listed = [(one.key, one.phase, one.undo_failed) for one in await store.list()]
+            assert listed == [("bad", "recovered", True), ("undone", "recovered", False)]
+            assert [one.key for one in await store.list(phase="undo_failed")] == ["bad"]
 
     run(main())
     shell = Shell(place, capsys)
-    assert [(one["key"], one["undo_failed"]) for one in shell.json("list", "--phase", "undo-failed")] == [("bad", True)]
-    assert "ended, undo failed" in shell("list") and "ended by plan" in shell("list")
-    told = shell.json("counts")
-    assert (told["ended by plan"], told["undo failed"]) == (2, 1) and "list --phase undo-failed" in shell("counts")
-    assert shell.json("stuck") == [] and "1 ended with a compensation that failed for good" in shell("stuck")
-    assert "phase    ended, undo failed\n" in shell("show", "bad") and "phase    ended by plan\n" in shell("show", "undone")
+    assert [(one["key"], one["undo_failed"]) for one in shell.json("list", "--phase", "undo_failed")] == [("bad", True)]
+    assert "recovered, undo failed" in shell("list")
+    told = shell.json("stats")
+    assert told["undo_failed"] == 1 and "list --phase undo_failed" in shell("stats")
+    assert shell.json("stuck") == [] and "1 ended with a permanently failed compensation" in shell("stuck")
+    assert "phase    recovered, undo failed\n" in shell("show", "bad") and "phase    recovered\n" in shell("show", "undone")
 
 
 def test_beside_the_running_program(place: str, capsys: pytest.CaptureFixture[str]) -> None:
@@ -351,14 +360,14 @@ def test_beside_the_running_program(place: str, capsys: pytest.CaptureFixture[st
             assert "aborted" in await beside("abort", "letter-1", "--note", "written twice")
             end = await store.wait("letter-1")
             assert end.aborted and end.states["write"] == "undone"
-            assert "phase    ended by plan, aborted" in await beside("show", "letter-1")
-            with contextlib.closing(Looks(store.reader())) as looks:
-                assert [(note.what, note.told, note.answer) for note in looks.notes("letter-1")] == [("abort", {"note": "written twice"}, True)]
+            assert "phase    recovered, aborted" in await beside("show", "letter-1")
+            with contextlib.closing(StoreReader(store.reader())) as looks:
+                assert [(note.what, note.told, note.answer) for note in looks.ask(one_saga.notes("letter-1"))] == [("abort", {"note": "written twice"}, True)]
             assert await beside("abort", "letter-1", status=1) == ""  # it is over, and nobody is asked
-            assert "finished" in await beside("finish", "letter-2", "sign", "--result", '"signed"')
+            assert "succeeded" in await beside("complete", "letter-2", "sign", "--result", '"signed"')
             assert (await store.wait("letter-2")).results["sign"] == "signed"
-            assert "finished" in await beside("finish", "odd", "charge", "--failed", "it was not charged")
-            await beside("finish", "good", "charge", status=1)
+            assert "failed" in await beside("fail", "odd", "charge", "it was not charged")
+            await beside("complete", "good", "charge", status=1)
             assert "resolved" in await beside("resolve", "bad", "--note", "paid in cash")
             assert await beside("stuck") == "KEY  SAGA  STUCK SINCE  BECAUSE\n" or "bad" not in await beside("stuck")
 
@@ -370,7 +379,7 @@ def test_finish_says_what_is_wrong(place: str, capsys: pytest.CaptureFixture[str
     path, kinds = place, [shop(), signed()]
 
     def finish(*words: str, status: int = 1) -> str:
-        assert command.main([path, "finish", *words]) == status
+        assert store_command.main([path, "complete", *words]) == status
         told = capsys.readouterr()
         assert told.out == ""
         return told.err
@@ -379,21 +388,21 @@ def test_finish_says_what_is_wrong(place: str, capsys: pytest.CaptureFixture[str
         async with sagas.open(path, kinds) as store:
             await filled(path, store, kinds)
             asked = functools.partial(asyncio.to_thread, finish)
-            over = "it is over: it is done; this is another answer, and the first counts"
+            over = "it has succeeded. This is a different outcome, and the first one counts"
             wrong = await asked("letter-1", "write")
             assert wrong == f"sagas store: saga 'letter-1', step 'write': {over}\n"
-            assert await asked("letter-1", "write", "--undo") == "sagas store: saga 'letter-1', step 'write': it has not begun: say it again once it has\n"
-            with pytest.raises(sagas.NotWaiting, match="saga 'letter-1' has no step 'sing': is 'sign' meant"):
-                await store.finish("letter-1", "sing")
+            assert await asked("letter-1", "write", "--undo") == "sagas store: saga 'letter-1', step 'write': it has not started. Report it after it starts\n"
+            with pytest.raises(sagas.StepNotWaiting, match="saga 'letter-1' has no step 'sing'; did you mean 'sign'"):
+                await store.complete("letter-1", "sing")
 
     run(main())
-    assert finish("letter-1", "sing") == "sagas store: saga 'letter-1' has no step 'sing': is 'sign' meant?\n"  # also while no program runs
-    assert "no JSON" in finish("letter-1", "sign", "--result", "yes", status=2)
-    command.main([path, "finish", "letter-1", "sign", "--result", "yes"])
-    assert """a text is written '"yes"'""" in capsys.readouterr().err
+    assert finish("letter-1", "sing") == "sagas store: saga 'letter-1' has no step 'sing'; did you mean 'sign'?\n"  # also while no program runs
+    assert "not JSON" in finish("letter-1", "sign", "--result", "yes", status=2)
+    store_command.main([path, "complete", "letter-1", "sign", "--result", "yes"])
+    assert """Write a text as '"yes"'""" in capsys.readouterr().err
     with pytest.raises(SystemExit):
-        command.main([path, "finish", "--help"])
-    assert "an approval is approved" in capsys.readouterr().out
+        store_command.main([path, "complete", "--help"])
+    assert "waits for an approval" in capsys.readouterr().out
 
 
 def test_many_stuck_sagas_are_resolved_at_once(place: str, capsys: pytest.CaptureFixture[str]) -> None:
@@ -415,7 +424,7 @@ def test_many_stuck_sagas_are_resolved_at_once(place: str, capsys: pytest.Captur
     assert shell.json("resolve", "--all", "--saga", "shop", "--note", "the terminal was broken") == [
         {"key": f"bad-{number}", "note": "the terminal was broken"} for number in (2, 3, 4)
     ]
-    assert shell.json("counts")["sagas"]["shop"] == {"open": 0, "ended": 1, "stuck": 0, "resolved": 5}
+    assert shell.json("stats")["sagas"]["shop"] == {"open": 0, "completed": 1, "recovered": 0, "stuck": 0, "resolved": 5}
     assert "paid in cash" in shell("show", "bad-0")
     for words in ([], ["bad-0", "--all"]):
         shell("resolve", *words, "--note", "x", status=2)
@@ -436,17 +445,17 @@ def test_without_a_program(place: str, capsys: pytest.CaptureFixture[str]) -> No
             assert (await store.wait("letter-2")).results["sign"] is None
 
     run(first())
-    assert "once a program has the store open" in shell("abort", "letter-1")
-    assert "once a program has the store open" in shell("finish", "letter-2", "sign")
+    assert "when a program has the store open" in shell("abort", "letter-1")
+    assert "when a program has the store open" in shell("complete", "letter-2", "sign")
     run(second())
-    assert shell.json("counts")["sagas"]["signed"]["ended"] == 2
+    assert sum(shell.json("stats")["sagas"]["signed"][phase] for phase in ("completed", "recovered")) == 2
 
 
 def test_words_for_people() -> None:
     """Times are in UTC, by the same form in the command, on the page and in the service's log; one of a thing is one."""
     record = logging.LogRecord("sagas", logging.INFO, "", 0, "said", None, None)
     record.created, record.msecs = 86400.0, 7
-    assert tables.moment(86400.0) == words.clock(86400.0) == "1970-01-02 00:00:00Z"
-    assert logs.Text("%(asctime)s %(message)s").format(record) == "1970-01-02 00:00:00.007Z said"
-    assert [spoken.number(count, "saga") for count in (0, 1, 2)] == ["0 sagas", "1 saga", "2 sagas"]
+    assert formatting.moment(86400.0) == words.clock(86400.0) == "1970-01-02 00:00:00Z"
+    assert log_format.Text("%(asctime)s %(message)s").format(record) == "1970-01-02 00:00:00.007Z said"
+    assert [wording.number(count, "saga") for count in (0, 1, 2)] == ["0 sagas", "1 saga", "2 sagas"]
     assert repr(sagas.Saga("none")) == "<saga none, version 1, 0 steps>" and repr(signed()) == "<saga signed, version 1, 2 steps>"

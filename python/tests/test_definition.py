@@ -9,16 +9,16 @@ import pathlib
 import subprocess
 import sys
 import textwrap
-import tomllib
 from collections.abc import Callable
 from typing import Any
 
 import pytest
+import tomllib
+from cases import Task, ended, run
+from driving import program
 
 import sagas
 import sagas.testing
-from cases import Task, ended, run
-from driving import program
 
 HERE = pathlib.Path(__file__).resolve().parent
 
@@ -63,7 +63,7 @@ def test_toml(tmp_path: pathlib.Path) -> None:
 def test_what_the_package_shows() -> None:
     """Its names for users, and none of the modules inside."""
     shown = dir(sagas)
-    assert set(sagas.__all__) < set(shown) and {"testing", "celery", "looks", "__version__"} < set(shown)
+    assert set(sagas.__all__) < set(shown) and {"testing", "celery", "inspection", "__version__"} < set(shown)
     assert not {"coordinator", "pump", "sqlite", "definition"} & set(shown) and len(shown) == len(set(shown))
     assert all(hasattr(sagas, name) for name in shown)
 
@@ -189,7 +189,7 @@ def a_time_of_0(saga: sagas.Saga) -> None:
 
 
 def a_limit_of_0(saga: sagas.Saga) -> None:
-    @saga.step(limit=0)
+    @saga.step(concurrency=0)
     def a(task: Task) -> None: ...
 
 
@@ -220,7 +220,7 @@ def a_pause_in_seconds(saga: sagas.Saga) -> None:
 
 
 def a_pause_below_0(saga: sagas.Saga) -> None:
-    @saga.step(backoff=sagas.Backoff(first=-1))
+    @saga.step(backoff=sagas.Backoff(initial=-1))
     def a(task: Task) -> None: ...
 
 
@@ -246,12 +246,12 @@ def a_step_on_a_circle(saga: sagas.Saga) -> None:
 
 
 def an_approval_within_a_text(saga: sagas.Saga) -> None:
-    @saga.approval(within="3600")  # type: ignore[call-overload, misc]
+    @saga.approval(timeout="3600")  # type: ignore[call-overload, misc]
     def a(task: Task) -> None: ...
 
 
 def an_approval_within_no_time(saga: sagas.Saga) -> None:
-    @saga.approval(within=0)
+    @saga.approval(timeout=0)
     def a(task: Task) -> None: ...
 
 
@@ -273,12 +273,12 @@ def an_approval_that_is_left_alone(saga: sagas.Saga) -> None:
 
 
 def a_pause_that_is_less_than_the_first(saga: sagas.Saga) -> None:
-    @saga.step(backoff=sagas.Backoff(first=1, most=0.1))
+    @saga.step(backoff=sagas.Backoff(initial=1, maximum=0.1))
     def a(task: Task) -> None: ...
 
 
 def a_rate_in_a_text(saga: sagas.Saga) -> None:
-    @saga.step(rate=(100, "minute"))  # type: ignore[arg-type]
+    @saga.step(rate_limit=(100, "minute"))  # type: ignore[arg-type]
     def a(task: Task) -> None: ...
 
 
@@ -288,44 +288,44 @@ def one_exception_by_itself(saga: sagas.Saga) -> None:
 
 
 def no_name(saga: sagas.Saga) -> None:
-    saga.step(handler=None)  # type: ignore[call-overload]
+    saga.step(external=True)  # type: ignore[call-overload]
 
 
 FAULTY: list[tuple[Callable[[sagas.Saga], None], str]] = [
     (two_of_a_name, "another step"),
     (no_argument, "one argument"),
-    (a_generator, "a generator, which would not be run: let it return its result"),
-    (a_need_that_is_not_there, "no step is named"),
+    (a_generator, "a generator, which would not run. Return the result"),
+    (a_need_that_is_not_there, "needs unknown step 'b'"),
     (a_need_twice, "twice"),
     (a_circle, "a needs b needs a"),
-    (undo_without_a_compensation, "undo=3, and it has no compensation: give it one, by @a.compensation, or say undo=0 where there is nothing to undo"),
-    (never_with_a_compensation, "never called"),
-    (two_compensations, "two compensations: one undoes all that it did: let it call both, or drop one"),
-    (a_price_below_0, "whole number"),
-    (a_price_that_is_no_number, "whole number"),
+    (undo_without_a_compensation, "undo=3, but it has no compensation. Declare @a.compensation, or set undo=0 if there is nothing to undo"),
+    (never_with_a_compensation, "never called. Remove one"),
+    (two_compensations, "two compensations, but one must undo everything. Call both from one function, or remove one"),
+    (a_price_below_0, "an integer from 0"),
+    (a_price_that_is_no_number, "an integer from 0"),
     (ten_tries, "1 to 9"),
     (ten_tries_of_a_compensation, "1 to 9"),
-    (a_step_of_another_saga, "another saga"),
+    (a_step_of_another_saga, "of saga 'other'"),
     (a_name_with_capitals, "1 to 32"),
-    (a_time_of_0, "more than 0"),
-    (a_limit_of_0, "from 1 on"),
+    (a_time_of_0, "a timedelta, > 0"),
+    (a_limit_of_0, "an integer >= 1"),
     (a_time_without_a_zone, "time zone"),
     (a_need_by_itself, "needs=["),
     (a_name_by_itself, "needs=["),
     (a_pause_in_seconds, "sagas.Backoff"),
-    (a_pause_below_0, "0 or more"),
-    (a_need_that_is_misspelt, "is 'flight' meant?"),
-    (a_need_that_is_no_step, "make it one by @s.step"),
+    (a_pause_below_0, "must be >= 0"),
+    (a_need_that_is_misspelt, "did you mean 'flight'?"),
+    (a_need_that_is_no_step, "Declare it with @s.step"),
     (a_step_on_a_circle, "step 'a': is in a cycle of needs: a needs b needs a"),
     (an_approval_within_a_text, "seconds or a timedelta"),
-    (an_approval_within_no_time, "of more than 0"),
-    (a_decorator_as_a_need, "needs what s.wait(..) gave"),
-    (a_wait_that_is_left_alone, "s.wait(..) declares nothing yet: it is a decorator: put it on a function"),
-    (an_approval_that_is_left_alone, "s.approval(..) declares nothing yet: it is a decorator: put it on a function"),
-    (a_pause_that_is_less_than_the_first, "give most=1 or more"),
+    (an_approval_within_no_time, "a timedelta, > 0"),
+    (a_decorator_as_a_need, "needs s.wait(...) of"),
+    (a_wait_that_is_left_alone, "s.wait(...) declares nothing, because it is a decorator. Apply it to a function"),
+    (an_approval_that_is_left_alone, "s.approval(...) declares nothing, because it is a decorator. Apply it to a function"),
+    (a_pause_that_is_less_than_the_first, "Set maximum=1 or more"),
     (a_rate_in_a_text, "seconds or a timedelta"),
     (one_exception_by_itself, "unknown=(TimeoutError,)"),
-    (no_name, "by name="),
+    (no_name, "Set name="),
 ]
 
 
@@ -352,7 +352,7 @@ def test_a_saga_without_steps_and_two_of_a_name(tmp_path: pathlib.Path) -> None:
     with pytest.raises(sagas.DefinitionError, match="another saga"):
         sagas.open(tmp_path / "store.db", [trip(), trip()])
     for what in (trip(), [trip().steps[0]], 17):
-        with pytest.raises(sagas.DefinitionError, match="a store is opened with"):
+        with pytest.raises(sagas.DefinitionError, match="expected a (list of sagas|sagas.Saga), got"):
             sagas.open(tmp_path / "store.db", what)  # type: ignore[arg-type]
 
 
@@ -367,7 +367,7 @@ def test_a_compensation_that_is_never_called(tmp_path: pathlib.Path, caplog: pyt
     def not_a(task: Task) -> None: ...
 
     (warning,) = saga.warnings()
-    assert "never called" in warning and warning.startswith(f"{__file__}:")
+    assert "can never be called" in warning and warning.startswith(f"{__file__}:")
     assert trip().warnings() == []
 
     async def main() -> None:
@@ -398,7 +398,7 @@ def test_nothing_to_undo(place: str) -> None:
     kept, gone = chained()[0], chained(0)
     gone[0].name = "gone"
 
-    async def main() -> tuple[sagas.End, sagas.End, str, list[str | None]]:
+    async def main() -> tuple[sagas.SagaResult, sagas.SagaResult, str, list[str | None]]:
         async with sagas.open(place, [kept, gone[0]]) as store:
             ends = await ended(store, kept, "kept"), await ended(store, gone[0], "gone")
             plans = await store.plan("kept"), await store.plan("gone")
@@ -407,9 +407,9 @@ def test_nothing_to_undo(place: str) -> None:
 
     one, other, told, needed = run(main())
     assert told.splitlines()[2:] == [
-        "  charge   committed         0      0  stands: receipt needs it",
-        "  receipt  committed         0  never  stands",
-        "  send     failed        never      0  is left out",
+        "  charge   committed             0             0  stands: receipt needs it",
+        "  receipt  committed             0         never  stands",
+        "  send     failed            never             0  is left out",
     ]
     assert needed == [None, None, None]
     assert one.states == {"charge": "committed", "receipt": "committed", "send": "failed"}
@@ -429,8 +429,8 @@ def test_what_keeps_others_from_being_undone() -> None:
     saga = chained()[0]
     (warning,) = saga.warnings()
     assert warning == (
-        f"{saga.steps[1].where}: saga 'order', step 'receipt' has no compensation: once it is done, 'charge', which it needs, is never undone; "
-        "say undo=0 where there is nothing to undo, or undo=NEVER where that is meant"
+        f"{saga.steps[1].where}: saga 'order', step 'receipt' has no compensation, so 'charge', which it needs, can never be undone after it commits. "
+        "Set undo=0 if there is nothing to undo, or undo=NEVER to confirm"
     )
     assert warning.startswith(f"{__file__}:")
     for quiet in (chained(0), chained(sagas.NEVER), chained(behind=False)):
@@ -446,8 +446,8 @@ def test_what_keeps_others_is_told_once() -> None:
     saga.step(name="beside")(lambda task: None)
     told = [warning.split("step ", 1)[1].partition("; say")[0] for warning in saga.warnings()]
     assert told == [
-        "'receipt' has no compensation: once it is done, 'charge', which it needs, is never undone",
-        "'mail' has no compensation: once it is done, 'hire', which it needs, is never undone",
+        "'receipt' has no compensation, so 'charge', which it needs, can never be undone after it commits. Set undo=0 if there is nothing to undo, or undo=NEVER to confirm",
+        "'mail' has no compensation, so 'hire', which it needs, can never be undone after it commits. Set undo=0 if there is nothing to undo, or undo=NEVER to confirm",
     ]
     saga = sagas.Saga("two")
     for name in ("a", "b"):
@@ -455,7 +455,7 @@ def test_what_keeps_others_is_told_once() -> None:
     saga.step(name="c", needs=["a", "b"])(lambda task: None)
     saga.step(name="d")(lambda task: None)
     (warning,) = saga.warnings()
-    assert "'a' and 'b', which it needs, are never undone" in warning
+    assert "'a' and 'b', which it needs, can never be undone" in warning
 
 
 def test_why_a_step_stands() -> None:
@@ -470,8 +470,8 @@ def test_why_a_step_stands() -> None:
     '''
     states = ["committed", "committed", "waiting", "committed", "failed"]
     plan = sagas.Plan("s", "k", text, {"states": states}, {"cost": 4, "kept": [0, 1, 2, 3]})
-    assert [choice.told for choice in plan.choices] == ["stands: b needs it", "stands", "is run", "stands", "is left out"]
-    assert [choice.decided for choice in plan.choices] == ["stands", "stands", "is run", "stands", "is left out"]
+    assert [choice.detail for choice in plan.choices] == ["stands: b needs it", "stands", "is run", "stands", "is left out"]
+    assert [choice.decision for choice in plan.choices] == ["stands", "stands", "is run", "stands", "is left out"]
 
 
 def test_hints_that_are_not_read() -> None:
@@ -492,9 +492,9 @@ def test_decorators_with_and_without_words() -> None:
     @saga.approval
     def review(task: Task) -> None: ...
 
-    assert (review.kind, review.name, review.within) == ("approval", "review", None)
-    with pytest.raises(sagas.DefinitionError, match=r"test_definition\.py:\d+: saga 's': handler="):
-        saga.step(handler=print, name="x")  # type: ignore[call-overload]
+    assert (review.kind, review.name, review.approval_timeout) == ("approval", "review", None)
+    with pytest.raises(sagas.DefinitionError, match=r"test_definition\.py:\d+: saga 's': external="):
+        saga.step(external=print, name="x")  # type: ignore[call-overload]
 
 
 def test_a_decorator_that_is_left_alone() -> None:
@@ -510,7 +510,7 @@ def test_a_decorator_that_is_left_alone() -> None:
 
     assert [step.run.tries for step in saga.steps] == [2, 2] and saga.toml()
     a.compensation(tries=2)
-    with pytest.raises(sagas.DefinitionError, match=r"test_definition\.py:\d+: saga 's': a\.compensation\(\.\.\) declares nothing yet: it is a decorator"):
+    with pytest.raises(sagas.DefinitionError, match=r"test_definition\.py:\d+: saga 's': a\.compensation\(\.\.\.\) declares nothing, because it is a decorator"):
         saga.toml()
 
 
@@ -520,13 +520,13 @@ def test_times_are_seconds_or_a_timedelta() -> None:
     minute = datetime.timedelta(minutes=1)
     ways: tuple[tuple[str, float | datetime.timedelta], ...] = ("a", minute), ("b", 60)
     for name, time in ways:
-        step = saga.step(name=name, rate=(100, time))(lambda task: None)
-        assert step.bounds is not None and step.bounds.rate == (100, 60)
-        assert saga.approval(name=f"{name}2", within=time)(lambda task: None).within == minute
+        step = saga.step(name=name, rate_limit=(100, time))(lambda task: None)
+        assert step.bounds is not None and step.bounds.rate_limit == (100, 60)
+        assert saga.approval(name=f"{name}2", timeout=time)(lambda task: None).approval_timeout == minute
     assert saga.warnings() == []
-    saga.step(name="c", tries=2, backoff=sagas.Backoff(first=300))(lambda task: None)
+    saga.step(name="c", tries=2, backoff=sagas.Backoff(initial=300))(lambda task: None)
     (warning,) = saga.warnings()
-    assert "the pauses of its function are 60.0 s, not 300 s: say sagas.Backoff(first=300, most=300)" in warning
+    assert "the pauses of its function are 60.0 s, not 300 s, because that is the default maximum. Set sagas.Backoff(initial=300, maximum=300)" in warning
 
 
 # -- types ---------------------------------------------------------------------------------------------------------------
@@ -557,7 +557,7 @@ def test_dataclasses_cross_as_json(tmp_path: pathlib.Path) -> None:
 
     @saga.step(needs=[book])
     def check(task: sagas.Task[Booking]) -> None:
-        seen.append(task.of(book))
+        seen.append(task.result_of(book))
         raise sagas.Fail("no")
 
     given = Booking("Lisbon", datetime.date(2031, 5, 1), [1, 2])
@@ -583,17 +583,17 @@ TYPED = """
 
     @trip.step(needs=[flight], tries=3)
     def car(task: sagas.Task[dict[str, str]]) -> int:
-        return len(task.of(flight))
+        return len(task.result_of(flight))
 
     @trip.step(needs=[car])
     def tour(task: sagas.Task[Any]) -> None:
-        reveal_type(task.of(flight))
-        reveal_type(task.of(car))
+        reveal_type(task.result_of(flight))
+        reveal_type(task.result_of(car))
 """
 
 
 def test_types_are_seen(tmp_path: pathlib.Path) -> None:
-    """`task.of(flight)` has the type of what `flight` returns, and mypy finds nothing to say of a program."""
+    """`task.result_of(flight)` has the type of what `flight` returns, and mypy finds nothing to say of a program."""
     path = tmp_path / "typed.py"
     path.write_text(textwrap.dedent(TYPED))
     words = ["mypy", "--strict", "--cache-dir", str(tmp_path), str(path)]

@@ -8,10 +8,10 @@ from typing import Any
 
 import psycopg
 import pytest
+from cases import ended, run
 
 import sagas
-from cases import ended, run
-from sagas import command
+from sagas.cli import store_command
 
 
 def release(*steps: str, keep: int = 0) -> sagas.Saga:
@@ -25,13 +25,13 @@ def release(*steps: str, keep: int = 0) -> sagas.Saga:
 def waiting(url: str) -> list[str]:
     """The keys of the starts that no log has yet."""
     with psycopg.connect(url) as link:
-        rows = link.execute("SELECT key FROM sagas.inbox ORDER BY key").fetchall()
+        rows = link.execute("SELECT key FROM sagas.pending_starts ORDER BY key").fetchall()
         return [key for (key,) in rows]
 
 
 def nodes(url: str, capsys: pytest.CaptureFixture[str], *words: str) -> str:
     """What the command says of nodes."""
-    assert command.main([url, "nodes", *words]) == 0
+    assert store_command.main([url, "nodes", *words]) == 0
     return capsys.readouterr().out
 
 
@@ -57,12 +57,12 @@ def test_a_step_is_added(url: str, capsys: pytest.CaptureFixture[str], plain: bo
             assert waiting(url) == ["k"]
             with pytest.raises(TimeoutError) as told:
                 await going.wait(0.01)
-            said = "no node has its definition of saga 'pair' (version 1): node old has steps"
+            said = "no node has its definition of saga 'pair' (version 1): node old has other steps"
             assert said in str(told.value)
             text = await asyncio.to_thread(nodes, url, capsys)
             assert "a node with this definition: old has another one" in text
             text = await asyncio.to_thread(nodes, url, capsys, "--json")
-            (one,) = json.loads(text)["starts without a node"]
+            (one,) = json.loads(text)["starts_without_node"]
             assert (one["saga"], one["starts"], one["nodes"]) == ("pair (version 1)", 1, ["old"])
             async with sagas.open(url, [new], node="new"):
                 assert (await going.wait(60)).states == dict.fromkeys("abc", "committed")
@@ -84,7 +84,7 @@ def test_a_start_of_an_older_client(url: str, capsys: pytest.CaptureFixture[str]
             going = await client.start(old, "k", 1)
             assert (await (await client.start(named, "named", 1)).wait(60)).ok
             with psycopg.connect(url) as link:
-                columns = "sagas.inbox(key, saga, version, input, at)"
+                columns = "sagas.pending_starts(key, saga, version, input, at)"
                 link.execute(f"INSERT INTO {columns} VALUES ('old', 'pair', 1, '1', 0)".encode())
             assert (await client.wait("old", 60)).ok and waiting(url) == ["k"]
             assert (await ended(store, new, "own")).ok

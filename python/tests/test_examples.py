@@ -15,17 +15,17 @@ EXAMPLES = sorted(path.stem for path in (TOP / "examples" / "python").glob("*.py
 SAYS = {
     "order": [
         "  send the lamp",
-        "  ended: reserve committed, charge committed, send committed",
+        "  completed: reserve committed, charge committed, send committed",
         "  give 900 euros back",
         "  put the piano back",
-        "  ended: reserve undone, charge undone, send failed",
+        "  recovered: reserve undone, charge undone, send failed",
     ],
     "trip": [
-        "  ended, stands: flight, car, hotel, tour",
+        "  completed, stands: flight, car, hotel, tour",
         "  hotel in Lisbon: full (attempt 3)",
         "  give car 7 back",
-        "  ended, stands: flight; it costs 40",
-        "  ended, stands: flight, hotel; it costs 15",
+        "  recovered, stands: flight; it costs 40",
+        "  recovered, stands: flight, hotel; it costs 15",
     ],
     "provisioning": [
         "  request-1: start a small server at 192.0.2.17, approved by Ada",
@@ -33,7 +33,7 @@ SAYS = {
         "  request-2: give 192.0.2.17 back",
         "  request-3: remove server 4",
         "  request-3: give 192.0.2.17 back",
-        "  ended: address undone, approve undone, server undone, watch undone, bill failed",
+        "  recovered: address undone, approve undone, server undone, watch undone, bill failed",
     ],
 }
 

@@ -23,14 +23,17 @@ from collections.abc import Iterator
 from typing import Any
 
 import pytest
-
 import records
-import sagas
-from sagas import coordinator, lines, restoring, sources, sqlite
 from cases import QUICK, Task, ended, in_child, run, simple, surely_ended, until
 from driving import program
 from kills import children
 from world import started
+
+import sagas
+from sagas.core import protocol
+from sagas.runtime import coordinator, shard_runner
+from sagas.storage import admin
+from sagas.storage.sqlite import store_file
 
 HERE = pathlib.Path(__file__).resolve().parent
 
@@ -49,14 +52,14 @@ def test_is_killed_with_the_program(tmp_path: pathlib.Path, place: str) -> None:
         saga = sagas.Saga("killed")
         @saga.step
         async def a(task):
-            print("a", task.token)
+            print("a", task.attempt_id)
             return 1
         @saga.step(needs=[a])
         async def b(task):
-            print("b", task.token)
+            print("b", task.attempt_id)
             if sys.argv[-1] == "kill":
                 os.kill(os.getpid(), signal.SIGKILL)
-            return task.of(a) + 1
+            return task.result_of(a) + 1
         async def main():
             async with sagas.open({place!r}, [saga], node="one") as store:
                 run = await store.start(saga, key="k", input="once")
@@ -125,7 +128,7 @@ def test_two_programs_open_one_store(tmp_path: pathlib.Path, is_link: bool) -> N
         with pytest.raises(sagas.StoreLocked, match=rf"another program \(process {process.pid}\)"):
             async with sagas.open(path, [saga]):
                 pass
-        with contextlib.closing(sources.File(str(path), "ro")) as file:
+        with contextlib.closing(admin.File(str(path), "ro")) as file:
             assert file.is_driven()
         process.kill()
         process.wait()
@@ -133,7 +136,7 @@ def test_two_programs_open_one_store(tmp_path: pathlib.Path, is_link: bool) -> N
             with pytest.raises(sagas.StoreLocked, match="this program has this store open"):
                 async with sagas.open(tmp_path / "store.db", [saga]):
                     pass
-            assert (await ended(store, saga)).phase == "ended"
+            assert (await ended(store, saga)).phase == "completed"
 
     try:
         run(main())
@@ -152,7 +155,7 @@ def test_a_store_of_two_names(tmp_path: pathlib.Path) -> None:
             await ended(store, saga)
         (tmp_path / "name.db").hardlink_to(tmp_path / "store.db")
         for name in ("store.db", "name.db"):
-            with pytest.raises(sagas.StoreFault, match="2 names"):
+            with pytest.raises(sagas.InvalidStore, match="2 names"):
                 async with sagas.open(tmp_path / name, [saga]):
                     pass
         shutil.copy(tmp_path / "name.db", tmp_path / "copy.db")
@@ -196,7 +199,7 @@ exec {program} "$@"
 
 def test_an_audit_is_killed(tmp_path: pathlib.Path, place: str, monkeypatch: pytest.MonkeyPatch) -> None:
     """It has said nothing of the log, which is audited again, and is closed as a good one."""
-    monkeypatch.setattr("sagas.kinds.ROOM", 2)
+    monkeypatch.setattr("sagas.definition.compiled.SHARD_CAPACITY", 2)
     killed, once, told = tmp_path / "killed", tmp_path / "once", list[str]()
     killed.write_text(KILLED_ONCE.format(once=once, program=program()))
     killed.chmod(0o755)
@@ -207,7 +210,7 @@ def test_an_audit_is_killed(tmp_path: pathlib.Path, place: str, monkeypatch: pyt
         async with sagas.open(place, [saga], program=str(killed), on_event=lambda event: told.append(event.name)) as store:
             for number in range(3):
                 assert (await ended(store, saga, f"k{number}")).ok
-            await until(lambda: "log_closed" in told)
+            await until(lambda: "shard_closed" in told)
 
     run(main())
     assert [log.closed for log in records.read(place).logs.values()] == [True, False] and "audit_failed" not in told and not once.exists()
@@ -223,7 +226,7 @@ def test_a_file_that_is_deleted_under_the_program(tmp_path: pathlib.Path, name: 
             assert (await ended(store, saga, "before")).ok
             (tmp_path / name).unlink()
             await until(lambda: any(record.levelname == "CRITICAL" for record in caplog.records))
-            with pytest.raises(sagas.StoreUnwritable, match=f"{name} was deleted or replaced"):
+            with pytest.raises(sagas.StoreUnavailable, match=f"{name} was deleted or replaced"):
                 await store.start(saga, "behind")
 
     run(main())
@@ -246,7 +249,7 @@ def test_the_lock_is_deleted(tmp_path: pathlib.Path, caplog: pytest.LogCaptureFi
                 fcntl.flock(other, fcntl.LOCK_EX)
                 (tmp_path / "faster").replace(lock)
                 await until(lambda: caplog.records)
-                with pytest.raises(sagas.StoreUnwritable, match="its lock was deleted"):
+                with pytest.raises(sagas.StoreUnavailable, match="The lock file was deleted"):
                     await store.start(saga, "late")
 
     run(main())
@@ -257,7 +260,7 @@ def test_the_lock_is_deleted(tmp_path: pathlib.Path, caplog: pytest.LogCaptureFi
 def test_the_program_goes_elsewhere(tmp_path: pathlib.Path, monkeypatch: pytest.MonkeyPatch) -> None:
     """A store of a relative path stays where it was opened, also what it opens later."""
     saga = sagas.Saga("row")
-    saga.step(name="a", rate=(100, 1))(lambda task: 1)
+    saga.step(name="a", rate_limit=(100, 1))(lambda task: 1)
     (tmp_path / "there").mkdir()
     monkeypatch.chdir(tmp_path)
 
@@ -277,12 +280,12 @@ def test_an_older_copy_in_place_of_the_store(tmp_path: pathlib.Path) -> None:
 
     @saga.step
     async def a(task: Task) -> None:
-        whose[task.effect_token].add(task.key)
+        whose[task.idempotency_key].add(task.key)
         if task.key in waits:
             await asyncio.Event().wait()
 
     async def before(path: pathlib.Path) -> None:
-        async with sagas.open(path, [saga], grace=0.0) as store:
+        async with sagas.open(path, [saga], shutdown_timeout=0.0) as store:
             await store.start(saga, "open")
             await ended(store, saga, "first")
             with contextlib.closing(sqlite3.connect(path)) as link, contextlib.closing(sqlite3.connect(tmp_path / "copy.db")) as copy:
@@ -312,7 +315,7 @@ def test_ctrl_c(tmp_path: pathlib.Path, times: int) -> None:
         saga = sagas.Saga("simple")
         @saga.step
         async def a(task):
-            print(task.token, flush=True)
+            print(task.attempt_id, flush=True)
             while not os.path.exists({str(go)!r}):
                 await asyncio.sleep(0.01)
             return "kept"
@@ -327,7 +330,7 @@ def test_ctrl_c(tmp_path: pathlib.Path, times: int) -> None:
     tokens: list[str] = []
 
     async def main() -> None:
-        saga = simple(lambda task: tokens.append(task.token))
+        saga = simple(lambda task: tokens.append(task.attempt_id))
         async with sagas.open(path, [saga]) as store:
             end = await store.wait("k")
             assert end.results == {"a": "kept" if times == 1 else None}
@@ -359,13 +362,13 @@ def test_what_is_no_file(tmp_path: pathlib.Path) -> None:
     saga = simple(lambda task: 1)
     (tmp_path / "folder").mkdir()
     names = {
-        ":memory:": (sagas.StoreFault, "sagas.testing.run"),
-        "": (sagas.StoreFault, "a store is a file"),
-        "sqlite:///a/b.db": (sagas.StoreFault, "by its path: a/b.db"),
-        "sqlite:////a.db": (sagas.StoreFault, "by its path: /a.db"),
-        "mysql://host/a": (sagas.StoreFault, "postgresql://"),
-        str(tmp_path / "folder"): (sagas.StoreFault, "it is a folder"),
-        str(tmp_path / "none/a.db"): (sagas.StoreUnwritable, "none: there is no such folder"),
+        ":memory:": (sagas.InvalidStore, "sagas.testing.run"),
+        "": (sagas.InvalidStore, "must be the path of a file"),
+        "sqlite:///a/b.db": (sagas.InvalidStore, "by its path: a/b.db"),
+        "sqlite:////a.db": (sagas.InvalidStore, "by its path: /a.db"),
+        "mysql://host/a": (sagas.InvalidStore, "postgresql://"),
+        str(tmp_path / "folder"): (sagas.InvalidStore, "this is a folder"),
+        str(tmp_path / "none/a.db"): (sagas.StoreUnavailable, "folder .*none does not exist"),
     }
 
     async def opened(name: str) -> None:
@@ -377,10 +380,10 @@ def test_what_is_no_file(tmp_path: pathlib.Path) -> None:
             run(opened(name))
     assert [*tmp_path.iterdir()] == [tmp_path / "folder"]
     for path in (None, b"store.db", 17):
-        with pytest.raises(sagas.StoreFault, match="a store is a file: give its path"):
+        with pytest.raises(sagas.InvalidStore, match="must be the path of a file"):
             sagas.open(path, [saga])  # type: ignore[arg-type]
-    for word, number in (("concurrency", 0), ("threads", 1.5), ("threads", 0), ("children", -1)):
-        with pytest.raises(ValueError, match=f"{word}=.*from 1 on"):
+    for word, number in (("concurrency", 0), ("threads", 1.5), ("threads", 0), ("engine_processes", -1)):
+        with pytest.raises(ValueError, match=f"{word}=.*an integer >= 1"):
             sagas.open(tmp_path / "store.db", [saga], **{word: number})  # type: ignore[arg-type]
 
 
@@ -390,22 +393,22 @@ async def heard(event: sagas.Event) -> None: ...
 @pytest.mark.parametrize(
     "words, kind, text",
     [
-        ({"grace": "30s"}, TypeError, "grace='30s': it is seconds, or a timedelta: grace=30"),
-        ({"grace": -1}, ValueError, "grace=-1: .* of no less than nothing"),
-        ({"grace": True}, TypeError, "grace=True: it is seconds"),
-        ({"lease": "x"}, TypeError, "lease='x': it is seconds"),
-        ({"lease": 0}, ValueError, "lease=0: .* of more than 0"),
-        ({"idle": "x"}, TypeError, "idle='x': it is seconds"),
+        ({"shutdown_timeout": "30s"}, TypeError, "shutdown_timeout='30s': must be seconds or a timedelta, for example shutdown_timeout=30"),
+        ({"shutdown_timeout": -1}, ValueError, "shutdown_timeout=-1: .*, >= 0"),
+        ({"shutdown_timeout": True}, TypeError, "shutdown_timeout=True: must be seconds"),
+        ({"lease": "x"}, TypeError, "lease='x': must be seconds"),
+        ({"lease": 0}, ValueError, "lease=0: .*, > 0"),
+        ({"idle": "x"}, TypeError, "idle='x': must be seconds"),
         ({"idle": float("nan")}, ValueError, "idle=nan"),
-        ({"node": 5}, TypeError, 'node=5: it is a text, .* node="web-1"'),
-        ({"on_event": 5}, TypeError, "on_event=5: it is a function that is called with each Event"),
-        ({"on_event": heard}, TypeError, "on_event=.*: it is a plain function"),
-        ({"clock": 5}, TypeError, "clock=5: it is a function that gives seconds since 1970"),
-        ({"keep_ended": 30}, TypeError, r"keep_ended=30: it is a timedelta, .* as datetime.timedelta\(days=30\)"),
-        ({"export_ended": "."}, ValueError, "export_ended='.': .* without keep_ended="),
-        ({"keep_ended": MONTH, "export_ended": "none/archive"}, ValueError, "export_ended='none/archive': there is no folder .*/none: make it"),
-        ({"keep_ended": MONTH, "export_ended": __file__}, ValueError, "export_ended=.*: it is no folder"),
-        ({"keep_ended": MONTH, "export_ended": 5}, TypeError, "export_ended=5: it is the path of a folder"),
+        ({"node": 5}, TypeError, 'node=5: must be a text, .* node="web-1"'),
+        ({"on_event": 5}, TypeError, "on_event=5: must be a function that takes an Event"),
+        ({"on_event": heard}, TypeError, "on_event=.*: must be a plain function"),
+        ({"clock": 5}, TypeError, "clock=5: must be a function that returns seconds since 1970"),
+        ({"retention": 30}, TypeError, r"retention=30: must be a timedelta >= 0, .* datetime.timedelta\(days=30\)"),
+        ({"archive_dir": "."}, ValueError, "archive_dir='.': .* without retention="),
+        ({"retention": MONTH, "archive_dir": "none/archive"}, ValueError, "archive_dir='none/archive': folder .*/none does not exist. Create it"),
+        ({"retention": MONTH, "archive_dir": __file__}, ValueError, "archive_dir=.*: this is not a folder"),
+        ({"retention": MONTH, "archive_dir": 5}, TypeError, "archive_dir=5: must be the path of a folder"),
     ],
 )
 def test_what_a_store_is_not_opened_with(tmp_path: pathlib.Path, words: dict[str, Any], kind: type[Exception], text: str) -> None:
@@ -417,15 +420,15 @@ def test_what_a_store_is_not_opened_with(tmp_path: pathlib.Path, words: dict[str
 
 
 def test_times_of_a_store(tmp_path: pathlib.Path) -> None:
-    """`grace`, `lease` and `idle` are seconds or a timedelta, in `close` too."""
+    """`shutdown_timeout`, `lease` and `idle` are seconds or a timedelta, in `close` too."""
     second = datetime.timedelta(seconds=1)
 
     async def main() -> None:
         ways: tuple[float | datetime.timedelta, ...] = (1, 1.0, second)
         for time in ways:
-            async with sagas.open(tmp_path / "store.db", [simple(lambda task: 1)], grace=time, lease=time, idle=time) as store:
+            async with sagas.open(tmp_path / "store.db", [simple(lambda task: 1)], shutdown_timeout=time, lease=time, idle=time) as store:
                 assert (await ended(store, store.sagas[0])).ok
-                with pytest.raises(TypeError, match="grace='x': it is seconds"):
+                with pytest.raises(TypeError, match="shutdown_timeout='x': must be seconds"):
                     await store.close("x")  # type: ignore[arg-type]
                 await store.close(time)
 
@@ -437,12 +440,12 @@ def test_the_other_kind_of_with(tmp_path: pathlib.Path) -> None:
     saga = simple(lambda task: 1)
     path = tmp_path / "store.db"
     for name in (path, "postgresql://a@127.0.0.1/b"):
-        with pytest.raises(TypeError, match=r"^a store of sagas.open is used by `async with`; without async use `with sagas\.open_sync"):
+        with pytest.raises(TypeError, match=r"^a store of sagas.open needs `async with`. Without async, use `with sagas\.open_sync"):
             with sagas.open(name, [saga]):  # type: ignore[attr-defined]
                 pass
 
     async def main() -> None:
-        with pytest.raises(TypeError, match=r"by `with`; with async use `async with sagas\.open\("):
+        with pytest.raises(TypeError, match=r"needs `with`. With async, use `async with sagas\.open\("):
             async with sagas.open_sync(path, [saga]):  # type: ignore[attr-defined]
                 pass
 
@@ -467,9 +470,9 @@ def test_a_function_forks(place: str) -> None:
     async def main() -> None:
         saga = simple(fork)
         async with sagas.open(place, [saga]) as store:
-            assert (await ended(store, saga, "one")).phase == "ended"
+            assert (await ended(store, saga, "one")).phase == "completed"
         async with sagas.open(place, [saga]) as store:
-            assert (await ended(store, saga, "two")).phase == "ended"
+            assert (await ended(store, saga, "two")).phase == "completed"
 
     try:
         run(main())
@@ -484,7 +487,7 @@ def test_a_function_forks(place: str) -> None:
 def test_a_store_in_a_forked_child(place: str) -> None:
     """With async and without it says at once that it is another process's, and its closing there does nothing to that one's."""
     saga = simple(lambda task: 1)
-    text = "was opened in another process, before a fork: make one in this process"
+    text = "was opened in another process, before a fork. Create and open one in this process"
 
     async def main() -> None:
         async with sagas.open(place, [saga]) as store:
@@ -494,7 +497,7 @@ def test_a_store_in_a_forked_child(place: str) -> None:
             ]  # fmt: skip
             for call in calls:
                 assert text in in_child(lambda: asyncio.run(call()))
-            assert text in in_child(lambda: store.begun("k"))
+            assert text in in_child(lambda: store.active_attempts("k"))
             assert in_child(lambda: asyncio.run(store.close())) == "None"
             assert (await ended(store, saga, "async")).ok
 
@@ -540,7 +543,7 @@ def test_a_store_that_is_entered_twice(place: str) -> None:
     async def main() -> None:
         store = sagas.open(place, [saga])
         async with store:
-            with pytest.raises(RuntimeError, match="the store is open already: enter it once"):
+            with pytest.raises(RuntimeError, match="the store is already open. Enter it once"):
                 async with store:
                     pass
             assert (await ended(store, saga, "one")).ok
@@ -550,7 +553,7 @@ def test_a_store_that_is_entered_twice(place: str) -> None:
     run(main())
     store = sagas.open_sync(place, [saga])
     with store:
-        with pytest.raises(RuntimeError, match="the store is open already: enter it once"), store:
+        with pytest.raises(RuntimeError, match="the store is already open. Enter it once"), store:
             pass
         assert store.start(saga, "three").wait(240).ok
     with store:
@@ -620,18 +623,30 @@ def test_the_child_is_killed_again_and_again(place: str) -> None:
 
         @saga.step
         async def a(task: Task) -> int:
-            tokens[task.token] += 1
+            tokens[task.attempt_id] += 1
             await asyncio.sleep(0.01)
             return 1
 
         @saga.step(needs=[a])
         async def b(task: Task) -> int:
-            tokens[task.token] += 1
-            return task.of(a) + 1
+            tokens[task.attempt_id] += 1
+            return task.result_of(a) + 1
+
+        async def surely_new(store: sagas.Store, key: str) -> sagas.SagaResult:
+            """One that is refused, as its shard is killed while it is read, has started nothing."""
+            while True:
+                try:
+                    run = await store.start(saga, key)
+                except sagas.StoreUnavailable as error:
+                    assert "Nothing was started" in str(error)
+                    await asyncio.sleep(0.02)
+                else:
+                    assert run.new
+                    return await run.wait()
 
         others = set(children(os.getpid()))  # servers that other tests use
         async with sagas.open(place, [saga]) as store:
-            work = [asyncio.create_task(ended(store, saga, f"k{number}")) for number in range(60)]
+            work = [asyncio.create_task(surely_new(store, f"k{number}")) for number in range(60)]
             for _ in range(8):
                 await asyncio.sleep(0.03)
                 for child in set(children(os.getpid())) - others:
@@ -662,19 +677,19 @@ def test_the_child_cannot_be_started_for_a_while(place: str, idle: float) -> Non
         saga.approval(name="ok", needs=["a"])(lambda task: None)
         async with sagas.open(place, [saga], idle=idle) as store:
             first = await store.start(saga, "first")
-            await until(lambda: "ok" in (one.step for one in store.begun("first")))
+            await until(lambda: "ok" in (one.step for one in store.active_attempts("first")))
             if idle < 1:
                 await until(lambda: not set(children(os.getpid())) - others)
             own = set(children(os.getpid())) - others
             with no_descriptors():
                 for child in own:
                     os.kill(child, signal.SIGKILL)
-                with pytest.raises(sagas.StoreUnwritable, match="Too many open files"):
+                with pytest.raises(sagas.StoreUnavailable, match="Too many open files"):
                     await store.start(saga, "second")
             second = await asyncio.wait_for(started(store, saga, "second", None), 60)
-            await until(lambda: "ok" in (one.step for one in store.begun("second")))
+            await until(lambda: "ok" in (one.step for one in store.active_attempts("second")))
             for going in (first, second):
-                await asyncio.wait_for(going.finish("ok"), 60)
+                await asyncio.wait_for(going.complete("ok"), 60)
                 assert (await asyncio.wait_for(going.wait(), 60)).ok
 
     run(main())
@@ -682,7 +697,7 @@ def test_the_child_cannot_be_started_for_a_while(place: str, idle: float) -> Non
 
 def test_the_child_hangs(place: str, monkeypatch: pytest.MonkeyPatch) -> None:
     """One that does not answer for long is ended, and another one goes on with its log."""
-    monkeypatch.setattr("sagas.child.HUNG", 0.5)
+    monkeypatch.setattr("sagas.engine.process.HUNG", 0.5)
     saga, others = simple(lambda task: 1), set(children(os.getpid()))
 
     async def main() -> None:
@@ -746,7 +761,7 @@ def test_the_child_dies_between_log_and_reply(tmp_path: pathlib.Path, place: str
             await asyncio.sleep(0.2)
         return 2
 
-    async def main() -> sagas.End:
+    async def main() -> sagas.SagaResult:
         async with sagas.open(place, [saga], program=str(between)) as store:
             wanted = {"fail": "fails", "undone": "fails", "abort": "waits"}.get(event)
             run = await store.start(saga, key="k", input=wanted)
@@ -756,7 +771,7 @@ def test_the_child_dies_between_log_and_reply(tmp_path: pathlib.Path, place: str
 
     end = run(main())
     assert not once.exists(), "it did not die"
-    assert end.phase == "ended"
+    assert end.phase in ("completed", "recovered")
     if event in ("fail", "undone"):
         assert calls == [("a", 1), ("b", 1), ("b", 2), ("b", 3), ("not a", 1)]
     elif event != "abort":
@@ -770,7 +785,7 @@ def test_the_child_dies_between_log_and_reply(tmp_path: pathlib.Path, place: str
 @pytest.mark.parametrize("refused", ["other-attempt", "no-such-step"])
 def test_a_report_that_the_child_does_not_know(place: str, monkeypatch: pytest.MonkeyPatch, caplog: pytest.LogCaptureFixture, refused: str) -> None:
     """The log is begun again from the store; what the function returned is reported then, and it is not called again."""
-    right, spoilt = lines.report_line, 0
+    right, spoilt = protocol.report_line, 0
 
     def report_line(saga: int, step: int, task: str, attempt: int, ok: bool) -> str:
         nonlocal spoilt
@@ -778,16 +793,16 @@ def test_a_report_that_the_child_does_not_know(place: str, monkeypatch: pytest.M
         one_more = int(spoilt == 1)
         return right(saga, step, task, attempt + one_more, ok) if refused == "other-attempt" else right(saga, step + one_more, task, attempt, ok)
 
-    monkeypatch.setattr(lines, "report_line", report_line)
+    monkeypatch.setattr(protocol, "report_line", report_line)
     calls: list[str] = []
 
-    async def main() -> sagas.End:
-        saga = simple(lambda task: calls.append(task.token))
+    async def main() -> sagas.SagaResult:
+        saga = simple(lambda task: calls.append(task.attempt_id))
         async with sagas.open(place, [saga]) as store:
             return await ended(store, saga)
 
     assert run(main()).ok and len(calls) == 1
-    assert refused in caplog.text and "begun again from the store" in caplog.text
+    assert refused in caplog.text and "Recovering" in caplog.text
 
 
 def test_a_function_hangs(place: str) -> None:
@@ -796,7 +811,7 @@ def test_a_function_hangs(place: str) -> None:
 
     async def main() -> None:
         async def hang(task: Task) -> int:
-            tokens.append(task.token)
+            tokens.append(task.attempt_id)
             if len(tokens) < 3:
                 await asyncio.sleep(3600)
             return 1
@@ -805,7 +820,7 @@ def test_a_function_hangs(place: str) -> None:
         quick.step(name="a")(lambda task: 1)
         async with sagas.open(place, [slow, quick], concurrency=1) as store:
             first = await store.start(slow, key="slow")
-            assert (await ended(store, quick, "quick")).phase == "ended"
+            assert (await ended(store, quick, "quick")).phase == "completed"
             assert (await first.wait()).results == {"a": 1}
 
     run(main())
@@ -841,7 +856,7 @@ def test_a_function_blocks_the_loop(place: str) -> None:
         saga = simple(block, timeout=0.1)
         async with sagas.open(place, [saga]) as store:
             ends = await asyncio.gather(*(ended(store, saga, f"k{number}") for number in range(5)))
-            assert {end.phase for end in ends} == {"ended"}
+            assert {end.phase for end in ends} <= {"completed", "recovered"}
 
     run(main())
 
@@ -853,7 +868,7 @@ def test_a_function_raises_what_it_should_not(place: str, kind: type[BaseExcepti
     tokens: list[str] = []
 
     def odd(task: Task) -> int:
-        tokens.append(task.effect_token)
+        tokens.append(task.idempotency_key)
         if len(tokens) == 1:
             raise kind()
         return 1
@@ -889,7 +904,7 @@ def test_a_clock_that_jumps(place: str, jump: float) -> None:
     clock, calls = Jumping(), Counter[str]()
 
     async def fails(task: Task) -> int:
-        calls[task.token] += 1
+        calls[task.attempt_id] += 1
         clock.by += jump
         if task.attempt < 3:
             raise ValueError("again")
@@ -898,10 +913,10 @@ def test_a_clock_that_jumps(place: str, jump: float) -> None:
     async def main() -> None:
         saga = simple(fails, tries=3)
         async with sagas.open(place, [saga], clock=clock) as store:
-            assert (await ended(store, saga, "one")).phase == "ended"
+            assert (await ended(store, saga, "one")).phase == "completed"
         clock.by += jump
         async with sagas.open(place, [saga], clock=clock) as store:
-            assert (await ended(store, saga, "two")).phase == "ended"
+            assert (await ended(store, saga, "two")).phase == "completed"
 
     run(main())
     assert len(calls) == 6 and set(calls.values()) == {1}
@@ -940,13 +955,13 @@ def full(size: int = 1) -> Iterator[None]:
 
 
 def test_the_disk_is_full(tmp_path: pathlib.Path) -> None:
-    """`start` raises StoreUnwritable and nothing was begun; results wait for room; nothing is called twice by this program."""
+    """`start` raises StoreUnavailable and nothing was begun; results wait for room; nothing is called twice by this program."""
     calls: Counter[str] = Counter()
     gate = asyncio.Event()
 
     async def main() -> None:
         async def hold(task: Task) -> str:
-            calls[task.token] += 1
+            calls[task.attempt_id] += 1
             await gate.wait()
             return "x" * 2000
 
@@ -955,11 +970,11 @@ def test_the_disk_is_full(tmp_path: pathlib.Path) -> None:
             first = [await store.start(saga, key=f"k{number}") for number in range(20)]
             with full():
                 gate.set()
-                with pytest.raises(sagas.StoreUnwritable):
+                with pytest.raises(sagas.StoreUnavailable):
                     await store.start(saga, key="more")
             ends = await asyncio.gather(*(run.wait() for run in first))
-            assert {end.phase for end in ends} == {"ended"}
-            assert (await ended(store, saga, "more")).phase == "ended"
+            assert {end.phase for end in ends} <= {"completed", "recovered"}
+            assert (await ended(store, saga, "more")).phase == "completed"
         assert set(calls.values()) == {1} and len(calls) == 21
 
     run(main())
@@ -976,14 +991,14 @@ def test_the_wal_is_as_long_as_it_becomes(tmp_path: pathlib.Path, size: int | No
             async with sagas.open(tmp_path / "store.db", [saga]) as store:
                 assert (await ended(store, saga, "k")).ok
                 length = wal.stat().st_size
-                assert length < 1 << 19 if size else length == sqlite.LENGTH * (4096 + sqlite.FRAME)
+                assert length < 1 << 19 if size else length == store_file.LENGTH * (4096 + store_file.FRAME)
                 for number in range(20):
                     assert (await ended(store, saga, f"k{number}")).ok
                 assert size or wal.stat().st_size == length
                 (tmp_path / "copy").mkdir()
                 subprocess.run(["cp", tmp_path / "store.db", wal, tmp_path / "copy"], check=True)  # as a machine that fails leaves them
         async with sagas.open(tmp_path / "copy" / "store.db", [saga]) as store:
-            assert len(await store.list(phase="ended")) == 21
+            assert len(await store.list(phase="completed")) == 21
             assert not (await store.start(saga, "k7")).new
 
     run(main())
@@ -991,8 +1006,8 @@ def test_the_wal_is_as_long_as_it_becomes(tmp_path: pathlib.Path, size: int | No
 
 def test_a_commit_fails_again_and_again(tmp_path: pathlib.Path, monkeypatch: pytest.MonkeyPatch) -> None:
     """The pauses between two tries grow to two seconds, and no further."""
-    assert restoring.MOST_PAUSE == 2.0
-    monkeypatch.setattr(restoring, "MOST_PAUSE", 2 * restoring.FIRST_PAUSE)
+    assert shard_runner.MOST_PAUSE == 2.0
+    monkeypatch.setattr(shard_runner, "MOST_PAUSE", 2 * shard_runner.FIRST_PAUSE)
     gate, tries = asyncio.Event(), Counter[str]()
 
     async def hold(task: Task) -> int:
@@ -1005,7 +1020,7 @@ def test_a_commit_fails_again_and_again(tmp_path: pathlib.Path, monkeypatch: pyt
             going = await store.start(saga, "k")
             with full():
                 gate.set()
-                await until(lambda: tries["commit_failed"] + tries["child_died"] > 12, 30)  # with pauses that went on growing, minutes
+                await until(lambda: tries["commit_failed"] + tries["engine_died"] > 12, 30)  # with pauses that went on growing, minutes
             assert (await going.wait()).ok
 
     run(main())
@@ -1075,7 +1090,7 @@ def test_closing(place: str) -> None:
 
 def test_closing_while_starts_wait(place: str, monkeypatch: pytest.MonkeyPatch) -> None:
     """Sagas that wait for a log, and logs that wait for a child, keep nobody: who was not told of a start gets Closed."""
-    monkeypatch.setattr("sagas.kinds.ROOM", 4)
+    monkeypatch.setattr("sagas.definition.compiled.SHARD_CAPACITY", 4)
     saga = sagas.Saga("pair")
     begun, gate = asyncio.Event(), asyncio.Event()
 
@@ -1090,7 +1105,7 @@ def test_closing_while_starts_wait(place: str, monkeypatch: pytest.MonkeyPatch) 
         return 2
 
     async def main() -> None:
-        async with sagas.open(place, [saga], concurrency=1, children=2) as store:
+        async with sagas.open(place, [saga], concurrency=1, engine_processes=2) as store:
             starts = [asyncio.create_task(store.start(saga, key=f"k{number}")) for number in range(60)]
             await begun.wait()
             gate.set()
@@ -1121,7 +1136,7 @@ def test_closing_says_what_it_waits_for(tmp_path: pathlib.Path, caplog: pytest.L
             going = await store.start(saga, "k")
             await begun.wait()
             closing = asyncio.create_task(store.close())
-            await until(lambda: "closing waits for 1 functions: a of 'k'" in caplog.text)
+            await until(lambda: "closing waits for 1 running functions: a of 'k'" in caplog.text)
             gate.set()
             await closing
         async with sagas.open(tmp_path / "store.db", [saga]) as store:
@@ -1135,14 +1150,14 @@ def test_closing_cancels_after_its_grace(place: str) -> None:
     tokens: list[str] = []
 
     async def hang(task: Task) -> int:
-        tokens.append(task.token)
+        tokens.append(task.attempt_id)
         await asyncio.sleep(3600 if len(tokens) == 1 else 0)
         return 1
 
     async def main() -> None:
         saga = simple(hang)
         began = time.monotonic()
-        async with sagas.open(place, [saga], grace=0.1) as store:
+        async with sagas.open(place, [saga], shutdown_timeout=0.1) as store:
             await store.start(saga, key="k")
         assert time.monotonic() - began < 20
         async with sagas.open(place, [saga]) as store:
@@ -1161,7 +1176,7 @@ def test_a_compensation_fails_for_good(place: str, must: bool) -> None:
     async def a(task: Task) -> int:
         return 1
 
-    @a.compensation(tries=2, backoff=QUICK)
+    @a.compensation(tries=2, backoff=QUICK, on_exhausted="fail")
     async def not_a(task: Task) -> None:
         raise ValueError("it cannot be undone")
 
@@ -1172,15 +1187,15 @@ def test_a_compensation_fails_for_good(place: str, must: bool) -> None:
     async def main() -> None:
         async with sagas.open(place, [saga]) as store:
             end = await ended(store, saga)
-            assert end.states == {"a": "fixed", "b": "failed"} and end.results == {"a": 1}
+            assert end.states == {"a": "undo_failed", "b": "failed"} and end.results == {"a": 1}
             if must:
-                assert end.phase == "stuck" and end.chain == ["a"] and end.cost is None
+                assert end.phase == "stuck" and end.blocking_steps == ["a"] and end.cost is None
                 assert [one.key for one in await store.stuck()] == ["k"]
                 await store.resolve("k", "undone by hand")
                 assert await store.stuck() == []
                 assert (await store.wait("k")).note == "undone by hand"
             else:
-                assert end.phase == "ended" and end.cost == 5 and await store.stuck() == []
+                assert end.phase == "recovered" and end.cost == 5 and await store.stuck() == []
 
     run(main())
 
@@ -1196,13 +1211,13 @@ def test_a_store_that_contradicts_itself_is_told_of(tmp_path: pathlib.Path) -> N
         async def one(task: Task) -> None:
             await gate.wait()
 
-        async with sagas.open(tmp_path / "s.db", [waits], grace=0.0) as store:
+        async with sagas.open(tmp_path / "s.db", [waits], shutdown_timeout=0.0) as store:
             await store.start(waits, "k")
             await store.start(waits, "other")
         with contextlib.closing(sqlite3.connect(tmp_path / "s.db")) as db, db:
-            db.execute("UPDATE sagas SET phase = 'ended', \"end\" = '{}' WHERE key = 'k'")
-        with pytest.raises(sagas.ChildError, match="not understood"):
-            async with asyncio.timeout(20), sagas.open(tmp_path / "s.db", [waits], grace=0.0):
+            db.execute("UPDATE sagas SET phase = 'ended', outcome = '{}' WHERE key = 'k'")
+        with pytest.raises(sagas.EngineError, match="not understood"):
+            async with asyncio.timeout(20), sagas.open(tmp_path / "s.db", [waits], shutdown_timeout=0.0):
                 pass
 
     run(main())

@@ -8,9 +8,9 @@ from contextlib import AsyncExitStack
 from typing import Any
 
 import pytest
+from cases import QUICK, run, until
 
 import sagas
-from cases import QUICK, run, until
 
 Say = Callable[..., Any]
 
@@ -19,7 +19,7 @@ def signed() -> sagas.Saga:
     """A step that is done elsewhere, an approval with tries, and one more approval, which keeps the
     saga open."""
     saga = sagas.Saga("signed")
-    first = saga.step(handler=None, name="print")
+    first = saga.step(external=True, name="print")
     sign = saga.approval(name="sign", needs=[first], backoff=QUICK)(lambda task: None)
     saga.approval(name="last", needs=[sign], backoff=QUICK)(lambda task: None)
     return saga
@@ -27,7 +27,7 @@ def signed() -> sagas.Saga:
 
 def has_begun(store: sagas.Store, step: str) -> bool:
     waits = ("approval", "worker")
-    return any(one.step == step and one.waits in waits for one in store.begun("k"))
+    return any(one.step == step and one.waits in waits for one in store.active_attempts("k"))
 
 
 async def asked(store: sagas.Store, step: str) -> None:
@@ -45,11 +45,23 @@ by_anybody = pytest.mark.parametrize(
 
 async def teller(stack: AsyncExitStack, who: str, place: str, store: sagas.Store) -> Say:
     if who == "store":
-        return store.finish
+        return saying(store)
     if who == "client":
-        return (await stack.enter_async_context(sagas.Client(place))).finish
+        return saying(await stack.enter_async_context(sagas.Client(place)))
     node = sagas.open(place, [signed()], node="other")
-    return (await stack.enter_async_context(node)).finish
+    return saying(await stack.enter_async_context(node))
+
+
+def saying(who: sagas.Store | sagas.Client) -> Say:
+    """Reports by `complete`, or by `fail` where it is told why."""
+
+    async def say(key: str, step: str, *result: Any, error: str | None = None) -> None:
+        if error is None:
+            await who.complete(key, step, *result)
+        else:
+            await who.fail(key, step, error)
+
+    return say
 
 
 @by_anybody
@@ -59,10 +71,10 @@ def test_the_same_again_is_one(place: str, who: str) -> None:
 
     async def differs(say: Say, step: str, told: str, *words: Any, **more: Any) -> None:
         with pytest.raises(
-            sagas.ReportedOtherwise, match=f"'{step}': it is over: {told}; this is another answer"
+            sagas.ConflictingReport, match=f"'{step}': {told}. This is a different outcome"
         ) as error:
             await say("k", step, *words, **more)
-        assert isinstance(error.value, sagas.NotWaiting) and "secret" not in str(error.value)
+        assert isinstance(error.value, sagas.StepNotWaiting) and "secret" not in str(error.value)
 
     async def main() -> None:
         async with AsyncExitStack() as stack:
@@ -74,20 +86,20 @@ def test_the_same_again_is_one(place: str, who: str) -> None:
             assert twice == [None] * 3
             await asked(store, "sign")
             await say("k", "print", {"page": 1})
-            await differs(say, "print", "it is done", {"page": "secret"})
-            await differs(say, "print", "it is done", failed="secret")
-            with pytest.raises(sagas.NotWaiting, match="it has not begun"):
+            await differs(say, "print", "it has succeeded", {"page": "secret"})
+            await differs(say, "print", "it has succeeded", error="secret")
+            with pytest.raises(sagas.StepNotWaiting, match="it has not started"):
                 await say("k", "last")
-            twice = await asyncio.gather(*(say("k", "sign", failed="no") for _ in range(2)))
+            twice = await asyncio.gather(*(say("k", "sign", error="no") for _ in range(2)))
             assert twice == [None] * 2
-            await say("k", "sign", failed="no")
+            await say("k", "sign", error="no")
             end = await store.wait("k")
             assert end.states["sign"] == "failed" and end.errors["sign"] == "no"
             await say("k", "print", {"page": 1})
-            await say("k", "sign", failed="no")
+            await say("k", "sign", error="no")
             await differs(say, "sign", "it has failed", "secret")
-            await differs(say, "sign", "it has failed", failed="secret")
-            with pytest.raises(sagas.NotWaiting, match="is over"):
+            await differs(say, "sign", "it has failed", error="secret")
+            with pytest.raises(sagas.StepNotWaiting, match="has ended"):
                 await say("k", "last")
 
     run(main())
@@ -107,6 +119,6 @@ def test_two_answers_at_once(place: str, who: str) -> None:
             both = await asyncio.gather(
                 *(say("k", "print", n) for n in range(2)), return_exceptions=True
             )
-            assert sorted(type(one).__name__ for one in both) == ["NoneType", "ReportedOtherwise"]
+            assert sorted(type(one).__name__ for one in both) == ["ConflictingReport", "NoneType"]
 
     run(main())

@@ -17,12 +17,12 @@ from typing import Any
 
 import psycopg
 import pytest
-
-import sagas
 from cases import QUICK, Task, ended, run, simple, until
 from driving import program
-from sagas.places_postgresql import Places
-from sagas.records import Grant
+
+import sagas
+from sagas.core.batch import Grant
+from sagas.storage.postgresql.limit_slots import Places
 
 HERE = pathlib.Path(__file__).resolve().parent
 
@@ -60,7 +60,7 @@ def counted(count: Count, name: str = "here", seconds: float = 0.005, **words: A
 def test_no_more_than_its_limit_at_once(place: str) -> None:
     """Of one program, in a file and in a database; all places are used, and each call gets one in the end."""
     count = Count()
-    kind = counted(count, fleet_limit=3)
+    kind = counted(count, fleet_concurrency=3)
 
     async def main() -> None:
         async with sagas.open(place, [kind], concurrency=16) as store:
@@ -75,7 +75,7 @@ def test_a_limit_holds_over_all_nodes(url: str) -> None:
     """Three nodes with more work than places: together no more than the limit, all places are used, and each node has its turns."""
     count = Count()
     count.least = 4
-    kinds = [counted(count, f"n{number}", fleet_limit=4) for number in range(3)]
+    kinds = [counted(count, f"n{number}", fleet_concurrency=4) for number in range(3)]
 
     async def main() -> None:
         async with contextlib.AsyncExitStack() as stack:
@@ -93,7 +93,7 @@ def test_a_held_step_keeps_nobody_back(place: str) -> None:
     async def wait(task: Task) -> None:
         await gate.wait()
 
-    slow, quick = simple(wait, fleet_limit=1), sagas.Saga("quick")
+    slow, quick = simple(wait, fleet_concurrency=1), sagas.Saga("quick")
     quick.step(name="a")(lambda task: 1)
 
     async def main() -> None:
@@ -110,7 +110,7 @@ def test_a_held_step_keeps_nobody_back(place: str) -> None:
 NODE = """
     import asyncio, sagas
     saga = sagas.Saga("simple")
-    @saga.step(name="a", fleet_limit=1)
+    @saga.step(name="a", fleet_concurrency=1)
     async def a(task):
         print("called", flush=True)
         await asyncio.sleep(3600)
@@ -128,7 +128,7 @@ def test_a_killed_nodes_places_are_free_after_its_lease(url: str, tmp_path: path
     script.write_text(textwrap.dedent(NODE.format(url=url)))
     environment = os.environ | {"PYTHONPATH": str(HERE.parent / "src"), "SAGAS_PROGRAM": program()}
     process = subprocess.Popen([sys.executable, "-u", str(script)], stdout=subprocess.PIPE, text=True, env=environment)
-    kind = simple(lambda task: 1, fleet_limit=1)
+    kind = simple(lambda task: 1, fleet_concurrency=1)
 
     async def main() -> None:
         assert process.stdout and await asyncio.to_thread(process.stdout.readline) == "called\n"
@@ -160,7 +160,7 @@ def test_no_more_than_its_rate(place: str) -> None:
         if task.attempt == 1:
             raise ValueError("again")
 
-    kind = simple(step, rate=(4, PERIOD), tries=2, backoff=QUICK)
+    kind = simple(step, rate_limit=(4, PERIOD), tries=2, backoff=QUICK)
 
     async def main() -> None:
         async with sagas.open(place, [kind]) as store:
@@ -178,7 +178,7 @@ def test_no_more_than_its_rate(place: str) -> None:
 def test_a_rate_holds_over_all_nodes(url: str) -> None:
     """Two nodes, and a limit beside it."""
     count = Count()
-    kinds = [counted(count, f"n{number}", seconds=0.05, rate=(6, PERIOD), fleet_limit=2) for number in range(2)]
+    kinds = [counted(count, f"n{number}", seconds=0.05, rate_limit=(6, PERIOD), fleet_concurrency=2) for number in range(2)]
 
     async def main() -> None:
         async with sagas.open(url, [kinds[0]], node="one") as one, sagas.open(url, [kinds[1]], node="other") as other:
@@ -192,12 +192,12 @@ def test_a_rate_holds_over_all_nodes(url: str) -> None:
 
 def test_a_clock_that_jumped_back_stops_no_rate(place: str) -> None:
     """Places that are taken until a time past any period are free."""
-    kind = counted(Count(), rate=(2, 3.0))
+    kind = counted(Count(), rate_limit=(2, 3.0))
 
     async def main() -> None:
         async with sagas.open(place, [kind]) as store:
             await asyncio.gather(*(ended(store, kind, f"k{number}") for number in range(2)))
-            statement = "UPDATE places SET until = until + 86400 WHERE kind = 'rate'"
+            statement = "UPDATE limit_slots SET until = until + 86400 WHERE kind = 'rate'"
             if place.startswith("postgresql:"):
                 with psycopg.connect(place, options="-csearch_path=sagas") as link:
                     link.execute(statement)
@@ -214,20 +214,20 @@ def test_a_clock_that_jumped_back_stops_no_rate(place: str) -> None:
 def test_places_are_not_lost_with_their_answers(url: str, monkeypatch: pytest.MonkeyPatch) -> None:
     """Statements are done and their answers lost: the limit holds, all sagas end, and each place is free again."""
     count, turns = Count(), iter(range(1000))
-    kind = counted(count, fleet_limit=2)
+    kind = counted(count, fleet_concurrency=2)
     right = Places.take
 
     async def take(self: Places, *words: Any) -> Grant:
         grant = await right(self, *words)
         if next(turns) in (0, 4, 9):
-            raise sagas.StoreUnwritable("the answer is lost")
+            raise sagas.StoreUnavailable("the answer is lost")
         return grant
 
     monkeypatch.setattr(Places, "take", take)
 
     def taken() -> int:
         with psycopg.connect(url) as link:
-            return len(link.execute("SELECT 1 FROM sagas.places WHERE node IS NOT NULL").fetchall())
+            return len(link.execute("SELECT 1 FROM sagas.limit_slots WHERE node IS NOT NULL").fetchall())
 
     async def main() -> None:
         async with sagas.open(url, [kind]) as store:
@@ -242,11 +242,11 @@ def test_places_are_not_lost_with_their_answers(url: str, monkeypatch: pytest.Mo
 def test_what_is_no_limit_is_refused() -> None:
     """Told by step, with what is allowed."""
     for words, said in (
-        ({"fleet_limit": 0}, "fleet_limit=0"), ({"fleet_limit": True}, "fleet_limit=True"), ({"rate": (10, 0)}, "rate="), ({"rate": 5}, "rate=5"),
-        ({"rate": (10_001, 60)}, "10,000 calls"),
+        ({"fleet_concurrency": 0}, "fleet_concurrency=0"), ({"fleet_concurrency": True}, "fleet_concurrency=True"), ({"rate_limit": (10, 0)}, "rate_limit="), ({"rate_limit": 5}, "rate_limit=5"),
+        ({"rate_limit": (10_001, 60)}, "10,000 calls"),
     ):
         with pytest.raises(sagas.DefinitionError, match=said):
             simple(lambda task: 1, **words)
     saga = sagas.Saga("elsewhere")
-    with pytest.raises(sagas.DefinitionError, match="done elsewhere"):
-        saga.step(handler=None, name="a", fleet_limit=2)  # type: ignore[call-overload]
+    with pytest.raises(sagas.DefinitionError, match="step is external.* Remove fleet_concurrency and rate_limit"):
+        saga.step(external=True, name="a", fleet_concurrency=2)  # type: ignore[call-overload]

@@ -8,12 +8,11 @@ import tempfile
 from typing import Any
 
 import pytest
-from hypothesis import HealthCheck, given, settings
-from hypothesis import strategies as st
-
 from definitions import steps, toml
 from driving import Drive, audit
 from follower import Definition, Follower, Illegal, follow
+from hypothesis import HealthCheck, given, settings
+from hypothesis import strategies as st
 
 Json = dict[str, Any]
 

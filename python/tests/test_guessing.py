@@ -11,16 +11,17 @@ from typing import Any
 
 import psycopg
 import pytest
-
 import records
+from cases import Task, ended, run, simple, until
+
 import sagas
-from cases import Task, ended, run, simple
-from sagas import guessing, sqlite_writer
-from sagas.postgresql import PostgreSQL
-from sagas.postgresql_commit import Commit
-from sagas.postgresql_writer import Writer
-from sagas.records import Batch
-from sagas.sqlite import Sqlite
+from sagas.core import key_lookup
+from sagas.core.batch import Batch
+from sagas.storage.postgresql.commit_statement import Commit
+from sagas.storage.postgresql.storage import PostgreSQL
+from sagas.storage.postgresql.writer import Writer
+from sagas.storage.sqlite import writer
+from sagas.storage.sqlite.storage import Sqlite
 
 
 @pytest.fixture
@@ -91,7 +92,7 @@ def test_keys_that_are_there_among_new_ones(place: str, looks: list[str], old: i
     gate, calls = asyncio.Event(), Counter[str]()
 
     async def a(task: Task) -> Any:
-        calls[task.token] += 1
+        calls[task.attempt_id] += 1
         if task.input == "waits":
             await gate.wait()
         return task.input
@@ -118,7 +119,7 @@ def test_keys_that_are_there_among_new_ones(place: str, looks: list[str], old: i
 
 def test_a_key_that_is_over(place: str, looks: list[str], monkeypatch: pytest.MonkeyPatch) -> None:
     """It is in the same log: its saga is given, the next keys are looked for, and after enough new ones no more. A store that is opened again the same."""
-    monkeypatch.setattr(guessing, "AGAIN", 3)
+    monkeypatch.setattr(key_lookup, "AGAIN", 3)
     kind = step()
 
     async def main() -> None:
@@ -165,6 +166,36 @@ def test_a_key_of_another_node(url: str, looks: list[str]) -> None:
     assert count(url) == 2
 
 
+def test_what_a_refused_commit_offered(url: str, looks: list[str]) -> None:
+    """Its sagas are opened again, in other places: what is offered then is theirs, and nothing else is."""
+    kinds = [outside(), outside()]
+
+    async def main() -> None:
+        async with sagas.open(url, [kinds[0]]) as first, sagas.open(url, [kinds[1]]) as second:
+            await first.start(kinds[0], "taken", 1)
+            keys = ["a", "taken", "b", "c"]
+            runs = await asyncio.gather(*(second.start(kinds[1], key, 1) for key in keys))
+            assert [one.new for one in runs] == [True, False, True, True]
+            await until(lambda: len(offered(url)) == 4)
+            assert all(attempt.startswith(f"{saga}-") for attempt, saga in offered(url))
+
+    run(main())
+
+
+def outside() -> sagas.Saga:
+    """A saga whose step others do."""
+    saga = sagas.Saga("outside")
+    saga.step(name="a", external=True)
+    return saga
+
+
+def offered(url: str) -> list[tuple[str, str]]:
+    """The attempts that are offered, each with its saga's own id."""
+    text = "SELECT attempt, coalesce(name || '-' || s.id % 1000, '') FROM external_attempts e LEFT JOIN (sagas s JOIN shards l ON l.shard = s.id / 1000) ON s.id = e.id"
+    with psycopg.connect(url, options="-csearch_path=sagas") as link:
+        return link.execute(text).fetchall()
+
+
 def test_a_key_that_a_client_started(url: str, looks: list[str]) -> None:
     """No node has its saga: it waits, and a node's start of the key is one of that saga's, or a conflict."""
     kind, other = step(), sagas.Saga("other")
@@ -193,13 +224,13 @@ def test_who_asks_meanwhile(url: str, looks: list[str]) -> None:
         async with sagas.open(url, [kind]) as store:
             starting = asyncio.create_task(store.start(kind, "k", 1))
             await asyncio.sleep(0)  # it has begun
-            assert store._coordinator and "k" in store._coordinator.lives
+            assert store._inside and "k" in store._inside.sagas.by_key
             told = await asyncio.gather(
-                store.abort("k"), store.wait("k"), store.start(kind, "k", 2), store.start(kind, "k", 1), store.finish("k", "a", 3), return_exceptions=True
+                store.abort("k"), store.wait("k"), store.start(kind, "k", 2), store.start(kind, "k", 1), store.complete("k", "a", 3), return_exceptions=True
             )
-            assert told[0] is False and isinstance(told[1], sagas.End) and told[1].results == {"a": 1}
+            assert told[0] is False and isinstance(told[1], sagas.SagaResult) and told[1].results == {"a": 1}
             assert isinstance(told[2], sagas.KeyConflict) and isinstance(told[3], sagas.Run) and not told[3].new
-            assert isinstance(told[4], sagas.NotWaiting) and "is over" in str(told[4])
+            assert isinstance(told[4], sagas.StepNotWaiting) and "it has succeeded" in str(told[4])
             assert not (await starting).new
             assert all(said.startswith("yes") for said in (await store.audit()).values())
 
@@ -232,18 +263,18 @@ def test_an_answer_that_is_lost(url: str, looks: list[str], monkeypatch: pytest.
 @pytest.mark.parametrize("fast", [True, False])
 def test_a_wrong_guess_in_a_file(tmp_path: pathlib.Path, looks: list[str], monkeypatch: pytest.MonkeyPatch, fast: bool) -> None:
     """Of its log nothing is written, by the loop as by the thread, and the other logs of that commit are; then all its sagas are begun."""
-    monkeypatch.setattr("sagas.kinds.ROOM", 10)
-    monkeypatch.setattr(sqlite_writer, "AT_ONCE", 60.0 if fast else 0.0)
+    monkeypatch.setattr("sagas.definition.compiled.SHARD_CAPACITY", 10)
+    monkeypatch.setattr(writer, "AT_ONCE", 60.0 if fast else 0.0)
     path, kind, lost = str(tmp_path / "store.db"), step(), set[int]()
-    put = sqlite_writer.Writer._put_those_that_may
+    put = writer.Writer._put
 
-    def noted(self: sqlite_writer.Writer, batches: Sequence[Batch], patient: bool) -> Any:
+    def noted(self: writer.Writer, batches: Sequence[Batch], patient: bool) -> Any:
         told = put(self, batches, patient)
         lost.update(told[1])
         assert not told[1] & told[0].keys()
         return told
 
-    monkeypatch.setattr(sqlite_writer.Writer, "_put_those_that_may", noted)
+    monkeypatch.setattr(writer.Writer, "_put", noted)
 
     async def main() -> None:
         async with sagas.open(path, [kind]) as store:
@@ -268,19 +299,19 @@ def test_a_store_that_takes_nothing(url: str, looks: list[str]) -> None:
         async with sagas.open(url, [kind]) as store:
             with psycopg.connect(url, autocommit=True) as link:
                 link.execute("CREATE FUNCTION refuse() RETURNS trigger LANGUAGE plpgsql AS $$ BEGIN RAISE EXCEPTION 'full'; END $$")
-                link.execute("CREATE TRIGGER refuse BEFORE INSERT OR UPDATE ON sagas.logs FOR EACH ROW EXECUTE FUNCTION refuse()")
-                link.execute("CREATE TRIGGER refuse BEFORE INSERT ON sagas.lines FOR EACH ROW EXECUTE FUNCTION refuse()")
+                link.execute("CREATE TRIGGER refuse BEFORE INSERT OR UPDATE ON sagas.shards FOR EACH ROW EXECUTE FUNCTION refuse()")
+                link.execute("CREATE TRIGGER refuse BEFORE INSERT ON sagas.event_log FOR EACH ROW EXECUTE FUNCTION refuse()")
             again = await store.start(kind, "k", 1)
             assert not again.new and (await again.wait()).results == {"a": 1}
             with pytest.raises(sagas.KeyConflict):
                 await store.start(kind, "k", 2)
-            with pytest.raises(sagas.StoreUnwritable, match="full"):
+            with pytest.raises(sagas.StoreUnavailable, match="full"):
                 await store.start(kind, "new")
             with psycopg.connect(url, autocommit=True) as link:
                 link.execute("DROP FUNCTION refuse() CASCADE")
             end = None
             while end is None:
-                with contextlib.suppress(sagas.StoreUnwritable):  # until its log is tried again
+                with contextlib.suppress(sagas.StoreUnavailable):  # until its log is tried again
                     end = await ended(store, kind, "new")
             assert end.ok
 

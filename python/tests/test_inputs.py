@@ -12,11 +12,11 @@ import uuid
 from typing import Any, Literal, Optional, Union
 
 import pytest
+from cases import Task, run, simple
 
 import sagas
 import sagas.testing
-from cases import Task, run, simple
-from sagas import checks
+from sagas.definition import arguments
 
 SECRET = "4242-secret"
 
@@ -66,28 +66,28 @@ def reads(hint: Any) -> sagas.Saga:
 
 
 WRONG: list[tuple[dict[str, Any], str]] = [
-    ({"amount": SECRET}, ".amount: a whole number is needed, and this is a text"),
-    ({"amount": 1.5}, ".amount: a whole number is needed, and this is a number"),
-    ({"amount": True}, ".amount: a whole number is needed, and this is true or false"),
-    ({"weight": SECRET}, ".weight: a number is needed, and this is a text"),
-    ({"paid": 1}, ".paid: true or false is needed, and this is a whole number"),
+    ({"amount": SECRET}, ".amount: must be an integer, not a text"),
+    ({"amount": 1.5}, ".amount: must be an integer, not a number"),
+    ({"amount": True}, ".amount: must be an integer, not true or false"),
+    ({"weight": SECRET}, ".weight: must be a number, not a text"),
+    ({"paid": 1}, ".paid: must be true or false, not an integer"),
     ({"items": [{"name": "a", "price": 1}, {"name": 2, "price": 1}]},
-     ".items[1].name: a text is needed, and this is a whole number"),
-    ({"items": [{"name": "a", "price": SECRET}]}, ".items[0].price: it is of none of the types"),
-    ({"items": [{"name": "a"}]}, ".items[0] lacks 'price', which Item needs"),
-    ({"items": SECRET}, ".items: a list is needed"),
+     ".items[1].name: must be a text, not an integer"),
+    ({"items": [{"name": "a", "price": SECRET}]}, ".items[0].price: matches none of its types"),
+    ({"items": [{"name": "a"}]}, ".items[0]: missing 'price', which Item requires"),
+    ({"items": SECRET}, ".items: must be a list"),
     ({"by_name": {"x y": {"name": "a", "price": 1, "count": "2"}}},
-     '.by_name["x y"].count: a whole number is needed, and this is a text'),
-    ({"color": SECRET}, ".color: it is none of the values of Color"),
-    ({"at": SECRET}, ".at: it cannot be read as datetime"),
-    ({"id": SECRET}, ".id: it cannot be read as UUID"),
-    ({"way": SECRET}, ".way: it is one of 'sea', 'air'"),
-    ({"gift": {"name": "a"}}, ".gift lacks 'price', which Item needs"),
-    ({"pair": [1, 2]}, ".pair[1]: a text is needed, and this is a whole number"),
-    ({"numbers": [1, None, SECRET]}, ".numbers[2]: it is of none of the types"),
-    ({"note": 7}, ".note: a text is needed, and this is a whole number"),
+     '.by_name["x y"].count: must be an integer, not a text'),
+    ({"color": SECRET}, ".color: not a value of Color"),
+    ({"at": SECRET}, ".at: cannot be read as datetime"),
+    ({"id": SECRET}, ".id: cannot be read as UUID"),
+    ({"way": SECRET}, ".way: must be one of 'sea', 'air'"),
+    ({"gift": {"name": "a"}}, ".gift: missing 'price', which Item requires"),
+    ({"pair": [1, 2]}, ".pair[1]: must be a text, not an integer"),
+    ({"numbers": [1, None, SECRET]}, ".numbers[2]: matches none of its types"),
+    ({"note": 7}, ".note: must be a text, not an integer"),
     ({"parent": {"amount": 1, "parent": {"amount": SECRET}}},
-     ".parent.parent.amount: a whole number is needed"),
+     ".parent.parent.amount: must be an integer"),
 ]  # fmt: skip
 WELL: list[Any] = [
     {"amount": 1, "weight": 2, "note": None, "more": [SECRET], "strange": 1},
@@ -106,7 +106,7 @@ def test_the_types_of_fields(place: str, caplog: pytest.LogCaptureFixture) -> No
     async def main() -> None:
         async with sagas.open(place, [saga]) as store:
             for number, (given, text) in enumerate(WRONG):
-                with pytest.raises(sagas.BadInput) as error:
+                with pytest.raises(sagas.InvalidInput) as error:
                     await store.start(saga, f"wrong-{number}", {"amount": 1} | given)
                 assert f"saga 'simple', step 'a': input{text}" in str(error.value)
                 assert SECRET not in str(error.value)
@@ -115,7 +115,7 @@ def test_the_types_of_fields(place: str, caplog: pytest.LogCaptureFixture) -> No
                 assert (
                     await (await store.start(saga, f"well-{number}", given)).wait(timeout=60)
                 ).ok
-            with pytest.raises(sagas.BadInput, match=r"input\.amount: a whole number"):
+            with pytest.raises(sagas.InvalidInput, match=r"input\.amount: must be an integer"):
                 await store.start(saga, "k", Order("1"))  # type: ignore[arg-type]
 
     with caplog.at_level(logging.DEBUG):
@@ -163,8 +163,8 @@ def test_an_optional_field_that_was_added(place: str, client: bool) -> None:
                 ):
                     with pytest.raises(sagas.KeyConflict) as error:
                         await starter.start(after, key, other)
-                    told = f"key {key!r} has another input, which differs at {at}"
-                    assert str(error.value) == told
+                    told = f"key {key!r} belongs to a saga with another input, which differs at {at}"
+                    assert str(error.value) == f"{told}. Use another key"
             if client:
                 await starter.close()
 
@@ -188,7 +188,7 @@ def test_what_a_reader_without_a_type_sees_counts(place: str) -> None:
             assert not (await store.start(saga, "k", same)).new
             with pytest.raises(sagas.KeyConflict) as error:
                 await store.start(saga, "k", {"name": "a", "price": 1, "x": [1, {"y": 2}, 3]})
-            assert str(error.value) == "key 'k' has another input, which differs at .x[1].y, .x[2]"
+            assert str(error.value) == "key 'k' belongs to a saga with another input, which differs at .x[1].y, .x[2]. Use another key"
             await store.start(saga, "whole", {"name": "a", "price": 1})
             with pytest.raises(sagas.KeyConflict, match=r"differs at \.name"):
                 await store.start(saga, "whole", {"name": SECRET, "price": 1})
@@ -213,17 +213,17 @@ def test_conflicts_show_no_values(place: str) -> None:
                 await store.start(saga, f"k{number}", one)
                 with pytest.raises(sagas.KeyConflict) as error:
                     await store.start(saga, f"k{number}", other)
-                told = f"key 'k{number}' has another input, which differs at {at}"
-                assert str(error.value) == told
+                told = f"key 'k{number}' belongs to a saga with another input, which differs at {at}"
+                assert str(error.value) == f"{told}. Use another key"
 
     run(main())
 
 
 def test_how_long_a_value_is_said_to_be() -> None:
     """Its own letters, without the quotation marks of Python."""
-    with pytest.raises(sagas.BadKey, match=r"\(513 letters\): a key is a text of 1 to 512"):
-        checks.key("k" * 513)
-    assert checks.shown(["k" * 513]).endswith("..") and "letters" not in checks.shown(["k" * 513])
+    with pytest.raises(sagas.InvalidKey, match=r"\(513 characters\): must be a text of 1 to 512"):
+        arguments.key("k" * 513)
+    assert arguments.shown(["k" * 513]).endswith("..") and "characters" not in arguments.shown(["k" * 513])
 
 
 def test_what_a_wait_gives_is_not_told(place: str, caplog: pytest.LogCaptureFixture) -> None:
@@ -234,9 +234,9 @@ def test_what_a_wait_gives_is_not_told(place: str, caplog: pytest.LogCaptureFixt
     async def main() -> None:
         async with sagas.open(place, [saga]) as store:
             end = await (await store.start(saga, "k", SECRET)).wait(timeout=60)
-            assert "until gave str: it is a timedelta" in end.errors["w"] and SECRET not in str(end)
-            with pytest.raises(TypeError, match="failed=list: it is a text"):
-                await store.finish("k", "w", failed=[SECRET])  # type: ignore[arg-type]
+            assert "until returned str: it must be a timedelta" in end.errors["w"] and SECRET not in str(end)
+            with pytest.raises(TypeError, match="failed=list: must be a text"):
+                await store.fail("k", "w", [SECRET])  # type: ignore[arg-type]
 
     with caplog.at_level(logging.DEBUG):
         run(main())

@@ -10,7 +10,6 @@ from collections.abc import Callable
 from typing import Any
 
 import pytest
-
 from judge import FAULTS, judge
 from kills import run_once
 
@@ -47,23 +46,23 @@ def lose_a_key(copy: Copy) -> None:
 
 
 def lose_lines(copy: Copy) -> None:
-    copy.write("DELETE FROM lines WHERE first = (SELECT min(first) FROM lines WHERE first > 0)")
+    copy.write("DELETE FROM event_log WHERE first_seq = (SELECT min(first_seq) FROM event_log WHERE first_seq > 0)")
 
 
 def change_a_step(copy: Copy) -> None:
-    copy.write("""UPDATE lines SET text = replace(text, '"event":"commit"', '"event":"undone"')""")
+    copy.write("""UPDATE event_log SET text = replace(text, '"event":"commit"', '"event":"undone"')""")
 
 
 def reopen(copy: Copy) -> None:
-    copy.write("UPDATE sagas SET phase = NULL, end = NULL WHERE key = 'k1'")
+    copy.write("UPDATE sagas SET phase = NULL, outcome = NULL WHERE key = 'k1'")
 
 
 def change_an_end(copy: Copy) -> None:
-    copy.write("UPDATE sagas SET end = json_set(end, '$.states[0]', 'another') WHERE key = 'k4'")
+    copy.write("UPDATE sagas SET outcome = json_set(outcome, '$.states[0]', 'another') WHERE key = 'k4'")
 
 
 def lose_a_result(copy: Copy) -> None:
-    copy.write("DELETE FROM results WHERE (id, step, kind, attempt) IN (SELECT id, step, kind, attempt FROM results LIMIT 1)")
+    copy.write("DELETE FROM attempts WHERE (id, step, action, number) IN (SELECT id, step, action, number FROM attempts LIMIT 1)")
 
 
 def tell_too_early(copy: Copy) -> None:
@@ -90,7 +89,7 @@ def lose_an_effect(copy: Copy) -> None:
 
 
 def miss_without_a_call(copy: Copy) -> None:
-    failed = copy.db.execute("SELECT name || '-' || (id % 1000) FROM results JOIN logs ON log = id / 1000 WHERE outcome = 'missed' LIMIT 1").fetchone()[0]
+    failed = copy.db.execute("SELECT name || '-' || (id % 1000) FROM attempts JOIN shards ON shard = id / 1000 WHERE event = 'missed' LIMIT 1").fetchone()[0]
     copy.notes = [note for note in copy.notes if note["what"] != "begin" or not note["token"].startswith(f"{failed}-")]
 
 

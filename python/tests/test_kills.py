@@ -6,7 +6,6 @@
 from __future__ import annotations
 
 import pytest
-
 from kills import KINDS, play
 
 AGAIN = 5

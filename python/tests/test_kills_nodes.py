@@ -3,7 +3,6 @@
 from __future__ import annotations
 
 import pytest
-
 from kills_nodes import KINDS, play
 from server import Server
 

@@ -6,8 +6,9 @@ import pathlib
 import threading
 
 import pytest
+
 import sagas
-from sagas import library
+from sagas.engine import library
 
 EXAMPLES = pathlib.Path(__file__).resolve().parents[2] / "examples"
 DEFINITION = (EXAMPLES / "trip.toml").read_text()
@@ -58,25 +59,25 @@ def test_a_chain(way: str) -> None:
     ids=["empty", "zero", "no UTF-8", "too long", "no case", "busy"],
 )
 def test_texts_that_are_not_of_their_form(way: str, definition: str | bytes, case: str, line: str) -> None:
-    with pytest.raises(sagas.BadText) as told:
+    with pytest.raises(sagas.InvalidText) as told:
         sagas.plan(definition, case)
     assert str(told.value) == line
 
 
 def test_definitions_are_told_by_their_places(way: str) -> None:
-    with pytest.raises(sagas.BadText, match="^sagas: definition 1: bad-format$"):
+    with pytest.raises(sagas.InvalidText, match="^sagas: definition 1: bad-format$"):
         sagas.audit("", DEFINITION, "")
-    with pytest.raises(sagas.BadText, match="^sagas: too many definitions$"):
+    with pytest.raises(sagas.InvalidText, match="^sagas: too many definitions$"):
         sagas.audit("", *[DEFINITION] * 65)
 
 
-def test_any_room() -> None:
+def test_any_buffer() -> None:
     place = library.path()
     assert place is not None
     loaded = library.loaded(place)
     assert loaded is not None
-    for room in (0, 1, len(ANSWER), len(ANSWER) + 1, len(ANSWER) + 2):
-        assert library.call(loaded, "sagas_plan", [DEFINITION.encode(), CASE.encode()], room=room) == (0, ANSWER.encode() + b"\n")
+    for size in (0, 1, len(ANSWER), len(ANSWER) + 1, len(ANSWER) + 2):
+        assert library.call(loaded, "sagas_plan", [DEFINITION.encode(), CASE.encode()], size=size) == (0, ANSWER.encode() + b"\n")
 
 
 def test_a_library_that_cannot_be_loaded(monkeypatch: pytest.MonkeyPatch, tmp_path: pathlib.Path) -> None:
@@ -88,7 +89,7 @@ def test_a_library_that_cannot_be_loaded(monkeypatch: pytest.MonkeyPatch, tmp_pa
 def test_neither_library_nor_program(monkeypatch: pytest.MonkeyPatch) -> None:
     monkeypatch.setenv("SAGAS_LIBRARY", "/nowhere/libsagas.so")
     monkeypatch.setenv("SAGAS_PROGRAM", "/nowhere/sagas")
-    with pytest.raises(sagas.ChildError, match="/nowhere/sagas"):
+    with pytest.raises(sagas.EngineError, match="/nowhere/sagas"):
         sagas.plan(DEFINITION, CASE)
 
 

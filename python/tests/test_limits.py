@@ -7,15 +7,15 @@ import threading
 
 import psycopg
 import pytest
+from cases import Task, run, simple, until
 
 import sagas
-from cases import Task, run, simple, until
 
 OTHER = """
 INSERT INTO sagas.nodes(node, name, version, since, lease)
 VALUES ('other/1', 'other', '', now(), now() + interval '1 hour')
 """
-TAKEN = "UPDATE sagas.logs SET owner = 'other/1', epoch = epoch + 1"
+TAKEN = "UPDATE sagas.shards SET owner = 'other/1', epoch = epoch + 1"
 
 
 @pytest.mark.parametrize("in_thread", [False, True])
@@ -38,7 +38,7 @@ def test_what_is_let_go_has_its_place_until_it_is_over(url: str, in_thread: bool
             finally:
                 await opened.wait()
 
-    kind = simple(in_a_thread if in_thread else in_the_loop, limit=1)
+    kind = simple(in_a_thread if in_thread else in_the_loop, concurrency=1)
 
     async def main() -> None:
         async with sagas.open(url, [kind], lease=600) as store:
@@ -48,11 +48,11 @@ def test_what_is_let_go_has_its_place_until_it_is_over(url: str, in_thread: bool
                 link.execute(OTHER)
                 link.execute(TAKEN)
             abort = asyncio.create_task(store.abort("first"))  # its commit shows whose the log is
-            await until(lambda: not store.begun("first"), 30)
+            await until(lambda: not store.active_attempts("first"), 30)
             second = await store.start(kind, "second")
-            await until(lambda: store.begun("second"), 30)
-            (one,) = store.begun("second")
-            assert one.waits == "limit" and begun == ["first"]
+            await until(lambda: store.active_attempts("second"), 30)
+            (one,) = store.active_attempts("second")
+            assert one.waits == "concurrency" and begun == ["first"]
             gate.set()
             opened.set()
             assert (await second.wait(30)).ok and begun == ["first", "second"]

@@ -9,51 +9,51 @@ from collections.abc import AsyncIterator
 
 import psycopg
 import pytest
+from cases import Task, run, until
 
 import sagas
-from cases import Task, run, until
-from sagas import links
-from sagas.errors import StoreUnwritable
-from sagas.loads_postgresql import Loads
-from sagas.records import Loaded
+from sagas.base.errors import StoreUnavailable
+from sagas.core.batch import Loaded
+from sagas.storage.postgresql import connections
+from sagas.storage.postgresql.shard_loader import Loads
 
 LOGS, ROOM = 6, 3
 BORN = "another", "shelf", "[]"
 REFUSES = """
 CREATE FUNCTION refuses() RETURNS trigger LANGUAGE plpgsql AS $$ BEGIN RAISE 'it is not read'; END $$;
-CREATE TRIGGER refuses BEFORE UPDATE ON sagas.logs FOR EACH ROW WHEN (NEW.log = {}) EXECUTE FUNCTION refuses();
+CREATE TRIGGER refuses BEFORE UPDATE ON sagas.shards FOR EACH ROW WHEN (NEW.shard = {}) EXECUTE FUNCTION refuses();
 """
 
 
 @pytest.fixture
 def logs(url: str, monkeypatch: pytest.MonkeyPatch) -> list[int]:
     """Logs of a node `me`, with sagas whose first step is over, at a whole second, and whose second one waits for a person."""
-    monkeypatch.setattr("sagas.kinds.ROOM", ROOM)
+    monkeypatch.setattr("sagas.definition.compiled.SHARD_CAPACITY", ROOM)
     kind, events = sagas.Saga("signed"), list[sagas.Event]()
 
     @kind.step
     async def write(task: Task) -> str:
         return 'a "word"'
 
-    @kind.approval(needs=[write], within=3600)
+    @kind.approval(needs=[write], timeout=3600)
     async def sign(task: Task) -> None: ...
 
     async def main() -> None:
         async with sagas.open(url, [kind], clock=lambda: 1000.0, on_event=events.append) as store:
             for number in range(LOGS * ROOM):
-                await store.start(kind, f"k{number}", {"n": number})
-            await until(lambda: sum(event.name == "step_waits" for event in events) == LOGS * ROOM)
+                await store.start(kind, f"k{number}", {"n": number}, deadline=7200)
+            await until(lambda: sum(event.name == "step_suspended" for event in events) == LOGS * ROOM)
 
     run(main())
     with psycopg.connect(url, autocommit=True) as link:
-        link.execute("UPDATE sagas.logs SET owner = 'me', epoch = 1")
-        return [int(str(log)) for (log,) in link.execute("SELECT log FROM sagas.logs ORDER BY log").fetchall()]
+        link.execute("UPDATE sagas.shards SET owner = 'me', epoch = 1")
+        return [int(str(log)) for (log,) in link.execute("SELECT shard FROM sagas.shards ORDER BY shard").fetchall()]
 
 
 @contextlib.asynccontextmanager
 async def loading(url: str) -> AsyncIterator[Loads]:
     """As the node `me` does it."""
-    asker = links.Asker(url, url, 3)
+    asker = connections.Asker(url, url, 3)
     await asker.open()
     yield Loads(asker, "me", asyncio.get_running_loop().create_task)
     await asker.close()
@@ -62,9 +62,11 @@ async def loading(url: str) -> AsyncIterator[Loads]:
 def is_whole(loaded: Loaded | None, place: int, epoch: int) -> bool:
     """Whether this is all that this log has, under a new epoch."""
     assert loaded
-    ids = [id for id, _, _, _ in loaded.open]
+    ids = [id for id, *_ in loaded.open]
     numbers = [*range(place * ROOM, place * ROOM + ROOM)]
-    assert [(key, json.loads(text)) for _, key, _, text in loaded.open] == [(f"k{number}", {"n": number}) for number in numbers]
+    open = [(key, json.loads(text), until) for _, key, _, text, until in loaded.open]
+    assert open == [(f"k{number}", {"n": number}, 8200.0) for number in numbers]
+    assert all(type(until) is float for *_, until in loaded.open)
     assert {(id, step, outcome, value) for id, step, _, _, outcome, value, _ in loaded.results} == {(id, 0, "commit", '"a \\"word\\""') for id in ids}
     assert {(id, step, why, until) for id, step, _, _, why, _, _, until, _ in loaded.held} == {(id, 1, "approval", 4600.0) for id in ids}
     assert all(type(at) is float for *_, at in loaded.results) and all(type(row[6]) is type(row[7]) is float for row in loaded.held)
@@ -76,8 +78,8 @@ def test_all_that_are_wanted_go_together(url: str, logs: list[int]) -> None:
 
     async def main() -> None:
         with psycopg.connect(url, autocommit=True) as link:
-            link.execute("UPDATE sagas.logs SET owner = 'other' WHERE log = %s", (logs[0],))
-            link.execute("UPDATE sagas.logs SET closed = 1 WHERE log = %s", (logs[1],))
+            link.execute("UPDATE sagas.shards SET owner = 'other' WHERE shard = %s", (logs[0],))
+            link.execute("UPDATE sagas.shards SET closed = 1 WHERE shard = %s", (logs[1],))
         async with loading(url) as loads:
             for epoch in (2, 3):
                 others, closed, *mine = await asyncio.gather(*(loads.load(log, 0, None) for log in logs))
@@ -87,7 +89,7 @@ def test_all_that_are_wanted_go_together(url: str, logs: list[int]) -> None:
                 loads.load(10**6, 7, None), loads.load(10**6 + 1, 7, BORN), loads.load(logs[2], 7, BORN), loads.load(logs[0], 7, BORN)
             )
             assert gone is None and is_whole(there, 2, 4) and born is None
-            ((line,),) = psycopg.connect(url).execute(f"SELECT {links.LINE}".encode()).fetchall()
+            ((line,),) = psycopg.connect(url).execute(f"SELECT {connections.LINE}".encode()).fetchall()
             assert unborn == Loaded("", 0, 0, [], [], [], 8, line) and there and there.line == line
 
     run(main())
@@ -99,14 +101,14 @@ def test_a_log_whose_commit_is_under_way(url: str, logs: list[int]) -> None:
     async def main() -> None:
         with psycopg.connect(url) as commit:
             async with loading(url) as loads:
-                commit.execute("SELECT 1 FROM sagas.logs WHERE log = %s FOR SHARE", (logs[2],))
+                commit.execute("SELECT 1 FROM sagas.shards WHERE shard = %s FOR SHARE", (logs[2],))
                 waits = asyncio.create_task(loads.load(logs[2], 1, None))
                 rest = [log for log in logs if log != logs[2]]
-                async with asyncio.timeout(links.PATIENCE / 2):  # else they came only once the server had given the first statement up
+                async with asyncio.timeout(connections.PATIENCE / 2):  # else they came only once the server had given the first statement up
                     assert all(await asyncio.gather(*(loads.load(log, 1, None) for log in rest)))
                     assert await loads.load(logs[0], 2, None)
                 assert not waits.done()
-                commit.execute("INSERT INTO sagas.lines SELECT log, 1000, 0, text FROM sagas.lines WHERE log = %s AND first = 0", (logs[2],))
+                commit.execute("INSERT INTO sagas.event_log SELECT shard, 1000, 0, text FROM sagas.event_log WHERE shard = %s AND first_seq = 0", (logs[2],))
                 commit.commit()
                 loaded = await waits
                 assert loaded and loaded.epoch == 2 and loaded.text.count('"open"') == ROOM + 1
@@ -120,7 +122,7 @@ def test_locked_logs_hold_up_nobody(url: str, logs: list[int]) -> None:
     async def main() -> None:
         with psycopg.connect(url) as stranger, psycopg.connect(url, autocommit=True) as eye:
             async with loading(url) as loads:
-                stranger.execute("SELECT 1 FROM sagas.logs FOR UPDATE")
+                stranger.execute("SELECT 1 FROM sagas.shards FOR UPDATE")
                 waits = [asyncio.create_task(loads.load(log, 1, None)) for log in logs]
                 await until(lambda: eye.execute("SELECT 1 FROM pg_stat_activity WHERE datname = current_database() AND wait_event_type = 'Lock'").fetchall())
                 assert await loads._asker.ask("SELECT 1") == [(1,)]  # else it is behind them, and the pool gives up
@@ -139,10 +141,10 @@ def test_a_log_that_cannot_be_taken_up(url: str, logs: list[int]) -> None:
             link.execute(REFUSES.format(logs[3]))
         async with loading(url) as loads:
             found = await asyncio.gather(*(loads.load(log, 1, None) for log in logs), return_exceptions=True)
-            assert isinstance(found[3], StoreUnwritable) and "it is not read" in str(found[3])
+            assert isinstance(found[3], StoreUnavailable) and "it is not read" in str(found[3])
             assert all(is_whole(loaded, place, 2) for place, loaded in enumerate(found) if place != 3)
             with psycopg.connect(url, autocommit=True) as link:
-                link.execute("DROP TRIGGER refuses ON sagas.logs")
+                link.execute("DROP TRIGGER refuses ON sagas.shards")
             assert is_whole(await loads.load(logs[3], 1, None), 3, 2)
 
     run(main())
@@ -155,7 +157,7 @@ def test_the_server_does_not_answer(url: str, logs: list[int]) -> None:
         async with loading(url) as loads, loading(url) as others:
             await others._asker.close()
             faults = await asyncio.gather(*(others.load(log, 1, None) for log in logs), return_exceptions=True)
-            assert [type(fault) for fault in faults] == [StoreUnwritable] * LOGS
+            assert [type(fault) for fault in faults] == [StoreUnavailable] * LOGS
             assert all([is_whole(await loads.load(log, 1, None), place, 2) for place, log in enumerate(logs)])
 
     run(main())

@@ -6,10 +6,13 @@ import time
 from typing import Any
 
 import records
-import sagas
 from cases import QUICK, Task, run, until
-from sagas.looks import Looks
-from sagas.server import shown
+
+import sagas
+from sagas.inspection import lists
+from sagas.inspection import saga as one_saga
+from sagas.inspection.question import StoreReader
+from sagas.server import json_views
 
 
 def asking() -> sagas.Saga:
@@ -35,27 +38,27 @@ def test_looks_and_who_did_what(place: str) -> None:
 
     async def main() -> None:
         async with sagas.open(place, [kind]) as store:
-            looks = Looks(store.reader())
+            looks = StoreReader(store.reader())
             try:
                 for key in ("one", "two", "t_ree"):
                     await store.start(kind, key=key, input={"n": key})
-                await until(lambda: looks.asked()["approval"] == 3)
-                assert looks.counts() == {"asking": {"open": 3, "ended": 0, "stuck": 0, "resolved": 0}}
-                assert [wait.step for wait in looks.waits()] == ["agreed"] * 3
-                await store.finish("one", "agreed", {"yes": True}, by="ann", note="seen")
+                await until(lambda: looks.ask(lists.asked())["approval"] == 3)
+                assert looks.ask(lists.counts()) == {"asking": {"open": 3, "completed": 0, "recovered": 0, "stuck": 0, "resolved": 0}}
+                assert [wait.step for wait in looks.ask(lists.waits())] == ["agreed"] * 3
+                await store.complete("one", "agreed", {"yes": True}, by="ann", note="seen")
                 assert await store.abort("two", by="bob", note="no more")
-                assert (await store.wait("one")).phase == (await store.wait("two")).phase == "ended"
+                assert ((await store.wait("one")).phase, (await store.wait("two")).phase) == ("completed", "recovered")
                 assert not await store.abort("two", by="bob")
-                told: list[Any] = [(note.what, note.told["by"], note.told["note"], note.answer) for key in ("one", "two") for note in looks.notes(key)]
-                assert told == [("finish", "ann", "seen", True), ("abort", "bob", "no more", True)]
-                assert [one.key for one in looks.page(phase="ended")] == ["two", "one"]
-                assert [one.key for one in looks.page(search="t_")] == ["t_ree"]
-                assert looks.stuck() == []
-                view = looks.saga("two")
-                assert view and view.aborted and view.phase == "ended" and {step.name for step in view.steps} == {"a", "agreed"}
-                assert looks.saga("none") is None
+                told: list[Any] = [(note.what, note.told["by"], note.told["note"], note.answer) for key in ("one", "two") for note in looks.ask(one_saga.notes(key))]
+                assert told == [("complete", "ann", "seen", True), ("abort", "bob", "no more", True)]
+                assert [one.key for one in looks.ask(lists.page(phase="completed"))] == ["one"]
+                assert [one.key for one in looks.ask(lists.page(search="t_"))] == ["t_ree"]
+                assert looks.ask(lists.stuck()) == []
+                view = looks.ask(one_saga.view("two"))
+                assert view and view.aborted and view.phase == "recovered" and {step.name for step in view.steps} == {"a", "agreed"}
+                assert looks.ask(one_saga.view("none")) is None
                 await store.abort("t_ree")
-                await store.settled()
+                await store.wait_idle()
             finally:
                 looks.close()
 
@@ -94,13 +97,13 @@ def test_a_log_is_told_in_its_own_order(place: str) -> None:
     async def main() -> None:
         async with sagas.open(place, [kind], clock=clock) as store:
             run = await store.start(kind, "k")
-            looks = Looks(store.reader())
+            looks = StoreReader(store.reader())
             try:
-                await until(lambda: looks.asked()["approval"])
+                await until(lambda: looks.ask(lists.asked())["approval"])
                 clock.by += 30
-                await store.finish("k", "agreed", "yes", by="ann")
+                await store.complete("k", "agreed", "yes", by="ann")
                 assert (await run.wait()).ok
-                view = looks.saga("k")
+                view = looks.ask(one_saga.view("k"))
             finally:
                 looks.close()
             assert view
@@ -111,7 +114,7 @@ def test_a_log_is_told_in_its_own_order(place: str) -> None:
             times = [event.at for event in view.events]
             assert times != sorted(times) and times[-1] < times[0]
             assert [(one.event, one.step) for one in await store.log("k")] == wanted
-            told = [(one["event"], one["step"]) for one in shown.log(view)]
+            told = [(one["event"], one["step"]) for one in json_views.log(view)]
             note = told.index(("note", "agreed"))
             assert told[note - 1] == ("start_run", "agreed")
             assert told[note + 1] == ("commit", "agreed")
@@ -119,5 +122,45 @@ def test_a_log_is_told_in_its_own_order(place: str) -> None:
             for events in (await store.log("k"), view.events):
                 errors = [event.value["error"] for event in events if event.event == "missed"]
                 assert errors == ["ValueError: try 1", "ValueError: try 2"]
+
+    run(main())
+
+
+class Counting:
+    """A reader that counts the characters of what it read."""
+
+    def __init__(self, reader: Any) -> None:
+        self._reader, self.read = reader, 0
+
+    def rows(self, query: str, *words: Any) -> list[tuple[Any, ...]]:
+        found: list[tuple[Any, ...]] = self._reader.rows(query, *words)
+        self.read += sum(len(one) for row in found for one in row if isinstance(one, str))
+        return found
+
+    def close(self) -> None:
+        self._reader.close()
+
+
+def test_one_saga_of_a_long_shard(place: str) -> None:
+    """Of the shard's event log only what names the saga is read."""
+    kind = sagas.Saga("short")
+
+    @kind.step
+    async def a(task: Task) -> None: ...
+
+    async def main() -> None:
+        async with sagas.open(place, [kind]) as store:
+            for number in range(100):
+                assert (await (await store.start(kind, f"k{number}")).wait()).ok
+            counting = Counting(store.reader())
+            looks = StoreReader(counting)
+            try:
+                view = looks.ask(one_saga.view("k50"))
+            finally:
+                looks.close()
+            assert view and [one.event for one in view.events] == ["open", "start_run", "commit"]
+            (kept,) = records.read(place).logs.values()
+            whole = sum(len(text) for _, text in kept.chunks)
+            assert counting.read < whole / 5
 
     run(main())

@@ -7,7 +7,7 @@ from typing import Any, cast
 import pytest
 from prometheus_client import generate_latest
 
-from sagas.events import Event
+from sagas.base.events import Event
 from sagas.server import metrics
 
 
@@ -26,10 +26,10 @@ def test_times_are_counted_whatever_else_began(monkeypatch: pytest.MonkeyPatch) 
         figures.event(Event(name, at, key=key, saga="s", step="a", attempt=1))
 
     for number in range(10):
-        tell("step_begun", f"elsewhere {number}", number)
+        tell("step_started", f"elsewhere {number}", number)
     for number in range(5):
-        tell("step_begun", f"here {number}", 20.0 + number)
-        tell("step_done", f"here {number}", 20.5 + number)
-    tell("step_done", "elsewhere 0", 30.0)
-    assert 'sagas_step_seconds_count{kind="run",saga="s",step="a"} 5.0' in seconds(figures)
+        tell("step_started", f"here {number}", 20.0 + number)
+        tell("step_succeeded", f"here {number}", 20.5 + number)
+    tell("step_succeeded", "elsewhere 0", 30.0)
+    assert 'sagas_step_seconds_count{action="run",saga="s",step="a"} 5.0' in seconds(figures)
     assert len(figures._began) <= 3

@@ -17,14 +17,15 @@ from typing import Any
 
 import psycopg
 import pytest
-
 import records
-import sagas
 from cases import QUICK, Task, ended, run, simple, surely_ended, until
 from driving import program
 from relay import relaying
-from sagas import leases, links, news, postgresql_commit
 from server import Server
+
+import sagas
+from sagas.core.states import ShardState
+from sagas.storage.postgresql import commit_statement, connections, node_lease, notifications
 
 HERE = pathlib.Path(__file__).resolve().parent
 
@@ -47,10 +48,10 @@ def pair(
         if calls is not None:
             calls.append(task.key)
         if tokens is not None:
-            tokens.append((task.key, task.effect_token))
+            tokens.append((task.key, task.idempotency_key))
         if gate:
             await gate.wait()
-        return task.of(a) + 1
+        return task.result_of(a) + 1
 
     return pair
 
@@ -64,9 +65,9 @@ NODE = """
     async def not_a(task): pass
     @pair.step(needs=[a])
     async def b(task):
-        print("called", task.key, task.effect_token, flush=True)
+        print("called", task.key, task.idempotency_key, flush=True)
         await asyncio.sleep({seconds})
-        return task.of(a) + 1
+        return task.result_of(a) + 1
     async def main():
         async with sagas.open({url!r}, [pair], node={name!r}, lease={lease}) as store:
             for number in range({count}):
@@ -120,7 +121,7 @@ def test_a_key_is_unique_over_all_nodes(url: str) -> None:
         async with contextlib.AsyncExitStack() as stack:
             nodes = [await stack.enter_async_context(sagas.open(url, [kind], node=f"n{number}")) for number in range(3)]
             ends = await asyncio.gather(*(ended(node, kind, f"k{number}", number) for number in range(60) for node in nodes))
-            assert {end.phase for end in ends} == {"ended"} and len(ends) == 180
+            assert {end.phase for end in ends} <= {"completed", "recovered"} and len(ends) == 180
             for other in nodes:
                 with pytest.raises(sagas.KeyConflict):
                     await other.start(kind, "k1", "another input")
@@ -147,10 +148,10 @@ def test_who_waits_elsewhere_hears_of_the_end(url: str) -> None:
             assert await other.abort("gone") is True and await other.abort("gone") is False
             await one.start(signed, "s")
             await until(lambda: records.read(url).sagas["s"])
-            await other.finish("s", sign, {"by": "Ada"})
+            await other.complete("s", sign, {"by": "Ada"})
             assert (await other.wait("s")).results == {"sign": {"by": "Ada"}}
-            with pytest.raises(sagas.NotWaiting):
-                await other.finish("s", sign)
+            with pytest.raises(sagas.StepNotWaiting):
+                await other.complete("s", sign)
             with pytest.raises(sagas.NoSuchSaga):
                 await other.abort("none")
             gate.set()
@@ -272,15 +273,15 @@ def test_a_log_that_another_wrote_while_its_child_was_let_go(url: str, caplog: p
         async with sagas.open(url, [kinds[0]], node="same", lease=600, idle=0.01) as first:
             await first.start(kinds[0], "k")
             await until(lambda: calls[0])
-            assert first._coordinator
-            (pump,) = first._coordinator.pumps.values()
-            await until(lambda: pump.state == "asleep")
+            assert first._inside
+            (runner,) = first._inside.shards.runners.values()
+            await until(lambda: runner.driver.state is ShardState.IDLE)
             async with sagas.open(url, [kinds[1]], node="same", lease=600) as second:
                 gates[1].set()
                 assert (await second.wait("k")).ok
                 gates[0].set()
                 assert (await first.wait("k")).ok
-                await until(lambda: pump.state == "closed")
+                await until(lambda: runner.driver.state is ShardState.CLOSED)
 
     run(main())
     assert calls == [["k"], ["k"]] and not caplog.records
@@ -293,7 +294,7 @@ def test_a_log_that_a_node_has_no_functions_for_is_left(url: str) -> None:
     old, new = pair(gate, calls), simple(lambda task: 1)
 
     async def main() -> None:
-        async with sagas.open(url, [old], grace=0.0) as store:
+        async with sagas.open(url, [old], shutdown_timeout=0.0) as store:
             await store.start(old, "old")
             await until(lambda: calls)
         async with sagas.open(url, [new], lease=2.0) as store:
@@ -313,15 +314,15 @@ def test_what_no_node_drives_is_told(url: str, caplog: pytest.LogCaptureFixture)
     gate, calls, told = asyncio.Event(), list[str](), list[sagas.Event]()
     old, new = pair(gate, calls), simple(lambda task: 1)
     says = (
-        f"/{url.rpartition('/')[2]}: no node drives 1 log, since none has the functions of their "
-        "open sagas: pair (version 1): 3 sagas in 1 log. Start a program that has them"
+        f"/{url.rpartition('/')[2]}: no node executes 1 shard, because none has the functions of their "
+        "open sagas: pair (version 1): 3 sagas in 1 shard. Start a program that has them"
     )
 
     def warnings() -> list[str]:
-        return [one.getMessage() for one in caplog.records if "no node drives" in one.getMessage()]
+        return [one.getMessage() for one in caplog.records if "no node executes" in one.getMessage()]
 
     async def main() -> None:
-        async with sagas.open(url, [old], grace=0.0) as store:
+        async with sagas.open(url, [old], shutdown_timeout=0.0) as store:
             for number in range(3):
                 await store.start(old, f"old {number}")
             await until(lambda: len(calls) == 3)
@@ -348,7 +349,7 @@ def test_what_no_node_drives_is_told(url: str, caplog: pytest.LogCaptureFixture)
             assert len(warnings()) == 1
 
     run(main())
-    assert "lease_lapsed" not in {event.name for event in told}
+    assert "lease_expired" not in {event.name for event in told}
 
 
 class Nowhere:
@@ -364,30 +365,33 @@ class Nowhere:
 
 
 def test_nothing_is_kept_of_reports_that_another_node_waits_for(url: str) -> None:
-    """Attempts that were ordered elsewhere, and of which nobody knows, go to another node."""
-    tokens: list[str] = []
+    """Attempts whose messages are out, and such of which nobody knows, go to another node."""
 
     def kind_of() -> sagas.Saga:
-        kind = sagas.Saga("ordered")
+        kind, patient = sagas.Saga("ordered"), Nowhere()
+        patient.timeout = 600.0
 
-        @kind.step(run_on=Nowhere(), backoff=sagas.Backoff(first=60, most=60))
+        @kind.step(queue=Nowhere(), backoff=sagas.Backoff(initial=60, maximum=60))
         def a(task: Task) -> None: ...
+
+        @kind.step(queue=patient)
+        def b(task: Task) -> None: ...
 
         return kind
 
     async def main() -> None:
         first, second = kind_of(), kind_of()
-        async with sagas.open(url, [first], node="same", grace=0.0) as store:
+        async with sagas.open(url, [first], node="same", shutdown_timeout=0.0) as store:
             for number in range(3):
                 await store.start(first, f"k{number}")
-            waiting = store._inside.reports._waiting
+            waiting = store._inside.external._reports
             await until(lambda: asked_all(store, 3))
-            assert len(waiting) == 3
-            tokens.extend(waiting)
-            async with sagas.open(url, [second], node="same", grace=0.0) as other:
-                await until(lambda: not store._inside.lives)
-                assert not waiting
-                assert {held.token for held in await other.unknown()} == {*tokens}
+            await until(lambda: len(waiting) == 3)
+            tokens = {held.attempt_id for held in await store.unknown()}
+            async with sagas.open(url, [second], node="same", shutdown_timeout=0.0) as other:
+                await until(lambda: not store._inside.sagas.by_key)
+                await until(lambda: not waiting)
+                assert {held.attempt_id for held in await other.unknown()} == tokens
 
     run(main())
 
@@ -403,7 +407,7 @@ def test_a_lost_connection_is_no_childs_death(postgresql: Server, url: str) -> N
     kind = pair(gate, calls)
 
     def not_taken_up() -> int:
-        return sum("is not taken up yet" in (event.detail or "") for event in told)
+        return sum("is not open yet" in (event.detail or "") for event in told)
 
     async def main() -> None:
         with relaying(postgresql.port) as relay:
@@ -419,7 +423,7 @@ def test_a_lost_connection_is_no_childs_death(postgresql: Server, url: str) -> N
                 assert (await store.wait("k")).ok
 
     run(main())
-    assert "child_died" not in {event.name for event in told}
+    assert "engine_died" not in {event.name for event in told}
     assert "commit_failed" in {event.name for event in told}
 
 
@@ -452,7 +456,7 @@ def test_a_rolling_deploy_of_a_changed_definition(url: str) -> None:
 
     async def main() -> None:
         old, new = release("old"), release("new")
-        async with sagas.open(url, [old], node="old", grace=0.0) as first:
+        async with sagas.open(url, [old], node="old", shutdown_timeout=0.0) as first:
             for key in gates:
                 await first.start(old, key)
             await until(lambda: len(called) == 2)
@@ -469,7 +473,7 @@ def test_a_rolling_deploy_of_a_changed_definition(url: str) -> None:
 
 def test_a_large_commit_is_taken_apart_piece_by_piece(url: str, monkeypatch: pytest.MonkeyPatch) -> None:
     """What is more than PostgreSQL takes apart at once goes by the other form of the statement, and is the same."""
-    monkeypatch.setattr(postgresql_commit, "MOST", 0)
+    monkeypatch.setattr(commit_statement, "MOST", 0)
     kind = simple(lambda task: 1)
 
     async def main() -> None:
@@ -482,9 +486,9 @@ def test_a_large_commit_is_taken_apart_piece_by_piece(url: str, monkeypatch: pyt
 
 def test_a_lease_is_over_before_its_end() -> None:
     """A node counts on its own clock, and leaves a tenth for what it began just before."""
-    lease = leases.Lease(None, "n", 10.0, "")  # type: ignore[arg-type]
+    lease = node_lease.Lease(None, "n", 10.0, "")  # type: ignore[arg-type]
     for left, held in ((10.0, True), (1.5, True), (0.9, False), (-1.0, False)):
-        lease._until = leases.now() + left
+        lease._until = node_lease.now() + left
         assert lease.holds() is held
     assert not lease.fresh
 
@@ -509,8 +513,8 @@ def test_no_function_begins_behind_the_lease(url: str) -> None:
             await until(lambda: calls)
             with psycopg.connect(url) as stranger:
                 stranger.execute("LOCK TABLE sagas.nodes IN EXCLUSIVE MODE")
-                assert store._coordinator
-                holds = store._coordinator.store.holds
+                assert store._inside
+                holds = store._inside.store.holds
                 await until(lambda: not holds())
                 gate.set()
                 await until(lambda: [row.outcome for row in records.read(url).results.values()] == ["commit"])
@@ -523,34 +527,34 @@ def test_no_function_begins_behind_the_lease(url: str) -> None:
 
 
 OTHER = "INSERT INTO sagas.nodes(node, name, version, since, lease) VALUES ('other', 'other', '', now(), now() + interval '1 hour')"
-TAKEN = "UPDATE sagas.logs SET owner = 'other', epoch = epoch + 1 WHERE log = (SELECT id / 1000 FROM sagas.sagas WHERE key = 'taken') RETURNING name"
+TAKEN = "UPDATE sagas.shards SET owner = 'other', epoch = epoch + 1 WHERE shard = (SELECT id / 1000 FROM sagas.sagas WHERE key = 'taken') RETURNING name"
 
 
 def test_behind_its_lease_a_node_keeps_what_is_still_its_own(url: str, monkeypatch: pytest.MonkeyPatch) -> None:
     """Another node has taken one of its two logs meanwhile: it ends the children of both, lets go of that one, and goes on with the other."""
-    monkeypatch.setattr("sagas.kinds.ROOM", 1)
+    monkeypatch.setattr("sagas.definition.compiled.SHARD_CAPACITY", 1)
     gate, calls, said = asyncio.Event(), list[str](), list[tuple[str, str | None]]()
     kind = pair(gate, calls)
 
     async def main() -> None:
-        async with sagas.open(url, [kind], lease=1.5, grace=0.0, on_event=lambda event: said.append((event.name, event.detail))) as store:
+        async with sagas.open(url, [kind], lease=1.5, shutdown_timeout=0.0, on_event=lambda event: said.append((event.name, event.detail))) as store:
             for key in ("kept", "taken"):
                 await store.start(kind, key)
             await until(lambda: len(calls) == 2)
-            inside = store._coordinator
+            inside = store._inside
             assert inside
-            before = {pump.child for pump in inside.pumps.values()}
+            before = {runner.engine for runner in inside.shards.runners.values()}
             with psycopg.connect(url) as stranger:
                 stranger.execute("LOCK TABLE sagas.nodes IN EXCLUSIVE MODE")
                 await until(lambda: not inside.store.holds())
                 stranger.execute(OTHER)
                 taken = stranger.execute(TAKEN).fetchall()
-            await until(lambda: "log_lost" in dict(said))
-            assert [(detail,) for name, detail in said if name == "log_lost"] == taken and ("lease_lapsed", None) in said
+            await until(lambda: "shard_lost" in dict(said))
+            assert [(detail,) for name, detail in said if name == "shard_lost"] == taken and ("lease_expired", None) in said
             assert len(before) == 2 and all(child and child.buried.done() for child in before)
             gate.set()
             assert (await store.wait("kept")).ok
-            assert records.read(url).sagas["taken"].phase is None and "taken" not in inside.lives
+            assert records.read(url).sagas["taken"].phase is None and "taken" not in inside.sagas.by_key
             with psycopg.connect(url) as stranger:
                 stranger.execute("DELETE FROM sagas.nodes WHERE node = 'other'")
             assert (await store.wait("taken")).ok
@@ -565,13 +569,13 @@ def test_new_sagas_go_to_a_log_of_the_nodes_own(url: str) -> None:
     kind = pair(gate)
 
     def owners(*keys: str) -> set[str]:
-        text = "SELECT owner FROM sagas.logs JOIN sagas.sagas ON log = id / 1000 WHERE key = ANY(%s)"
+        text = "SELECT owner FROM sagas.shards JOIN sagas.sagas ON shard = id / 1000 WHERE key = ANY(%s)"
         with psycopg.connect(url) as link:
             return {str(owner) for (owner,) in link.execute(text, (list(keys),)).fetchall()}
 
     async def main() -> None:
         async with sagas.open(url, [kind], node="one", lease=600) as one:
-            async with sagas.open(url, [kind], node="two", lease=600, grace=0.0) as two:
+            async with sagas.open(url, [kind], node="two", lease=600, shutdown_timeout=0.0) as two:
                 for number in range(3):
                     await asyncio.gather(one.start(kind, f"one {number}"), two.start(kind, f"two {number}"))
                 mine, others = [owners(*(f"{name} {number}" for number in range(3))) for name in ("one", "two")]
@@ -587,18 +591,18 @@ def test_new_sagas_go_to_a_log_of_the_nodes_own(url: str) -> None:
 
 def test_takeover_in_lots_goes_past_a_locked_log(url: str, monkeypatch: pytest.MonkeyPatch) -> None:
     """More logs than a lot; one that somebody else is at is left, and taken later."""
-    monkeypatch.setattr("sagas.kinds.ROOM", 1)
+    monkeypatch.setattr("sagas.definition.compiled.SHARD_CAPACITY", 1)
     calls: list[str] = []
 
     async def main() -> None:
         gate = asyncio.Event()
-        async with sagas.open(url, [pair(gate, calls)], concurrency=80, grace=0.0) as store:
+        async with sagas.open(url, [pair(gate, calls)], concurrency=80, shutdown_timeout=0.0) as store:
             await asyncio.gather(*(store.start(pair_of(store), f"k{number}") for number in range(60)))
             await until(lambda: len(calls) == 60)
         calls.clear()
         with psycopg.connect(url) as stranger:
-            row = stranger.execute("SELECT key FROM sagas.sagas WHERE id / 1000 = (SELECT min(log) FROM sagas.logs)").fetchone()
-            stranger.execute("SELECT 1 FROM sagas.logs ORDER BY log LIMIT 1 FOR UPDATE")
+            row = stranger.execute("SELECT key FROM sagas.sagas WHERE id / 1000 = (SELECT min(shard) FROM sagas.shards)").fetchone()
+            stranger.execute("SELECT 1 FROM sagas.shards ORDER BY shard LIMIT 1 FOR UPDATE")
             assert row
             async with sagas.open(url, [pair(calls=calls)], concurrency=80) as store:
                 await until(lambda: len(calls) == 59)
@@ -618,7 +622,7 @@ CREATE FUNCTION sagas.waits() RETURNS boolean LANGUAGE plpgsql AS 'BEGIN PERFORM
 @contextlib.contextmanager
 def as_it_takes(url: str, patch: pytest.MonkeyPatch) -> Iterator[psycopg.Connection[Any]]:
     """Who takes a log over has begun to look, and goes on once the lock of this connection is given back."""
-    patch.setattr(leases, "TAKE", leases.TAKE.replace("ORDER BY l.log FOR", "AND sagas.waits() ORDER BY l.log FOR"))
+    patch.setattr(node_lease, "TAKE", node_lease.TAKE.replace("ORDER BY l.shard FOR", "AND sagas.waits() ORDER BY l.shard FOR"))
     with psycopg.connect(url, autocommit=True) as link:
         link.execute(WAITS)
         link.execute("SELECT pg_advisory_lock(1)")
@@ -634,7 +638,7 @@ def test_the_last_commit_before_a_takeover_counts(url: str, monkeypatch: pytest.
 
     async def main() -> None:
         async with contextlib.AsyncExitStack() as stack:
-            old = await stack.enter_async_context(sagas.open(url, [before, other], node="n", grace=0.0))
+            old = await stack.enter_async_context(sagas.open(url, [before, other], node="n", shutdown_timeout=0.0))
             await ended(old, other, "early")
             with as_it_takes(url, monkeypatch) as link:
                 opening = asyncio.create_task(stack.enter_async_context(sagas.open(url, [other] if lacks else [now, other], node="n")))
@@ -659,27 +663,27 @@ def test_a_start_that_comes_late(postgresql: Server, url: str, is_born: bool) ->
 
     async def main() -> None:
         with relaying(postgresql.port) as relay:
-            async with sagas.open(postgresql.url(name, port=relay.port), [kind], lease=600, grace=0.0) as store:
+            async with sagas.open(postgresql.url(name, port=relay.port), [kind], lease=600, shutdown_timeout=0.0) as store:
                 for number in range(2):
                     assert (await ended(store, kind, f"k{number}")).ok
-                inside = store._coordinator
+                inside = store._inside
                 assert inside
                 if not is_born:
-                    inside.current = None
+                    inside.shards._placement.current.clear()
                 with psycopg.connect(url) as stranger, psycopg.connect(url, autocommit=True) as eye:
                     stranger.execute("LOCK TABLE sagas.sagas IN EXCLUSIVE MODE")
                     start = asyncio.create_task(store.start(kind, "late"))
                     ((late,),) = await until(lambda: eye.execute(waits).fetchall())
                     relay.cut()
-                    with pytest.raises(sagas.StoreUnwritable, match="with the same key|nothing was begun"):
+                    with pytest.raises(sagas.StoreUnavailable, match="with the same key|Nothing was started"):
                         await start
                     again = asyncio.create_task(surely_ended(store, kind, "late"))
                     stranger.rollback()
                     await until(lambda: not eye.execute("SELECT 1 FROM pg_stat_activity WHERE pid = %s", (late,)).fetchall())
                     assert (await asyncio.wait_for(again, 60)).ok
                     await until(lambda: eye.execute("SELECT count(*), count(phase) FROM sagas.sagas").fetchone() == (3, 3))
-                    owners = "SELECT count(*) FROM sagas.logs WHERE closed = 0 AND log <> ALL(%s)"
-                    assert eye.execute(owners, ([*inside.pumps, *inside.ending],)).fetchone() == (0,)
+                    owners = "SELECT count(*) FROM sagas.shards WHERE closed = 0 AND shard <> ALL(%s)"
+                    assert eye.execute(owners, (inside.logs(),)).fetchone() == (0,)
                 assert all(said.startswith("yes") for said in (await store.audit()).values())
 
     run(main())
@@ -688,29 +692,29 @@ def test_a_start_that_comes_late(postgresql: Server, url: str, is_born: bool) ->
 
 def test_a_log_that_could_not_be_given_back(url: str, monkeypatch: pytest.MonkeyPatch) -> None:
     """A node lacks a function of a log that it just took, and the server does not answer as it gives it back: it is given back the next time."""
-    ask, is_lost = links.Asker.ask, True
+    ask, is_lost = connections.Asker.ask, True
 
-    async def loses(self: links.Asker, text: str, **words: Any) -> list[Any]:
+    async def loses(self: connections.Asker, text: str, **words: Any) -> list[Any]:
         nonlocal is_lost
-        if text == leases.LEAVE and is_lost:
+        if text == node_lease.LEAVE and is_lost:
             is_lost = False
-            raise sagas.StoreUnwritable("it does not answer")
+            raise sagas.StoreUnavailable("it does not answer")
         return await ask(self, text, **words)
 
     async def main() -> None:
         gate, calls = asyncio.Event(), list[str]()
         kind, said = pair(gate, calls), iter([None, "it lacks b", "it lacks b"])
-        async with sagas.open(url, [kind], grace=0.0) as store:
+        async with sagas.open(url, [kind], shutdown_timeout=0.0) as store:
             await store.start(kind, "k")
             await until(lambda: calls)
-        monkeypatch.setattr(links.Asker, "ask", loses)
-        asker = links.Asker(url, url, 1)
+        monkeypatch.setattr(connections.Asker, "ask", loses)
+        asker = connections.Asker(url, url, 1)
         await asker.open()
-        lease = leases.Lease(asker, "n", 10.0, "")
+        lease = node_lease.Lease(asker, "n", 10.0, "")
         await lease.begin()
-        with pytest.raises(sagas.StoreUnwritable):
+        with pytest.raises(sagas.StoreUnavailable):
             await lease.take(lambda texts, places: next(said), [])
-        owner = "SELECT owner FROM sagas.logs WHERE closed = 0"
+        owner = "SELECT owner FROM sagas.shards WHERE closed = 0"
         assert await asker.ask(owner) == [(lease.node,)] and not lease.left
         assert await lease.take(lambda texts, places: next(said), []) == []
         assert await asker.ask(owner) == [(None,)] and lease.left
@@ -721,8 +725,8 @@ def test_a_log_that_could_not_be_given_back(url: str, monkeypatch: pytest.Monkey
 
 def test_what_happens_is_told(url: str, monkeypatch: pytest.MonkeyPatch) -> None:
     """A client's start that is taken, an answer, an end: whoever waits hears of it, and would look by himself minutes later."""
-    monkeypatch.setattr(news, "FIRST_LOOK", 600.0)
-    monkeypatch.setattr(news, "MOST_LOOK", 600.0)
+    monkeypatch.setattr(notifications, "FIRST_LOOK", 600.0)
+    monkeypatch.setattr(notifications, "MOST_LOOK", 600.0)
     gate = asyncio.Event()
     kind = pair(gate)
 
@@ -742,17 +746,17 @@ def test_what_happens_is_told(url: str, monkeypatch: pytest.MonkeyPatch) -> None
 
 def test_an_end_is_heard_of_without_a_word(url: str, monkeypatch: pytest.MonkeyPatch) -> None:
     """What the database tells may be lost: whoever waits looks by himself, at intervals that grow."""
-    monkeypatch.setattr("sagas.postgresql.PostgreSQL._say", lambda self, words: None)
-    monkeypatch.setattr(news, "FIRST_LOOK", 0.01)
+    monkeypatch.setattr("sagas.storage.postgresql.announcer.Announcer._say", lambda self, words: None)
+    monkeypatch.setattr(notifications, "FIRST_LOOK", 0.01)
     gate = asyncio.Event()
     kind = pair(gate)
-    right, turns = news.News.of, list[int]()
+    right, turns = notifications.News.of, list[int]()
 
-    async def of(self: news.News, id: int, turn: int) -> None:
+    async def of(self: notifications.News, id: int, turn: int) -> None:
         turns.append(turn)
         await right(self, id, turn)
 
-    monkeypatch.setattr(news.News, "of", of)
+    monkeypatch.setattr(notifications.News, "of", of)
 
     async def main() -> None:
         async with sagas.open(url, [kind], node="one") as one, sagas.open(url, [kind], node="other") as other:
@@ -776,7 +780,7 @@ def test_the_server_is_stopped_and_started(postgresql: Server, tmp_path: pathlib
     calls: Counter[str] = Counter()
 
     async def slow(task: Task) -> int:
-        calls[task.token] += 1
+        calls[task.attempt_id] += 1
         await asyncio.sleep(0.3)
         return 1
 
@@ -799,14 +803,14 @@ def test_the_server_is_stopped_and_started(postgresql: Server, tmp_path: pathlib
 
 def test_a_start_without_a_server_is_refused(url: str, monkeypatch: pytest.MonkeyPatch) -> None:
     """No number of a log is at hand, and none can be asked for: it hears so, as who finds the server gone; nobody waits for ever."""
-    monkeypatch.setattr("sagas.kinds.ROOM", 1)
+    monkeypatch.setattr("sagas.definition.compiled.SHARD_CAPACITY", 1)
     kind = pair()
 
     async def main() -> None:
         async with sagas.open(url, [kind]) as store:
             told = await asyncio.gather(*(ended(store, kind, f"k{number}") for number in range(200)), return_exceptions=True)
-            refused = [number for number, one in enumerate(told) if isinstance(one, sagas.StoreUnwritable)]
-            assert refused and len(refused) + sum(isinstance(one, sagas.End) for one in told) == 200
+            refused = [number for number, one in enumerate(told) if isinstance(one, sagas.StoreUnavailable)]
+            assert refused and len(refused) + sum(isinstance(one, sagas.SagaResult) for one in told) == 200
             assert (await surely_ended(store, kind, f"k{refused[0]}")).ok
 
     run(main())
@@ -837,7 +841,7 @@ def test_a_stranger_locks_a_table(url: str) -> None:
         async with sagas.open(url, [kind], lease=1.5) as store:
             assert (await ended(store, kind, "before")).ok
             with psycopg.connect(url) as stranger:
-                stranger.execute("LOCK TABLE sagas.results, sagas.nodes IN ACCESS EXCLUSIVE MODE")
+                stranger.execute("LOCK TABLE sagas.attempts, sagas.nodes IN ACCESS EXCLUSIVE MODE")
                 work = asyncio.create_task(surely_ended(store, kind, "meanwhile"))
                 await asyncio.sleep(10.0)
                 assert not work.done()
@@ -896,11 +900,11 @@ READS: dict[str, Callable[[sagas.Store], Awaitable[Any]]] = {
     "plan of a run": lambda store: sagas.Run(store, "k").plan(),
 }  # fmt: skip
 """All that reads."""
-FREE = {"results": ["audit"], "held": ["audit", "draw"]}
+FREE = {"attempts": ["audit"], "suspensions": ["audit", "draw"]}
 """What does not wait for a locked table, and starts a program, which takes the loop a while."""
 
 
-@pytest.mark.parametrize("table", ["sagas", "lines", "results", "held", "shelves"])
+@pytest.mark.parametrize("table", ["sagas", "event_log", "attempts", "suspensions", "definition_sets"])
 def test_who_reads_holds_up_nobody(url: str, table: str) -> None:
     """A stranger has a table for longer than a lease: the loop goes on while the store is asked for
     whatever is in it, the node keeps its lease, and each answer comes once the table is free."""
@@ -912,7 +916,7 @@ def test_who_reads_holds_up_nobody(url: str, table: str) -> None:
         lease, told_of = 1.5, lambda event: told.append(event.name)
         async with sagas.open(url, [kind], lease=lease, on_event=told_of) as store:
             assert (await ended(store, kind, "k")).ok
-            await until(lambda: "log_closed" in told)
+            await until(lambda: "shard_closed" in told)
             node = store._inside.store.lease  # type: ignore[attr-defined]
             with psycopg.connect(url) as stranger:
                 stranger.execute(f"LOCK TABLE sagas.{table} IN ACCESS EXCLUSIVE MODE")
@@ -933,7 +937,7 @@ def test_who_reads_holds_up_nobody(url: str, table: str) -> None:
         assert found["stuck"] == found["unknown"] == []
 
     run(main())
-    assert "lease_lapsed" not in told and "commit_failed" not in told
+    assert "lease_expired" not in told and "commit_failed" not in told
 
 
 def test_the_ends_of_many_sagas_at_once(postgresql: Server, url: str) -> None:
@@ -955,12 +959,12 @@ def test_the_ends_of_many_sagas_at_once(postgresql: Server, url: str) -> None:
                 relay.before = relay.after = 0.0
                 row = await store._inside.store.find("k0")
                 assert row
-                with pytest.raises(sagas.NoSuchSaga, match="'k0' was let go meanwhile"):
+                with pytest.raises(sagas.NoSuchSaga, match="'k0' was deleted meanwhile"):
                     await store._inside.store.known(row._replace(id=row.id + 990))
                 asked = [asyncio.ensure_future(store.wait(key)) for key in keys]
                 await asyncio.sleep(0)
             over = await asyncio.wait_for(asyncio.gather(*asked, return_exceptions=True), 60)
-            assert {type(one) for one in over} <= {sagas.End, sagas.Closed, sagas.StoreUnwritable}
+            assert {type(one) for one in over} <= {sagas.SagaResult, sagas.Closed, sagas.StoreUnavailable}
 
     run(main())
 
@@ -983,7 +987,7 @@ def test_an_audit_in_the_background_holds_up_nobody(url: str) -> None:
             assert (await ended(store, kind, "k")).ok
         lease = 1.5
         with psycopg.connect(url) as stranger:
-            stranger.execute("LOCK TABLE sagas.lines IN ACCESS EXCLUSIVE MODE")
+            stranger.execute("LOCK TABLE sagas.event_log IN ACCESS EXCLUSIVE MODE")
             async with Turns() as turns:
                 async with sagas.open(url, [kind], lease=lease, on_event=tell) as store:
                     node = store._inside.store.lease  # type: ignore[attr-defined]
@@ -992,10 +996,10 @@ def test_an_audit_in_the_background_holds_up_nobody(url: str) -> None:
                     await until(lambda: node._until > since + lease + 0.5)
                     assert not told and turns.longest < 0.2
                     stranger.rollback()
-                    await until(lambda: "log_closed" in told)
+                    await until(lambda: "shard_closed" in told)
 
     run(main())
-    assert told == ["log_closed"]
+    assert told == ["shard_closed"]
 
 
 # -- clocks ----------------------------------------------------------------------------------------------------------
@@ -1014,7 +1018,7 @@ def test_clocks_a_minute_apart_that_jump(url: str) -> None:
         @kind.step(tries=3, backoff=QUICK)
         async def a(task: Task) -> str:
             clocks[name] += 60.0 if calls.total() % 2 else -60.0
-            calls[task.token] += 1
+            calls[task.attempt_id] += 1
             assert by.setdefault(task.key, name) == name
             if task.attempt < 3:
                 raise ValueError("again")
@@ -1022,7 +1026,7 @@ def test_clocks_a_minute_apart_that_jump(url: str) -> None:
 
         @kind.step(needs=[a])
         async def b(task: Task) -> str:
-            calls[task.token] += 1
+            calls[task.attempt_id] += 1
             await gate.wait()
             return name
 
@@ -1031,7 +1035,7 @@ def test_clocks_a_minute_apart_that_jump(url: str) -> None:
     async def main() -> None:
         late, early = kind_of("late"), kind_of("early")
         async with sagas.open(url, [early], node="early", clock=lambda: time.time() + clocks["early"], lease=1.5, concurrency=64) as other:
-            async with sagas.open(url, [late], node="late", clock=lambda: time.time() + clocks["late"], lease=1.5, concurrency=64, grace=0.0) as store:
+            async with sagas.open(url, [late], node="late", clock=lambda: time.time() + clocks["late"], lease=1.5, concurrency=64, shutdown_timeout=0.0) as store:
                 await asyncio.gather(*(store.start(late, f"l{number}") for number in range(10)), *(other.start(early, f"e{number}") for number in range(10)))
                 await until(lambda: sum("-b-run-" in token for token in calls) == 20)
                 assert set(calls.values()) == {1}

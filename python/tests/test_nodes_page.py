@@ -1,4 +1,5 @@
-"""The page on more than one machine is run: a server, two nodes, a client; one node is killed, and the saga ends."""
+"""The tutorial on two nodes is run: a server, two nodes, a client; one node is killed, and the saga
+ends."""
 
 from __future__ import annotations
 
@@ -11,16 +12,18 @@ import subprocess
 import sys
 import time
 
-import sagas
 from driving import program
 from server import Server
 
-PAGE = (pathlib.Path(sagas.__file__).resolve().parents[2] / "NODES.md").read_text()
+import sagas
+
+TOP = pathlib.Path(sagas.__file__).resolve().parents[3]
+PAGE = (TOP / "docs/tutorials/cluster.md").read_text()
 
 
 def code(name: str) -> str:
-    """The block of the page that begins with a comment naming the file."""
-    found = re.search(rf"^```python\n# {name}\n(.*?)^```$", PAGE, re.S | re.M)
+    """The block of the page that is to be saved under this name."""
+    found = re.search(rf"as `{name}`:\n\n```python\n(.*?)^```$", PAGE, re.S | re.M)
     assert found, name
     return found[1]
 
@@ -53,7 +56,7 @@ def test_two_nodes_and_a_client(url: str, postgresql: Server, tmp_path: pathlib.
         assert owner
         nodes[owner].send_signal(signal.SIGKILL)
         out, _ = client.communicate(timeout=200)
-        assert out == re.search(r"\$ python client.py order-1\n(.*?)```", PAGE, re.S)[1]  # type: ignore[index]
+        assert out == re.search(r"prints:\n\n```text\n(.*?)```", PAGE, re.S)[1]  # type: ignore[index]
         other = nodes["two" if owner == "one" else "one"]
         other.send_signal(signal.SIGTERM)
         assert other.wait(120) == 0

@@ -15,17 +15,17 @@ import time
 from typing import Any
 
 import pytest
-
 import records
+from cases import HOUR, QUICK, Task, asked_of, ended, run, simple, until
+
 import sagas
 import sagas.testing
-from cases import HOUR, QUICK, Task, asked_of, ended, run, simple, until
 
 
 def test_returns(place: str) -> None:
     """It is done, and its result is JSON."""
 
-    async def main() -> sagas.End:
+    async def main() -> sagas.SagaResult:
         saga = simple(lambda task: {"id": 7, "days": [1, 2]})
         async with sagas.open(place, [saga]) as store:
             return await ended(store, saga)
@@ -37,7 +37,7 @@ def test_returns(place: str) -> None:
 def test_returns_what_is_no_json(place: str, caplog: pytest.LogCaptureFixture) -> None:
     """The effect is there and is not lost: it is kept as unstorable, with a warning."""
 
-    async def main() -> sagas.End:
+    async def main() -> sagas.SagaResult:
         saga = simple(lambda task: object())
         async with sagas.open(place, [saga]) as store:
             return await ended(store, saga)
@@ -48,7 +48,7 @@ def test_returns_what_is_no_json(place: str, caplog: pytest.LogCaptureFixture) -
     assert "result_unstorable key=k saga=simple step=a" in caplog.text
 
 
-HOWS = {"alone": {}, "in time": {"timeout": 60}, "in turn": {"limit": 1}}
+HOWS = {"alone": {}, "in time": {"timeout": 60}, "in turn": {"concurrency": 1}}
 
 
 @pytest.mark.parametrize("how", HOWS)
@@ -92,14 +92,14 @@ def test_a_forgotten_await_has_its_time(tmp_path: pathlib.Path, plain: bool) -> 
     async def charge(task: Task) -> Any:
         return slow(task)
 
-    saga = simple((lambda task: slow(task)) if plain else charge, timeout=0.05, unknown_most=0)
+    saga = simple((lambda task: slow(task)) if plain else charge, timeout=0.05, max_unknown=0)
 
     async def main() -> None:
         async with sagas.open(tmp_path / "store.db", [saga]) as store:
             await store.start(saga, "k")
             (held,) = await until(store.unknown)
             assert held.error == "took longer than 0.05 s"
-            await store.finish("k", "a")
+            await store.complete("k", "a")
 
     run(main())
 
@@ -129,8 +129,8 @@ def test_a_result_that_could_not_be_stored(place: str) -> None:
         ways: tuple[Any, ...] = (send, "send")
         for step in ways:
             try:
-                task.of(step)
-            except sagas.NotJson as error:
+                task.result_of(step)
+            except sagas.NotSerializable as error:
                 told.append(f"{type(error).__name__}: {error}")
         if task.input:
             raise sagas.Fail("no")
@@ -141,17 +141,17 @@ def test_a_result_that_could_not_be_stored(place: str) -> None:
             assert end.ok
             ways: tuple[Any, ...] = (send, "send")
             for step in ways:
-                with pytest.raises(sagas.Unstorable, match="'send' returned what is no JSON: object is not JSON"):
-                    end.of(step)
-            with pytest.raises(KeyError, match="there is no step 'sent', but send, look"):
-                end.of("sent")
+                with pytest.raises(sagas.ResultNotSerializable, match="step 'send' returned a value that is not JSON: object is not JSON"):
+                    end.result_of(step)
+            with pytest.raises(KeyError, match="unknown step 'sent': the steps are send, look"):
+                end.result_of("sent")
             end = await ended(store, saga, "ill", True)
             assert end.states["send"] == "undone"
-            with pytest.raises(KeyError, match="step 'send' does not stand: it is undone"):
-                end.of("send")
+            with pytest.raises(KeyError, match="step 'send' is not committed: it is undone"):
+                end.result_of("send")
 
     run(main())
-    assert len(told) == 4 and told[0].startswith("Unstorable: 'send' returned what is no JSON")
+    assert len(told) == 4 and told[0].startswith("ResultNotSerializable: step 'send' returned a value that is not JSON")
 
 
 def test_a_set_crosses(place: str) -> None:
@@ -164,14 +164,14 @@ def test_a_set_crosses(place: str) -> None:
 
     @saga.step(needs=[seats])
     def send(task: Task) -> bool:
-        return task.of(seats) == {1, 2} == task.of("seats") and isinstance(task.of("seats"), set)
+        return task.result_of(seats) == {1, 2} == task.result_of("seats") and isinstance(task.result_of("seats"), set)
 
-    async def main() -> sagas.End:
+    async def main() -> sagas.SagaResult:
         async with sagas.open(place, [saga]) as store:
             return await ended(store, saga, given={1: "a", 2: "b"})
 
     end = run(main())
-    assert end.of(send) is True and end.of("seats") == {1, 2}
+    assert end.result_of(send) is True and end.result_of("seats") == {1, 2}
 
 
 def test_a_result_that_is_not_of_its_type(place: str) -> None:
@@ -182,7 +182,7 @@ def test_a_result_that_is_not_of_its_type(place: str) -> None:
     def book(task: Task) -> Seat:
         return object()  # type: ignore[return-value]
 
-    @saga.step(needs=[book], unknown_most=0)
+    @saga.step(needs=[book], max_unknown=0)
     def pay(task: Task) -> Seat:
         raise sagas.Unknown("?")
 
@@ -198,7 +198,7 @@ def test_a_result_that_is_not_of_its_type(place: str) -> None:
             assert "unstorable" in (await ended(store, well, "w")).results["book"]
             going = await store.start(saga, "k")
             await until(store.unknown)
-            await store.finish("k", pay, "by hand")
+            await store.complete("k", pay, "by hand")
             end = await going.wait()
             assert "unstorable" in end.results["book"] and end.results["pay"] == "by hand"
             assert [one.results for one in await store.stuck()] == [end.results]
@@ -216,13 +216,13 @@ def test_raises(place: str, caplog: pytest.LogCaptureFixture) -> None:
         attempts.append(task.attempt)
         raise ValueError("no")
 
-    async def main() -> sagas.End:
+    async def main() -> sagas.SagaResult:
         saga = simple(fails, tries=3)
         async with sagas.open(place, [saga]) as store:
             return await ended(store, saga)
 
     end = run(main())
-    assert end.phase == "ended" and end.states == {"a": "failed"} and attempts == [1, 2, 3]
+    assert end.phase == "recovered" and end.states == {"a": "failed"} and attempts == [1, 2, 3]
     assert end.errors == {"a": "ValueError: no"} and str(end).endswith("failed    a: ValueError: no")
     assert run(main()) == end  # it is over: what is told is read from the store
     told = [record for record in caplog.records if record.name == "sagas"]
@@ -242,8 +242,8 @@ def test_raises_fail(place: str, group: bool) -> None:
         async with asyncio.TaskGroup() if group else contextlib.nullcontext():
             raise sagas.Fail("for good")
 
-    async def main() -> sagas.End:
-        saga = simple(fails, tries=9, backoff=sagas.Backoff(first=3600))
+    async def main() -> sagas.SagaResult:
+        saga = simple(fails, tries=9, backoff=sagas.Backoff(initial=3600))
         async with sagas.open(place, [saga]) as store:
             return await ended(store, saga)
 
@@ -263,19 +263,19 @@ def test_raises_unknown(place: str, error: Exception) -> None:
     told: list[str] = []
 
     def lost(task: Task) -> int:
-        tokens.append(task.token)
+        tokens.append(task.attempt_id)
         if len(tokens) < 3:
             raise error
         return 1
 
-    async def main() -> sagas.End:
+    async def main() -> sagas.SagaResult:
         words = {"unknown": (KeyError,)} if isinstance(error, KeyError) else {}
         saga = simple(lost, **words)
         async with sagas.open(place, [saga], on_event=lambda event: told.append(event.detail or "") if event.name == "step_unknown" else None) as store:
             return await ended(store, saga)
 
     assert run(main()).ok and len(tokens) == 3 and len(set(tokens)) == 1
-    assert len(told) == 2 and told[1] == f"{told[0]}; 2 times by now"
+    assert len(told) == 2 and told[1] == f"{told[0]}; 2 times so far"
     assert len(records.read(place).results) == 1
 
 
@@ -301,12 +301,12 @@ def test_a_failure_that_came_from_a_timeout(place: str) -> None:
                 assert (await ended(store, saga, given, given)).states == {"a": "failed"}
 
     run(main())
-    assert [text.count("it came from TimeoutError") for text in told] == [1, 1, 0] and "unknown=(test_outcomes." in told[0]
+    assert [text.count("its cause is TimeoutError") for text in told] == [1, 1, 0] and "unknown=(test_outcomes." in told[0]
 
 
 def test_a_function_that_holds_the_loop(tmp_path: pathlib.Path, caplog: pytest.LogCaptureFixture, monkeypatch: pytest.MonkeyPatch) -> None:
     """It is named in the log, once: it returned, raised or waited behind that. One in a thread holds nobody up, nor does one that waits."""
-    monkeypatch.setattr("sagas.callers.LONG", 0.1)
+    monkeypatch.setattr("sagas.runtime.dispatcher.LONG", 0.1)
     saga = sagas.Saga("shop")
 
     @saga.step
@@ -337,9 +337,9 @@ def test_a_function_that_holds_the_loop(tmp_path: pathlib.Path, caplog: pytest.L
             await ended(store, saga, "two", 0)
 
     run(main())
-    told = [record.getMessage().split(" held the event loop for ") for record in caplog.records if "held the event loop" in record.getMessage()]
+    told = [record.getMessage().split(" blocked the event loop for ") for record in caplog.records if "blocked the event loop" in record.getMessage()]
     assert [whose for whose, _ in told] == ["saga 'shop': step 'returns'", "saga 'shop': step 'waits'", "saga 'shop': step 'raises'"]
-    assert all(rest.endswith(" s: make it a plain function (def), which runs in a thread") for _, rest in told)
+    assert all(rest.endswith(" s. Make it a plain function (def), which runs in a thread") for _, rest in told)
 
 
 def test_unknown_waits_for_its_back_off(place: str) -> None:
@@ -348,7 +348,7 @@ def test_unknown_waits_for_its_back_off(place: str) -> None:
     tokens: list[str] = []
 
     def lost(task: Task) -> int:
-        tokens.append(task.token)
+        tokens.append(task.attempt_id)
         if len(tokens) < 2:
             raise sagas.Unknown("?")
         return 1
@@ -377,11 +377,11 @@ def test_takes_longer_than_its_time(place: str) -> None:
     tokens: list[str] = []
 
     async def slow(task: Task) -> int:
-        tokens.append(task.token)
+        tokens.append(task.attempt_id)
         await asyncio.sleep(0 if len(tokens) > 1 else 60)
         return 1
 
-    async def main() -> sagas.End:
+    async def main() -> sagas.SagaResult:
         saga = simple(slow, timeout=0.05)
         async with sagas.open(place, [saga]) as store:
             return await ended(store, saga)
@@ -392,29 +392,29 @@ def test_takes_longer_than_its_time(place: str) -> None:
 @pytest.mark.parametrize("most", [2, datetime.timedelta(seconds=0.05)])
 @pytest.mark.parametrize("done", [True, False])
 def test_unknown_for_too_long_waits_for_a_person(place: str, most: Any, done: bool) -> None:
-    """`unknown_most` bounds it; then it stands in `store.unknown()`, and a person says done or failed, also after a restart."""
+    """`max_unknown` bounds it; then it stands in `store.unknown()`, and a person says done or failed, also after a restart."""
     calls: list[str] = []
 
     def lost(task: Task) -> None:
-        calls.append(task.token)
+        calls.append(task.attempt_id)
         raise ConnectionError("no answer")
 
-    saga = simple(lost, unknown_most=most)
+    saga = simple(lost, max_unknown=most)
 
     async def first() -> None:
         async with sagas.open(place, [saga]) as store:
             await store.start(saga, key="k")
             await until(lambda: asked_of(store))
 
-    async def second() -> sagas.End:
+    async def second() -> sagas.SagaResult:
         before = len(calls)
         async with sagas.open(place, [saga]) as store:
             (held,) = await store.unknown()
             assert (held.key, held.step, held.asked) == ("k", "a", True) and "no answer" in (held.error or "")
             if done:
-                await store.finish("k", "a", "it was done")
+                await store.complete("k", "a", "it was done")
             else:
-                await store.finish("k", "a", failed="it was not")
+                await store.fail("k", "a", "it was not")
             end = await store.wait("k")
             assert await store.unknown() == [] and len(calls) == before
             return end
@@ -430,18 +430,18 @@ def test_ends_well_after_its_time_in_a_thread(place: str) -> None:
     told: list[sagas.Event] = []
 
     def late(task: Task) -> int:
-        calls.append(task.token)
+        calls.append(task.attempt_id)
         threading.Event().wait(0.2)
         return 7
 
-    async def main() -> sagas.End:
+    async def main() -> sagas.SagaResult:
         saga = simple(late, timeout=0.05)
         async with sagas.open(place, [saga], on_event=told.append) as store:
             return await ended(store, saga)
 
     assert run(main()).results == {"a": 7} and len(calls) == 1
-    assert [(event.name, event.key, event.step) for event in told if event.name == "step_late"] == [("step_late", "k", "a")]
-    (done,) = (event for event in told if event.name == "step_done")
+    assert [(event.name, event.key, event.step) for event in told if event.name == "step_overdue"] == [("step_overdue", "k", "a")]
+    (done,) = (event for event in told if event.name == "step_succeeded")
     assert done.seconds is not None and 0.19 < done.seconds < 60
 
 
@@ -483,28 +483,28 @@ def test_tokens(place: str) -> None:
         tasks.append(task)
         raise ValueError("no")
 
-    async def main() -> sagas.End:
+    async def main() -> sagas.SagaResult:
         async with sagas.open(place, [saga]) as store:
             return await ended(store, saga)
 
     assert run(main()).states == {"a": "undone", "b": "failed"}
     done, first, second, undo, undo_again = tasks
-    assert first.effect_token == second.effect_token and first.token != second.token
-    assert undo.effect_token == undo_again.effect_token and undo.token != undo_again.token
-    assert undo.action_token == done.effect_token != undo.effect_token
-    assert undo.undo and undo.result == "A" and not done.undo
-    assert len({task.token for task in tasks}) == 5
+    assert first.idempotency_key == second.idempotency_key and first.attempt_id != second.attempt_id
+    assert undo.idempotency_key == undo_again.idempotency_key and undo.attempt_id != undo_again.attempt_id
+    assert undo.original_idempotency_key == done.idempotency_key != undo.idempotency_key
+    assert undo.is_compensation and undo.result == "A" and not done.is_compensation
+    assert len({task.attempt_id for task in tasks}) == 5
     name = next(iter(records.read(place).logs.values())).name
-    assert all(task.token.startswith(f"{name}-0-") for task in tasks)
+    assert all(task.attempt_id.startswith(f"{name}-0-") for task in tasks)
     for copied in (*map(copy.deepcopy, tasks), *(pickle.loads(pickle.dumps(task)) for task in tasks)):
-        (task,) = [task for task in tasks if task.token == copied.token]
+        (task,) = [task for task in tasks if task.attempt_id == copied.attempt_id]
         assert (copied.key, copied.results, copied.result, copied.attempt) == (task.key, task.results, task.result, task.attempt)
 
 
 def test_a_logs_name_is_used_once(tmp_path: pathlib.Path) -> None:
     """Two stores, and so two programs on copies, have no token in common."""
     tokens: list[str] = []
-    saga = simple(lambda task: tokens.append(task.effect_token))
+    saga = simple(lambda task: tokens.append(task.idempotency_key))
 
     async def main(name: str) -> None:
         async with sagas.open(tmp_path / name, [saga]) as store:

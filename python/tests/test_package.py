@@ -6,27 +6,29 @@ import asyncio
 import json
 import pathlib
 import tempfile
+from collections.abc import Sequence
 from typing import Any
 
 import pytest
+import records
+from definitions import StepDraw, steps, toml
+from follower import Definition, Follower, follow
 from hypothesis import HealthCheck, given, settings
 from hypothesis import strategies as st
 
-import records
 import sagas
 import sagas.testing
-from definitions import StepDraw, steps, toml
-from follower import Definition, Follower, follow
+from sagas.testing.engine import Engine
 
 Task = sagas.Task[Any]
 Failures = dict[tuple[str, str], int]
 """How many attempts fail, by step and `run` or `undo`."""
 
 EXAMPLES = settings(max_examples=40, deadline=None, suppress_health_check=list(HealthCheck))
-NO_WAIT = sagas.Backoff(first=0.0, most=0.0)
+NO_WAIT = sagas.Backoff(initial=0.0, maximum=0.0)
 
 
-def price(value: int | str) -> sagas.Price:
+def price(value: int | str) -> sagas.Cost:
     """A price as the package takes it."""
     return value if isinstance(value, int) else sagas.NEVER
 
@@ -36,9 +38,9 @@ def build(drawn: list[StepDraw], failures: Failures) -> sagas.Saga:
     saga = sagas.Saga("random")
 
     def act(task: Task) -> str:
-        if task.attempt <= failures.get((task.step, "undo" if task.undo else "run"), 0):
+        if task.attempt <= failures.get((task.step, "undo" if task.is_compensation else "run"), 0):
             raise ValueError("it is told to fail")
-        assert not task.undo or task.result == f"{task.step} is done"
+        assert not task.is_compensation or task.result == f"{task.step} is done"
         return f"{task.step} is done"
 
     async def act_in_loop(task: Task) -> str:
@@ -51,7 +53,7 @@ def build(drawn: list[StepDraw], failures: Failures) -> sagas.Saga:
             words["undo"] = price(one.undo)
         step = saga.step(name=one.name, needs=needs, backoff=NO_WAIT, **words)(act if number % 2 else act_in_loop)
         if one.undo != "never":
-            step.compensation(tries=one.undo_tries, backoff=NO_WAIT)(act_in_loop if number % 2 else act)
+            step.compensation(tries=one.undo_tries, backoff=NO_WAIT, on_exhausted="fail")(act_in_loop if number % 2 else act)
     return saga
 
 
@@ -81,13 +83,13 @@ def test_a_store_keeps_the_rules(data: st.DataObject) -> None:
     saga = build(drawn, many[0])
     same_definition(drawn, saga)
 
-    async def one(store: sagas.Store, number: int) -> sagas.End:
+    async def one(store: sagas.Store, number: int) -> sagas.SagaResult:
         run = await store.start(saga, key=f"k{number}")
         if aborts[number]:
             await run.abort()
         return await run.wait()
 
-    async def main(path: pathlib.Path) -> list[sagas.End]:
+    async def main(path: pathlib.Path) -> list[sagas.SagaResult]:
         async with sagas.open(path, [saga], concurrency=together) as store:
             return await asyncio.gather(*(one(store, number) for number in range(3)))
 
@@ -99,11 +101,18 @@ def test_a_store_keeps_the_rules(data: st.DataObject) -> None:
     follower = follow(log.texts, log.events)
     for number, end in enumerate(ends):
         state = follower.sagas[kept.sagas[f"k{number}"].number]
-        assert (end.phase, list(end.states.values()), end.aborted) == (state.phase, state.states, state.aborted)
+        assert (end.phase, list(end.states.values()), end.aborted) == told(state)
         answer = state.answer or {"cost": 0}
         assert (end.cost or 0) == answer.get("cost", 0)
-        assert set(end.results) == {step for step, word in end.states.items() if word in ("committed", "fixed")}
+        assert set(end.results) == {step for step, word in end.states.items() if word in ("committed", "undo_failed")}
         assert all(value == f"{step} is done" for step, value in end.results.items())
+
+
+def told(state: Any) -> tuple[str, list[str], bool]:
+    """The follower's saga in the words of the package."""
+    phase = "stuck" if state.phase == "stuck" else "recovered" if (state.answer or {}).get("kind") == "plan" else "completed"
+    states = ["undo_failed" if word == "fixed" else word for word in state.states]
+    return phase, states, state.aborted
 
 
 @EXAMPLES
@@ -117,15 +126,16 @@ def test_a_saga_in_memory_keeps_the_rules(data: st.DataObject) -> None:
     abort = data.draw(st.one_of(st.none(), st.sampled_from(names)))
     unknown = data.draw(st.dictionaries(st.sampled_from(names), st.integers(1, 2), max_size=2))
     follower = Follower([Definition.read(saga.toml())])
-    right = sagas.testing._Drive.ask
+    right = Engine.ask
 
-    def ask(self: Any, request: str) -> Any:
-        reply = right(self, request)
-        follower.answer(json.loads(request), reply)
-        return reply
+    def ask(self: Engine, lines: Sequence[str]) -> list[str]:
+        replies = right(self, lines)
+        for line, reply in zip(lines, replies, strict=True):
+            follower.answer(json.loads(line), json.loads(reply))
+        return replies
 
     with pytest.MonkeyPatch.context() as patch:
-        patch.setattr(sagas.testing._Drive, "ask", ask)
+        patch.setattr(Engine, "ask", ask)
         trial = sagas.testing.run(
             saga,
             fail={step: count for (step, kind), count in fails.items() if kind == "run"},
@@ -134,5 +144,5 @@ def test_a_saga_in_memory_keeps_the_rules(data: st.DataObject) -> None:
             abort=abort,
         )
     (state,) = follower.sagas
-    assert (trial.phase, list(trial.states.values()), trial.aborted) == (state.phase, state.states, state.aborted)
-    assert trial.phase in ("ended", "stuck")
+    assert (trial.phase, list(trial.states.values()), trial.aborted) == told(state)
+    assert trial.phase in ("completed", "recovered", "stuck")

@@ -15,38 +15,38 @@ from collections.abc import Iterator
 from typing import Any
 
 import pytest
+from cases import QUICK, Task, run
 
 import sagas
-from cases import QUICK, Task, run
 
 SECONDS = 60
 """In which all sagas of a store are over; they take about two."""
 TOO_LONG = 0.05
 WORDS: dict[str, dict[str, Any]] = {
     "tries": {"tries": 3},
-    "backoff": {"backoff": sagas.Backoff(first=0.03, most=0.05)},
+    "backoff": {"backoff": sagas.Backoff(initial=0.03, maximum=0.05)},
     "timeout": {"timeout": TOO_LONG},
     "unknown": {"unknown": (LookupError,)},
-    "unknown_most": {"unknown_most": 0},
-    "unknown_time": {"unknown_most": datetime.timedelta(seconds=0.05)},
-    "limit": {"limit": 1},
-    "fleet_limit": {"fleet_limit": 2},
-    "rate": {"rate": (2, 0.05)},
+    "max_unknown": {"max_unknown": 0},
+    "unknown_time": {"max_unknown": datetime.timedelta(seconds=0.05)},
+    "concurrency": {"concurrency": 1},
+    "fleet_concurrency": {"fleet_concurrency": 2},
+    "rate_limit": {"rate_limit": (2, 0.05)},
     "transaction": {"transaction": True},
 }
 KINDS = ("wait", "approval", "elsewhere")
 UNDO = ("tries", "timeout", "unknown", "most", "plain", "elsewhere", "inside")
 OPTIONS = (*WORDS, "plain", *KINDS, *(f"undo_{word}" for word in UNDO))
-STEP = ("unknown", "unknown_most", "unknown_time", "fleet_limit", "rate", "transaction")
+STEP = ("unknown", "max_unknown", "unknown_time", "fleet_concurrency", "rate_limit", "transaction")
 """What only a step takes that has a function here."""
 REFUSED: dict[str, tuple[str, ...]] = {
     "wait": (*STEP, "approval", "elsewhere"),
-    "approval": (*STEP, "limit", "elsewhere"),
+    "approval": (*STEP, "concurrency", "elsewhere"),
     "elsewhere": (*STEP, "timeout", "plain"),
-    "unknown_most": ("unknown_time",),
+    "max_unknown": ("unknown_time",),
     "undo_elsewhere": ("undo_timeout", "undo_unknown", "undo_most", "undo_plain", "undo_inside"),
 }
-LOST = dict.fromkeys(("unknown", "unknown_most", "unknown_time"), "lost")
+LOST = dict.fromkeys(("unknown", "max_unknown", "unknown_time"), "lost")
 UNDO_LOST = dict.fromkeys(("undo_unknown", "undo_most"), "lost")
 HAZARDS = {"tries": "misses", "timeout": "late", **LOST}
 UNDO_HAZARDS = {"undo_tries": "misses", "undo_timeout": "late", **UNDO_LOST}
@@ -79,9 +79,9 @@ class Case:
 
     def hazard(self, task: Task) -> str | None:
         """What becomes of this call."""
-        number = self.calls[task.key, task.undo]
-        self.calls[task.key, task.undo] += 1
-        table = UNDO_HAZARDS if task.undo else HAZARDS
+        number = self.calls[task.key, task.is_compensation]
+        self.calls[task.key, task.is_compensation] += 1
+        table = UNDO_HAZARDS if task.is_compensation else HAZARDS
         meets = [hazard for option, hazard in table.items() if option in self.options]
         hazards = list(dict.fromkeys(meets))
         return hazards[number] if number < len(hazards) else None
@@ -95,7 +95,7 @@ class Case:
 
     def enter(self, task: Task) -> int:
         """How many of the step run with this one; a compensation has no limit."""
-        here = 0 if task.undo else 1
+        here = 0 if task.is_compensation else 1
         self.now += here
         self.most = max(self.most, self.now)
         return here
@@ -131,10 +131,12 @@ class Case:
         function = self.act_in_thread if "plain" in self.options else self.act
         wrapped = as_plain(function) if "plain" in self.options else as_async(function)
         if "elsewhere" in self.options:
-            first = saga.step(handler=None, **words)
+            first = saga.step(external=True, **words)
         elif "wait" in self.options:
             first = saga.wait(until=datetime.timedelta(seconds=0.02), **words)(wrapped)
         elif "approval" in self.options:
+            if "timeout" in words:
+                words["call_timeout"] = words.pop("timeout")
             first = saga.approval(**words)(wrapped)
         else:
             first = saga.step(**words)(wrapped)
@@ -151,9 +153,9 @@ class Case:
         words: dict[str, Any] = {"backoff": QUICK, "transaction": "undo_inside" in self.options}
         words |= {"tries": 3} if "undo_tries" in self.options else {}
         words |= {"timeout": TOO_LONG} if "undo_timeout" in self.options else {}
-        words |= {"unknown_most": 0} if "undo_most" in self.options else {}
+        words |= {"max_unknown": 0} if "undo_most" in self.options else {}
         if "undo_elsewhere" in self.options:
-            first.compensation(handler=None, backoff=QUICK, tries=words.get("tries", 1))
+            first.compensation(external=True, backoff=QUICK, tries=words.get("tries", 1))
         elif "undo_plain" in self.options:
             first.compensation(**words)(as_plain(self.act_in_thread))
         else:
@@ -194,12 +196,12 @@ async def answer(store: sagas.Store, keys: list[str]) -> None:
     """Somebody who says of whatever waits for a person or a worker that it is done."""
     while True:
         for key in keys:
-            for one in store.begun(key):
+            for one in store.active_attempts(key):
                 asks = one.waits == "unknown" and one.until is None
                 if asks or one.waits in ("approval", "worker"):
                     try:
-                        await store.finish(key, one.step, "a", undo=one.undo)
-                    except (sagas.NotWaiting, sagas.NoSuchSaga):
+                        await store.complete(key, one.step, "a", undo=one.undo)
+                    except (sagas.StepNotWaiting, sagas.NoSuchSaga):
                         pass  # it is over meanwhile
         await asyncio.sleep(0.01)
 
@@ -222,7 +224,7 @@ def test_options_in_pairs(place: str, concurrency: int, tmp_path: Any) -> None:
             await run.abort()
         end = await run.wait()
         states = end.states
-        assert end.phase == "ended", (case.options, str(end))
+        assert end.phase in ("completed", "recovered"), (case.options, str(end))
         if "well" in key:
             assert end.ok, (case.options, str(end))
         elif key.endswith("fails"):
@@ -231,7 +233,7 @@ def test_options_in_pairs(place: str, concurrency: int, tmp_path: Any) -> None:
     async def lot(number: int, some: list[Case]) -> None:
         where = place if inside else str(tmp_path / f"store-{number}.db")
         kinds = {case.name: case.saga() for case in some}
-        async with sagas.open(where, kinds.values(), concurrency=concurrency, grace=1) as store:
+        async with sagas.open(where, kinds.values(), concurrency=concurrency, shutdown_timeout=1) as store:
             keys = {f"{case.name}-{key}": case for case in some for key in KEYS}
             answering = asyncio.create_task(answer(store, list(keys)))
             jobs = {
@@ -253,6 +255,6 @@ def test_options_in_pairs(place: str, concurrency: int, tmp_path: Any) -> None:
 
     run(main())
     for case in cases:
-        limits = {"limit": 1, "fleet_limit": 2}
+        limits = {"concurrency": 1, "fleet_concurrency": 2}
         most = min((limits[one] for one in case.options & limits.keys()), default=case.most)
         assert case.most <= most, case.options

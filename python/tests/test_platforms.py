@@ -9,15 +9,17 @@ import os
 import pathlib
 import shutil
 import struct
+import subprocess
+import tomllib
 from collections.abc import Callable
 
 import pytest
+from driving import program
 
 import sagas
 import sagas.testing
-from driving import program
-from sagas import library
-from sagas import program as engine
+from sagas.engine import library
+from sagas.base import program as engine
 
 Lack = Callable[[pytest.MonkeyPatch], None]
 
@@ -33,6 +35,7 @@ LACKS: dict[str, Lack] = {
     "no pidfd_open": lambda patch: patch.delattr(os, "pidfd_open"),
     "a kernel without pidfd_open": lambda patch: patch.setattr(os, "pidfd_open", refused),
     "no F_SETPIPE_SZ": lambda patch: patch.delattr(fcntl, "F_SETPIPE_SZ"),
+    "no fdatasync": lambda patch: patch.delattr(os, "fdatasync"),
     "no /proc": lambda patch: patch.setattr(engine, "descriptors", lambda: None),
     "/dev/fd alone": lambda patch: patch.setattr(engine, "descriptors", lambda: "/dev/fd"),
 }
@@ -40,7 +43,7 @@ LACKS: dict[str, Lack] = {
 
 def all_of_them(patch: pytest.MonkeyPatch) -> None:
     """Nothing of what Linux alone has."""
-    for name in ("no memfd_create", "no pidfd_open", "no F_SETPIPE_SZ", "no /proc"):
+    for name in ("no memfd_create", "no pidfd_open", "no F_SETPIPE_SZ", "no fdatasync", "no /proc"):
         LACKS[name](patch)
 
 
@@ -133,11 +136,11 @@ def test_a_program_that_cannot_be_run(
     if how == "variable":
         monkeypatch.setenv("SAGAS_PROGRAM", str(place))
     with pytest.raises(
-        sagas.EngineNotRunnable, match="cannot be run on this machine .*SAGAS_PROGRAM"
+        sagas.EngineNotRunnable, match="this machine .* cannot run it.*SAGAS_PROGRAM"
     ):
         with sagas.open_sync(tmp_path / "orders.db", [order()], **words):
             pass
-    assert not isinstance(sagas.EngineNotRunnable("x"), sagas.StoreUnwritable)
+    assert not isinstance(sagas.EngineNotRunnable("x"), sagas.StoreUnavailable)
 
 
 def test_a_program_that_seems_to_be_for_another_machine_and_runs(
@@ -148,3 +151,15 @@ def test_a_program_that_seems_to_be_for_another_machine_and_runs(
     saga = order()
     with sagas.open_sync(tmp_path / "orders.db", [saga]) as store:
         assert store.start(saga, "only", 1).wait(60).states["charge"] == "undone"
+
+
+def test_the_package_and_its_engine_have_one_version() -> None:
+    """`__version__` is what the wheel has; the program and the library of `dist/` have the same."""
+    top = pathlib.Path(__file__).resolve().parents[2]
+    said = subprocess.run([program(), "--version"], capture_output=True, text=True, check=True)
+    assert said.stdout == f"sagas {sagas.__version__}\n"
+    assert f"Version: {sagas.__version__}\n" in (top / "dist/sagas.pc").read_text()
+    rust = tomllib.loads((top / "examples/library/rust/Cargo.toml").read_text())
+    assert rust["package"]["version"] == sagas.__version__
+    named = tomllib.loads((top / "python/pyproject.toml").read_text())["project"]
+    assert named["dynamic"] == ["version"] and "version" not in named

@@ -8,11 +8,11 @@ from typing import Any
 
 import psycopg
 import pytest
-
-import sagas
 from cases import Task, run, until
-from sagas import command
 
+from sagas.core import outcomes
+import sagas
+from sagas.cli import store_command
 
 BLOCKED = "SELECT count(*) FROM pg_locks WHERE NOT granted"
 
@@ -56,21 +56,21 @@ def one(link: psycopg.Connection[Any], text: str) -> Any:
 
 def asked(link: psycopg.Connection[Any]) -> int:
     """How many requests nobody has answered."""
-    of_sagas = "SELECT count(*) FROM requests WHERE answer IS NULL"
-    of_starts = "SELECT coalesce(sum(jsonb_array_length(asked)), 0) FROM inbox"
+    of_sagas = "SELECT count(*) FROM operator_commands WHERE answer IS NULL"
+    of_starts = "SELECT coalesce(sum(jsonb_array_length(commands)), 0) FROM pending_starts"
     return int(one(link, of_sagas) + one(link, of_starts))
 
 
 async def waits_for_a_person(url: str, store: sagas.Store, key: str) -> None:
     """The saga is asked for, and nothing that was asked before is done to it."""
-    await until(lambda: [held.waits for held in store.begun(key)] == ["approval"], 30)
-    await store.finish(key, "sign", "by hand")
+    await until(lambda: [held.waits for held in store.active_attempts(key)] == ["approval"], 30)
+    await store.complete(key, "sign", "by hand")
     end = await store.wait(key)
     assert end.ok and end.results == {"sign": "by hand"} and not end.aborted
 
 
 @pytest.mark.parametrize("same", [True, False])
-@pytest.mark.parametrize("what", ["finish", "abort"])
+@pytest.mark.parametrize("what", ["complete", "abort"])
 @pytest.mark.parametrize("by", ["client", "node"])
 def test_who_asked_is_gone_when_another_saga_has_the_key(
     url: str, link: psycopg.Connection[Any], kind: sagas.Saga, by: str, what: str, same: bool
@@ -84,17 +84,17 @@ def test_who_asked_is_gone_when_another_saga_has_the_key(
         return 1
 
     async def ask(who: sagas.Client | sagas.Store) -> None:
-        await (who.finish("k", "sign", "asked before") if what == "finish" else who.abort("k"))
+        await (who.complete("k", "sign", "asked before") if what == "complete" else who.abort("k"))
 
     async def main() -> None:
         stranger = await psycopg.AsyncConnection.connect(url, options="-c search_path=sagas")
         async with sagas.Client(url) as client, sagas.open(url, [other]) as store, stranger:
             await client.start(kind, "k", "first")
-            link.execute("UPDATE inbox SET node = (SELECT node FROM nodes)")  # it is not taken back
-            await stranger.execute("LOCK TABLE requests, inbox IN EXCLUSIVE MODE")
+            link.execute("UPDATE pending_starts SET node = (SELECT node FROM nodes)")  # it is not taken back
+            await stranger.execute("LOCK TABLE operator_commands, pending_starts IN EXCLUSIVE MODE")
             asking = asyncio.create_task(ask(client if by == "client" else store))
             await until(lambda: one(link, BLOCKED))
-            await stranger.execute("DELETE FROM inbox")
+            await stranger.execute("DELETE FROM pending_starts")
             await client.start(kind, "k", "first" if same else "second", connection=stranger)
             asking.cancel()
             await asyncio.wait([asking])
@@ -116,21 +116,21 @@ def test_a_start_of_the_same_key_is_not_taken_back(
     async def main() -> None:
         async with sagas.Client(url) as client:
             await client.start(kind, "k", "first")
-            link.execute("UPDATE inbox SET node = 'gone'")
+            link.execute("UPDATE pending_starts SET node = 'gone'")
             abort = asyncio.create_task(client.abort("k"))
             await until(lambda: asked(link))
             async with await psycopg.AsyncConnection.connect(url) as stranger:
-                await stranger.execute("DELETE FROM sagas.inbox")
+                await stranger.execute("DELETE FROM sagas.pending_starts")
                 await client.start(kind, "k", "second", connection=stranger)
             with pytest.raises(sagas.NoSuchSaga):
                 async with asyncio.timeout(60):
                     await abort
-            assert one(link, "SELECT input FROM inbox") == '"second"'
+            assert one(link, "SELECT input FROM pending_starts") == '"second"'
 
     run(main())
 
 
-@pytest.mark.parametrize("what", ["finish", "abort"])
+@pytest.mark.parametrize("what", ["complete", "abort"])
 def test_what_is_asked_of_a_start_is_asked_of_its_saga(
     url: str, link: psycopg.Connection[Any], kind: sagas.Saga, what: str
 ) -> None:
@@ -139,15 +139,15 @@ def test_what_is_asked_of_a_start_is_asked_of_its_saga(
     async def main() -> None:
         async with sagas.Client(url) as client:
             await client.start(kind, "k")
-            link.execute("UPDATE inbox SET node = 'gone'")
-            done = client.finish("k", "sign", "yes") if what == "finish" else client.abort("k")
+            link.execute("UPDATE pending_starts SET node = 'gone'")
+            done = client.complete("k", "sign", "yes") if what == "complete" else client.abort("k")
             asking = asyncio.create_task(done)
             await until(lambda: asked(link))
             asking.cancel()
             async with sagas.open(url, [kind]) as store, asyncio.timeout(60):
                 end = await store.wait("k")
                 assert end.aborted if what == "abort" else end.results == {"sign": "yes"}
-        assert asked(link) == 0 and one(link, "SELECT count(*) FROM requests") == 1
+        assert asked(link) == 0 and one(link, "SELECT count(*) FROM operator_commands") == 1
 
     run(main())
 
@@ -162,10 +162,10 @@ def test_what_is_asked_while_a_start_is_opened(
         async with sagas.Client(url) as client, sagas.open(url, [kind]) as store:
             stranger = await psycopg.AsyncConnection.connect(url, options="-c search_path=sagas")
             async with stranger:
-                await stranger.execute("LOCK TABLE lines IN EXCLUSIVE MODE")  # of the commit
+                await stranger.execute("LOCK TABLE event_log IN EXCLUSIVE MODE")  # of the commit
                 await client.start(kind, "k")
                 await until(lambda: one(link, BLOCKED))
-                finish = asyncio.create_task(client.finish("k", "sign", "yes"))
+                finish = asyncio.create_task(client.complete("k", "sign", "yes"))
                 await until(lambda: finish.done() or asked(link))
                 await stranger.commit()
                 async with asyncio.timeout(60):
@@ -179,18 +179,18 @@ def test_what_was_asked_of_a_saga_that_is_gone(
     url: str, link: psycopg.Connection[Any], kind: sagas.Saga
 ) -> None:
     """It is done to no other saga of its key, and goes with its own."""
-    text = "INSERT INTO requests(key, what, value, at, saga) VALUES ('k', 'abort', 'null', 0, 5000)"
+    text = "INSERT INTO operator_commands(key, command, value, at, saga) VALUES ('k', 'abort', 'null', 0, 5000)"
 
     async def main() -> None:
         async with sagas.open(url, [kind]) as store:
             await store.start(kind, "k")
             link.execute(text)
-            await asyncio.to_thread(command.main, [url, "abort", "nobody"])  # the nodes hear of it
+            await asyncio.to_thread(store_command.main, [url, "abort", "nobody"])  # the nodes hear of it
             await waits_for_a_person(url, store, "k")
             with pytest.raises(sagas.NoSuchSaga):
-                await store._abort("k", None, of=5000)
+                await store._commands.abort("k", None, of=5000)
             with pytest.raises(sagas.NoSuchSaga):
-                await store._finish("k", "sign", sagas.calling.done("x"), False, None, of=5000)
+                await store._commands.report("k", "sign", sagas.core.outcomes.succeeded("x"), False, None, of=5000)
 
     run(main())
 
@@ -207,10 +207,10 @@ def test_who_asks_of_a_saga_that_is_let_go(
         async with sagas.Client(url) as client:
             stranger = await psycopg.AsyncConnection.connect(url, options="-c search_path=sagas")
             async with stranger:
-                await stranger.execute("DELETE FROM logs")
-                finish = asyncio.create_task(client.finish("k", "sign", "yes"))
+                await stranger.execute("DELETE FROM shards")
+                finish = asyncio.create_task(client.complete("k", "sign", "yes"))
                 await until(lambda: one(link, BLOCKED))
-                await stranger.execute("DELETE FROM requests")
+                await stranger.execute("DELETE FROM operator_commands")
                 await stranger.execute("DELETE FROM sagas")
                 await client.start(kind, "k", "second", connection=stranger)
                 finish.cancel()

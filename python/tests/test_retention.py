@@ -17,13 +17,16 @@ from typing import Any
 
 import psycopg
 import pytest
-
 import records
-import sagas
 from cases import Task, ended, run, until
 from driving import audit, program
-from sagas import command, retention, sources
-from sagas.looks import Looks
+
+import sagas
+from sagas.cli import store_command
+from sagas.inspection import saga as one_saga
+from sagas.inspection.question import StoreReader
+from sagas.runtime import retention
+from sagas.storage import admin
 
 HERE = pathlib.Path(__file__).resolve().parent
 ROOM = 4
@@ -34,7 +37,7 @@ MONTH = 30 * 86400.0
 @pytest.fixture(autouse=True)
 def small(monkeypatch: pytest.MonkeyPatch) -> None:
     """Logs of four sagas, so that some are full and closed."""
-    monkeypatch.setattr("sagas.kinds.ROOM", ROOM)
+    monkeypatch.setattr("sagas.definition.compiled.SHARD_CAPACITY", ROOM)
 
 
 def shop() -> sagas.Saga:
@@ -67,7 +70,7 @@ def must() -> sagas.Saga:
     async def take(task: Task) -> int:
         return 1
 
-    @take.compensation
+    @take.compensation(on_exhausted="fail")
     async def give(task: Task) -> None:
         raise sagas.Fail("no")
 
@@ -107,8 +110,8 @@ async def fill(place: str, kind: sagas.Saga, count: int, given: Callable[[int], 
 
 def tables(place: str) -> dict[str, int]:
     """How many rows each table has."""
-    with contextlib.closing(sources.connect(place)) as link:
-        return {table: link.ask(f"SELECT count(*) FROM {table}")[0][0] for table in ("logs", "lines", "sagas", "results", "held", "requests", "reports")}
+    with contextlib.closing(admin.connect(place)) as link:
+        return {table: link.ask(f"SELECT count(*) FROM {table}")[0][0] for table in ("shards", "event_log", "sagas", "attempts", "suspensions", "operator_commands", "external_attempts")}
 
 
 def test_old_logs_go_as_a_whole_and_their_keys_are_free(place: str, capsys: pytest.CaptureFixture[str]) -> None:
@@ -118,16 +121,16 @@ def test_old_logs_go_as_a_whole_and_their_keys_are_free(place: str, capsys: pyte
     open = max(records.read(place).logs)
     age(place, first, second, open)
     change(place, f"UPDATE sagas SET ended = ended + 86400 * 39 WHERE id = {1000 * second}")  # one of its sagas is younger
-    change(place, "INSERT INTO requests(key, what, value, at, answer) VALUES('k0', 'abort', 'null', 1, 'false')")
+    change(place, "INSERT INTO operator_commands(key, command, value, at, answer) VALUES('k0', 'abort', 'null', 1, 'false')")
     before = tables(place)
-    assert command.main([place, "prune", "--older-than", "30d", "--json"]) == 0
+    assert store_command.main([place, "prune", "--older-than", "30d", "--json"]) == 0
     told = json.loads(capsys.readouterr().out)
     kept = records.read(place)
-    assert told["sagas"] == ROOM and len(told["logs"]) == 1 and not told["more"]
+    assert told["sagas"] == ROOM and len(told["shards"]) == 1 and not told["more"]
     assert sorted(kept.logs) == [second, third, open] and set(kept.sagas) == {f"k{number}" for number in range(ROOM, 3 * ROOM + 2)}
     after = tables(place)
     assert {table: before[table] - after[table] for table in before} == {
-        "logs": 1, "lines": before["lines"] - after["lines"], "sagas": ROOM, "results": 2 * ROOM, "held": 0, "requests": 1, "reports": 0,
+        "shards": 1, "event_log": before["event_log"] - after["event_log"], "sagas": ROOM, "attempts": 2 * ROOM, "suspensions": 0, "operator_commands": 1, "external_attempts": 0,
     }
     assert not any(row // 1000 == first for row in {id for id, _, _, _ in kept.results})
 
@@ -141,8 +144,8 @@ def test_old_logs_go_as_a_whole_and_their_keys_are_free(place: str, capsys: pyte
             assert all(said.startswith("yes") for said in (await store.audit()).values())
 
     run(again())
-    assert command.main([place, "prune", "--older-than", "0s"]) == 0
-    assert f"{2 * ROOM + 2} sagas in 3 logs" in capsys.readouterr().out
+    assert store_command.main([place, "prune", "--older-than", "0s"]) == 0
+    assert f"deleted {2 * ROOM + 2} sagas (3 shards)" in capsys.readouterr().out
 
 
 def test_what_a_person_has_to_see_stays(place: str) -> None:
@@ -151,7 +154,7 @@ def test_what_a_person_has_to_see_stays(place: str) -> None:
 
     async def main() -> None:
         first, second = await fill(place, kind, 2 * ROOM, lambda number: "stuck" if number == 1 else None)
-        change(place, f"UPDATE logs SET closed = 2 WHERE log = {second}")
+        change(place, f"UPDATE shards SET closed = 2 WHERE shard = {second}")
         age(place, first, second)
         assert retention.prune(place, MONTH).logs == []
         async with sagas.open(place, [kind]) as store:
@@ -167,7 +170,7 @@ def test_a_compensation_that_failed_stays(place: str) -> None:
     kind = sagas.Saga("row")
     take = kind.step(name="take", keep=9, undo=0)(lambda task: None)
 
-    @take.compensation
+    @take.compensation(on_exhausted="fail")
     def give(task: Task) -> None:
         raise sagas.Fail("it is gone")
 
@@ -216,17 +219,18 @@ def test_nothing_goes_that_cannot_be_exported(place: str, tmp_path: pathlib.Path
     logs = run(fill(place, shop(), ROOM))
     age(place, *logs)
     (tmp_path / "file").touch()
-    assert command.main([place, "prune", "--older-than", "30d", "--export", str(tmp_path / "file")]) == 4
-    assert "cannot write below" in capsys.readouterr().err and set(records.read(place).logs) == set(logs)
+    assert store_command.main([place, "prune", "--older-than", "30d", "--export", str(tmp_path / "file")]) == 4
+    assert "cannot write to" in capsys.readouterr().err and set(records.read(place).logs) == set(logs)
     with pytest.raises(SystemExit):
-        command.main([place, "prune", "--older-than", "soon"])
+        store_command.main([place, "prune", "--older-than", "soon"])
 
 
 KILLED = """
     import os, sys
-    from sagas import archives, retention, sources
+    from sagas.runtime import retention
+    from sagas.storage import admin, archive
     point = int(sys.argv[3])
-    kind = sources.Base if sys.argv[1].startswith("postgresql:") else sources.File
+    kind = admin.Base if sys.argv[1].startswith("postgresql:") else admin.File
     right, count = kind.changed, 0
     def changed(self, text, *words):
         global count
@@ -235,14 +239,14 @@ KILLED = """
         count += 1
         return right(self, text, *words)
     kind.changed = changed
-    synced, files = archives._synced, 0
+    synced, files = archive._synced, 0
     def written(path, text):
         global files
         files += 1
         if point < 0 and files == 3:
             os._exit(9)
         return synced(path, text)
-    archives._synced = written
+    archive._synced = written
     print(retention.prune(sys.argv[1], 30 * 86400.0, sys.argv[2]).sagas)
 """
 
@@ -261,8 +265,9 @@ def test_a_run_that_is_killed(place: str, tmp_path: pathlib.Path) -> None:
         done = subprocess.run([*words, str(point)], env=environment, capture_output=True, text=True)
         assert done.returncode == 9, done.stderr
         assert records.read(place) == before and tables(place) == rows
-    done = subprocess.run([*words, str(last)], env=environment, capture_output=True, text=True)
+    done = subprocess.run([*words, "1000"], env=environment, capture_output=True, text=True)
     assert done.stdout == f"{ROOM}\n", done.stderr
+    assert records.read(place).logs == {}
     (folder,) = (tmp_path / "archive").iterdir()
     assert audit(folder / "log", [folder / "definition-00.toml"]).startswith(f"yes sagas {ROOM}")
     assert tables(place)["sagas"] == 0
@@ -289,7 +294,7 @@ def test_a_clock_that_is_put_forward_lets_nothing_go(place: str) -> None:
 
 
 def test_an_open_store_lets_them_go(place: str, tmp_path: pathlib.Path) -> None:
-    """`keep_ended` and `export_ended`, while sagas are started: a node says what went."""
+    """`retention` and `archive_dir`, while sagas are started: a node says what went."""
     kind = shop()
     told: list[sagas.Event] = []
 
@@ -297,17 +302,17 @@ def test_an_open_store_lets_them_go(place: str, tmp_path: pathlib.Path) -> None:
         logs = await fill(place, kind, 2 * ROOM)
         age(place, *logs)
         month = datetime.timedelta(days=30)
-        async with sagas.open(place, [kind], keep_ended=month, export_ended=tmp_path / "archive", on_event=told.append) as store:
+        async with sagas.open(place, [kind], retention=month, archive_dir=tmp_path / "archive", on_event=told.append) as store:
             await asyncio.gather(*(ended(store, kind, f"new-{number}") for number in range(10)))
-            await until(lambda: any(event.name == "logs_gone" for event in told))
+            await until(lambda: any(event.name == "shards_pruned" for event in told))
             assert (await ended(store, kind, "k0", "fails")).states["pay"] == "failed"
         assert not set(logs) & set(records.read(place).logs)
 
     run(main())
-    assert [event.detail for event in told if event.name == "logs_gone"] == [f"2 logs, {2 * ROOM} sagas"]
+    assert [event.detail for event in told if event.name == "shards_pruned"] == [f"2 shards, {2 * ROOM} sagas"]
     assert len(list((tmp_path / "archive").iterdir())) == 2
     with pytest.raises(TypeError, match="timedelta"):
-        sagas.open(place, [kind], keep_ended=30)  # type: ignore[arg-type]
+        sagas.open(place, [kind], retention=30)  # type: ignore[arg-type]
 
 
 def test_a_start_feels_no_lock_of_it(url: str) -> None:
@@ -317,7 +322,7 @@ def test_a_start_feels_no_lock_of_it(url: str) -> None:
     async def main() -> None:
         (log,) = await fill(url, kind, ROOM)
         age(url, log)
-        with sources.writing(url) as link:
+        with admin.writing(url) as link:
             assert link.alone()
             async with sagas.open(url, [kind]) as store:
                 with link.transaction():
@@ -349,7 +354,7 @@ ASKS: dict[str, Callable[[Any], Any]] = {
 
 
 @pytest.mark.parametrize(
-    "table, ask", [("results", "wait"), ("results", "log"), ("lines", "log"), ("lines", "plan")]
+    "table, ask", [("attempts", "wait"), ("attempts", "log"), ("event_log", "log"), ("event_log", "plan")]
 )
 @pytest.mark.parametrize("who", ["client", "node"])
 def test_a_saga_that_goes_while_it_is_read(url: str, who: str, table: str, ask: str) -> None:
@@ -361,20 +366,21 @@ def test_a_saga_that_goes_while_it_is_read(url: str, who: str, table: str, ask: 
         (log,) = await fill(url, kind, ROOM, lambda number: "fails" if ask == "plan" else None)
         age(url, log)
         async with sagas.Client(url) if who == "client" else sagas.open(url, [kind]) as reader:
-            with sources.writing(url) as link:
+            with admin.writing(url) as link:
                 with link.transaction():
                     link.changed(f"LOCK TABLE {table} IN ACCESS EXCLUSIVE MODE")
                     asked = asyncio.ensure_future(ASKS[ask](reader))
                     await until(lambda: waits_for_a_lock(url))
                     assert retention._delete(link, log)
-                with pytest.raises(sagas.NoSuchSaga, match="'k0' was let go meanwhile"):
+                with pytest.raises(sagas.NoSuchSaga, match="'k0' was deleted meanwhile"):
                     await asked
 
     run(main())
 
 
 AS_BEFORE = """
-INSERT INTO sagas SELECT {id}, 'k0', saga, def, input, at, phase, "end", ended, note
+INSERT INTO sagas(id, key, saga, definition_index, input, at, phase, outcome, ended, note)
+SELECT {id}, 'k0', saga, definition_index, input, at, phase, outcome, ended, note
 FROM sagas WHERE key = 'k1'
 """
 
@@ -388,11 +394,11 @@ def test_a_saga_that_goes_while_it_is_looked_at(url: str) -> None:
         age(url, log)
         async with sagas.open(url, [kind]) as store:
             for other in (False, True):
-                looks = Looks(store.reader())
-                with contextlib.closing(looks), sources.writing(url) as link:
+                looks = StoreReader(store.reader())
+                with contextlib.closing(looks), admin.writing(url) as link:
                     with link.transaction():
-                        link.changed("LOCK TABLE results IN ACCESS EXCLUSIVE MODE")
-                        asked = asyncio.ensure_future(asyncio.to_thread(looks.saga, "k0"))
+                        link.changed("LOCK TABLE attempts IN ACCESS EXCLUSIVE MODE")
+                        asked = asyncio.ensure_future(asyncio.to_thread(lambda: looks.ask(one_saga.view("k0"))))
                         await until(lambda: waits_for_a_lock(url))
                         link.changed("DELETE FROM sagas WHERE key = ?", "k0")
                         if other:

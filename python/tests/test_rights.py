@@ -9,14 +9,14 @@ import tempfile
 from collections.abc import Iterator
 
 import pytest
+from cases import ended, run, simple
 
 import sagas
-from cases import ended, run, simple
-from sagas import command
+from sagas.cli import store_command
 
 NOBODY = 65534
 SAGA = simple(lambda task: 1)
-REMEDY = "SQLite writes beside it, so this user has to be able to read and write it, and to write in its folder"
+REMEDY = "this user must be able to read and write it, and to write to its folder"
 
 
 @contextlib.contextmanager
@@ -53,12 +53,12 @@ def test_the_command_says_what_it_may_not(store: pathlib.Path, capsys: pytest.Ca
     store.chmod(0)
     with another():
         for words in (["list"], ["abort", "k"], ["audit"]):
-            assert command.main([str(store), *words]) == 4
+            assert store_command.main([str(store), *words]) == 4
             assert capsys.readouterr().err == f"sagas store: {store}: unable to open database file: {REMEDY}\n"
     store.parent.chmod(0)
     try:
         with another():
-            assert command.main([str(store), "list"]) == 4 and "Permission denied: this user has to be able to look into its folder" in capsys.readouterr().err
+            assert store_command.main([str(store), "list"]) == 4 and "Permission denied. This user must be able to read its folder" in capsys.readouterr().err
     finally:
         store.parent.chmod(0o755)
 
@@ -68,7 +68,7 @@ def test_the_command_tells_of_what_is_spoilt(store: pathlib.Path, capsys: pytest
     data = bytearray(store.read_bytes())
     data[4096:] = b"\xff" * (len(data) - 4096)
     store.write_bytes(data)
-    assert command.main([str(store), "list"]) == 4
+    assert store_command.main([str(store), "list"]) == 4
     said = capsys.readouterr().err
     assert said.startswith(f"sagas store: {store}") and said.count("\n") == 1
 
@@ -78,12 +78,12 @@ def test_open_says_whose_the_lock_is(store: pathlib.Path) -> None:
     """The lock of another user's, and a file that cannot be written or read, with the remedy."""
 
     def refused(match: str) -> None:
-        with another(), pytest.raises(sagas.StoreUnwritable, match=match):
+        with another(), pytest.raises(sagas.StoreUnavailable, match=match):
             run(used(store))
 
-    refused(r"x\.db\.lock: it belongs to root: open the store as root, or have root give it")
+    refused(r"x\.db\.lock: it belongs to root. Open the store as root, or change the owner")
     os.unlink(f"{store}.lock")
-    refused(r"x\.db\.lock: Permission denied: this user has to be able to write in its folder")
+    refused(r"x\.db\.lock: Permission denied. This user must be able to write to its folder")
     store.parent.chmod(0o777)
     refused(f"x.db: attempt to write a readonly database: {REMEDY}")
     os.unlink(f"{store}.lock")
@@ -96,6 +96,6 @@ def test_nothing_is_left_beside_what_is_no_store(tmp_path: pathlib.Path) -> None
     """Whoever gives his program in place of a store's path finds it as it was, and nothing beside it."""
     path = tmp_path / "order1.py"
     path.write_text("print('no store')\n")
-    with pytest.raises(sagas.StoreFault, match="order1.py: file is not a database: give a store's own path"):
+    with pytest.raises(sagas.InvalidStore, match="order1.py: file is not a database. Give the path of a store"):
         run(used(path))
     assert [*tmp_path.iterdir()] == [path] and path.read_text() == "print('no store')\n"

@@ -8,12 +8,13 @@ import pathlib
 
 import psycopg
 import pytest
-
 import records
-import sagas
 from cases import Task, ended, run, simple
-from sagas import command, room
-from serving import ORDER, served, start
+from serving import ORDER, error_of, served, start
+
+import sagas
+from sagas.cli import store_command
+from sagas.definition import capacity
 
 
 def row(name: str, steps: int, needs: int) -> sagas.Saga:
@@ -38,19 +39,19 @@ def one(task: Task) -> int:
 
 def test_the_greatest_that_fits() -> None:
     """By the formula of docs/FORMATS.md: 66,060,288 bytes, less the 13 of the log's header."""
-    chain = [steps for steps in range(1, 1025) if room.fits(steps, steps - 1)]
-    assert chain == [*range(1, chain[-1] + 1)] and room.most_of(chain[-1], chain[-1] - 1) <= 66_060_275 < room.most_of(chain[-1] + 1, chain[-1])
-    assert room.unfit(row("greatest", chain[-1], 1)) is None and room.unfit(row("greater", chain[-1] + 1, 1)) is not None
+    chain = [steps for steps in range(1, 1025) if capacity.fits(steps, steps - 1)]
+    assert chain == [*range(1, chain[-1] + 1)] and capacity.most_of(chain[-1], chain[-1] - 1) <= 66_060_275 < capacity.most_of(chain[-1] + 1, chain[-1])
+    assert capacity.unfit(row("greatest", chain[-1], 1)) is None and capacity.unfit(row("greater", chain[-1] + 1, 1)) is not None
 
 
 def test_the_greatest_that_fits_runs(place: str) -> None:
     """The program opens it in an empty log."""
-    greatest = row("greatest", max(steps for steps in range(1, 1025) if room.fits(steps, steps - 1)), 1)
+    greatest = row("greatest", max(steps for steps in range(1, 1025) if capacity.fits(steps, steps - 1)), 1)
 
     async def main() -> None:
         async with sagas.open(place, [greatest]) as store:
             assert (await store.start(greatest, "k")).new and await store.abort("k")
-            assert (await store.wait("k")).phase == "ended"
+            assert (await store.wait("k")).phase == "recovered"
 
     run(main())
 
@@ -62,7 +63,7 @@ def test_what_fits_into_no_log(place: str, by: str, monkeypatch: pytest.MonkeyPa
     A key that is there is its saga's, whatever is to be started by it."""
     large, small = row("large", 450, 18), simple(one)
     if by == "the program":
-        monkeypatch.setattr(room, "MOST", 2**40)
+        monkeypatch.setattr(capacity, "MOST", 2**40)
 
     async def main() -> None:
         async with sagas.open(place, [large, small]) as store:
@@ -78,7 +79,7 @@ def test_what_fits_into_no_log(place: str, by: str, monkeypatch: pytest.MonkeyPa
     run(main())
     found = records.read(place)
     assert sorted(saga.key for saga in found.sagas.values()) == ["k0", "k1", "k3"] and len(found.logs) == 1
-    assert ("fits into no log" in caplog.text) == (by == "the package")
+    assert ("saga 'large' is too large" in caplog.text) == (by == "the package")
 
 
 def test_a_client_starts_what_fits_into_no_log(url: str, capsys: pytest.CaptureFixture[str]) -> None:
@@ -93,13 +94,13 @@ def test_a_client_starts_what_fits_into_no_log(url: str, capsys: pytest.CaptureF
                 with pytest.raises(sagas.TooLarge):
                     await client.start(large, "k", connection=link)
                 await client.start(small, "other", connection=link)
-                await link.execute("INSERT INTO sagas.inbox(key, saga, version, input, at) VALUES ('old', 'large', 1, 'null', 0)")
+                await link.execute("INSERT INTO sagas.pending_starts(key, saga, version, input, at) VALUES ('old', 'large', 1, 'null', 0)")
             assert (await client.wait("other")).ok and await client.get("k") is None
             with sagas.SyncClient(url) as plain, psycopg.connect(url) as link, pytest.raises(sagas.TooLarge):
                 plain.start(large, "k", connection=link)
 
     run(main())
-    assert command.main([url, "nodes"]) == 0
+    assert store_command.main([url, "nodes"]) == 0
     assert "large (version 1)" in capsys.readouterr().out
 
 
@@ -114,7 +115,7 @@ def test_a_log_that_fills_up_goes_on_in_another(place: str) -> None:
             opened = records.read(place)
             assert all(await asyncio.gather(*(run.abort() for run in runs)))
             gate.set()
-            assert {end.phase for end in await asyncio.gather(*(run.wait() for run in runs))} == {"ended"}
+            assert {end.phase for end in await asyncio.gather(*(run.wait() for run in runs))} <= {"completed", "recovered"}
             assert [verdict[:3] for verdict in (await store.audit()).values()] == ["yes", "yes"]
         return [sum(saga.log == log for saga in opened.sagas.values()) for log in sorted(opened.logs)]
 
@@ -126,5 +127,5 @@ def test_the_service_refuses_what_fits_into_no_log(tmp_path: pathlib.Path) -> No
     large = row("large", 450, 18).toml()
     with served(tmp_path, {"large.toml": large, "order.toml": ORDER}) as service, service.client() as client:
         answer = start(client, "large", "k")
-        assert (answer.status_code, answer.json()["error"]) == (422, "TooLarge") and client.get("/sagas/k").status_code == 404
+        assert (answer.status_code, error_of(answer)) == (422, "TooLarge") and client.get("/sagas/k").status_code == 404
         assert start(client, "order", "k").status_code == 201

@@ -16,14 +16,14 @@ from typing import Any, LiteralString
 
 import psycopg
 import pytest
-
-import sagas
 from cases import Task, ended, run, simple, until
 from judge import judge
 from moments import Node
-from sagas import program
 from server import Pair, Server, paired, serving
 from witness import Witness, witness_at
+
+import sagas
+from sagas.base import program
 
 
 def test_a_synchronous_standby_takes_over(tmp_path: pathlib.Path) -> None:
@@ -56,7 +56,7 @@ def test_a_synchronous_standby_takes_over(tmp_path: pathlib.Path) -> None:
 def test_an_asynchronous_standby_may_lack_the_last_commits(monkeypatch: pytest.MonkeyPatch, room: int) -> None:
     """A saga of which the standby knows goes back to what it knows, and its step is called again with its token; one that it lacks is not there, and is
     started again. The store goes on, also where a whole log is lacking, and gives no saga another's tokens."""
-    monkeypatch.setattr("sagas.kinds.ROOM", room)
+    monkeypatch.setattr("sagas.definition.compiled.SHARD_CAPACITY", room)
     calls: Counter[tuple[str, str]] = Counter()
     whose: dict[str, set[str]] = defaultdict(set)
     late = asyncio.Event()
@@ -65,14 +65,14 @@ def test_an_asynchronous_standby_may_lack_the_last_commits(monkeypatch: pytest.M
     @kind.step
     async def a(task: Task) -> str:
         calls[task.key, "a"] += 1
-        whose[task.effect_token].add(task.key)
+        whose[task.idempotency_key].add(task.key)
         if task.key == "there":
             await late.wait()
-        return task.effect_token
+        return task.idempotency_key
 
     @kind.step(needs=[a])
     async def b(task: Task) -> str:
-        return task.of(a)
+        return task.result_of(a)
 
     async def main(url: str) -> None:
         async with sagas.open(url, [kind], lease=60) as store:
@@ -101,7 +101,7 @@ def test_a_log_that_is_about_to_be_closed(
 ) -> None:
     """An asynchronous standby takes over while a settled log is audited. The saga in it, which is
     open on that server, goes on; the log is closed once that saga is over there too."""
-    monkeypatch.setattr("sagas.kinds.ROOM", 1)
+    monkeypatch.setattr("sagas.definition.compiled.SHARD_CAPACITY", 1)
     held = HeldAudits(tmp_path)
     monkeypatch.setenv("SAGAS_PROGRAM", str(held.program))
     calls: list[str] = []
@@ -124,14 +124,14 @@ def test_a_log_that_is_about_to_be_closed(
             await asyncio.to_thread(pair.fail_over)
             await asyncio.to_thread(held.let_go)
             assert (await store.wait("there")).ok and calls == ["there"] * 2
-            while [row async for row in rows(url, "SELECT closed FROM sagas.logs")] != [(1,)]:
+            while [row async for row in rows(url, "SELECT closed FROM sagas.shards")] != [(1,)]:
                 await asyncio.sleep(0.02)
 
     with paired(synchronous=False) as pair:
         run(main(pair.url(pair.primary.create().rpartition("/")[2])))
 
 
-@pytest.mark.parametrize("bounds", [{"fleet_limit": 2}, {"rate": (100, 1)}], ids=str)
+@pytest.mark.parametrize("bounds", [{"fleet_concurrency": 2}, {"rate_limit": (100, 1)}], ids=str)
 def test_a_limit_holds_at_an_asynchronous_standby(bounds: dict[str, Any]) -> None:
     """Its places were made on the server before, and the one that took over lacks them: they are
     made anew, with no restart of a node."""
@@ -156,7 +156,7 @@ def test_a_limit_holds_at_an_asynchronous_standby(bounds: dict[str, Any]) -> Non
             async with asyncio.timeout(60):
                 keys = [f"k{number}" for number in range(6)]
                 assert all(await asyncio.gather(*(started_again(store, kind, key) for key in keys)))
-        assert most <= bounds.get("fleet_limit", 6)
+        assert most <= bounds.get("fleet_concurrency", 6)
 
     with paired(synchronous=False) as pair:
         run(main(pair.url(pair.primary.create().rpartition("/")[2])))
@@ -190,12 +190,12 @@ async def rows(url: str, text: LiteralString) -> AsyncIterator[tuple[object, ...
             yield row
 
 
-async def started_again(store: sagas.Store, kind: sagas.Saga, key: str) -> sagas.End:
+async def started_again(store: sagas.Store, kind: sagas.Saga, key: str) -> sagas.SagaResult:
     """Starts it, as long as the store cannot be written, and waits for its end."""
     while True:
         try:
             return await ended(store, kind, key)
-        except (sagas.StoreUnwritable, sagas.NoSuchSaga):
+        except (sagas.StoreUnavailable, sagas.NoSuchSaga):
             await asyncio.sleep(0.02)
 
 
@@ -274,7 +274,7 @@ def test_a_step_inside_ends_at_a_server_that_took_over(in_thread: bool) -> None:
         for step in "ab":
             two.gates[step].set()
         await until(lambda: "commit_failed" in two.said or "saga_ended" in two.said)
-        assert two.ask(two.pair.standby, "SELECT key FROM book UNION ALL SELECT value FROM sagas.results") == []
+        assert two.ask(two.pair.standby, "SELECT key FROM book UNION ALL SELECT value FROM sagas.attempts") == []
         two.end_sessions()
 
     with paired(synchronous=False) as pair:
@@ -297,12 +297,12 @@ async def ends_at_the_one_before(two: Parted) -> None:
     await until(lambda: "b" in two.calls)
     await asyncio.to_thread(two.part)
     with psycopg.connect(two.pair.primary.url(two.database), options="-c default_transaction_read_only=off") as stranger:
-        stranger.execute("LOCK TABLE sagas.results IN EXCLUSIVE MODE")
+        stranger.execute("LOCK TABLE sagas.attempts IN EXCLUSIVE MODE")
         two.gates["b"].set()
         waits = "SELECT pid FROM pg_stat_activity WHERE datname = current_database() AND wait_event_type = 'Lock'"
         ((process,),) = await until(lambda: two.ask(two.pair.primary, waits))
         two.end_sessions(but=[process, stranger.info.backend_pid])
-        await until(lambda: "lease_lapsed" in two.said)
+        await until(lambda: "lease_expired" in two.said)
     await until(lambda: two.ask(two.pair.primary, "SELECT key FROM book"))
     await asyncio.to_thread(two.pair.primary.stop)
 
@@ -343,8 +343,8 @@ class Lacking:
                 asyncio.run_coroutine_threadsafe(passes(task.key), self.loop).result()
                 self.over.append(task.key)
 
-        quick = sagas.Backoff(first=0.01, most=0.02)
-        step = self.kind.step(name="book", transaction=True, limit=1, backoff=quick)
+        quick = sagas.Backoff(initial=0.01, maximum=0.02)
+        step = self.kind.step(name="book", transaction=True, concurrency=1, backoff=quick)
         step(book_in_thread if in_thread else book)
         self.ask(pair.primary, "CREATE TABLE book(key text)")
 
@@ -381,7 +381,7 @@ class Lacking:
         await until(lambda: self.calls == ["there"], 60)
         await asyncio.to_thread(self.pair.hold_back)
         await store.start(self.kind, "lacking")
-        await until(lambda: [one.waits for one in store.begun("lacking")] == ["limit"], 60)
+        await until(lambda: [one.waits for one in store.active_attempts("lacking")] == ["concurrency"], 60)
         await asyncio.to_thread(self.pair.standby.promote)
         text = f"ALTER DATABASE {self.database} SET default_transaction_read_only = on"
         self.ask(self.pair.primary, text)
@@ -391,7 +391,7 @@ class Lacking:
         mine = "datname = current_database() AND pid <> pg_backend_pid()"
         text = f"SELECT pg_terminate_backend(pid) FROM pg_stat_activity WHERE {mine}"
         self.ask(self.pair.primary, text)
-        await until(lambda: "lease_lapsed" in self.names, 60)
+        await until(lambda: "lease_expired" in self.names, 60)
         self.gates["there"].set()
         await until(lambda: "lacking" in self.calls, 60)
 
@@ -404,15 +404,15 @@ def test_a_step_inside_of_a_saga_that_is_not_there(in_thread: bool, taken_up: bo
 
     async def main(two: Lacking) -> None:
         url, hook = two.pair.url(two.database), two.heard
-        async with sagas.open(url, [two.kind], lease=600, on_event=hook, grace=1) as store:
+        async with sagas.open(url, [two.kind], lease=600, on_event=hook, shutdown_timeout=1) as store:
             await two.part(store)
             held = await psycopg.AsyncConnection.connect(two.pair.standby.url(two.database))
             async with held:
-                await held.execute("LOCK TABLE sagas.logs IN SHARE MODE")  # none is taken up
+                await held.execute("LOCK TABLE sagas.shards IN SHARE MODE")  # none is taken up
                 await two.goes_over()
                 if taken_up:
                     await held.commit()
-                    await until(lambda: not store.begun("lacking"), 60)
+                    await until(lambda: not store.active_attempts("lacking"), 60)
                 two.gates["lacking"].set()
                 await until(lambda: two.is_told(taken_up, in_thread), 60)
                 assert "lacking" not in two.booked()
@@ -443,9 +443,9 @@ def test_a_start_that_the_standby_has_as_taken(is_over: bool) -> None:
         async with sagas.open(url, [kind], lease=600) as store, sagas.Client(url) as client:
             assert store.holds()
             async with stranger:
-                await stranger.execute("LOCK TABLE sagas.lines IN EXCLUSIVE MODE")
+                await stranger.execute("LOCK TABLE sagas.event_log IN EXCLUSIVE MODE")
                 going = await client.start(kind, "k")
-                text = "SELECT 1 FROM sagas.inbox WHERE node IS NOT NULL"
+                text = "SELECT 1 FROM sagas.pending_starts WHERE node IS NOT NULL"
                 async with asyncio.timeout(60):
                     while not await (await stranger.execute(text)).fetchall():
                         await asyncio.sleep(0.01)
@@ -469,7 +469,7 @@ def test_all_connections_are_taken() -> None:
     calls: Counter[str] = Counter()
 
     async def step(task: Task) -> str:
-        calls[task.token] += 1
+        calls[task.attempt_id] += 1
         return "done"
 
     kind = simple(step)
@@ -482,10 +482,10 @@ def test_all_connections_are_taken() -> None:
                     while True:
                         strangers.enter_context(psycopg.connect(url))
                 work = [asyncio.create_task(started_again(store, kind, f"k{number}")) for number in range(10)]
-                with pytest.raises(sagas.StoreUnwritable):
+                with pytest.raises(sagas.StoreUnavailable):
                     async with sagas.open(url, [kind]):
                         pass
-                with pytest.raises(sagas.StoreUnwritable):
+                with pytest.raises(sagas.StoreUnavailable):
                     async with sagas.Client(url):
                         pass
             assert all(end.ok for end in await asyncio.gather(*work))
@@ -525,13 +525,13 @@ def fill(path: pathlib.Path) -> None:
 
 
 def test_the_databases_disk_is_full() -> None:
-    """`start` raises StoreUnwritable and nothing was begun; results wait for room; nothing is called twice by this program."""
+    """`start` raises StoreUnavailable and nothing was begun; results wait for room; nothing is called twice by this program."""
     calls: Counter[str] = Counter()
     gate = asyncio.Event()
     large = [secrets.token_hex(20_000) for _ in range(20)]
 
     async def hold(task: Task) -> str:
-        calls[task.token] += 1
+        calls[task.attempt_id] += 1
         await gate.wait()
         return large[int(task.key[1:])]
 
@@ -542,7 +542,7 @@ def test_the_databases_disk_is_full() -> None:
             first = [await store.start(kind, f"k{number}") for number in range(19)]
             fill(ballast)
             gate.set()
-            with pytest.raises(sagas.StoreUnwritable):
+            with pytest.raises(sagas.StoreUnavailable):
                 await store.start(kind, "k19", large)
             ballast.unlink()
             ends = await asyncio.gather(*(one.wait() for one in first))

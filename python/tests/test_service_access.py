@@ -12,11 +12,9 @@ from typing import Any
 
 import httpx
 import pytest
+from serving import DEFINITIONS, LONG, Served, error_of, served, start, stuck, token
 
-from sagas.server.app import application
-from sagas.server.definitions import read
-from sagas.server.settings import Settings
-from serving import DEFINITIONS, LONG, Served, served, start, stuck, token
+from sagas.server.app import API, PAGES
 
 NASTY = "<script>alert('x')</script>\"'&{{7*7}}"
 
@@ -42,56 +40,67 @@ def guarded(tmp_path_factory: pytest.TempPathFactory) -> Iterator[Guarded]:
 ROLES = ("caller", "approver", "worker", "operator", "metrics")
 LOOK, START, APPROVE, WORK, OPERATE = "caller approver", "caller", "approver", "worker", ""
 FORGED = {"lease": "1." + "0" * 32}
+WAITING = {"kind": "approval", "step": "none"}
 CALLS: list[tuple[str, str, str, Any, int]] = [
-    (START, "POST", "/sagas", {"definition": "trip", "key": "roles"}, 200),
-    (LOOK, "GET", "/sagas", None, 200),
-    (LOOK, "GET", "/sagas/roles", None, 200),
-    (LOOK, "GET", "/sagas/roles/log", None, 200),
-    (LOOK, "GET", "/sagas/roles/picture.svg", None, 200),
-    (LOOK, "GET", "/sagas/roles/certificate", None, 404),
-    (LOOK, "GET", "/sagas/roles/wait?seconds=0", None, 200),
-    (LOOK, "GET", "/events", None, 200),
-    (APPROVE, "POST", "/sagas/asks/steps/review", {"result": 1, "undo": True}, 409),
-    (START, "POST", "/sagas/nobody/abort", {}, 404),
-    (WORK, "POST", "/tasks/take", {"steps": ["order/send"], "wait": 0}, 200),
-    (WORK, "POST", "/tasks/x/beat", FORGED, 403),
-    (WORK, "POST", "/tasks/x/done", FORGED, 403),
-    (WORK, "POST", "/tasks/x/failed", {**FORGED, "error": "no"}, 403),
-    (WORK, "POST", "/tasks/x/unknown", FORGED, 403),
-    (WORK, "GET", "/queues", None, 200),
-    (OPERATE, "POST", "/sagas/roles/resolve", {"note": "x"}, 409),
+    (START, "POST", "/v1/sagas", {"definition": "trip", "key": "roles"}, 200),
+    (LOOK, "GET", "/v1/sagas", None, 200),
+    (LOOK, "GET", "/v1/sagas/roles", None, 200),
+    (LOOK, "GET", "/v1/sagas/roles/log", None, 200),
+    (LOOK, "GET", "/v1/sagas/roles/picture.svg", None, 200),
+    (LOOK, "GET", "/v1/sagas/roles/certificate", None, 404),
+    (LOOK, "GET", "/v1/sagas/roles/wait?seconds=0", None, 200),
+    (LOOK, "GET", "/v1/events", None, 200),
+    (APPROVE, "POST", "/v1/sagas/asks/steps/review/complete", {"result": 1, "undo": True}, 409),
+    (APPROVE, "POST", "/v1/sagas/asks/steps/review/fail", {"error": "no", "undo": True}, 409),
+    (START, "POST", "/v1/sagas/nobody/abort", {}, 404),
+    (WORK, "POST", "/v1/tasks/claim", {"steps": ["order/send"], "wait": 0}, 200),
+    (WORK, "POST", "/v1/tasks/x/heartbeat", FORGED, 403),
+    (WORK, "POST", "/v1/tasks/x/complete", FORGED, 403),
+    (WORK, "POST", "/v1/tasks/x/fail", {**FORGED, "error": "no"}, 403),
+    (WORK, "POST", "/v1/tasks/x/unknown", FORGED, 403),
+    (WORK, "GET", "/v1/queues", None, 200),
+    (OPERATE, "POST", "/v1/sagas/roles/resolve", {"note": "x"}, 409),
+    (LOOK, "GET", "/v1/definitions", None, 200),
+    (LOOK, "GET", "/v1/attention", None, 200),
+    (LOOK, "POST", "/v1/sagas/roles/what-if", {"abort": True}, 200),
+    (OPERATE, "GET", "/v1/webhooks/deliveries", None, 200),
+    (OPERATE, "POST", "/v1/bulk/abort", {"filter": {"search": "nobody"}}, 200),
+    (OPERATE, "POST", "/v1/bulk/resolve", {"filter": {"kind": "stuck"}, "note": "x"}, 200),
+    (OPERATE, "POST", "/v1/bulk/complete", {"filter": WAITING, "result": 1}, 200),
+    (OPERATE, "POST", "/v1/bulk/fail", {"filter": WAITING, "error": "no"}, 200),
+    (OPERATE, "POST", "/v1/bulk/retry", {"filter": {"kind": "exhausted", "step": "none"}}, 200),
+    (OPERATE, "POST", "/v1/sagas/asks/steps/review/retry", {}, 409),
+    (LOOK, "GET", "/v1/schedules", None, 200),
+    (OPERATE, "POST", "/v1/schedules/{name}/pause", None, 404),
+    (OPERATE, "POST", "/v1/schedules/{name}/resume", None, 404),
+    (OPERATE, "DELETE", "/v1/schedules/{name}", None, 404),
     ("metrics", "GET", "/metrics", None, 200),
 ]
 """The roles that may besides operators, the call, and what it comes to for them."""
-FREE = ["/health", "/ready", "/openapi.json", "/", "/favicon.ico", "/ui/static/{name}", "/ui/login"]
+FREE = ["/health/live", "/health/ready", "/openapi.json", "/", "/favicon.ico", "/ui/static/{name}", "/ui/login"]
 """What needs no token."""
 
 
 def answer_of(client: httpx.Client, method: str, path: str, body: Any) -> tuple[int, str]:
     """A status, and the name of an error; of a stream its head alone."""
     with client.stream(method, path, json=body) as answer:
-        if answer.headers["content-type"] != "application/json":
-            return answer.status_code, ""
-        told = json.loads(answer.read())
-        return answer.status_code, told.get("error", "") if isinstance(told, dict) else ""
+        if answer.headers["content-type"] == "application/problem+json":
+            answer.read()
+            return answer.status_code, error_of(answer)
+        return answer.status_code, ""
 
 
 def test_each_route_has_its_roles(guarded: Guarded) -> None:
     """The calls of the test below are all that there are."""
-    app, _ = application(Settings("unused.db", read(guarded.service.folder / "definitions")))
-    routes = {
-        (method, route.path)
-        for route in app.routes
-        for method in getattr(route, "methods", ()) - {"HEAD"}
-    }
+    routes = {(one.method, one.path) for some in (*API, *PAGES) for one in some.operations}
     asked = {
-        (method, re.sub(r"/sagas/(roles|asks|nobody)", "/sagas/{key}", path))
+        (method, re.sub(r"/v1/sagas/(roles|asks|nobody)", "/v1/sagas/{key}", path))
         for _, method, path, _, _ in CALLS
     }
     asked = {
         (
             method,
-            path.replace("/tasks/x/", "/tasks/{token}/").replace("steps/review", "steps/{step}"),
+            path.replace("/v1/tasks/x/", "/v1/tasks/{attempt_id}/").replace("steps/review", "steps/{step}"),
         )
         for method, path in asked
     }
@@ -115,13 +124,13 @@ def test_roles(guarded: Guarded) -> None:
         for good, method, path, body, status in CALLS:
             for role, client in clients.items():
                 found, name = answer_of(client, method, path, body)
-                if (role, path) == ("approver", "/sagas/asks/steps/review"):
+                if role == "approver" and path.startswith("/v1/sagas/asks/steps/review/"):
                     assert (found, name) == (
                         403,
-                        "NotAllowed",
+                        "Forbidden",
                     )  # a compensation is no approval: see below
                 elif role in (*good.split(), "operator"):
-                    assert found == status and name != "NotAllowed", (
+                    assert found == status and name != "Forbidden", (
                         role,
                         method,
                         path,
@@ -129,11 +138,11 @@ def test_roles(guarded: Guarded) -> None:
                         name,
                     )
                 else:
-                    assert (found, name) == (403, "NotAllowed"), (role, method, path, found, name)
+                    assert (found, name) == (403, "Forbidden"), (role, method, path, found, name)
             for stranger in strangers:
                 assert answer_of(stranger, method, path, body)[0] in (401, 429), (method, path)
         nobody = strangers[0]
-        assert nobody.get("/health").status_code == nobody.get("/ready").status_code == 200
+        assert nobody.get("/health/live").status_code == nobody.get("/health/ready").status_code == 200
         assert nobody.get("/ui/events").status_code == 403
     finally:
         for client in (*clients.values(), *strangers):
@@ -143,9 +152,11 @@ def test_roles(guarded: Guarded) -> None:
 POSTED = (
     "/ui/logout",
     "/ui/start",
+    "/ui/inbox",
     "/ui/sagas/KEY/abort",
     "/ui/sagas/KEY/resolve",
     "/ui/sagas/{key}/steps/{step}/{outcome}",
+    "/ui/schedules/{name}/{change}",
 )  # fmt: skip
 
 
@@ -160,62 +171,64 @@ def test_pages_have_no_roles_but_a_session(guarded: Guarded) -> None:
                     .replace("{key}", "asks")
                     .replace("{step}", "review")
                     .replace("{outcome}", "done")
+                    .replace("{change}", "pause")
                 )
                 answer = client.post(path, data={"csrf": "x", "result": "1"})
-                assert (answer.status_code, answer.json()["error"]) == (403, "OldForm")
+                assert answer.status_code == 403 and "The form is not of this session" in answer.text
     with logged_in(guarded) as client:
         for outcome in ("approve", "Done", "x"):
-            assert client.get(f"/ui/sagas/asks/steps/review/{outcome}").status_code == 422
+            assert client.get(f"/ui/sagas/asks/steps/review/{outcome}").status_code == 404
 
 
 def waits(client: httpx.Client, key: str, why: str) -> None:
     deadline = time.monotonic() + LONG
-    while why not in [one["why"] for one in client.get(f"/sagas/{key}").json()["waits"]]:
+    while why not in [one["why"] for one in client.get(f"/v1/sagas/{key}").json()["waits"]]:
         assert time.monotonic() < deadline
 
 
 BOTH = [
-    ({}, "give either result or failed"),
-    ({"note": "NO"}, "give either result or failed"),
-    ({"undo": False}, "give either"),
-    ({"result": 1, "failed": "x"}, "give either result or failed"),
-    ({"result": None, "failed": None}, "give either"),
-    ({"failed": None}, "failed is a text"),
-    ({"failed": 5}, "str type expected"),
-    ({"approved": True, "result": 1}, "extra fields"),
-    ({"result": 1, "note": 5}, "str type expected"),
-    ({"result": 1, "undo": "no"}, "not a valid boolean"),
-    ([], "no JSON object"),
-    ([["result", 1]], "no JSON object"),
+    ("complete", {}, "result: it is missing"),
+    ("complete", {"note": "NO"}, "result: it is missing"),
+    ("complete", {"undo": False}, "result: it is missing"),
+    ("complete", {"result": 1, "error": "x"}, "error: there is no such field"),
+    ("complete", {"approved": True, "result": 1}, "approved: there is no such field"),
+    ("complete", {"result": 1, "note": 5}, "note: it is a text"),
+    ("complete", {"result": 1, "undo": "no"}, "undo: it is true or false"),
+    ("complete", [], "the body: it is an object"),
+    ("complete", [["result", 1]], "the body: it is an object"),
+    ("fail", {}, "error: it is missing"),
+    ("fail", {"error": "x", "result": 1}, "result: there is no such field"),
+    ("fail", {"error": None}, "error: it is a text"),
+    ("fail", {"error": 5}, "error: it is a text"),
+    ("fail", [["error", "x"]], "the body: it is an object"),
 ]  # fmt: skip
 
 
 def test_an_approval_is_given_on_purpose(guarded: Guarded) -> None:
-    """By exactly one of `result` and `failed`; else that is said, and nothing is done."""
+    """By a `result`, or an `error`; else that is said, and nothing is done."""
     with guarded.client("approver") as approver, guarded.client("caller") as caller:
         start(caller, "order", "purpose")
         waits(approver, "purpose", "approval")
-        for body, says in BOTH:
-            answer = approver.post("/sagas/purpose/steps/review", json=body)
-            assert (answer.status_code, answer.json()["error"]) == (
+        for word, body, says in BOTH:
+            answer = approver.post(f"/v1/sagas/purpose/steps/review/{word}", json=body)
+            assert (answer.status_code, error_of(answer)) == (
                 422,
-                "BadRequest",
+                "InvalidRequest",
             ) and says in answer.json()["detail"], (body, answer.text)
-            assert "__root__" not in answer.text
-        assert caller.get("/sagas/purpose").json()["states"]["review"] == "begun"
+        assert caller.get("/v1/sagas/purpose").json()["states"]["review"] == "begun"
         assert (
-            approver.post("/sagas/purpose/steps/review", json={"result": None}).status_code == 200
+            approver.post("/v1/sagas/purpose/steps/review/complete", json={"result": None}).status_code == 200
         )
-        assert caller.get("/sagas/purpose").json()["results"]["review"] is None
+        assert caller.get("/v1/sagas/purpose").json()["results"]["review"] is None
         start(caller, "order", "refused")
         waits(approver, "refused", "approval")
         assert (
             approver.post(
-                "/sagas/refused/steps/review", json={"failed": "too dear", "note": "no"}
+                "/v1/sagas/refused/steps/review/fail", json={"error": "too dear", "note": "no"}
             ).status_code
             == 200
         )
-        assert caller.get("/sagas/refused/wait?seconds=60").json()["errors"] == {
+        assert caller.get("/v1/sagas/refused/wait?seconds=60").json()["errors"] == {
             "review": "too dear"
         }
 
@@ -230,25 +243,25 @@ def test_who_may_approve(guarded: Guarded) -> None:
         waits(caller, "by-whom", "approval")
         for role in ("caller", "worker", "metrics"):
             assert (
-                clients[role].post("/sagas/by-whom/steps/review", json={"result": 1}).status_code
+                clients[role].post("/v1/sagas/by-whom/steps/review/complete", json={"result": 1}).status_code
                 == 403
             )
         for step in ("send", "none", "review%2F", "x" * 70):
-            answer = approver.post(f"/sagas/by-whom/steps/{step}", json={"result": 1})
-            assert (answer.status_code, answer.json()["error"]) == (
+            answer = approver.post(f"/v1/sagas/by-whom/steps/{step}/complete", json={"result": 1})
+            assert (answer.status_code, error_of(answer)) == (
                 403,
-                "NotAllowed",
+                "Forbidden",
             ) and "is no approval" in answer.json()["detail"]
-        assert approver.post("/sagas/nobody/steps/review", json={"result": 1}).status_code == 404
-        assert approver.post("/sagas/by-whom/steps/review", json={"result": 1}).status_code == 200
+        assert approver.post("/v1/sagas/nobody/steps/review/complete", json={"result": 1}).status_code == 404
+        assert approver.post("/v1/sagas/by-whom/steps/review/complete", json={"result": 1}).status_code == 200
         start(caller, "trip", "by-an-operator")
         waits(caller, "by-an-operator", "worker")
         assert (
-            approver.post("/sagas/by-an-operator/steps/flight", json={"result": 1}).status_code
+            approver.post("/v1/sagas/by-an-operator/steps/flight/complete", json={"result": 1}).status_code
             == 403
         )
         assert (
-            operator.post("/sagas/by-an-operator/steps/flight", json={"result": 1}).status_code
+            operator.post("/v1/sagas/by-an-operator/steps/flight/complete", json={"result": 1}).status_code
             == 200
         )
 
@@ -274,7 +287,7 @@ def test_the_page_wants_a_session(guarded: Guarded) -> None:
             assert client.get(path).headers["location"].startswith("/ui/login?next="), path
         for bad in (guarded.tokens["caller"], "x"):
             assert client.post("/ui/login", data={"token": bad}).status_code == 403
-        for where in ("https://elsewhere.example/", "//elsewhere.example", "/ui\\@x", "/sagas"):
+        for where in ("https://elsewhere.example/", "//elsewhere.example", "/ui\\@x", "/v1/sagas"):
             answer = client.post("/ui/login", data={"token": guarded.tokens["operator"], "next": where})
             assert answer.headers["location"] == "/ui"
             cookie = answer.headers["set-cookie"]
@@ -293,10 +306,10 @@ def test_forms_are_the_session_s_own(guarded: Guarded) -> None:
             assert client.post("/ui/sagas/forms/abort", data={"csrf": csrf}).status_code == 403
         for headers in ({"Origin": "https://elsewhere.example"}, {"Origin": "null"}, {"Sec-Fetch-Site": "cross-site"}, {"Sec-Fetch-Site": "same-site"}):
             answer = client.post("/ui/sagas/forms/abort", data={"csrf": right}, headers=headers)
-            assert (answer.status_code, answer.json()["error"]) == (403, "OtherOrigin")
+            assert (answer.status_code, error_of(answer)) == (403, "CrossOrigin")
         assert client.post("/ui/sagas/forms/abort", content=b"{}", headers={"content-type": "text/plain"}).status_code == 415
         with guarded.client("caller") as caller:
-            assert caller.get("/sagas/forms").json()["aborted"] is False
+            assert caller.get("/v1/sagas/forms").json()["aborted"] is False
         answer = client.post("/ui/sagas/forms/abort", data={"csrf": right, "note": "enough"}, headers={"Origin": guarded.service.url})
         assert answer.status_code == 303
         assert "enough" in client.get("/ui/sagas/forms").text and "<b>operator</b>" in client.get("/ui/sagas/forms").text
@@ -311,20 +324,20 @@ def test_a_token_that_is_taken_away(tmp_path: pathlib.Path) -> None:
     assert file.stat().st_mode & 0o077 == 0 and words["first"] not in file.read_text()
     with served(tmp_path, DEFINITIONS, "--token-file", str(file)) as service:
         with service.client(words["first"]) as first, service.client(words["second"]) as second, service.client() as page:
-            assert first.get("/sagas").status_code == second.get("/sagas").status_code == 200
+            assert first.get("/v1/sagas").status_code == second.get("/v1/sagas").status_code == 200
             page.post("/ui/login", data={"token": words["first"]})
             assert page.get("/ui").status_code == 200
             file.write_text(file.read_text()[file.read_text().rindex("[[token]]") :])
             deadline = time.monotonic() + LONG
-            while first.get("/sagas").status_code != 401:
+            while first.get("/v1/sagas").status_code != 401:
                 assert time.monotonic() < deadline
                 time.sleep(0.1)
-            assert page.get("/ui").status_code == 303 and second.get("/sagas").status_code == 200
+            assert page.get("/ui").status_code == 303 and second.get("/v1/sagas").status_code == 200
             file.write_text("[[token]\n")
-            while "tokens.toml: it cannot be read" not in service.told():
-                assert second.get("/sagas").status_code == 200 and time.monotonic() < deadline
+            while "tokens.toml: cannot be read" not in service.told():
+                assert second.get("/v1/sagas").status_code == 200 and time.monotonic() < deadline
                 time.sleep(0.1)
-            assert "the tokens of before stay valid until it is mended" in service.told()
+            assert "the previous tokens stay valid until it is fixed" in service.told()
 
 
 def test_texts_are_no_markup(guarded: Guarded) -> None:
@@ -333,13 +346,13 @@ def test_texts_are_no_markup(guarded: Guarded) -> None:
     with guarded.client("operator") as client, logged_in(guarded) as page:
         stuck(client, "plain")
         start(client, "order", key, {NASTY: NASTY})
-        client.post(f"/sagas/{quoted(key)}/steps/review", json={"result": NASTY, "note": NASTY})
-        (task,) = client.post("/tasks/take", json={"steps": ["order/send"], "worker": NASTY[:60], "lease": 600}).json()["tasks"]
+        client.post(f"/v1/sagas/{quoted(key)}/steps/review/complete", json={"result": NASTY, "note": NASTY})
+        (task,) = client.post("/v1/tasks/claim", json={"steps": ["order/send"], "worker": NASTY[:60], "lease": 600}).json()["tasks"]
         texts = [page.get(f"/ui/{path}").text for path in (f"sagas/{quoted(key)}", "sagas", f"sagas?search={quoted(NASTY)}", "workers", "", f"sagas/{quoted(key)}/steps/send/done")]
         assert "done…" in texts[0]
-        client.post(f"/tasks/{task['token']}/failed", json={"lease": task["lease"], "error": NASTY, "final": True})
-        texts += [page.get(f"/ui/sagas/{quoted(key)}").text, client.get(f"/sagas/{quoted(key)}/picture.svg").text]
-        client.post("/sagas/plain/resolve", json={"note": NASTY})
+        client.post(f"/v1/tasks/{task['attempt_id']}/fail", json={"lease": task["lease"], "error": NASTY, "final": True})
+        texts += [page.get(f"/ui/sagas/{quoted(key)}").text, client.get(f"/v1/sagas/{quoted(key)}/picture.svg").text]
+        client.post("/v1/sagas/plain/resolve", json={"note": NASTY})
         texts += [page.get("/ui/sagas/plain").text, page.get("/ui/sagas?phase=resolved").text, page.get(f"/ui/sagas/{quoted(NASTY)}").text]
         for place, text in enumerate(texts):
             assert "<script>alert" not in text and "49" not in re.findall(r"&#39;&amp;(\d+)", text), place
@@ -355,7 +368,7 @@ def quoted(text: str) -> str:
 def test_headers(guarded: Guarded) -> None:
     """Each answer says that nothing is fetched from elsewhere, framed, guessed or kept."""
     with guarded.client("operator") as client, logged_in(guarded) as page:
-        for answer in (page.get("/ui"), client.get("/sagas"), client.get("/nowhere"), client.get("/health")):
+        for answer in (page.get("/ui"), client.get("/v1/sagas"), client.get("/nowhere"), client.get("/health/live")):
             assert "default-src 'none'" in answer.headers["content-security-policy"] and "unsafe" not in answer.headers["content-security-policy"]
             assert answer.headers["x-content-type-options"] == "nosniff" and answer.headers["cache-control"] == "no-store"
             assert answer.headers["x-frame-options"] == "DENY" and "server" not in answer.headers
@@ -365,13 +378,13 @@ def test_headers(guarded: Guarded) -> None:
 def test_without_tokens_only_the_loopback_s_names(tmp_path: pathlib.Path) -> None:
     """A name that some page made point here is not answered to; and rates are limited."""
     with served(tmp_path, DEFINITIONS, "--rate", "0.5") as service, service.client() as client:
-        assert client.get("/sagas", headers={"Host": "elsewhere.example"}).json()["error"] == "BadHost"
+        assert error_of(client.get("/v1/sagas", headers={"Host": "elsewhere.example"})) == "UnknownHost"
         for name in ("localhost:1", "127.0.0.1", "[::1]:80"):
-            assert client.get("/health", headers={"Host": name}).status_code == 200
-        assert "everybody on this machine may do everything" in service.told()
-        found = {client.get("/sagas").status_code for _ in range(60)}
+            assert client.get("/health/live", headers={"Host": name}).status_code == 200
+        assert "every local user has full access" in service.told()
+        found = {client.get("/v1/sagas").status_code for _ in range(60)}
         assert 429 in found and found <= {200, 429}
         deadline = time.monotonic() + LONG
-        while client.get("/sagas").status_code != 200:
+        while client.get("/v1/sagas").status_code != 200:
             assert time.monotonic() < deadline
             time.sleep(0.5)

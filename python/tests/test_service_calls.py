@@ -3,6 +3,7 @@
 from __future__ import annotations
 
 import asyncio
+import datetime
 import json
 import pathlib
 import subprocess
@@ -13,12 +14,10 @@ from typing import Any
 
 import httpx
 import pytest
-import uvicorn
-
 from driving import program
-from sagas.server import running
-from serving import DEFINITIONS, LONG, Served, all_done, report, served, start, stuck, take
+from serving import DEFINITIONS, LONG, Served, all_done, error_of, report, served, start, stuck, take
 
+import sagas
 
 @pytest.fixture(scope="module")
 def service(tmp_path_factory: pytest.TempPathFactory, store: str | None) -> Iterator[Served]:
@@ -39,22 +38,37 @@ def get(client: httpx.Client, path: str, status: int = 200) -> Any:
     return answer.json()
 
 
+def measured(client: httpx.Client, line: str) -> bool:
+    """Whether `/metrics` comes to have this line: it is counted again at most each second."""
+    deadline = time.monotonic() + LONG
+    while line not in client.get("/metrics").text.splitlines():
+        if time.monotonic() > deadline:
+            return False
+        time.sleep(0.02)
+    return True
+
+
 def test_a_start_is_once(client: httpx.Client) -> None:
     """The same key again is the same saga; another input, or another definition, is a conflict; what is no saga is told."""
     assert start(client, "order", "once", {"a": 1}).status_code == 201
     again = start(client, "order", "once", {"a": 1})
-    assert (again.status_code, again.json()) == (200, {"key": "once", "definition": "order", "new": False})
-    assert start(client, "order", "once", {"a": 2}).json()["error"] == "KeyConflict"
+    assert (again.status_code, again.json()) == (200, {"key": "once", "definition": "order", "version": 1, "new": False})
+    assert error_of(start(client, "order", "once", {"a": 2})) == "KeyConflict"
     assert start(client, "trip", "once", {"a": 1}).status_code == 409
     none = start(client, "nothing", "x")
     assert (none.status_code, none.json()["detail"]) == (404, "there is no definition 'nothing', but few, licence, order, trip")
-    for body, kind, says in (('{"key":', "application/json", "the body is no JSON: "), ("{}", "text/plain", "send it with Content-Type: application/json"), ("[1]", "application/json", "no JSON object")):
-        wrong = client.post("/sagas", content=body, headers={"content-type": kind})
-        assert wrong.status_code == 422 and says in wrong.json()["detail"]
+    for body, kind, status, says in (
+        ('{"key":', "application/json", 400, "the body is not JSON at line 1"),
+        ("NaN", "application/json", 400, "the body is not JSON"),
+        ("{}", "text/plain", 415, "send it with Content-Type: application/json"),
+        ("[1]", "application/json", 422, "it is an object"),
+    ):
+        wrong = client.post("/v1/sagas", content=body, headers={"content-type": kind})
+        assert wrong.status_code == status and says in wrong.json()["detail"]
     assert start(client, "order", "a\nb").status_code == 422
-    assert client.post("/sagas", content='{"definition":"order","key":"n","input":NaN}', headers={"content-type": "application/json"}).status_code == 422
-    assert get(client, "/sagas/nobody", 404)["error"] == "NoSuchSaga"
-    assert client.post("/sagas/once/abort", json={}).json()["aborted"] is True
+    assert client.post("/v1/sagas", content='{"definition":"order","key":"n","input":NaN}', headers={"content-type": "application/json"}).status_code == 400
+    assert get(client, "/v1/sagas/nobody", 404)["type"] == "urn:sagas:problem:NoSuchSaga"
+    assert client.post("/v1/sagas/once/abort", json={}).json()["aborted"] is True
 
 
 def test_a_saga_through_workers(client: httpx.Client) -> None:
@@ -62,29 +76,29 @@ def test_a_saga_through_workers(client: httpx.Client) -> None:
     start(client, "trip", "t/1 ü", {"to": "Rome"})
     (flight,) = take(client, "trip/flight")
     assert (flight["key"], flight["input"], flight["results"], flight["attempt"]) == ("t/1 ü", {"to": "Rome"}, {}, 1)
-    assert flight["token"] == flight["effect_token"] + "-1" and flight["action_token"] == flight["effect_token"]
-    assert report(client, flight, result={"seat": 1}).json() == {"kept": True, "repeated": False}
+    assert flight["attempt_id"] == flight["idempotency_key"] + "-1" and flight["original_idempotency_key"] == flight["idempotency_key"]
+    assert report(client, flight, result={"seat": 1}).json() == {"kept": True, "repeated": False, "next": None}
     (car,) = take(client, "trip/tour", "trip/car")
     assert car["results"] == {"flight": {"seat": 1}}
     report(client, car, result=7)
     for attempt in (1, 2):
         (tour,) = take(client, "trip/tour")
         assert tour["attempt"] == attempt
-        report(client, tour, "failed", error="full")
+        report(client, tour, "fail", error="full")
     (undo,) = take(client, "trip/car/undo")
-    assert (undo["undo"], undo["result"], undo["action_token"]) == (True, 7, car["effect_token"])
+    assert (undo["undo"], undo["result"], undo["original_idempotency_key"]) == (True, 7, car["idempotency_key"])
     report(client, undo)
-    end = get(client, "/sagas/t%2F1%20%C3%BC/wait?seconds=60")
-    assert (end["phase"], end["states"]) == ("ended", {"flight": "committed", "car": "undone", "tour": "failed"})
+    end = get(client, "/v1/sagas/t%2F1%20%C3%BC/wait?seconds=60")
+    assert (end["phase"], end["states"]) == ("recovered", {"flight": "committed", "car": "undone", "tour": "failed"})
     assert end["results"] == {"flight": {"seat": 1}} and end["plan"]["cost"] == 15 and end["errors"] == {"tour": "full"}
-    assert [step["decided"] for step in end["plan"]["steps"]] == ["stands", "is undone", "is left out"]
-    text = client.get("/sagas/t%2F1%20%C3%BC/certificate?form=text").text
+    assert [step["decision"] for step in end["plan"]["steps"]] == ["stands", "is undone", "is left out"]
+    text = client.get("/v1/sagas/t%2F1%20%C3%BC/certificate?form=text").text
     assert subprocess.run([program()], input=text, capture_output=True, text=True).stdout == "least 15\n"
-    certificate = get(client, "/sagas/t%2F1%20%C3%BC/certificate")
+    certificate = get(client, "/v1/sagas/t%2F1%20%C3%BC/certificate")
     assert certificate["answer"]["cost"] == 15 and certificate["case"] == {"states": ["committed", "committed", "failed"]}
-    events = get(client, "/sagas/t%2F1%20%C3%BC/log")["events"]
+    events = get(client, "/v1/sagas/t%2F1%20%C3%BC/log")["events"]
     assert [event["event"] for event in events if event["step"] == "tour"] == ["start_run", "missed", "start_run", "fail"]
-    picture = client.get("/sagas/t%2F1%20%C3%BC/picture.svg")
+    picture = client.get("/v1/sagas/t%2F1%20%C3%BC/picture.svg")
     assert picture.headers["content-type"] == "image/svg+xml" and "given back for 5" in picture.text and "t/1 ü" in picture.text
 
 
@@ -95,28 +109,69 @@ def test_leases(client: httpx.Client) -> None:
     (old,) = take(client, "trip/flight", lease=0.5)
     (new,) = take(client, "trip/flight")
     assert take(client, "trip/flight", wait=0) == []
-    assert new["token"] == old["token"] and new["lease"] > old["lease"]
-    assert report(client, old, "failed", error="no").json()["error"] == "LeaseLost"
-    assert report(client, old, "unknown", error="no").json()["error"] == "LeaseLost"
-    assert client.post(f"/tasks/{old['token']}/beat", json={"lease": old["lease"]}).status_code == 409
-    assert client.post(f"/tasks/{new['token']}/beat", json={"lease": new["lease"], "seconds": 500}).json()["until"] > time.time() + 400
-    assert report(client, old, result=1).json() == {"kept": True, "repeated": False}
-    assert report(client, new, result=1).json() == {"kept": True, "repeated": True}
-    assert report(client, new, result=2).json()["error"] == "ReportedOtherwise"
-    assert report(client, new, "failed", error="no").status_code == 409
-    assert client.post(f"/tasks/{new['token']}/beat", json={"lease": new["lease"]}).json()["error"] == "LeaseLost"
+    assert new["attempt_id"] == old["attempt_id"] and new["lease"] > old["lease"]
+    assert error_of(report(client, old, "fail", error="no")) == "LeaseLost"
+    assert error_of(report(client, old, "unknown", error="no")) == "LeaseLost"
+    assert client.post(f"/v1/tasks/{old['attempt_id']}/heartbeat", json={"lease": old["lease"]}).status_code == 409
+    assert client.post(f"/v1/tasks/{new['attempt_id']}/heartbeat", json={"lease": new["lease"], "seconds": 500}).json()["until"] > time.time() + 400
+    assert report(client, old, result=1).json() == {"kept": True, "repeated": False, "next": None}
+    assert report(client, new, result=1).json() == {"kept": True, "repeated": True, "next": None}
+    assert error_of(report(client, new, result=2)) == "ConflictingReport"
+    assert report(client, new, "fail", error="no").status_code == 409
+    assert error_of(client.post(f"/v1/tasks/{new['attempt_id']}/heartbeat", json={"lease": new["lease"]})) == "LeaseLost"
     for token in ("0" * 16 + "-0-flight-run-1", "x"):
-        none = report(client, {**new, "token": token})
-        assert (none.status_code, none.json()["error"]) == (403, "InvalidLease")
-    client.post("/sagas/leases/abort", json={"note": "it was a try"})
-    assert get(client, "/sagas/leases/wait?seconds=60")["aborted"] is True
+        none = report(client, {**new, "attempt_id": token})
+        assert (none.status_code, error_of(none)) == (403, "InvalidLease")
+    client.post("/v1/sagas/leases/abort", json={"note": "it was a try"})
+    assert get(client, "/v1/sagas/leases/wait?seconds=60")["aborted"] is True
+
+
+def test_a_deadline(service: Served, client: httpx.Client) -> None:
+    """A saga has it until its start says otherwise; workers and operators see it; what is no time is refused, and starts nothing."""
+    def put(key: str, deadline: Any) -> httpx.Response:
+        return client.post("/v1/sagas", json={"definition": "trip", "key": key, "deadline": deadline})
+
+    for wrong in (-1, "soon", True, [1], 1e300, 4e9):
+        refused = put("timely", wrong)
+        assert (refused.status_code, refused.json()["field"]) == (422, "deadline")
+    get(client, "/v1/sagas/timely", 404)
+    began = time.time()
+    assert put("timely", 3600).status_code == 201 and put("timely", 7200).json()["new"] is False
+    told = get(client, "/v1/sagas/timely")
+    assert began + 3599 < told["deadline"] < time.time() + 3601 and told["deadline_at"].endswith("Z")
+    (listed,) = get(client, "/v1/sagas?search=timely")["sagas"]
+    assert (listed["deadline"], listed["deadline_at"]) == (told["deadline"], told["deadline_at"])
+    assert f'<dt>Deadline</dt><dd><time datetime="{told["deadline_at"][:16]}' in client.get("/ui/sagas/timely").text
+    (flight,) = take(client, "trip/flight")
+    assert flight["deadline"] == pytest.approx(told["deadline"], abs=1e-3) and flight["until"] < flight["deadline"]
+    assert report(client, flight, result=1).status_code == 200
+    worker, seen = sagas.Worker(service.url, wait=1.0), list[Any]()
+
+    @worker.step("trip", "car")
+    def car(task: sagas.Task[Any]) -> None:
+        seen.append(task.deadline)
+        worker.stop()
+
+    worker.run()
+    assert seen[0].tzinfo is datetime.timezone.utc and seen[0].timestamp() == pytest.approx(told["deadline"], abs=1e-3)
+    assert client.post("/v1/sagas/timely/abort", json={}).json()["aborted"] is True
+    all_done(client, "trip/car/undo")
+    assert put("late", 0.2).status_code == 201 and put("never", None).status_code == 201
+    late = get(client, "/v1/sagas/late/wait?seconds=60")
+    assert late["aborted"] and late["phase"] == "recovered"
+    (other,) = take(client, "trip/flight")
+    assert (other["key"], other["deadline"], other["deadline_at"]) == ("never", None, None)
+    assert not get(client, "/v1/sagas/never")["aborted"]
+    assert "<dt>Deadline" not in client.get("/ui/sagas/never").text
+    report(client, other)
+    client.post("/v1/sagas/never/abort", json={})
 
 
 def test_what_has_begun(client: httpx.Client) -> None:
     """Until a worker takes it, it has begun and waits for one; then it runs, at that worker; and when the lease has run out it waits again."""
 
     def flight() -> tuple[str, list[tuple[str, str | None]]]:
-        told = get(client, "/sagas/begun")
+        told = get(client, "/v1/sagas/begun")
         return told["states"]["flight"], [(one["why"], one["said"]) for one in told["waits"]]
 
     def comes(wanted: tuple[str, list[tuple[str, str | None]]]) -> None:
@@ -128,12 +183,47 @@ def test_what_has_begun(client: httpx.Client) -> None:
     start(client, "trip", "begun")
     comes(("begun", [("worker", None)]))
     take(client, "trip/flight", lease=0.5)
-    comes(("begun", [("worker", "the lease of local/w ran out")]))
+    comes(("begun", [("worker", "the lease of local/w expired")]))
     (task,) = take(client, "trip/flight")
-    comes(("running", [("elsewhere", "local/w")]))
-    report(client, task, "failed", error="no seat", final=True)
-    told = get(client, "/sagas/begun/wait?seconds=60")
+    comes(("running", [("external", "local/w")]))
+    report(client, task, "fail", error="no seat", final=True)
+    told = get(client, "/v1/sagas/begun/wait?seconds=60")
     assert (told["states"]["flight"], told["errors"], told["waits"]) == ("failed", {"flight": "no seat"}, [])
+
+
+def test_a_refund_that_fails(client: httpx.Client) -> None:
+    """By defaults alone it is in the inbox, in the figures and on the page; one call, or one for all, has it attempted again."""
+    figure = 'sagas_attention_required{reason="exhausted"} '
+    for key in ("refund-1", "refund-2"):
+        start(client, "few", key)
+        all_done(client, "few/a")
+        (b,) = take(client, "few/b")
+        report(client, b, "fail", error="full", final=True)
+        (undo,) = take(client, "few/a/undo")
+        report(client, undo, "fail", error="the bank is closed")
+        assert not report(client, undo, "fail", error="the bank is closed").is_error
+    assert measured(client, f"{figure}2.0")
+    told = get(client, "/v1/attention?kind=exhausted")
+    assert told["counts"]["exhausted"] == 2
+    one = told["entries"][0]
+    assert (one["key"], one["step"], one["undo"], one["detail"]) == ("refund-1", "a", True, "the bank is closed")
+    assert one["calls"] == ["retry", "complete", "fail", "abort"]
+    page = client.get("/ui/sagas/refund-1").text
+    assert "Undoing a has used up its attempts" in page and "the bank is closed" in page and "Used up" in client.get("/ui?kind=exhausted").text
+    assert "/steps/a/retry?undo=true" in page and client.get("/ui/sagas/refund-1/steps/a/retry?undo=true").status_code == 200
+    wrong = client.post("/v1/sagas/refund-1/steps/b/retry", json={})
+    assert (wrong.status_code, error_of(wrong)) == (409, "StepNotWaiting")
+    assert client.post("/v1/sagas/refund-1/steps/a/retry", json={"undo": True}).json()["kept"] is True
+    all_done(client, "few/a/undo")
+    many = {"filter": {"kind": "exhausted", "definition": "few", "step": "a"}}
+    assert client.post("/v1/bulk/retry", json=many).json()["count"] == 1
+    done = client.post("/v1/bulk/retry", json={**many, "dry_run": False, "count": 1}).json()
+    assert (done["done"], done["refused"]) == (1, [])
+    all_done(client, "few/a/undo")
+    for key in ("refund-1", "refund-2"):
+        assert get(client, f"/v1/sagas/{key}/wait?seconds=60")["states"]["a"] == "undone"
+    assert measured(client, f"{figure}0.0")
+    assert get(client, "/v1/attention?kind=exhausted")["counts"]["exhausted"] == 0
 
 
 def test_a_compensation_that_failed(client: httpx.Client) -> None:
@@ -142,25 +232,25 @@ def test_a_compensation_that_failed(client: httpx.Client) -> None:
     all_done(client, "trip/flight", "trip/car")
     for _ in range(2):
         (tour,) = take(client, "trip/tour")
-        report(client, tour, "failed", error="full")
+        report(client, tour, "fail", error="full")
     all_done(client, "trip/car/undo", failing=["trip/car/undo"])
-    told = get(client, "/sagas/undo-failed/wait?seconds=60")
-    assert (told["phase"], told["states"]["car"], told["errors"]) == ("ended", "fixed", {"car": "no", "tour": "full"})
-    assert [(one["key"], one["undo_failed"]) for one in get(client, "/sagas?phase=undo-failed")["sagas"]] == [("undo-failed", True)]
+    told = get(client, "/v1/sagas/undo-failed/wait?seconds=60")
+    assert (told["phase"], told["states"]["car"], told["errors"]) == ("recovered", "undo_failed", {"car": "no", "tour": "full"})
+    assert [(one["key"], one["undo_failed"]) for one in get(client, "/v1/sagas?phase=undo_failed")["sagas"]] == [("undo-failed", True)]
     page = client.get("/ui/sagas/undo-failed").text
-    assert "Undoing <b>car</b> failed for good: “no”" in page and "Undo failed" in client.get("/ui/sagas?phase=undo-failed").text
-    assert "car: undo failed, kept for 30" in client.get("/sagas/undo-failed/picture.svg").text
-    figure = 'sagas_waiting_for_a_person{why="undo_failed"} '
-    assert f"{figure}1.0" in client.get("/metrics").text
-    first = client.get("/ui").text
-    assert "Undoing <b>car</b> failed for good: no. It stands" in first and "/resolve" in page
+    assert "Undoing <b>car</b> failed for good: “no”" in page and "Undo failed" in client.get("/ui/sagas?phase=undo_failed").text
+    assert "car: undo failed, kept for 30" in client.get("/v1/sagas/undo-failed/picture.svg").text
+    figure = 'sagas_attention_required{reason="undo_failed"} '
+    assert measured(client, f"{figure}1.0")
+    first = client.get("/ui?kind=undo_failed&search=undo-failed").text
+    assert "undoing car: no" in first and "/resolve" in page
     assert client.get("/ui/sagas/undo-failed/resolve").status_code == 200
-    said = client.post("/sagas/undo-failed/resolve", json={"note": "given back by hand"})
+    said = client.post("/v1/sagas/undo-failed/resolve", json={"note": "given back by hand"})
     assert said.status_code == 200
-    assert get(client, "/sagas/undo-failed")["phase"] == "resolved"
-    assert get(client, "/sagas?phase=undo-failed")["sagas"] == []
-    assert f"{figure}0.0" in client.get("/metrics").text
-    assert "Undoing <b>car</b>" not in client.get("/ui").text
+    assert get(client, "/v1/sagas/undo-failed")["phase"] == "resolved"
+    assert get(client, "/v1/sagas?phase=undo_failed")["sagas"] == []
+    assert measured(client, f"{figure}0.0")
+    assert "undoing car" not in client.get("/ui?kind=undo_failed&search=undo-failed").text
     assert "A compensation had failed, and it is resolved" in client.get(
         "/ui/sagas/undo-failed"
     ).text
@@ -170,12 +260,12 @@ def test_a_beaten_lease_holds(client: httpx.Client) -> None:
     """As long as it is beaten for, nobody else gets the task."""
     start(client, "trip", "beats")
     (task,) = take(client, "trip/flight", lease=2)
-    until = client.post(f"/tasks/{task['token']}/beat", json={"lease": task["lease"], "seconds": 600}).json()["until"]
+    until = client.post(f"/v1/tasks/{task['attempt_id']}/heartbeat", json={"lease": task["lease"], "seconds": 600}).json()["until"]
     time.sleep(2.5)
     assert until > time.time() and take(client, "trip/flight", wait=0) == []
     report(client, task)
     all_done(client, "trip/car", "trip/tour")
-    assert get(client, "/sagas/beats/wait?seconds=60")["phase"] == "ended"
+    assert get(client, "/v1/sagas/beats/wait?seconds=60")["phase"] == "completed"
 
 
 def test_a_report_takes_the_next(client: httpx.Client) -> None:
@@ -185,12 +275,12 @@ def test_a_report_takes_the_next(client: httpx.Client) -> None:
     (first,) = take(client, "trip/flight")
     assert report(client, first, next={"steps": ["no step"]}).status_code == 422
     answer = report(client, first, next={"steps": ["trip/flight"], "lease": 600}).json()
-    (second,) = answer.pop("tasks")
+    (second,) = answer.pop("next")["tasks"]
     assert answer == {"kept": True, "repeated": False} and {first["key"], second["key"]} == {"next-1", "next-2"}
-    assert report(client, second, "failed", error="no", next={"steps": ["trip/flight"]}).json()["tasks"] == []
+    assert report(client, second, "fail", error="no", next={"steps": ["trip/flight"]}).json()["next"]["tasks"] == []
     all_done(client, "trip/car", "trip/tour")
     for key in ("next-1", "next-2"):
-        assert get(client, f"/sagas/{key}/wait?seconds=60")["phase"] == "ended"
+        assert get(client, f"/v1/sagas/{key}/wait?seconds=60")["phase"] in ("completed", "recovered")
 
 
 def test_a_limit_holds_for_leases(service: Served, client: httpx.Client) -> None:
@@ -209,8 +299,8 @@ def test_a_limit_holds_for_leases(service: Served, client: httpx.Client) -> None
     (fourth,) = take(client, "few/a", most=10)
     assert {first["key"], second["key"], third["key"], fourth["key"]} >= {f"few-{number}" for number in range(3)}
     if fourth["key"] != third["key"]:
-        late = client.post(f"/tasks/{third['token']}/beat", json={"lease": third["lease"]})
-        assert late.json()["error"] == "LeaseLost" and "have its place" in late.json()["detail"]
+        late = client.post(f"/v1/tasks/{third['attempt_id']}/heartbeat", json={"lease": third["lease"]})
+        assert error_of(late) == "LeaseLost" and "have its place" in late.json()["detail"]
         assert report(client, third).status_code == 200  # done counts all the same
     report(client, second, "unknown", error="who knows")
     left = {f"few-{number}" for number in range(5)} - {first["key"]}
@@ -218,21 +308,23 @@ def test_a_limit_holds_for_leases(service: Served, client: httpx.Client) -> None
     while True:
         for task in take(client, "few/a", wait=1, most=10):
             report(client, task)
-        states = {key: client.get(f"/sagas/{key}").json()["states"]["a"] for key in left}
+        states = {key: client.get(f"/v1/sagas/{key}").json()["states"]["a"] for key in left}
         if set(states.values()) == {"committed"}:
             break
     tasks = take(client, "few/b", most=10)
     assert len(tasks) == 5
     for task in tasks:
-        report(client, task, "failed", error="no")
+        report(client, task, "fail", error="no")
     undone = []
     while len(undone) < 5:
         undone += take(client, "few/a/undo", most=10)
-    assert [queue for queue in client.get("/queues").json()["queues"] if queue["saga"] == "few"] == [{"saga": "few", "step": "a", "undo": True, "ready": 0, "oldest": None, "taken": 5}]
+    assert [queue for queue in client.get("/v1/queues").json()["queues"] if queue["definition"] == "few"] == [
+        {"definition": "few", "step": "a", "undo": True, "ready": 0, "oldest": None, "oldest_at": None, "claimed": 5}
+    ]
     for task in undone:
         report(client, task)
     for number in range(5):
-        assert get(client, f"/sagas/few-{number}/wait?seconds=60")["states"] == {"a": "undone", "b": "failed"}
+        assert get(client, f"/v1/sagas/few-{number}/wait?seconds=60")["states"] == {"a": "undone", "b": "failed"}
 
 
 def test_unknown_is_said_once_under_a_lease(client: httpx.Client) -> None:
@@ -241,17 +333,17 @@ def test_unknown_is_said_once_under_a_lease(client: httpx.Client) -> None:
     (task,) = take(client, "few/a")
     assert report(client, task, "unknown", error="who knows").json()["repeated"] is False
     deadline = time.monotonic() + LONG
-    while not any(queue["step"] == "a" and queue["ready"] for queue in get(client, "/queues")["queues"]):
+    while not any(queue["step"] == "a" and queue["ready"] for queue in get(client, "/v1/queues")["queues"]):
         assert time.monotonic() < deadline
     assert report(client, task, "unknown", error="who knows").json()["repeated"] is True
-    assert report(client, task, "failed", error="no").json()["error"] == "ReportedOtherwise"
-    assert client.post(f"/tasks/{task['token']}/beat", json={"lease": task["lease"]}).json()["error"] == "LeaseLost"
+    assert error_of(report(client, task, "fail", error="no")) == "ConflictingReport"
+    assert error_of(client.post(f"/v1/tasks/{task['attempt_id']}/heartbeat", json={"lease": task["lease"]})) == "LeaseLost"
     (again,) = take(client, "few/a")
-    assert again["token"] == task["token"] and again["lease"] > task["lease"]
-    assert report(client, task, "failed", error="no").json()["error"] == "LeaseLost"
-    assert report(client, task, result=1).json() == {"kept": True, "repeated": False}
+    assert again["attempt_id"] == task["attempt_id"] and again["lease"] > task["lease"]
+    assert error_of(report(client, task, "fail", error="no")) == "LeaseLost"
+    assert report(client, task, result=1).json() == {"kept": True, "repeated": False, "next": None}
     all_done(client, "few/b")
-    assert get(client, "/sagas/hazy-few/wait?seconds=60")["results"]["a"] == 1
+    assert get(client, "/v1/sagas/hazy-few/wait?seconds=60")["results"]["a"] == 1
 
 
 def test_nobody_knows(client: httpx.Client) -> None:
@@ -262,47 +354,47 @@ def test_nobody_knows(client: httpx.Client) -> None:
     assert report(client, tour, "unknown", error="the line went dead").json()["repeated"] is False
     assert report(client, tour, "unknown", error="the line went dead").json()["repeated"] is True
     assert take(client, "trip/tour", wait=2) == []
-    (held,) = get(client, "/sagas/hazy")["waits"]
+    (held,) = get(client, "/v1/sagas/hazy")["waits"]
     assert (held["why"], held["person"], held["said"]) == ("unknown", True, "the line went dead")
-    assert client.post("/sagas/hazy/steps/tour", json={"result": "it is there", "note": "asked them"}).status_code == 200
-    end = get(client, "/sagas/hazy/wait?seconds=60")
+    assert client.post("/v1/sagas/hazy/steps/tour/complete", json={"result": "it is there", "note": "asked them"}).status_code == 200
+    end = get(client, "/v1/sagas/hazy/wait?seconds=60")
     assert end["results"]["tour"] == "it is there"
-    notes = [event["value"] for event in get(client, "/sagas/hazy/log")["events"] if event["event"] == "note"]
-    assert [(note["what"], note["by"], note["note"], note["answer"]) for note in notes] == [("finish", "local", "asked them", True)]
+    notes = [event["value"] for event in get(client, "/v1/sagas/hazy/log")["events"] if event["event"] == "note"]
+    assert [(note["what"], note["by"], note["note"], note["answer"]) for note in notes] == [("complete", "local", "asked them", True)]
 
 
 def test_an_approval(client: httpx.Client) -> None:
     """It waits for a word; once it is said, another is too late."""
     start(client, "order", "approve-me")
     deadline = time.monotonic() + LONG
-    while not get(client, "/sagas/approve-me")["waits"]:
+    while not get(client, "/v1/sagas/approve-me")["waits"]:
         assert time.monotonic() < deadline
     assert (
-        client.post("/sagas/approve-me/steps/send", json={"result": 1}).json()["error"]
-        == "NotWaiting"
+        error_of(client.post("/v1/sagas/approve-me/steps/send/complete", json={"result": 1}))
+        == "StepNotWaiting"
     )
     assert (
-        client.post("/sagas/approve-me/steps/review", json={"result": {"by": "Ada"}}).status_code
+        client.post("/v1/sagas/approve-me/steps/review/complete", json={"result": {"by": "Ada"}}).status_code
         == 200
     )
-    assert client.post("/sagas/approve-me/steps/review", json={"failed": "no"}).status_code == 409
+    assert client.post("/v1/sagas/approve-me/steps/review/fail", json={"error": "no"}).status_code == 409
     all_done(client, "order/send")
-    assert get(client, "/sagas/approve-me/wait?seconds=60")["results"]["review"] == {"by": "Ada"}
+    assert get(client, "/v1/sagas/approve-me/wait?seconds=60")["results"]["review"] == {"by": "Ada"}
 
 
 def test_an_aborted_task_that_nobody_took_is_not_begun(client: httpx.Client) -> None:
     start(client, "order", "early")
-    client.post("/sagas/early/steps/review", json={"result": None})
-    assert client.post("/sagas/early/abort", json={"note": "wrong address"}).json() == {"key": "early", "aborted": True}
-    end = get(client, "/sagas/early/wait?seconds=60")
-    assert end["phase"] == "ended" and end["states"]["send"] != "committed"
-    assert client.post("/sagas/early/abort", json={}).json()["aborted"] is False
+    client.post("/v1/sagas/early/steps/review/complete", json={"result": None})
+    assert client.post("/v1/sagas/early/abort", json={"note": "wrong address"}).json() == {"key": "early", "aborted": True}
+    end = get(client, "/v1/sagas/early/wait?seconds=60")
+    assert end["phase"] == "recovered" and end["states"]["send"] != "committed"
+    assert client.post("/v1/sagas/early/abort", json={}).json()["aborted"] is False
 
 
 def test_a_long_take_is_woken(service: Served, client: httpx.Client) -> None:
     """Whoever waits for a task gets it when it comes; one who has gone gets none."""
     with pytest.raises(httpx.ReadTimeout), service.client() as gone:
-        gone.post("/tasks/take", json={"steps": ["licence/server"], "wait": 30}, timeout=0.5)
+        gone.post("/v1/tasks/claim", json={"steps": ["licence/server"], "wait": 30}, timeout=0.5)
     found: list[Any] = []
     with service.client() as other:
         taker = threading.Thread(target=lambda: found.extend(take(other, "licence/server", wait=30)))
@@ -323,19 +415,19 @@ def test_the_list(client: httpx.Client) -> None:
     found: list[str] = []
     after = ""
     while True:
-        page = get(client, f"/sagas?search=list%25_&definition=order&phase=open&most=2{after}")
+        page = get(client, f"/v1/sagas?search=list%25_&definition=order&phase=open&limit=2{after}")
         found += [saga["key"] for saga in page["sagas"]]
         if page["next"] is None:
             break
         after = f"&after={page['next']}"
     assert found == keys[::-1]
-    assert get(client, "/sagas?search=list_%25")["sagas"] == []
-    assert client.get("/sagas?phase=none").status_code == 422
+    assert get(client, "/v1/sagas?search=list_%25")["sagas"] == []
+    assert client.get("/v1/sagas?phase=none").status_code == 422
 
 
 def test_events_are_streamed(service: Served, client: httpx.Client) -> None:
     """Those of one saga, from now on; again behind the last that was seen."""
-    with service.client() as other, other.stream("GET", "/events?key=streamed") as stream:
+    with service.client() as other, other.stream("GET", "/v1/events?key=streamed") as stream:
         lines = stream.iter_lines()
         assert next(lines).startswith("retry")
         start(client, "licence", "streamed")
@@ -349,28 +441,32 @@ def test_events_are_streamed(service: Served, client: httpx.Client) -> None:
             if line.startswith("data:") and names[-1] == "saga_ended":
                 assert json.loads(line[5:])["key"] == "streamed"
                 break
-    assert names[0] == "saga_started" and names.count("step_begun") == 2 and "step_done" in names
+    assert names[0] == "saga_started" and names.count("step_started") == 2 and "step_succeeded" in names
     boot, _, number = last.partition("-")
-    with service.client() as other, other.stream("GET", "/events?key=streamed", headers={"Last-Event-ID": f"{boot}-{int(number) - 1}"}) as stream:
+    with service.client() as other, other.stream("GET", "/v1/events?key=streamed", headers={"Last-Event-ID": f"{boot}-{int(number) - 1}"}) as stream:
         again = next(line.strip() for line in stream.iter_lines() if line.startswith("event:"))
     assert again == "event: saga_ended"
-    with service.client() as other, other.stream("GET", "/events", headers={"Last-Event-ID": "0-0"}) as stream:
+    with service.client() as other, other.stream("GET", "/v1/events", headers={"Last-Event-ID": "0-0"}) as stream:
         assert "event: missed" in [line.strip() for _, line in zip(range(3), stream.iter_lines())]
 
 
 def test_a_stuck_one_is_resolved(client: httpx.Client) -> None:
     stuck(client, "stuck-1")
-    assert get(client, "/sagas/stuck-1")["plan"] == {
+    assert get(client, "/v1/sagas/stuck-1")["plan"] == {
         "cost": None,
-        "chain": ["licence"],
+        "blocking_steps": ["licence"],
         "steps": [
-            {"step": "server", "found": "committed", "stand": 0, "leave": None, "decided": "stuck"},
-            {"step": "licence", "found": "failed", "stand": None, "leave": None, "decided": "stuck"},
+            {"step": "server", "found": "committed", "cost_to_keep": 0, "cost_to_drop": None, "decision": "stuck"},
+            {"step": "licence", "found": "failed", "cost_to_keep": None, "cost_to_drop": None, "decision": "stuck"},
         ],
     }
-    assert client.post("/sagas/stuck-1/resolve", json={"note": ""}).status_code == 422
-    assert client.post("/sagas/stuck-1/resolve", json={"note": "bought one"}).status_code == 200
-    assert get(client, "/sagas/stuck-1")["phase"] == "resolved"
+    assert client.post("/v1/sagas/stuck-1/resolve", json={"note": ""}).status_code == 422
+    assert client.post("/v1/sagas/stuck-1/resolve", json={"note": "bought one"}).status_code == 200
+    assert client.post("/v1/sagas/stuck-1/resolve", json={"note": "bought one"}).status_code == 200
+    assert client.post("/v1/sagas/stuck-1/resolve", json={"note": "again"}).status_code == 409
+    assert [get(client, "/v1/sagas/stuck-1")[word] for word in ("phase", "note")] == [
+        "resolved", "bought one",
+    ]
 
 
 def test_an_answer_is_sent_at_once(client: httpx.Client) -> None:
@@ -378,7 +474,7 @@ def test_an_answer_is_sent_at_once(client: httpx.Client) -> None:
     took = []
     for _ in range(60):
         began = time.monotonic()
-        get(client, "/health")
+        get(client, "/health/live")
         took.append(time.monotonic() - began)
     assert min(took[40:]) < 0.03
 
@@ -389,28 +485,28 @@ def test_figures_and_life(client: httpx.Client) -> None:
     all_done(client, "licence/server", "licence/licence")
     text = client.get("/metrics").text
     for name in (
-        'sagas_started_total{saga="licence"}', 'sagas{phase="ended",saga="licence"}', 'sagas_steps_total{kind="run",outcome="done",saga="licence",step="server"}',
-        "sagas_step_seconds_bucket", "sagas_waiting_for_a_person", "sagas_tasks_ready", "sagas_takeovers_total", "sagas_commits_total", "sagas_http_requests_total",
+        'sagas_started_total{saga="licence"}', 'sagas_current{phase="completed",saga="licence"}', 'sagas_steps_total{action="run",outcome="succeeded",saga="licence",step="server"}',
+        "sagas_step_seconds_bucket", "sagas_attention_required", "sagas_tasks_ready", "sagas_tasks_reclaimed_total", "sagas_commits_total", "sagas_http_requests_total",
     ):
         assert name in text, name
-    assert get(client, "/health") == {"alive": True}
-    assert get(client, "/ready") == {"ready": True, "reason": None}
+    assert get(client, "/health/live") == {"alive": True}
+    assert get(client, "/health/ready") == {"ready": True, "reason": None}
 
 
 def test_the_log_is_lines_of_json(service: Served, client: httpx.Client) -> None:
     """What happens to a saga, and each request with who made it."""
     start(client, "licence", "logged")
     all_done(client, "licence/server", "licence/licence", failing=["licence/licence"])
-    get(client, "/sagas/logged/wait?seconds=60")
+    get(client, "/v1/sagas/logged/wait?seconds=60")
     deadline = time.monotonic() + LONG
-    while '"/sagas/logged/wait"' not in service.told():  # a request is logged once it is answered
+    while '"/v1/sagas/logged/wait"' not in service.told():  # a request is logged once it is answered
         assert time.monotonic() < deadline
         time.sleep(0.05)
     told = [json.loads(line) for line in service.told().splitlines() if not line.startswith("sagas serve: ")]  # what it says before
     assert all({"at", "level", "logger", "message"} <= set(line) for line in told)
     (stuck,) = (line for line in told if line.get("name") == "saga_stuck" and line["key"] == "logged")
     assert (stuck["level"], stuck["logger"], stuck["saga"]) == ("error", "sagas", "licence")
-    asked = next(line for line in told if line.get("path") == "/sagas/logged/wait")
+    asked = next(line for line in told if line.get("path") == "/v1/sagas/logged/wait")
     assert (asked["logger"], asked["method"], asked["status"], asked["who"]) == ("sagas.http", "GET", 200, "local")
 
 
@@ -420,7 +516,7 @@ def test_it_goes_on_after_a_kill(tmp_path: pathlib.Path, place: str) -> None:
         start(client, "trip", "k")
         (flight,) = take(client, "trip/flight", lease=600)
         start(client, "order", "o")
-        client.post("/sagas/o/steps/review", json={"result": 1})
+        client.post("/v1/sagas/o/steps/review/complete", json={"result": 1})
         service.kill()
         service.start()
         assert take(client, "trip/flight", wait=0) == []
@@ -429,49 +525,63 @@ def test_it_goes_on_after_a_kill(tmp_path: pathlib.Path, place: str) -> None:
         service.start()
         assert report(client, flight, result=5).json()["repeated"] is True
         all_done(client, "order/send")
-        assert get(client, "/sagas/o/wait?seconds=60")["results"]["review"] == 1
+        assert get(client, "/v1/sagas/o/wait?seconds=60")["results"]["review"] == 1
         assert service.stop() == 0
     assert "Traceback" not in service.told()
 
 
-def test_a_connection_that_comes_while_it_ends() -> None:
-    """It is ended as those before: else a worker that asks on and on over it would keep the service from ending."""
+def test_it_stops_although_clients_ask_on(tmp_path: pathlib.Path) -> None:
+    """Connections that come while it ends, and one that asks on and on, do not keep it."""
+    with served(tmp_path, DEFINITIONS) as service:
+        over, ended = threading.Event(), []
 
-    class Late:
-        def shutdown(self) -> None:
-            server.server_state.connections.discard(self)
+        def ask_on(is_new: bool) -> None:
+            client = service.client()
+            while not over.is_set():
+                try:
+                    client.get("/health/live")
+                except httpx.TransportError:
+                    ended.append(is_new)
+                    if not is_new:
+                        break
+                if is_new:
+                    client.close()
+                    client = service.client()
+            client.close()
 
-    async def main() -> None:
-        server.config.load()
-        server.lifespan, server.servers = server.config.lifespan_class(server.config), []
-        ending = asyncio.create_task(server.shutdown())
-        for _ in range(3):
-            await asyncio.sleep(0)  # it has begun, and has looked at the connections that there were
-        server.server_state.connections.add(Late())
-        await asyncio.wait_for(ending, LONG)
-
-    server = running.Server(uvicorn.Config(lambda: None, lifespan="off", log_config=None), None, lambda: None)  # type: ignore[arg-type]
-    asyncio.run(main())
+        threads = [threading.Thread(target=ask_on, args=(number % 2 == 0,)) for number in range(6)]
+        for thread in threads:
+            thread.start()
+        try:
+            time.sleep(1.0)
+            began = time.monotonic()
+            assert service.stop() == 0
+            assert time.monotonic() - began < 10
+        finally:
+            over.set()
+            for thread in threads:
+                thread.join(LONG)
+        assert ended.count(False) == 3
 
 
 @pytest.mark.parametrize(
     "files, words, says",
     [
-        ({}, (), "it has no definition"),
-        ({"a.toml": "format = 2\nname = "}, (), "a.toml:2: it is no TOML: Invalid value"),
+        ({}, (), "has no definition NAME.toml"),
+        ({"a.toml": "format = 2\nname = "}, (), "a.toml:2: invalid TOML: Invalid value"),
         (
             {"a.toml": 'format = 2\nname = "a"\n[[step]]\nname = "x"\nprice = 1\n'},
             (),
-            "a.toml:5: it is no definition: step 'x' has no key 'price'",
+            "a.toml:5: invalid definition: step 'x' has no key 'price'",
         ),
         (
             DEFINITIONS | {"order.service.toml": '[step.review]\nkind = "x"\n'},
             (),
-            "order.service.toml:2: step 'review': kind is one of",
+            "order.service.toml:2: step 'review': kind must be one of",
         ),
-        (DEFINITIONS, ("--listen", "0.0.0.0:0"), "it listens on the loopback only"),
-        (DEFINITIONS, ("--listen", "here"), "it is HOST:PORT"),
-        (DEFINITIONS, ("--token-file", "nowhere.toml"), "nowhere.toml: it is not there; `sagas token"),
+        (DEFINITIONS, ("--listen", "0.0.0.0:0"), "only a loopback address is allowed"),
+        (DEFINITIONS, ("--listen", "here"), "use HOST:PORT"),
+        (DEFINITIONS, ("--token-file", "nowhere.toml"), "nowhere.toml: file does not exist; create it with `sagas token"),
         (DEFINITIONS, ("--app", "nowhere:store"), "--app nowhere:store: No module"),
     ],
 )
@@ -489,23 +599,23 @@ def test_a_module_s_steps_run_here(tmp_path: pathlib.Path) -> None:
     """`--app module:store`: functions in the service, and steps of the same saga by workers."""
     (tmp_path / "shop.py").write_text(
         'import sagas, threading\nshop = sagas.Saga("shop")\n\n@shop.step\ndef price(task):\n    return task.input * 2\n\n'
-        'send = shop.step(handler=None, name="send", needs=[price])\nlong = sagas.Saga("long")\n\n'
-        '@long.step(limit=1)\ndef once(task):\n    threading.Event().wait()\n\nstore = sagas.open("unused.db", [shop, long])\n'
+        'send = shop.step(external=True, name="send", needs=[price])\nlong = sagas.Saga("long")\n\n'
+        '@long.step(concurrency=1)\ndef once(task):\n    threading.Event().wait()\n\nstore = sagas.open("unused.db", [shop, long])\n'
     )
     with served(tmp_path, {"order.toml": ORDER_OF_ONE}, "--app", "shop:store") as service, service.client() as client:
         start(client, "shop", "s", 21)
         (task,) = take(client, "shop/send")
         assert task["results"] == {"price": 42}
         report(client, task)
-        assert get(client, "/sagas/s/wait?seconds=60")["phase"] == "ended"
+        assert get(client, "/v1/sagas/s/wait?seconds=60")["phase"] == "completed"
         for key in ("long-1", "long-2"):  # the second waits until the first is over
             start(client, "long", key)
-            assert get(client, f"/sagas/{key}/wait?seconds=0.2")["over"] is False
-        first, second = (get(client, f"/sagas/{key}") for key in ("long-1", "long-2"))
+            assert get(client, f"/v1/sagas/{key}/wait?seconds=0.2")["over"] is False
+        first, second = (get(client, f"/v1/sagas/{key}") for key in ("long-1", "long-2"))
         assert (first["states"], first["waits"]) == ({"once": "running"}, [])
-        assert (second["states"], [one["why"] for one in second["waits"]]) == ({"once": "begun"}, ["limit"])
-        assert "once: running, attempt 1" in client.get("/sagas/long-1/picture.svg").text
-        assert "once: waits, for a place of its limit" in client.get("/sagas/long-2/picture.svg").text
+        assert (second["states"], [one["why"] for one in second["waits"]]) == ({"once": "begun"}, ["concurrency"])
+        assert "once: running, attempt 1" in client.get("/v1/sagas/long-1/picture.svg").text
+        assert "once: waits, for a slot of its concurrency" in client.get("/v1/sagas/long-2/picture.svg").text
 
 
 ORDER_OF_ONE = 'format = 2\nname = "one"\n[[step]]\nname = "a"\n'

@@ -7,7 +7,7 @@ import pathlib
 import pytest
 
 import sagas
-from sagas.server import definitions
+from sagas.server import definition_files
 from sagas.server.toml_lines import Lines
 
 GOOD = """# a trip
@@ -28,54 +28,54 @@ tries = 9
 BESIDE = """# beside it
 [step.review]
 kind = "approval"
-within = 60
+timeout = 60
 
 [step.car]
-backoff = { first = 1, most = 60 }
-limit = 4
+backoff = { initial = 1, maximum = 60 }
+concurrency = 4
 """
 FAULTS = [
-    (GOOD.replace('"trip"', '"Trip"'), BESIDE, "a.toml:3: saga 'Trip': a name has 1 to 32 of a-z"),
+    (GOOD.replace('"trip"', '"Trip"'), BESIDE, "a.toml:3: saga 'Trip': invalid name: use 1 to 32 characters a-z"),
     (
         GOOD.replace("format = 2", "format = 3"),
         BESIDE,
-        "a.toml:2: it is no definition: a definition has the keys format (1 or 2), name and step",
+        "a.toml:2: invalid definition: a definition has the keys format (1 or 2), name and step",
     ),
     (
         GOOD + "price = 1\n",
         BESIDE,
-        "a.toml:15: it is no definition: step 'review' has no key 'price'",
+        "a.toml:15: invalid definition: step 'review' has no key 'price'",
     ),
     (
         GOOD.replace("format", "author = 1\nformat"),
         BESIDE,
-        "a.toml:2: it is no definition: a definition has the keys",
+        "a.toml:2: invalid definition: a definition has the keys",
     ),
-    (GOOD.replace('name = "trip"\n', ""), BESIDE, "a.toml:1: it is no definition: it has no name"),
+    (GOOD.replace('name = "trip"\n', ""), BESIDE, "a.toml:1: invalid definition: it has no name"),
     (
         GOOD.replace('name = "car"\n', ""),
         BESIDE,
-        "a.toml:5: it is no definition: step 1 has no name",
+        "a.toml:5: invalid definition: step 1 has no name",
     ),
     (
         GOOD.replace('name = "car"', "name = 5"),
         BESIDE,
-        "a.toml:6: it is no definition: step 1 has no name",
+        "a.toml:6: invalid definition: step 1 has no name",
     ),
     (
         GOOD.replace('name = "car"', 'name = "a car"'),
         BESIDE,
-        "a.toml:6: saga 'trip', step 'a car': a name has 1 to 32",
+        "a.toml:6: saga 'trip', step 'a car': invalid name: use 1 to 32",
     ),
     (
         GOOD.replace("undo = 5", "undo = -5"),
         BESIDE,
-        "a.toml:9: saga 'trip', step 'car': undo=-5: a price is a whole number",
+        "a.toml:9: saga 'trip', step 'car': undo=-5: must be an integer",
     ),
     (
         GOOD.replace("undo = 5", 'undo = "nevr"'),
         BESIDE,
-        "a.toml:9: saga 'trip', step 'car': undo='nevr': a price is",
+        "a.toml:9: saga 'trip', step 'car': undo='nevr': must be",
     ),
     (
         GOOD.replace("tries = 9", "tries = 10"),
@@ -85,12 +85,12 @@ FAULTS = [
     (
         GOOD.replace('needs = ["car"]', 'needs = "car"'),
         BESIDE,
-        "a.toml:13: saga 'trip', step 'review': needs='car': it is a list",
+        "a.toml:13: saga 'trip', step 'review': needs='car': must be a list",
     ),
     (
         GOOD.replace('needs = ["car"]', 'needs = ["cr"]'),
         BESIDE,
-        "a.toml:11: saga 'trip', step 'review': needs 'cr', which no step is named",
+        "a.toml:11: saga 'trip', step 'review': needs unknown step 'cr'",
     ),
     (
         GOOD.replace('[  # "hotel",', '[ "review",'),
@@ -105,72 +105,72 @@ FAULTS = [
     (
         GOOD + "keep = 7\n",
         BESIDE,
-        "a.toml:15: step 'review': an approval has no prices run and keep",
+        "a.toml:15: step 'review': an approval cannot have run or keep",
     ),
-    (GOOD.replace("undo = 5", "undo = "), BESIDE, "a.toml:9: it is no TOML: Invalid value"),
-    (GOOD.replace("tries = 9\n", "tries ="), BESIDE, "a.toml:14: it is no TOML: Invalid value"),
+    (GOOD.replace("undo = 5", "undo = "), BESIDE, "a.toml:9: invalid TOML: Invalid value"),
+    (GOOD.replace("tries = 9\n", "tries ="), BESIDE, "a.toml:14: invalid TOML: Invalid value"),
     (
         'format = 2\nname = "trip"\nstep = [{ name = "car", price = 1 }]\n',
         "",
-        "a.toml:3: it is no definition: step 'car' has no key 'price'",
+        "a.toml:3: invalid definition: step 'car' has no key 'price'",
     ),
     ('format = 2\n\nname = "trip"\n', "", "a.toml:3: saga 'trip': it has no step"),
-    (GOOD, BESIDE + "[other]\n", "a.service.toml:9: it has tables [step.NAME] alone"),
+    (GOOD, BESIDE + "[other]\n", "a.service.toml:9: only [step.NAME] tables are allowed"),
     (
         GOOD,
         BESIDE.replace("approval", "aproval"),
-        "a.service.toml:3: step 'review': kind is one of work, approval, wait",
+        "a.service.toml:3: step 'review': kind must be one of work, approval, wait",
     ),
     (
         GOOD,
-        BESIDE.replace("within = 60", "until = 60"),
-        "a.service.toml:4: step 'review': approval has no key 'until', but kind, within",
+        BESIDE.replace("timeout = 60", "until = 60"),
+        "a.service.toml:4: step 'review': approval has no key 'until'; its keys are kind, timeout",
     ),
     (
         GOOD,
-        BESIDE.replace("within = 60", "within = -1"),
-        "a.service.toml:4: step 'review': within is a number from 0 to 100,000,000,000",
+        BESIDE.replace("timeout = 60", "timeout = -1"),
+        "a.service.toml:4: step 'review': timeout must be a number from 0 to 100,000,000,000",
     ),
     (
         GOOD,
-        BESIDE.replace("within = 60", "within = inf"),
-        "a.service.toml:4: step 'review': within is a number from 0 to 100,000,000,000",
+        BESIDE.replace("timeout = 60", "timeout = inf"),
+        "a.service.toml:4: step 'review': timeout must be a number from 0 to 100,000,000,000",
     ),
     (
         GOOD,
-        BESIDE.replace("within = 60", "within = 0"),
-        "a.service.toml:4: saga 'trip', step 'review': within=datetime.timedelta(0): it is",
+        BESIDE.replace("timeout = 60", "timeout = 0"),
+        "a.service.toml:4: saga 'trip', step 'review': timeout=datetime.timedelta(0): must be",
     ),
     (
         GOOD,
-        BESIDE.replace("first", "frist"),
-        "a.service.toml:7: step 'car': backoff has the keys factor, first, most, each a number",
+        BESIDE.replace("initial", "intial"),
+        "a.service.toml:7: step 'car': backoff must have only the keys initial, jitter, maximum, multiplier, each with a number",
     ),
     (
         GOOD,
-        BESIDE.replace("first = 1", "first = -1"),
-        "a.service.toml:7: saga 'trip', step 'car': Backoff(first=-1",
+        BESIDE.replace("initial = 1", "initial = -1"),
+        "a.service.toml:7: saga 'trip', step 'car': Backoff(initial=-1",
     ),
     (
         GOOD,
-        BESIDE.replace("first = 1", 'first = "1"'),
-        "a.service.toml:7: step 'car': backoff has the keys factor, first, most, each a number",
+        BESIDE.replace("initial = 1", 'initial = "1"'),
+        "a.service.toml:7: step 'car': backoff must have only the keys initial, jitter, maximum, multiplier, each with a number",
     ),
     (
         GOOD,
-        BESIDE.replace("limit = 4", "limit = 0"),
-        "a.service.toml:8: saga 'trip', step 'car': limit=0: a limit is a whole number from 1 on",
+        BESIDE.replace("concurrency = 4", "concurrency = 0"),
+        "a.service.toml:8: saga 'trip', step 'car': concurrency=0: must be an integer >= 1",
     ),
     (GOOD, BESIDE.replace("step.car", "step.cra"), "a.service.toml:6: no step is named 'cra'"),
     (
         GOOD,
-        BESIDE.replace('kind = "approval"\nwithin = 60', 'kind = "wait"'),
-        "a.service.toml:2: step 'review': a wait has a key until",
+        BESIDE.replace('kind = "approval"\ntimeout = 60', 'kind = "wait"'),
+        "a.service.toml:2: step 'review': kind 'wait' requires the key until",
     ),
     (
         GOOD,
-        BESIDE.replace("limit = 4", "limit = "),
-        "a.service.toml:8: it is no TOML: Invalid value",
+        BESIDE.replace("concurrency = 4", "concurrency = "),
+        "a.service.toml:8: invalid TOML: Invalid value",
     ),
 ]  # fmt: skip
 
@@ -181,7 +181,7 @@ def test_a_fault_has_its_line(tmp_path: pathlib.Path, text: str, beside: str, sa
     (tmp_path / "a.toml").write_text(text)
     (tmp_path / "a.service.toml").write_text(beside)
     with pytest.raises(sagas.DefinitionError) as fault:
-        definitions.read(tmp_path)
+        definition_files.read(tmp_path)
     assert str(fault.value).startswith(f"{tmp_path}/{says}"), str(fault.value)
     assert ".py" not in str(fault.value)
 
@@ -191,17 +191,17 @@ def test_what_is_good(tmp_path: pathlib.Path) -> None:
     both."""
     (tmp_path / "a.toml").write_text(GOOD.replace("undo = 5", "undo = 5\nkeep = 1"))
     (tmp_path / "a.service.toml").write_text(BESIDE)
-    (saga,) = definitions.read(tmp_path)
-    assert [step.name for step in saga.steps] == ["car", "review"] and saga.steps[0].limit == 4
+    (saga,) = definition_files.read(tmp_path)
+    assert [step.name for step in saga.steps] == ["car", "review"] and saga.steps[0].concurrency == 4
     (warning,) = saga.warnings()
     assert warning.startswith(
-        f"{tmp_path}/a.toml:5: saga 'trip', step 'car': its compensation is never called"
+        f"{tmp_path}/a.toml:5: saga 'trip', step 'car': the compensation can never be called"
     )
     (tmp_path / "b.toml").write_text(GOOD)
     with pytest.raises(sagas.DefinitionError) as fault:
-        definitions.read(tmp_path)
-    remedy = "give it another name, or `# version 2` as the first line"
-    told = f"{tmp_path}/b.toml:3: saga 'trip', which {tmp_path}/a.toml is already: {remedy}"
+        definition_files.read(tmp_path)
+    remedy = "use another name, or `# version 2` as the first line"
+    told = f"{tmp_path}/b.toml:3: saga 'trip' is already defined at {tmp_path}/a.toml; {remedy}"
     assert str(fault.value) == told
 
 

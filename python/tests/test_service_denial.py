@@ -15,11 +15,11 @@ from typing import Any
 
 import httpx
 import pytest
-
 from driving import program
-from sagas.server import definitions, running
-from sagas.server.settings import Settings
 from serving import DEFINITIONS, LONG, Served, host, served, start, token
+
+from sagas.server import definition_files, uvicorn_server
+from sagas.server.settings import Settings, StreamSettings
 
 MOST = 60
 
@@ -62,11 +62,11 @@ def trickling(service: Served, count: int, head: str, part: bytes) -> Iterator[N
 
 
 HEADS = [
-    ("POST /sagas HTTP/1.1\r\nContent-Length: 1000000", b" "),
-    ("POST /sagas HTTP/1.1\r\nTransfer-Encoding: chunked", b"1\r\n \r\n"),
+    ("POST /v1/sagas HTTP/1.1\r\nContent-Length: 1000000", b" "),
+    ("POST /v1/sagas HTTP/1.1\r\nTransfer-Encoding: chunked", b"1\r\n \r\n"),
     ("POST /ui/login HTTP/1.1\r\nContent-Length: 4000", b"a"),
-    ("GET /health HTTP/1.1\r\nContent-Length: 1000000", b" "),
-    ("GET /health HTTP/1.1\r\nX-Slow: a", b""),
+    ("GET /health/live HTTP/1.1\r\nContent-Length: 1000000", b" "),
+    ("GET /health/live HTTP/1.1\r\nX-Slow: a", b""),
 ]
 
 
@@ -86,7 +86,7 @@ def test_bodies_that_trickle(tmp_path: pathlib.Path, head: str, part: bytes, tok
     with served(tmp_path, DEFINITIONS, *words) as service, trickling(service, MOST + 1, head, part):
         for _ in range(25):
             with service.client() as client:
-                assert client.get("/health").json() == {"alive": True}
+                assert client.get("/health/live").json() == {"alive": True}
             time.sleep(0.05)
 
 
@@ -110,17 +110,18 @@ def answered(one: socket.socket) -> tuple[int, str]:
     )
     while len(body) < length:
         body += one.recv(65536)
-    return int(head.split(b" ")[1]), json.loads(body).get("error", "")
+    told = json.loads(body) if body.startswith(b"{") else {}
+    return int(head.split(b" ")[1]), told.get("type", "").rpartition(":")[2]
 
 
-POSTS = ("/sagas", "/tasks/take", "/sagas/x/steps/y", "/sagas/x/abort", "/tasks/x/done")
+POSTS = ("/v1/sagas", "/v1/tasks/claim", "/v1/sagas/x/steps/y/complete", "/v1/sagas/x/abort", "/v1/tasks/x/complete")
 REFUSED: list[tuple[str, str | None, set[int]]] = [
     *((path, name, {401, 429}) for path in POSTS for name in (None, "wrong")),
-    ("/sagas", "worker", {403}),
-    ("/tasks/take", "caller", {403}),
-    ("/sagas/x/steps/y", "caller", {403}),
-    ("/sagas/x/abort", "approver", {403}),
-    ("/sagas/x/resolve", "approver", {403}),
+    ("/v1/sagas", "worker", {403}),
+    ("/v1/tasks/claim", "caller", {403}),
+    ("/v1/sagas/x/steps/y/complete", "caller", {403}),
+    ("/v1/sagas/x/abort", "approver", {403}),
+    ("/v1/sagas/x/resolve", "approver", {403}),
     ("/ui/start", None, {403}),
 ]  # fmt: skip
 
@@ -150,17 +151,17 @@ def test_who_may_not_is_told_by_the_head_alone(guarded: tuple[Served, dict[str, 
             status, error = answered(one)
             assert status in statuses and time.monotonic() - began < 10, (path, name, error)
             one.sendall(b"[" * 100_000)  # no JSON, and deep: nobody reads it
-            one.sendall(f"GET /health HTTP/1.1\r\nHost: {service.address}\r\n\r\n".encode())
+            one.sendall(f"GET /health/live HTTP/1.1\r\nHost: {service.address}\r\n\r\n".encode())
             assert answered(one) == (200, "")
 
 
 def test_a_body_is_looked_at_behind_the_token(guarded: tuple[Served, dict[str, str]]) -> None:
     """What is no JSON is told only to who may send it."""
     service, tokens = guarded
-    for role, status in (("worker", 403), ("approver", 403), ("caller", 422)):
+    for role, status in (("worker", 403), ("approver", 403), ("caller", 400)):
         with service.client(tokens[role]) as client:
             headers = {"content-type": "application/json"}
-            assert client.post("/sagas", content=b"{", headers=headers).status_code == status
+            assert client.post("/v1/sagas", content=b"{", headers=headers).status_code == status
 
 
 Ask = Callable[[tuple[str, int]], Awaitable[None]]
@@ -169,13 +170,13 @@ Ask = Callable[[tuple[str, int]], Awaitable[None]]
 def inside(folder: pathlib.Path, ask: Ask, **more: object) -> None:
     """Asks a service in this program, with settings that a process would take too long for."""
     Served(folder)
-    some = definitions.read(folder / "definitions")
+    some = definition_files.read(folder / "definitions")
     told = Settings(str(folder / "store.db"), some, **more)  # type: ignore[arg-type]
 
     async def main() -> None:
         opened = asyncio.Event()
         with socket.create_server((host(), 0)) as listening:
-            at_work = asyncio.create_task(running.run(told, listening, opened.set))
+            at_work = asyncio.create_task(uvicorn_server.run(told, listening, opened.set))
             await opened.wait()
             try:
                 await ask(listening.getsockname())
@@ -197,7 +198,7 @@ def test_a_body_has_one_time(tmp_path: pathlib.Path, monkeypatch: pytest.MonkeyP
         ):
             back, there = await asyncio.open_connection(*address)
             there.write(
-                f"POST /sagas HTTP/1.1\r\nHost: 127.0.0.1\r\n"
+                f"POST /v1/sagas HTTP/1.1\r\nHost: 127.0.0.1\r\n"
                 f"Content-Type: application/json\r\n{length}\r\n\r\n".encode()
             )
             began, answer = time.monotonic(), asyncio.ensure_future(back.readuntil(b"\r\n\r\n"))
@@ -232,7 +233,7 @@ class Browsing:
 
     async def stream(self, name: str) -> tuple[int, str]:
         """Opens one; gives its status, and what was said where it was refused."""
-        path = "/ui/events" if name == "page" else "/events"
+        path = "/ui/events" if name == "page" else "/v1/events"
         client = self.clients[name]
         answer = await client.send(client.build_request("GET", path), stream=True)
         self.there.append(answer)
@@ -270,8 +271,8 @@ def test_streams_are_shared(tmp_path: pathlib.Path, monkeypatch: pytest.MonkeyPa
             await asyncio.sleep(0.05)
         await some.close()
 
-    few = {"most_streams": 7, "most_streams_each": 3, "kept_streams": 2}
-    inside(tmp_path, ask, tokens=tmp_path / "tokens.toml", **few)
+    few = StreamSettings(most=7, most_each=3, kept=2)
+    inside(tmp_path, ask, tokens=tmp_path / "tokens.toml", streams=few)
 
 
 def test_idle_ones_give_way_before_those_at_work(tmp_path: pathlib.Path) -> None:
@@ -284,15 +285,15 @@ def test_idle_ones_give_way_before_those_at_work(tmp_path: pathlib.Path) -> None
             start(client, "trip", "slow")
         works = stack.enter_context(raw(service))
         works.sendall(
-            f"GET /sagas/slow/wait?seconds=5 HTTP/1.1\r\nHost: {service.address}\r\n\r\n".encode()
+            f"GET /v1/sagas/slow/wait?seconds=5 HTTP/1.1\r\nHost: {service.address}\r\n\r\n".encode()
         )
         idle = [stack.enter_context(raw(service)) for _ in range(15)]
         for one in idle:
-            one.sendall(f"GET /health HTTP/1.1\r\nHost: {service.address}\r\n\r\n".encode())
+            one.sendall(f"GET /health/live HTTP/1.1\r\nHost: {service.address}\r\n\r\n".encode())
             assert answered(one) == (200, "")
         for _ in range(3):
             one = stack.enter_context(raw(service))
-            one.sendall(f"GET /health HTTP/1.1\r\nHost: {service.address}\r\n\r\n".encode())
+            one.sendall(f"GET /health/live HTTP/1.1\r\nHost: {service.address}\r\n\r\n".encode())
             assert answered(one) == (200, "")
         assert [is_over(one) for one in idle] == [True] * 3 + [False] * 12
         assert answered(works) == (200, "")

@@ -1,8 +1,10 @@
-"""docs/SERVICE.md is run: its commands, in their order, in one shell, each output compared; its settings and alerts are looked at."""
+"""The tutorial on the service is run: its commands, in their order, in one shell, each output
+compared. The routes of reference/http.md, the unit and the alerts are looked at."""
 
 from __future__ import annotations
 
 import configparser
+import json
 import os
 import pathlib
 import re
@@ -10,20 +12,21 @@ import shlex
 import signal
 import subprocess
 import sys
-import tomllib
 
 import pytest
-
+import tomllib
 from serving import LONG, environment, host, served, start, take, token
 
 TOP = pathlib.Path(__file__).resolve().parents[2]
-PAGE = (TOP / "docs" / "SERVICE.md").read_text()
+REFERENCE = TOP / "docs" / "reference"
+PAGE = (REFERENCE / "http.md").read_text()
+TUTORIAL = (TOP / "docs" / "tutorials" / "service.md").read_text()
 
 
 def commands() -> list[tuple[str, str]]:
-    """Each command of the page, with what it prints."""
+    """Each command of the tutorial, with what it prints."""
     found = []
-    for kind, block in re.findall(r"^```(\w*)\n(.*?)^```$", PAGE, re.S | re.M):
+    for kind, block in re.findall(r"^```(\w*)\n(.*?)^```$", TUTORIAL, re.S | re.M):
         if kind:  # it is no shell's
             continue
         for part in re.split(r"^\$ ", block, flags=re.M)[1:]:
@@ -45,7 +48,7 @@ def folder_of(tmp_path: pathlib.Path) -> dict[str, str]:
 
 
 def test_the_page(tmp_path: pathlib.Path) -> None:
-    """From the start of the service to a stuck saga resolved, and a backup restored."""
+    """From the start of the service to a stuck saga resolved."""
     told, address = commands(), host()
     assert len(told) > 20
     script = ["trap 'kill $(jobs -p) 2>/dev/null; wait' EXIT"]
@@ -63,30 +66,55 @@ def test_the_page(tmp_path: pathlib.Path) -> None:
 
 
 def test_each_path_is_described() -> None:
-    """The tables of the page have each call of the schema."""
-    words = re.findall(r"`(?:GET|POST) (/[^`?\s]*)", PAGE) + ["/metrics", "/health", "/ready"]
-    described = {re.sub(r"KEY|STEP|TOKEN", "{}", path) for path in words}
-    from sagas.server.app import application
-    from sagas.server.definitions import read
-    from sagas.server.settings import Settings
+    """The reference has each call of the schema, and no other."""
+    words = re.findall(r"`(?:GET|POST|DELETE) (/[^`?\s]*)", PAGE)
+    described = {re.sub(r"KEY|STEP|ATTEMPT_ID|NAME", "{}", path) for path in words}
+    from sagas.server.app import operations
 
-    app, _ = application(Settings("unused.db", read(TOP / "examples" / "service" / "definitions")))
-    assert {re.sub(r"\{\w+\}", "{}", path) for path in app.openapi()["paths"]} == described
+    assert {re.sub(r"\{\w+\}", "{}", one.path) for one in operations()} == described
 
 
-def test_alerts_speak_of_figures_that_are_there(tmp_path: pathlib.Path) -> None:
-    """Each figure that an alert names is told by a service that has done something."""
-    names = set(re.findall(r"sagas_\w+", " ".join(re.findall(r"expr: (.*)", (TOP / "examples" / "service" / "alerts.yml").read_text()))))
+def test_each_command_is_described() -> None:
+    """The pages have each command of `sagas store`, and each option of these, `serve` and `token`."""
+    from sagas.cli.store_command import parser as store
+    from sagas.server.command import parser as serve
+    from sagas.server.command import token_parser
+
+    (commands,) = (action.choices for action in store()._actions if action.dest == "command")
+    page = (REFERENCE / "cli-store.md").read_text()
+    headings = " ".join(re.findall(r"^## (.*)$", page, re.M))
+    assert {name for name in commands if not re.search(rf"`{name}[ `]", headings)} == set()
+    pages = {page: commands.values(), (TOP / "docs" / "guides" / "service.md").read_text(): (serve(), token_parser())}
+    for text, parsers in pages.items():
+        options = {word for one in parsers for action in one._actions for word in action.option_strings if word.startswith("--")}
+        assert {word for word in options - {"--help"} if not re.search(rf"{word}\b", text)} == set()
+
+
+def test_metrics_are_described(tmp_path: pathlib.Path) -> None:
+    """The reference has each figure that a service tells, and each that an alert names is among them."""
+    alerts = " ".join(re.findall(r"expr: (.*)", (TOP / "examples" / "service" / "alerts.yml").read_text()))
+    board = json.loads((TOP / "examples" / "service" / "grafana.json").read_text())
+    targets = [target for panel in board["panels"] for target in panel["targets"]]
+    shown = " ".join(target["expr"] for target in targets)
+    names = {re.sub("_bucket$", "", name) for name in re.findall(r"sagas_\w+", f"{alerts} {shown}")}
+    names = {name.removesuffix("_total") if name.endswith("_total") else name for name in names}
+    for text in (alerts, shown):
+        reasons = set(re.findall(r'reason="(\w+)"', text))
+        assert {"stuck", "undo_failed", "unknown", "cannot_decode"} <= reasons
+    assert len({panel["id"] for panel in board["panels"]}) == len(board["panels"])
     with served(tmp_path) as service, service.client() as client:
         start(client, "trip", "a")
         take(client, "trip/flight")
         text = client.get("/metrics").text
-    assert names and all(f"# TYPE {name.removesuffix('_total')}" in text or f"# TYPE {name} " in text for name in names), names
+    told = {name for name in re.findall(r"# TYPE (sagas_\w+)", text) if not name.endswith("_created")}
+    counted = {name.removesuffix("_total") for name in told}
+    assert names and names <= counted, names - counted
+    assert told == set(re.findall(r"`(sagas_\w+[a-z])[{`]", (REFERENCE / "metrics.md").read_text()))
 
 
 def test_the_unit_starts_a_service(tmp_path: pathlib.Path) -> None:
     """Its command, with the folders of this test; it has time to end, and descriptors for its connections."""
-    unit = configparser.ConfigParser(interpolation=None)
+    unit = configparser.ConfigParser(interpolation=None, strict=False)
     unit.read(TOP / "examples" / "service" / "sagas.service")
     service = unit["Service"]
     assert int(service["TimeoutStopSec"]) > 20 and int(service["LimitNOFILE"]) > 2000
@@ -103,6 +131,14 @@ def test_the_unit_starts_a_service(tmp_path: pathlib.Path) -> None:
         finally:
             process.kill()
     assert (tmp_path / "store.db").exists()
+
+
+def test_the_unit_is_hardened() -> None:
+    """systemd's own measure of what the service may do: at most 2.0 of 10."""
+    unit = TOP / "examples" / "service" / "sagas.service"
+    words = ["systemd-analyze", "security", "--offline=true", "--no-pager", "--threshold=20", str(unit)]
+    done = subprocess.run(words, capture_output=True, text=True, check=False)
+    assert done.returncode == 0, done.stdout[-300:] + done.stderr
 
 
 @pytest.mark.parametrize("name", ["trip.toml", "trip.service.toml", "licence.toml"])

@@ -12,11 +12,12 @@ from typing import Any
 
 import httpx
 import pytest
+from serving import DEFINITIONS, LONG, Served, error_of, report, start, take, token
 
-from sagas.looks import Looks
-from sagas.postgresql import PostgreSQL
-from sagas.sqlite import Reader
-from serving import DEFINITIONS, LONG, Served, report, start, take, token
+from sagas.inspection import saga as one_saga
+from sagas.inspection.question import StoreReader
+from sagas.storage.postgresql.storage import PostgreSQL
+from sagas.storage.sqlite.storage import Reader
 
 PAUSE = """format = 2
 name = "pause"
@@ -39,18 +40,18 @@ def price(task):
 """
 ROLES = {"ada": "worker", "bob": "worker", "caller": "caller", "operator": "operator"}
 WORDS: list[tuple[str, dict[str, Any]]] = [
-    ("done", {"result": "forged"}),
-    ("failed", {"error": "forged", "final": True}),
-    ("failed", {"error": "forged"}),
+    ("complete", {"result": "forged"}),
+    ("fail", {"error": "forged", "final": True}),
+    ("fail", {"error": "forged"}),
     ("unknown", {"error": "forged"}),
-    ("beat", {"seconds": 600}),
+    ("heartbeat", {"seconds": 600}),
 ]  # fmt: skip
 
 
 class World:
     """Services over one store, with a client of each for each token."""
 
-    looks: Looks
+    looks: StoreReader
 
     def __init__(
         self, folder: pathlib.Path, store: str | None, stack: contextlib.ExitStack
@@ -84,12 +85,12 @@ class World:
         of the same log."""
         assert start(self.caller, definition, key).status_code == 201
         deadline = time.monotonic() + LONG
-        while (view := self.looks.saga(key)) is None:
+        while (view := self.looks.ask(one_saga.view(key))) is None:
             assert time.monotonic() < deadline
         return view.token
 
     def saga(self, key: str) -> Any:
-        return self.operator.get(f"/sagas/{key}").json()
+        return self.operator.get(f"/v1/sagas/{key}").json()
 
     def waits(self, key: str, why: str) -> None:
         """Until the saga waits for that."""
@@ -104,8 +105,8 @@ class World:
         found = set()
         for client in self.clients[by]:
             for verb, body in verbs:
-                answer = client.post(f"/tasks/{task}/{verb}", json={"lease": lease, **body})
-                found.add((answer.status_code, answer.json().get("error", "")))
+                answer = client.post(f"/v1/tasks/{task}/{verb}", json={"lease": lease, **body})
+                found.add((answer.status_code, error_of(answer) if answer.is_error else ""))
         return found
 
 
@@ -114,7 +115,7 @@ def world(tmp_path_factory: pytest.TempPathFactory, store: str | None) -> Iterat
     folder = tmp_path_factory.mktemp("forgeries")
     with contextlib.ExitStack() as stack:
         found = World(folder, store, stack)
-        found.looks = Looks(
+        found.looks = StoreReader(
             PostgreSQL(store).reader() if store else Reader(str(folder / "one" / "store.db"))
         )
         stack.callback(found.looks.close)
@@ -180,7 +181,7 @@ def test_what_no_worker_was_given(
     if why:
         world.waits(key, why)
     before = world.saga(key)
-    assert world.forged(f"{begin}-{step}-run-1", 0) == {(422, "BadRequest")}
+    assert world.forged(f"{begin}-{step}-run-1", 0) == {(422, "InvalidRequest")}
     is_unmoved(world, key, before)
     for guess in guesses(world):
         assert world.forged(f"{begin}-{step}-run-1", guess) == INVALID, guess
@@ -198,9 +199,10 @@ def test_what_no_worker_was_given(
         assert task["key"] == key and report(world.ada, task, result=1).json() == {
             "kept": True,
             "repeated": False,
+            "next": None,
         }
     assert (
-        world.caller.post(f"/sagas/{key}/abort", json={}).status_code == 200
+        world.caller.post(f"/v1/sagas/{key}/abort", json={}).status_code == 200
     )  # its further tasks are no other test's
 
 
@@ -209,29 +211,30 @@ def test_another_worker_s_task(world: World) -> None:
     worker reports it at any service, and once."""
     begin = world.start("few", "forged-other")
     (task,) = take(world.ada, "few/a")
-    assert task["token"] == f"{begin}-a-run-1"
+    assert task["attempt_id"] == f"{begin}-a-run-1"
     before = world.saga("forged-other")
     for guess in [*guesses(world), task["lease"]]:
-        assert world.forged(task["token"], guess) == INVALID, guess
+        assert world.forged(task["attempt_id"], guess) == INVALID, guess
     assert (
-        world.forged(task["token"], task["lease"], by="operator") == INVALID
+        world.forged(task["attempt_id"], task["lease"], by="operator") == INVALID
     )  # an operator may do what workers do, with tasks of its own
     is_unmoved(world, "forged-other", before)
-    assert report(world.clients["ada"][-1], task, "failed", error="full").json() == {
+    assert report(world.clients["ada"][-1], task, "fail", error="full").json() == {
         "kept": True,
         "repeated": False,
+            "next": None,
     }
     (again,) = take(world.ada, "few/a/undo", "few/a", wait=1) or [None]
-    assert again is None or again["token"] != task["token"]
+    assert again is None or again["attempt_id"] != task["attempt_id"]
     for guess in [
         *guesses(world),
         task["lease"],
     ]:  # what was reported is told to none but its worker, not even whether a guess is right
         assert (
             world.forged(
-                task["token"],
+                task["attempt_id"],
                 guess,
-                verbs=[("done", {"result": None}), ("failed", {"error": "full"})],
+                verbs=[("complete", {"result": None}), ("fail", {"error": "full"})],
             )
             == INVALID
         )
@@ -245,14 +248,14 @@ def test_a_lease_is_of_one_attempt(world: World) -> None:
     (car,) = take(world.ada, "trip/car")
     report(world.ada, car, result=1)
     (first,) = take(world.ada, "trip/tour")
-    report(world.ada, first, "failed", error="not yet")
+    report(world.ada, first, "fail", error="not yet")
     (second,) = take(world.ada, "trip/tour")
-    assert second["token"] != first["token"]
+    assert second["attempt_id"] != first["attempt_id"]
     for lease in (first["lease"], car["lease"], flight["lease"]):
-        assert world.forged(second["token"], lease, by="ada") == INVALID
+        assert world.forged(second["attempt_id"], lease, by="ada") == INVALID
     assert report(world.ada, second, result=5).json()["kept"] is True
     assert (
-        world.operator.get("/sagas/forged-attempt/wait?seconds=60").json()["results"]["tour"] == 5
+        world.operator.get("/v1/sagas/forged-attempt/wait?seconds=60").json()["results"]["tour"] == 5
     )
 
 
@@ -269,20 +272,20 @@ def test_what_waits_for_a_person(world: World) -> None:
     before = world.saga("forged-unknown")
     assert [one["person"] for one in before["waits"]] == [True]
     for guess in [*guesses(world), tour["lease"]]:
-        assert world.forged(tour["token"], guess) == INVALID, guess
-    late = world.forged(tour["token"], tour["lease"], by="ada", verbs=[WORDS[0], WORDS[4]])
+        assert world.forged(tour["attempt_id"], guess) == INVALID, guess
+    late = world.forged(tour["attempt_id"], tour["lease"], by="ada", verbs=[WORDS[0], WORDS[4]])
     assert late == {(409, "LeaseLost")}
-    assert world.forged(tour["token"], tour["lease"], by="ada", verbs=WORDS[1:3]) == {
-        (409, "ReportedOtherwise")
+    assert world.forged(tour["attempt_id"], tour["lease"], by="ada", verbs=WORDS[1:3]) == {
+        (409, "ConflictingReport")
     }
     is_unmoved(world, "forged-unknown", before)
     assert (
         world.operator.post(
-            "/sagas/forged-unknown/steps/tour", json={"result": "it is there"}
+            "/v1/sagas/forged-unknown/steps/tour/complete", json={"result": "it is there"}
         ).status_code
         == 200
     )
     assert (
-        world.operator.get("/sagas/forged-unknown/wait?seconds=60").json()["results"]["tour"]
+        world.operator.get("/v1/sagas/forged-unknown/wait?seconds=60").json()["results"]["tour"]
         == "it is there"
     )

@@ -5,7 +5,6 @@ from __future__ import annotations
 import random
 
 import pytest
-
 from server import Server
 from service_kills import play
 

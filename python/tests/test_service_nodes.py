@@ -13,12 +13,12 @@ from typing import Any
 import httpx
 import pytest
 from hypothesis import HealthCheck, settings
-
-import sagas
 from server import Server, folder_of_programs
-from serving import DEFINITIONS, LONG, Served, all_done, report, served, start, stuck, take
+from serving import DEFINITIONS, LONG, Served, all_done, error_of, report, served, start, stuck, take
 from test_service_hostile import is_well, send_any_json, send_odd_texts
 from test_service_workers import working
+
+import sagas
 
 LEASE = 3.0
 
@@ -58,38 +58,35 @@ def test_a_task_goes_through_both(both: Pair) -> None:
     assert start(one, "trip", "both", {"to": "Rome"}).status_code == 201
     again = start(two, "trip", "both", {"to": "Rome"})
     assert (again.status_code, again.json()["new"]) == (200, False)
-    assert start(two, "trip", "both", {"to": "Oslo"}).json()["error"] == "KeyConflict"
+    assert error_of(start(two, "trip", "both", {"to": "Oslo"})) == "KeyConflict"
     (flight,) = take(two, "trip/flight")
     assert (flight["key"], flight["input"]) == ("both", {"to": "Rome"}) and 500 < flight["seconds"] <= 600
     assert take(one, "trip/flight", wait=0) == take(two, "trip/flight", wait=0) == []
-    assert two.post(f"/tasks/{flight['token']}/beat", json={"lease": flight["lease"], "seconds": 700}).json()["until"] > time.time() + 600
+    assert two.post(f"/v1/tasks/{flight['attempt_id']}/heartbeat", json={"lease": flight["lease"], "seconds": 700}).json()["until"] > time.time() + 600
     number, _, signed = flight["lease"].partition(".")
     forged = {**flight, "lease": f"{int(number) - 1}.{signed}"}
     for client in (one, two):
-        assert (
-            client.post(f"/tasks/{flight['token']}/beat", json={"lease": forged["lease"]}).json()[
-                "error"
-            ]
-            == "InvalidLease"
-        )
-        assert report(client, forged, "failed", error="no").json()["error"] == "InvalidLease"
-    assert report(one, flight, result={"seat": 1}).json() == {"kept": True, "repeated": False}
-    assert report(two, flight, result={"seat": 1}).json() == {"kept": True, "repeated": True}
-    assert report(two, flight, result={"seat": 2}).json()["error"] == "ReportedOtherwise"
-    assert two.post(f"/tasks/{flight['token']}/beat", json={"lease": flight["lease"]}).json()["error"] == "LeaseLost"
+        told = {"lease": forged["lease"]}
+        answer = client.post(f"/v1/tasks/{flight['attempt_id']}/heartbeat", json=told)
+        assert error_of(answer) == "InvalidLease"
+        assert error_of(report(client, forged, "fail", error="no")) == "InvalidLease"
+    assert report(one, flight, result={"seat": 1}).json() == {"kept": True, "repeated": False, "next": None}
+    assert report(two, flight, result={"seat": 1}).json() == {"kept": True, "repeated": True, "next": None}
+    assert error_of(report(two, flight, result={"seat": 2})) == "ConflictingReport"
+    assert error_of(two.post(f"/v1/tasks/{flight['attempt_id']}/heartbeat", json={"lease": flight["lease"]})) == "LeaseLost"
     (car,) = take(two, "trip/car")
     assert car["results"] == {"flight": {"seat": 1}}
     answer = report(two, car, result=7, next={"steps": ["trip/tour"], "wait": 10, "lease": 600}).json()
-    (tour,) = answer["tasks"]
-    report(two, tour, "failed", error="full", final=True)
+    (tour,) = answer["next"]["tasks"]
+    report(two, tour, "fail", error="full", final=True)
     (undo,) = take(two, "trip/car/undo")
-    assert undo["result"] == 7 and undo["action_token"] == car["effect_token"]
+    assert undo["result"] == 7 and undo["original_idempotency_key"] == car["idempotency_key"]
     report(two, undo)
     for client in (one, two):
-        end = client.get("/sagas/both/wait?seconds=60").json()
+        end = client.get("/v1/sagas/both/wait?seconds=60").json()
         assert end["states"] == {"flight": "committed", "car": "undone", "tour": "failed"} and end["plan"]["cost"] == 15
-        assert client.get("/sagas?search=both").json()["sagas"][0]["key"] == "both"
-        assert 'phase="ended",saga="trip"' in client.get("/metrics").text
+        assert client.get("/v1/sagas?search=both").json()["sagas"][0]["key"] == "both"
+        assert 'phase="completed",saga="trip"' in client.get("/metrics").text
         assert "both" in client.get("/ui/sagas/both").text
 
 
@@ -98,18 +95,18 @@ def test_what_has_begun_at_the_other(both: Pair) -> None:
     start(both.one, "trip", "begun")
     for client in (both.one, both.two):
         deadline = time.monotonic() + LONG
-        while not (waits := client.get("/sagas/begun").json()["waits"]):
+        while not (waits := client.get("/v1/sagas/begun").json()["waits"]):
             assert time.monotonic() < deadline
         assert [(one["step"], one["why"]) for one in waits] == [("flight", "worker")]
         assert "waits for a worker" in client.get("/ui/sagas/begun").text
-    assert both.two.post("/sagas/begun/abort", json={}).json()["aborted"] is True
-    assert both.one.get("/sagas/begun/wait?seconds=60").json()["aborted"] is True
+    assert both.two.post("/v1/sagas/begun/abort", json={}).json()["aborted"] is True
+    assert both.one.get("/v1/sagas/begun/wait?seconds=60").json()["aborted"] is True
 
 
 def test_a_long_take_hears_of_the_other_s_task(both: Pair) -> None:
     """Whoever waits at one gets what comes at the other; one who has gone gets none."""
     with pytest.raises(httpx.ReadTimeout), both.services[1].client() as gone:
-        gone.post("/tasks/take", json={"steps": ["licence/server"], "wait": 30}, timeout=0.5)
+        gone.post("/v1/tasks/claim", json={"steps": ["licence/server"], "wait": 30}, timeout=0.5)
     found: list[Any] = []
     taker = threading.Thread(target=lambda: found.extend(take(both.two, "licence/server", wait=30, most=5)))
     with both.services[0].client() as client:
@@ -118,8 +115,8 @@ def test_a_long_take_hears_of_the_other_s_task(both: Pair) -> None:
         start(client, "licence", "heard")
         taker.join(LONG)
         assert [task["key"] for task in found] == ["heard"]
-        (queue,) = [queue for queue in client.get("/queues").json()["queues"] if queue["step"] == "server"]
-        assert queue == both.two.get("/queues").json()["queues"][0] and (queue["ready"], queue["taken"]) == (0, 1)
+        (queue,) = [queue for queue in client.get("/v1/queues").json()["queues"] if queue["step"] == "server"]
+        assert queue == both.two.get("/v1/queues").json()["queues"][0] and (queue["ready"], queue["claimed"]) == (0, 1)
         assert "local/w" in client.get("/ui/workers").text  # who asked at the other
     report(both.two, found[0])
     all_done(both.two, "licence/licence")
@@ -129,7 +126,7 @@ def test_what_has_waited_longest_comes_first(both: Pair) -> None:
     """Whichever service has it; and many who wait at one get what comes at the other, all of them."""
     start(both.one, "licence", "first")
     deadline = time.monotonic() + LONG
-    while not any(queue["oldest"] < time.time() - 2 for queue in both.two.get("/queues").json()["queues"]):
+    while not any(queue["oldest"] < time.time() - 2 for queue in both.two.get("/v1/queues").json()["queues"]):
         assert time.monotonic() < deadline
         time.sleep(0.1)
     start(both.two, "licence", "second")
@@ -137,14 +134,14 @@ def test_what_has_waited_longest_comes_first(both: Pair) -> None:
     (second,) = take(both.two, "licence/server")
     assert (first["key"], second["key"]) == ("first", "second")
     for task in (first, second):
-        report(both.one, task, "failed", error="no", final=True)
+        report(both.one, task, "fail", error="no", final=True)
     found: list[str] = []
 
     def work() -> None:
         with both.services[1].client() as client:
             (task,) = take(client, "licence/server")
             found.append(task["key"])
-            report(client, task, "failed", error="no", final=True)
+            report(client, task, "fail", error="no", final=True)
 
     keys = [f"many-{number}" for number in range(8)]
     takers = [threading.Thread(target=work) for _ in keys]
@@ -161,29 +158,29 @@ def test_people_say_it_anywhere(both: Pair) -> None:
     """An approval, an abort and a stuck saga that is resolved, each at the service that has not the saga."""
     start(both.one, "order", "approved")
     deadline = time.monotonic() + LONG
-    while not both.two.get("/sagas/approved").json()["waits"]:
+    while not both.two.get("/v1/sagas/approved").json()["waits"]:
         assert time.monotonic() < deadline
     answered = both.two.post(
-        "/sagas/approved/steps/review", json={"result": "yes", "note": "by two"}
+        "/v1/sagas/approved/steps/review/complete", json={"result": "yes", "note": "by two"}
     )
     assert answered.status_code == 200
-    other = both.two.post("/sagas/approved/steps/review", json={"result": 1})
-    assert other.json()["error"] == "ReportedOtherwise"
+    other = both.two.post("/v1/sagas/approved/steps/review/complete", json={"result": 1})
+    assert error_of(other) == "ConflictingReport"
     all_done(both.two, "order/send")
-    assert both.two.get("/sagas/approved/wait?seconds=60").json()["results"]["review"] == "yes"
-    notes = [event["value"] for event in both.one.get("/sagas/approved/log").json()["events"] if event["event"] == "note"]
+    assert both.two.get("/v1/sagas/approved/wait?seconds=60").json()["results"]["review"] == "yes"
+    notes = [event["value"] for event in both.one.get("/v1/sagas/approved/log").json()["events"] if event["event"] == "note"]
     assert [(note["by"], note["note"], note["answer"]) for note in notes if note["answer"] is True] == [("local", "by two", True)]
     start(both.one, "order", "aborted")
-    assert both.two.post("/sagas/aborted/abort", json={"note": "no"}).json()["aborted"] is True
-    assert both.one.get("/sagas/aborted/wait?seconds=60").json()["aborted"] is True
+    assert both.two.post("/v1/sagas/aborted/abort", json={"note": "no"}).json()["aborted"] is True
+    assert both.one.get("/v1/sagas/aborted/wait?seconds=60").json()["aborted"] is True
     stuck(both.one, "stuck")
-    assert both.two.post("/sagas/stuck/resolve", json={"note": "bought one"}).status_code == 200
-    assert both.one.get("/sagas/stuck").json()["phase"] == "resolved"
+    assert both.two.post("/v1/sagas/stuck/resolve", json={"note": "bought one"}).status_code == 200
+    assert both.one.get("/v1/sagas/stuck").json()["phase"] == "resolved"
 
 
 def test_events_of_all(both: Pair) -> None:
     """A stream at one has what happens at the other."""
-    with both.services[1].client() as other, other.stream("GET", "/events?key=streamed") as stream:
+    with both.services[1].client() as other, other.stream("GET", "/v1/events?key=streamed") as stream:
         lines = stream.iter_lines()
         assert next(lines).startswith("retry")
         start(both.one, "licence", "streamed")
@@ -194,7 +191,7 @@ def test_events_of_all(both: Pair) -> None:
                 names.append(line[7:].strip())
                 if names[-1] == "saga_ended":
                     break
-    assert names[0] == "saga_started" and names.count("step_begun") == 2 and "step_done" in names
+    assert names[0] == "saga_started" and names.count("step_started") == 2 and "step_succeeded" in names
 
 
 def test_whatever_is_asked(both: Pair) -> None:
@@ -209,27 +206,30 @@ def test_whatever_is_asked(both: Pair) -> None:
 
 
 def test_one_is_killed(tmp_path: pathlib.Path, url: str) -> None:
-    """Its sagas, leases and reports are the other's after its lease; the tasks that it gave out are reported there."""
+    """Its sagas are the other's after its lease; its tasks are claimed and reported there at once."""
     with pair(tmp_path, url) as two:
         start(two.one, "trip", "k")
         (flight,) = take(two.two, "trip/flight")
+        start(two.one, "trip", "waits")
         start(two.one, "order", "o")
-        two.one.post("/sagas/o/steps/review", json={"result": 1})
+        two.one.post("/v1/sagas/o/steps/review/complete", json={"result": 1})
         two.services[0].kill()
-        deadline = time.monotonic() + LONG
-        while (answer := report(two.two, flight, result=5)).status_code == 503:  # nobody drives it, until the lease has run out
-            assert time.monotonic() < deadline and answer.json()["error"] == "NotHere"
-            time.sleep(0.1)
-        assert answer.json()["repeated"] is False
+        (waits,) = take(two.two, "trip/flight")
+        assert (waits["key"], waits["definition"], waits["step"]) == ("waits", "trip", "flight")
+        assert report(two.two, flight, result=5).json() == {"kept": True, "repeated": False, "next": None}
+        assert report(two.two, waits, result=6).json() == {"kept": True, "repeated": False, "next": None}
         assert report(two.two, flight, result=5).json()["repeated"] is True
         worker = sagas.Worker([service.url for service in two.services], wait=1.0)
         for saga, step in (("order", "send"), ("trip", "car"), ("trip", "tour")):
             worker.step(saga, step)(lambda task: task.step)
         with working(worker):  # its first service does not answer
-            two.two.get("/sagas/k/wait?seconds=60")
-        assert two.two.get("/sagas/o/wait?seconds=60").json()["phase"] == "ended"
-        assert two.two.get("/sagas/k/wait?seconds=60").json()["results"] == {"flight": 5, "car": "car", "tour": "tour"}
-        assert "sagas_logs_taken_total 1.0" in two.two.get("/metrics").text
+            two.two.get("/v1/sagas/k/wait?seconds=60")
+            two.two.get("/v1/sagas/waits/wait?seconds=60")
+        assert two.two.get("/v1/sagas/o/wait?seconds=60").json()["phase"] == "completed"
+        for key, flown in (("k", 5), ("waits", 6)):
+            results = two.two.get(f"/v1/sagas/{key}/wait?seconds=60").json()["results"]
+            assert results == {"flight": flown, "car": "car", "tour": "tour"}
+        assert "sagas_shards_taken_over_total 1.0" in two.two.get("/metrics").text
         two.services[0].start()
         assert two.services[0].stop() == two.services[1].stop() == 0
     for service in two.services:
@@ -251,16 +251,16 @@ def test_the_database_goes_away(tmp_path: pathlib.Path, postgresql: Server, url:
         (flight,) = take(client, "trip/flight")
         postgresql.stop()
         try:
-            until(503, lambda: client.get("/ready"))
-            assert client.get("/health").status_code == 200
-            assert client.get("/sagas/k").json()["error"] == start(client, "trip", "x").json()["error"] == "StoreUnwritable"
+            until(503, lambda: client.get("/health/ready"))
+            assert client.get("/health/live").status_code == 200
+            assert error_of(client.get("/v1/sagas/k")) == error_of(start(client, "trip", "x")) == "StoreUnavailable"
         finally:
             postgresql.start()
-        until(200, lambda: client.get("/ready"))
+        until(200, lambda: client.get("/health/ready"))
         assert until(200, lambda: report(client, flight, result=1)).json()["kept"] is True
-        until(200, lambda: client.get("/sagas/k"))
+        until(200, lambda: client.get("/v1/sagas/k"))
         all_done(client, "trip/car", "trip/tour")
-        assert client.get("/sagas/k/wait?seconds=60").json()["phase"] == "ended"
+        assert client.get("/v1/sagas/k/wait?seconds=60").json()["phase"] == "completed"
     assert '"trace"' not in service.told(), service.told()[-3000:]
 
 
@@ -277,7 +277,7 @@ def test_a_backup_of_the_database(tmp_path: pathlib.Path, postgresql: Server, ur
     (tmp_path / "copy").mkdir()
     with served(tmp_path / "copy", DEFINITIONS, "--node", "one", store=copy) as service, service.client() as client:
         assert take(client, "trip/flight", wait=0) == []  # its lease holds
-        assert report(client, flight, result=1).json() == {"kept": True, "repeated": False}
+        assert report(client, flight, result=1).json() == {"kept": True, "repeated": False, "next": None}
         all_done(client, "trip/car", "trip/tour")
-        assert client.get("/sagas/k/wait?seconds=60").json()["phase"] == "ended"
+        assert client.get("/v1/sagas/k/wait?seconds=60").json()["phase"] == "completed"
     postgresql.drop(copy)

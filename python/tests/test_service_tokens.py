@@ -16,9 +16,8 @@ from typing import Any
 
 import httpx
 import pytest
-
-from sagas.server import who
 from serving import (
+    error_of,
     DEFINITIONS,
     LONG,
     Served,
@@ -30,6 +29,8 @@ from serving import (
     take,
     token,
 )
+
+from sagas.server import auth
 
 TOKENS: dict[str, tuple[str, ...]] = {
     "caller": ("caller",),
@@ -68,7 +69,7 @@ class World:
     def waits(self, key: str, why: str) -> None:
         deadline = time.monotonic() + LONG
         while why not in [
-            one["why"] for one in self["operator"].get(f"/sagas/{key}").json()["waits"]
+            one["why"] for one in self["operator"].get(f"/v1/sagas/{key}").json()["waits"]
         ]:
             assert time.monotonic() < deadline
 
@@ -97,7 +98,7 @@ def world(tmp_path_factory: pytest.TempPathFactory, store: str | None) -> Iterat
 
 def told(answer: httpx.Response) -> tuple[int, str, str]:
     body = answer.json()
-    return answer.status_code, body["error"], body["detail"]
+    return answer.status_code, error_of(answer), body["detail"]
 
 
 def test_a_caller_starts_its_definitions(world: World) -> None:
@@ -108,11 +109,11 @@ def test_a_caller_starts_its_definitions(world: World) -> None:
     for name in ("order", "nothing"):
         assert told(start(client, name, "o-1")) == (
             403,
-            "NotAllowed",
+            "Forbidden",
             f"of-trip has no right to the definition '{name}'",
         )
     assert (
-        told(client.post("/sagas", json={"definition": "trip", "key": "x", "version": 7}))[2]
+        told(client.post("/v1/sagas", json={"definition": "trip", "key": "x", "version": 7}))[2]
         == "there is no definition 'trip' of version 7, but few, trip"
     )
     status, name, text = told(start(client, "trip", "a-order", {"secret": "of order"}))
@@ -121,50 +122,51 @@ def test_a_caller_starts_its_definitions(world: World) -> None:
         "KeyConflict",
         "the key 'a-order' is another saga's: take another key",
     )
-    assert start(client, "few", "t-1").json()["error"] == "KeyConflict"
+    assert error_of(start(client, "few", "t-1")) == "KeyConflict"
     assert start(client, "trip", "a-trip", {"secret": "of trip"}).json() == {
         "key": "a-trip",
         "definition": "trip",
+        "version": 1,
         "new": False,
     }
-    assert world["operator"].get("/sagas/o-1").status_code == 404
+    assert world["operator"].get("/v1/sagas/o-1").status_code == 404
 
 
 def test_a_caller_sees_its_definitions(world: World) -> None:
     """In the list, whatever it asks for."""
     client = world["of-trip"]
-    for query in ("", "?search=a-", "?phase=open", "?phase=stuck", "?most=1000"):
-        found = client.get(f"/sagas{query}").json()["sagas"]
+    for query in ("", "?search=a-", "?phase=open", "?phase=stuck", "?limit=1000"):
+        found = client.get(f"/v1/sagas{query}").json()["sagas"]
         assert {one["definition"] for one in found} <= {"trip", "few"}, query
-    assert [one["key"] for one in client.get("/sagas?search=a-").json()["sagas"]] == ["a-trip"]
-    assert client.get("/sagas?definition=trip&search=a-").json()["sagas"][0]["key"] == "a-trip"
-    assert told(client.get("/sagas?definition=order")) == (
+    assert [one["key"] for one in client.get("/v1/sagas?search=a-").json()["sagas"]] == ["a-trip"]
+    assert client.get("/v1/sagas?definition=trip&search=a-").json()["sagas"][0]["key"] == "a-trip"
+    assert told(client.get("/v1/sagas?definition=order")) == (
         403,
-        "NotAllowed",
+        "Forbidden",
         "of-trip has no right to the definition 'order'",
     )
     assert {
-        one["definition"] for one in world["caller"].get("/sagas?search=a-").json()["sagas"]
+        one["definition"] for one in world["caller"].get("/v1/sagas?search=a-").json()["sagas"]
     } == {"trip", "order", "licence"}
 
 
 BY_KEY: list[tuple[str, str, str, Any]] = [
-    ("of-trip", "GET", "/sagas/KEY", None),
-    ("of-trip", "GET", "/sagas/KEY/log", None),
-    ("of-trip", "GET", "/sagas/KEY/wait?seconds=0", None),
-    ("of-trip", "GET", "/sagas/KEY/wait?seconds=20", None),
-    ("of-trip", "GET", "/sagas/KEY/picture.svg", None),
-    ("of-trip", "GET", "/sagas/KEY/certificate", None),
-    ("of-trip", "POST", "/sagas/KEY/abort", {"note": "x"}),
-    ("approves-trip", "GET", "/sagas/KEY", None),
-    ("approves-trip", "POST", "/sagas/KEY/steps/review", {"result": 1}),
-    ("approves-trip", "POST", "/sagas/KEY/steps/review", {"failed": "x"}),
+    ("of-trip", "GET", "/v1/sagas/KEY", None),
+    ("of-trip", "GET", "/v1/sagas/KEY/log", None),
+    ("of-trip", "GET", "/v1/sagas/KEY/wait?seconds=0", None),
+    ("of-trip", "GET", "/v1/sagas/KEY/wait?seconds=20", None),
+    ("of-trip", "GET", "/v1/sagas/KEY/picture.svg", None),
+    ("of-trip", "GET", "/v1/sagas/KEY/certificate", None),
+    ("of-trip", "POST", "/v1/sagas/KEY/abort", {"note": "x"}),
+    ("approves-trip", "GET", "/v1/sagas/KEY", None),
+    ("approves-trip", "POST", "/v1/sagas/KEY/steps/review/complete", {"result": 1}),
+    ("approves-trip", "POST", "/v1/sagas/KEY/steps/review/fail", {"error": "x"}),
 ]
 
 
 def test_another_definition_s_saga_is_none(world: World) -> None:
     """By its key it is answered as a key that nobody has, word for word; and nothing is done."""
-    before = world["operator"].get("/sagas/a-order").json()
+    before = world["operator"].get("/v1/sagas/a-order").json()
     for name, method, path, body in BY_KEY:
         answers = []
         for key in ("a-order", "no-order", "a-licence"):
@@ -175,16 +177,16 @@ def test_another_definition_s_saga_is_none(world: World) -> None:
         assert len(set(answers)) == 1, answers
     for path, body in (
         ("abort", {}),
-        ("steps/review", {"result": 1}),
-        ("steps/flight", {"result": 1}),
+        ("steps/review/complete", {"result": 1}),
+        ("steps/flight/fail", {"error": "x"}),
         ("resolve", {"note": "x"}),
     ):
         for key in ("a-trip", "no-trip"):
-            answer = world["of-order"].post(f"/sagas/{key}/{path}", json=body)
-            assert (answer.status_code, answer.json()["error"]) == (404, "NoSuchSaga")
-    assert world["operator"].get("/sagas/a-order").json() == before
-    assert world["operator"].get("/sagas/a-trip").json()["aborted"] is False
-    assert told(world["of-order"].get("/metrics"))[:2] == (403, "NotAllowed")
+            answer = world["of-order"].post(f"/v1/sagas/{key}/{path}", json=body)
+            assert (answer.status_code, error_of(answer)) == (404, "NoSuchSaga")
+    assert world["operator"].get("/v1/sagas/a-order").json() == before
+    assert world["operator"].get("/v1/sagas/a-trip").json()["aborted"] is False
+    assert told(world["of-order"].get("/metrics"))[:2] == (403, "Forbidden")
 
 
 def test_an_approver_of_a_definition(world: World) -> None:
@@ -192,18 +194,18 @@ def test_an_approver_of_a_definition(world: World) -> None:
     world.waits("to-approve", "approval")
     assert (
         world["approves-trip"]
-        .post("/sagas/to-approve/steps/review", json={"result": 1})
+        .post("/v1/sagas/to-approve/steps/review/complete", json={"result": 1})
         .status_code
         == 404
     )
-    assert world["approves-order"].get("/sagas/to-approve").status_code == 200
+    assert world["approves-order"].get("/v1/sagas/to-approve").status_code == 200
     assert (
         world["approves-order"]
-        .post("/sagas/to-approve/steps/review", json={"result": 1})
+        .post("/v1/sagas/to-approve/steps/review/complete", json={"result": 1})
         .status_code
         == 200
     )
-    world["operator"].post("/sagas/to-approve/abort", json={})
+    world["operator"].post("/v1/sagas/to-approve/abort", json={})
 
 
 def listened(world: World, path: str, ready: threading.Barrier, found: list[str]) -> None:
@@ -222,7 +224,7 @@ def listened(world: World, path: str, ready: threading.Barrier, found: list[str]
 
 def test_a_stream_has_its_definitions(world: World) -> None:
     """What happens to others is not in it; what is of no definition is for those who see all."""
-    paths = ["/events", "/events?definition=trip"]
+    paths = ["/v1/events", "/v1/events?definition=trip"]
     found: dict[str, list[str]] = {path: [] for path in paths}
     ready = threading.Barrier(len(paths) + 1)
     threads = [
@@ -233,7 +235,7 @@ def test_a_stream_has_its_definitions(world: World) -> None:
     ready.wait(LONG)
     start(world["caller"], "order", "streamed-order")
     start(world["caller"], "trip", "streamed-trip")
-    world["caller"].post("/sagas/streamed-trip/abort", json={})
+    world["caller"].post("/v1/sagas/streamed-trip/abort", json={})
     for thread in threads:
         thread.join(LONG)
     for path in paths:
@@ -243,10 +245,10 @@ def test_a_stream_has_its_definitions(world: World) -> None:
 def test_a_stream_of_another_s_saga_has_nothing(world: World) -> None:
     """By its definition it is refused; by its key it is one of a key that nobody has, also behind
     an id."""
-    assert told(world["of-trip"].get("/events?definition=order"))[:2] == (403, "NotAllowed")
+    assert told(world["of-trip"].get("/v1/events?definition=order"))[:2] == (403, "Forbidden")
     start(world["caller"], "order", "behind-an-id")
     headers = {"Last-Event-ID": last_id(world)}
-    with world["of-trip"].stream("GET", "/events?key=behind-an-id", headers=headers) as stream:
+    with world["of-trip"].stream("GET", "/v1/events?key=behind-an-id", headers=headers) as stream:
         lines = stream.iter_lines()
         assert [next(lines).strip() for _ in range(3)][2] == ": open"
         start(world["caller"], "order", "behind-it")
@@ -256,7 +258,7 @@ def test_a_stream_of_another_s_saga_has_nothing(world: World) -> None:
 
 def last_id(world: World) -> str:
     """The id of the first event that a stream of all would have."""
-    with world["operator"].stream("GET", "/events") as stream:
+    with world["operator"].stream("GET", "/v1/events") as stream:
         id = next(line for line in stream.iter_lines() if line.startswith("id:"))[3:].strip()
     return f"{id.partition('-')[0]}-0"
 
@@ -265,7 +267,7 @@ def test_a_worker_takes_its_steps(world: World) -> None:
     """What it asks for beyond them is named; and with a report it takes no others."""
     start(world["caller"], "order", "stepped")
     world.waits("stepped", "approval")
-    world["approves-order"].post("/sagas/stepped/steps/review", json={"result": 1})
+    world["approves-order"].post("/v1/sagas/stepped/steps/review/complete", json={"result": 1})
     for name, steps, beyond in (
         ("flies", ["trip/flight", "trip/car"], "trip/car"),
         (
@@ -277,18 +279,18 @@ def test_a_worker_takes_its_steps(world: World) -> None:
         ("both", ["order/send", "trip/flight"], "trip/flight"),
         ("both", ["order/review"], "order/review"),
     ):
-        answer = world[name].post("/tasks/take", json={"steps": steps, "wait": 0})
-        assert told(answer) == (403, "NotAllowed", f"{name} has no right to the steps {beyond}")
+        answer = world[name].post("/v1/tasks/claim", json={"steps": steps, "wait": 0})
+        assert told(answer) == (403, "Forbidden", f"{name} has no right to the steps {beyond}")
     assert (
-        world["flies"].post("/tasks/take", json={"steps": ["flight"], "wait": 0}).status_code == 422
+        world["flies"].post("/v1/tasks/claim", json={"steps": ["flight"], "wait": 0}).status_code == 422
     )
-    assert {one["step"] for one in world["flies"].get("/queues").json()["queues"]} == {"flight"}
-    assert {one["saga"] for one in world["sends"].get("/queues").json()["queues"]} == {"order"}
+    assert {one["step"] for one in world["flies"].get("/v1/queues").json()["queues"]} == {"flight"}
+    assert {one["definition"] for one in world["sends"].get("/v1/queues").json()["queues"]} == {"order"}
     (sent,) = [one for one in take(world["both"], "order/send", most=10) if one["key"] == "stepped"]
     forbidden = report(world["both"], sent, result=1, next={"steps": ["trip/flight"]})
-    assert (forbidden.status_code, forbidden.json()["error"]) == (403, "NotAllowed")
+    assert (forbidden.status_code, error_of(forbidden)) == (403, "Forbidden")
     assert (
-        world["operator"].get("/sagas/stepped").json()["states"]["send"] == "running"
+        world["operator"].get("/v1/sagas/stepped").json()["states"]["send"] == "running"
     )  # refused before anything was kept
     assert report(world["both"], sent, result=1).status_code == 200
 
@@ -311,12 +313,23 @@ def test_the_dashboard_has_its_definitions(world: World) -> None:
     for path in ("/ui", "/ui/workers", "/ui/start", *(f"/ui/sagas{query}" for query in queries)):
         text = page.get(path).text
         assert not [word for word in OTHERS if word in text], path
-    for path in ("/ui", "/ui/sagas"):
+    for path in ("/ui?kind=approval", "/ui/sagas"):
         assert "a-order" in page.get(path).text
+    assert "a-licence" in all_of_it.get("/ui?kind=stuck").text
+    others = dict(re.findall(r'name="(group)" value="(\w+)"', all_of_it.get("/ui?kind=stuck").text))
+    assert others and 'name="group"' not in page.get("/ui?kind=stuck").text
+    csrf = re.search(r'name="csrf" value="([^"]+)"', page.get("/ui").text)
+    assert csrf is not None
+    form = {"csrf": csrf[1], "kind": "stuck", "verb": "resolve", "sure": "1", "count": "1", "note": "x"}
+    refused = page.post("/ui/inbox", data={**form, **others})
+    assert refused.status_code == 422 and "Nothing is selected" in refused.text
+    assert world["operator"].get("/v1/sagas/a-licence").json()["phase"] == "stuck"
+    assert page.get("/ui/definitions/licence").status_code == 404
     assert "a-trip" in all_of_it.get("/ui/sagas?search=a-").text
     assert "trip/none" in all_of_it.get("/ui/workers").text
-    assert re.search(r"0 stuck · 0 undo failed · 0 unknown · \d+ to approve", page.get("/ui").text)
-    assert "1 stuck" in all_of_it.get("/ui").text
+    tabs = re.sub("<[^>]+>", "", page.get("/ui").text)
+    assert re.search(r"Stuck 0\s*Undo failed 0\s*Unknown 0\s*Used up 0\s*Approvals [1-9]", tabs)
+    assert "Stuck 1" in re.sub("<[^>]+>", "", all_of_it.get("/ui").text)
 
 
 FORMS: list[tuple[str, dict[str, str]]] = [
@@ -337,7 +350,7 @@ def test_the_dashboard_does_nothing_to_others(world: World) -> None:
             answer = page.post(f"/ui/sagas/{key}/{path}", data={"csrf": csrf, **form})
             assert answer.status_code == 409
             assert f"no saga has the key &#39;{key}&#39;" in answer.text
-    assert world["operator"].get("/sagas/a-trip").json()["aborted"] is False
+    assert world["operator"].get("/v1/sagas/a-trip").json()["aborted"] is False
     with page.stream("GET", "/ui/events?key=a-trip") as stream:
         assert stream.status_code == 200
 
@@ -369,31 +382,31 @@ def test_a_token_that_expires(tmp_path: pathlib.Path) -> None:
     later = token(tmp_path, "later", "operator", "--expires", "2999-01-01T00:00:00+02:00")
     with served(tmp_path, DEFINITIONS, "--token-file", str(tmp_path / "tokens.toml")) as service:
         with service.client(old) as client, service.client() as page, service.client(later) as good:
-            assert told(client.get("/sagas")) == (
+            assert told(client.get("/v1/sagas")) == (
                 401,
-                "NoToken",
+                "Unauthorized",
                 "this token has expired: `sagas token` makes another, "
                 "sent as Authorization: Bearer TOKEN",
             )
             assert page.post("/ui/login", data={"token": old}).status_code == 403
-            assert good.get("/sagas").status_code == 200
+            assert good.get("/v1/sagas").status_code == 200
         began = time.monotonic()
         short = token(tmp_path, "short", "operator", "--expires", soon(expires))
         with service.client(short) as client, service.client() as page:
             deadline = began + expires
-            while client.get("/sagas").status_code != 200:
+            while client.get("/v1/sagas").status_code != 200:
                 assert time.monotonic() < deadline
                 time.sleep(0.1)
             page.post("/ui/login", data={"token": short})
             assert page.get("/ui").status_code == 200
-            with client.stream("GET", "/events") as stream, page.stream(
+            with client.stream("GET", "/v1/events") as stream, page.stream(
                 "GET", "/ui/events"
             ) as shown:
                 for one in (stream, shown):
                     for _ in one.iter_lines():
                         pass  # to its end
             assert time.monotonic() - began >= expires - 1
-            assert client.get("/sagas").status_code == 401 and page.get("/ui").status_code == 303
+            assert client.get("/v1/sagas").status_code == 401 and page.get("/ui").status_code == 303
             assert page.get("/ui/events").status_code == 403
 
 
@@ -408,7 +421,7 @@ def test_a_stream_ends_with_its_token(tmp_path: pathlib.Path) -> None:
         streams = {}
         for name, text in words.items():
             streams[name] = stack.enter_context(
-                stack.enter_context(service.client(text)).stream("GET", "/events")
+                stack.enter_context(service.client(text)).stream("GET", "/v1/events")
             )
         page = stack.enter_context(service.client())
         page.post("/ui/login", data={"token": words["stays"]})
@@ -446,10 +459,10 @@ def test_what_waits_ends_with_its_token(tmp_path: pathlib.Path) -> None:
             def ask(name: str, path: str, body: Any) -> None:
                 with service.client(words[name]) as other:
                     answer = other.request("POST" if body else "GET", path, json=body)
-                    found[f"{name} {path}"] = answer.status_code, answer.json().get("error")
+                    found[f"{name} {path}"] = answer.status_code, error_of(answer)
 
             wanted = {"steps": ["order/send", "licence/server"], "wait": 30}
-            asked = [("/tasks/take", wanted), ("/sagas/waits/wait?seconds=60", None)]
+            asked = [("/v1/tasks/claim", wanted), ("/v1/sagas/waits/wait?seconds=60", None)]
             some = [(name, *one) for name in ("gone", "less") for one in asked]
             threads = [threading.Thread(target=ask, args=one) for one in some]
             for thread in threads:
@@ -465,9 +478,9 @@ def test_what_waits_ends_with_its_token(tmp_path: pathlib.Path) -> None:
             for thread in threads:
                 thread.join(LONG)
             assert time.monotonic() - began < 25
-            assert set(found.values()) == {(401, "NoToken"), (503, "Changed")}, found
+            assert set(found.values()) == {(401, "Unauthorized"), (503, "RightsChanged")}, found
             assert {key: value for key, value in found.items() if key.startswith("gone")} == {
-                f"gone {path}": (401, "NoToken") for path, _ in asked
+                f"gone {path}": (401, "Unauthorized") for path, _ in asked
             }
             start(client, "licence", "comes")
             assert [task["key"] for task in take(client, "licence/server")] == ["comes"]
@@ -475,29 +488,29 @@ def test_what_waits_ends_with_its_token(tmp_path: pathlib.Path) -> None:
 
 DIGEST = "0" * 64
 FAULTS = [
-    ('definitions = "trip"', "definitions is a list of names of definitions, of one at least"),
-    ("definitions = []", "definitions is a list of names of definitions, of one at least"),
-    ('definitions = ["Trip!"]', "definitions is a list of names of definitions, of one at least"),
+    ('definitions = "trip"', "definitions must be a list of one or more names of definitions"),
+    ("definitions = []", "definitions must be a list of one or more names of definitions"),
+    ('definitions = ["Trip!"]', "definitions must be a list of one or more names of definitions"),
     (
         'steps = ["car"]',
-        "steps is a list of DEFINITION/STEP, or DEFINITION/STEP/undo, of one at least",
+        "steps must be a list of one or more DEFINITION/STEP or DEFINITION/STEP/undo",
     ),
     (
         'steps = ["trip/car/done"]',
-        "steps is a list of DEFINITION/STEP, or DEFINITION/STEP/undo, of one at least",
+        "steps must be a list of one or more DEFINITION/STEP or DEFINITION/STEP/undo",
     ),
-    ("steps = [1]", "steps is a list of DEFINITION/STEP, or DEFINITION/STEP/undo, of one at least"),
-    ("expires = 2027-01-01T00:00:00", "expires is a time with its offset, as 2027-01-01T00:00:00Z"),
-    ("expires = 2027-01-01", "expires is a time with its offset, as 2027-01-01T00:00:00Z"),
-    ('expires = "tomorrow"', "expires is a time with its offset, as 2027-01-01T00:00:00Z"),
-    ("expires = 5", "expires is a time with its offset, as 2027-01-01T00:00:00Z"),
+    ("steps = [1]", "steps must be a list of one or more DEFINITION/STEP or DEFINITION/STEP/undo"),
+    ("expires = 2027-01-01T00:00:00", "expires must be a time with an offset, for example 2027-01-01T00:00:00Z"),
+    ("expires = 2027-01-01", "expires must be a time with an offset, for example 2027-01-01T00:00:00Z"),
+    ('expires = "tomorrow"', "expires must be a time with an offset, for example 2027-01-01T00:00:00Z"),
+    ("expires = 5", "expires must be a time with an offset, for example 2027-01-01T00:00:00Z"),
     (
         'definition = ["trip"]',
-        "it has no key 'definition', but name, roles, sha256, definitions, steps, expires",
+        "unknown key 'definition'; the keys are name, roles, sha256, definitions, steps, expires",
     ),
     (
         'Steps = ["trip/car"]',
-        "it has no key 'Steps', but name, roles, sha256, definitions, steps, expires",
+        "unknown key 'Steps'; the keys are name, roles, sha256, definitions, steps, expires",
     ),
 ]
 
@@ -509,8 +522,8 @@ def test_faults_of_the_file(tmp_path: pathlib.Path, line: str, says: str) -> Non
     file = tmp_path / "tokens.toml"
     good = f'[[token]]\nname = "a"\nroles = ["worker"]\nsha256 = "{DIGEST}"\n'
     file.write_text(f"{good}\n{good}{line}\n")
-    with pytest.raises(who.TokenFault) as fault:
-        who.read(file)
+    with pytest.raises(auth.TokenFault) as fault:
+        auth.read(file)
     assert str(fault.value) == f"{file}: token 2: {says}"
 
 
@@ -524,24 +537,24 @@ def test_other_faults_of_the_file(tmp_path: pathlib.Path) -> None:
         (
             "caller",
             'steps = ["trip/car"]',
-            "token 1: steps are of a token with the role worker, or operator",
+            "token 1: steps requires the role worker or operator",
         ),
         (
             "metrics",
             'definitions = ["trip"]',
-            "token 1: definitions are not of a token with the role metrics: "
-            "its figures are of all definitions",
+            "token 1: definitions cannot restrict a token with the role metrics, "
+            "because metrics cover all definitions",
         ),
         (
             "approvers",
             "",
-            "token 1: roles is a list of caller, approver, worker, operator, metrics",
+            "token 1: roles must be a list of one or more of caller, approver, worker, operator, metrics",
         ),
-        ("worker", '[tokens]\nname = "b"', "it has tables [[token]] alone"),
+        ("worker", '[tokens]\nname = "b"', "only [[token]] tables are allowed"),
     ):
         file.write_text(f"{good.replace('ROLE', role)}{line}\n")
-        with pytest.raises(who.TokenFault, match=re.escape(says)):
-            who.read(file)
+        with pytest.raises(auth.TokenFault, match=re.escape(says)):
+            auth.read(file)
 
 
 def test_the_command(tmp_path: pathlib.Path) -> None:
@@ -565,17 +578,17 @@ def test_the_command(tmp_path: pathlib.Path) -> None:
         "--expires",
         "2030-05-06T07:08:09Z",
     ) == (0, "")
-    (found,) = who.read(file).values()
+    (found,) = auth.read(file).values()
     assert found.limits.steps == {"trip/car", "trip/car/undo"} and found.definitions == {"trip"}
     assert found.limits.expires == datetime.datetime(
         2030, 5, 6, 7, 8, 9, tzinfo=datetime.timezone.utc
     )
     for more, says in (
-        (("w", "worker", "--step", "car"), "steps is a list of"),
-        (("w", "caller", "--step", "trip/car"), "steps are of a token with the role worker"),
-        (("w", "caller", "--expires", "2030-05-06"), "expires is a time with its offset"),
-        (("w", "caller", "--definition", ""), "definitions is a list of"),
+        (("w", "worker", "--step", "car"), "steps must be a list of"),
+        (("w", "caller", "--step", "trip/car"), "steps requires the role worker"),
+        (("w", "caller", "--expires", "2030-05-06"), "expires must be a time with an offset"),
+        (("w", "caller", "--definition", ""), "definitions must be a list of"),
     ):
         status, told = run(*more)
         assert status == 2 and told.startswith(f"sagas token: {says}"), told
-    assert len(who.read(file)) == 1
+    assert len(auth.read(file)) == 1

@@ -14,9 +14,9 @@ from collections.abc import Iterator
 from typing import Any
 
 import pytest
+from serving import DEFINITIONS, LONG, Served, environment, error_of, served, token
 
-from sagas.server import guards, logs
-from serving import DEFINITIONS, LONG, Served, environment, served, token
+from sagas.server import log_format, middleware
 
 
 @pytest.fixture(scope="module")
@@ -38,22 +38,22 @@ def status_of(service: Served, head: str, body: bytes = b"") -> int:
 
 
 HEADS = [
-    ("POST /sagas HTTP/1.1\nHost: @\nTransfer-Encoding : chunked", b"0\r\n\r\n"),
-    ("POST /sagas HTTP/1.1\nHost: @\nTransfer-Encoding\t: chunked", b"0\r\n\r\n"),
-    ("POST /sagas HTTP/1.1\nHost : @\nContent-Length: 2", b"{}"),
-    ("GET /health HTTP/1.1\nHost: @\nHost: @", b""),
-    ("GET /health HTTP/1.1\nHost: @\nHOST: elsewhere.example", b""),
-    ("GET /health HTTP/1.1", b""),
-    ("POST /sagas HTTP/1.1\nHost: @\nContent-Length: 5\nTransfer-Encoding: chunked", b"0\r\n\r\n"),
-    ("POST /sagas HTTP/1.1\nHost: @\nContent-Length: 2\nContent-Length: 3", b"{} "),
-    ("POST /sagas HTTP/1.1\nHost: @\nContent-Length: +2", b"{}"),
-    ("POST /sagas HTTP/1.1\nHost: @\nContent-Length: 2, 3", b"{} "),
+    ("POST /v1/sagas HTTP/1.1\nHost: @\nTransfer-Encoding : chunked", b"0\r\n\r\n"),
+    ("POST /v1/sagas HTTP/1.1\nHost: @\nTransfer-Encoding\t: chunked", b"0\r\n\r\n"),
+    ("POST /v1/sagas HTTP/1.1\nHost : @\nContent-Length: 2", b"{}"),
+    ("GET /health/live HTTP/1.1\nHost: @\nHost: @", b""),
+    ("GET /health/live HTTP/1.1\nHost: @\nHOST: elsewhere.example", b""),
+    ("GET /health/live HTTP/1.1", b""),
+    ("POST /v1/sagas HTTP/1.1\nHost: @\nContent-Length: 5\nTransfer-Encoding: chunked", b"0\r\n\r\n"),
+    ("POST /v1/sagas HTTP/1.1\nHost: @\nContent-Length: 2\nContent-Length: 3", b"{} "),
+    ("POST /v1/sagas HTTP/1.1\nHost: @\nContent-Length: +2", b"{}"),
+    ("POST /v1/sagas HTTP/1.1\nHost: @\nContent-Length: 2, 3", b"{} "),
     (
-        "POST /sagas HTTP/1.1\nHost: @\nTransfer-Encoding: chunked\nTransfer-Encoding: chunked",
+        "POST /v1/sagas HTTP/1.1\nHost: @\nTransfer-Encoding: chunked\nTransfer-Encoding: chunked",
         b"0\r\n\r\n",
     ),
-    ("GET /health HTTP/1.1\nHost: @\nAuthorization: Bearer a\nAuthorization: Bearer b", b""),
-    ("GET /health HTTP/1.1\nHost: @\nX Y: z", b""),
+    ("GET /health/live HTTP/1.1\nHost: @\nAuthorization: Bearer a\nAuthorization: Bearer b", b""),
+    ("GET /health/live HTTP/1.1\nHost: @\nX Y: z", b""),
 ]
 
 
@@ -61,7 +61,7 @@ HEADS = [
 def test_heads_that_may_be_read_in_two_ways(service: Served, head: str, body: bytes) -> None:
     """A proxy before the service may have read another request: it is none."""
     assert status_of(service, head, body) == 400
-    assert status_of(service, "GET /health HTTP/1.1\nHost: @") == 200
+    assert status_of(service, "GET /health/live HTTP/1.1\nHost: @") == 200
 
 
 @pytest.mark.parametrize(
@@ -77,24 +77,24 @@ def test_heads_that_may_be_read_in_two_ways(service: Served, head: str, body: by
 def test_whatever_reads_them(headers: list[tuple[bytes, bytes]]) -> None:
     """Also where the server that reads the request has let them pass."""
     with pytest.raises(ValueError):
-        guards.check_headers({"headers": headers, "http_version": "1.1"})
+        middleware.check_headers({"headers": headers, "http_version": "1.1"})
 
 
 BODIES: list[tuple[str, dict[str, Any]]] = [
-    ("/sagas", {"definition": "trip", "key": 5}),
-    ("/sagas", {"definition": "trip", "key": True}),
-    ("/sagas", {"definition": "trip", "key": None}),
-    ("/sagas", {"definition": "trip", "key": 1.5}),
-    ("/sagas", {"definition": "trip", "key": ["k"]}),
-    ("/sagas", {"definition": 5, "key": "k"}),
-    ("/sagas/k/abort", {"note": 5}),
-    ("/sagas/k/resolve", {"note": 5}),
-    ("/sagas/k/steps/s", {"failed": 5}),
-    ("/tasks/take", {"steps": [5], "wait": 0}),
-    ("/tasks/take", {"steps": ["trip/car"], "wait": 0, "worker": 5}),
-    ("/tasks/x/failed", {"lease": "1", "error": 5}),
-    ("/tasks/x/failed", {"lease": "1", "error": "x", "final": "no"}),
-    ("/tasks/x/done", {"lease": 1}),
+    ("/v1/sagas", {"definition": "trip", "key": 5}),
+    ("/v1/sagas", {"definition": "trip", "key": True}),
+    ("/v1/sagas", {"definition": "trip", "key": None}),
+    ("/v1/sagas", {"definition": "trip", "key": 1.5}),
+    ("/v1/sagas", {"definition": "trip", "key": ["k"]}),
+    ("/v1/sagas", {"definition": 5, "key": "k"}),
+    ("/v1/sagas/k/abort", {"note": 5}),
+    ("/v1/sagas/k/resolve", {"note": 5}),
+    ("/v1/sagas/k/steps/s/fail", {"error": 5}),
+    ("/v1/tasks/claim", {"steps": [5], "wait": 0}),
+    ("/v1/tasks/claim", {"steps": ["trip/car"], "wait": 0, "worker": 5}),
+    ("/v1/tasks/x/fail", {"lease": "1", "error": 5}),
+    ("/v1/tasks/x/fail", {"lease": "1", "error": "x", "final": "no"}),
+    ("/v1/tasks/x/complete", {"lease": 1}),
 ]  # fmt: skip
 
 
@@ -103,8 +103,8 @@ def test_texts_are_texts(service: Served, path: str, body: dict[str, Any]) -> No
     """A number is no key, nor any other text."""
     with service.client() as client:
         answer = client.post(path, json=body)
-        assert (answer.status_code, answer.json()["error"]) == (422, "BadRequest"), answer.text
-        assert client.get("/sagas/5").status_code == client.get("/sagas/True").status_code == 404
+        assert (answer.status_code, error_of(answer)) == (422, "InvalidRequest"), answer.text
+        assert client.get("/v1/sagas/5").status_code == client.get("/v1/sagas/True").status_code == 404
 
 
 def test_a_path_makes_no_line_of_the_log(service: Served) -> None:
@@ -115,7 +115,7 @@ def test_a_path_makes_no_line_of_the_log(service: Served) -> None:
             f"/x%0A{forged}",
             f"/x%0D%0A{forged}",
             f"/x%1B[2K%C2%85%E2%80%A8%E2%80%AE{forged}",
-            f"/sagas/a%2Fb%0A{forged}",
+            f"/v1/sagas/a%2Fb%0A{forged}",
         ):
             assert client.get(path).status_code == 404
     deadline = time.monotonic() + LONG
@@ -127,7 +127,7 @@ def test_a_path_makes_no_line_of_the_log(service: Served) -> None:
         "GET /x\\n2026" in lines[0]
         and "GET /x\\r\\n2026" in lines[1]
         and "/x\\x1b[2K\\x85\\u2028\\u202e" in lines[2]
-        and "/sagas/a%2Fb\\n" in lines[3]
+        and "/v1/sagas/a%2Fb\\n" in lines[3]
     )
 
 
@@ -146,7 +146,7 @@ def test_a_traceback_is_set_in() -> None:
             (type(error), error, error.__traceback__),
         )
     first, *lines = (
-        logs.Text("%(asctime)s %(levelname)s %(name)s: %(message)s").format(record).split("\n")
+        log_format.Text("%(asctime)s %(levelname)s %(name)s: %(message)s").format(record).split("\n")
     )
     assert (
         first.endswith("ERROR sagas: failed: a\\nb")
@@ -185,8 +185,8 @@ def test_whose_request_it_is(peer: str, told: list[str], client: str) -> None:
         (b"x-forwarded-proto", b"https")
     ]
     scope: dict[str, Any] = {"client": (peer, 5), "headers": headers, "scheme": "http"}
-    guards.forwarded(scope, PROXIES)
-    trusted = guards.is_among(peer, PROXIES)
+    middleware.forwarded(scope, PROXIES)
+    trusted = middleware.is_among(peer, PROXIES)
     assert scope["client"][0] == client and scope["scheme"] == ("https" if trusted else "http")
 
 
@@ -219,4 +219,4 @@ def test_trusted_proxies(tmp_path: pathlib.Path) -> None:
     done = subprocess.run(
         one.command(), env=environment(), capture_output=True, text=True, timeout=LONG, cwd=tmp_path
     )
-    assert done.returncode == 2 and "give networks, as 10.0.0.0/8,192.0.2.7" in done.stderr
+    assert done.returncode == 2 and "use networks or addresses, for example 10.0.0.0/8,192.0.2.7" in done.stderr

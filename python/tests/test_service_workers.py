@@ -17,9 +17,9 @@ from typing import Any
 
 import httpx
 import pytest
+from serving import DEFINITIONS, LONG, Served, all_done, environment, host, served, start, token
 
 import sagas
-from serving import DEFINITIONS, LONG, Served, all_done, environment, host, served, start, token
 
 EXAMPLES = pathlib.Path(__file__).resolve().parents[2] / "examples" / "service"
 STEPS = """format = 2
@@ -45,7 +45,7 @@ skip = 10
 tries = 9
 """
 ONE = 'format = 2\nname = "one"\n[[step]]\nname = "a"\nundo = "never"\n'
-SERVICE = "[step.flaky]\nbackoff = { first = 0.01 }\n[step.hazy]\nbackoff = { first = 0.01 }\n"
+SERVICE = "[step.flaky]\nbackoff = { initial = 0.01 }\n[step.hazy]\nbackoff = { initial = 0.01 }\n"
 
 
 @contextlib.contextmanager
@@ -68,7 +68,7 @@ def test_a_step_is_declared_twice() -> None:
     def car(task: sagas.Task[Any]) -> None: ...
 
     worker.compensation("trip", "car")(car)
-    with pytest.raises(sagas.DefinitionError, match=r"trip/car is declared twice, at .*test_service_workers.py:\d+, and before at .*test_service_workers.py:\d+"):
+    with pytest.raises(sagas.DefinitionError, match=r"trip/car is declared twice, at .*test_service_workers.py:\d+ and .*test_service_workers.py:\d+"):
 
         @worker.step("trip", "car")
         def another(task: sagas.Task[Any]) -> None: ...
@@ -82,14 +82,14 @@ def test_a_worker(tmp_path: pathlib.Path, caplog: pytest.LogCaptureFixture) -> N
 
         @worker.step("steps", "flaky")
         def flaky(task: sagas.Task[int]) -> int:
-            calls.append((task.step, task.undo, task.effect_token))
+            calls.append((task.step, task.is_compensation, task.idempotency_key))
             if task.attempt < 3:
                 raise ValueError("not yet")
             return task.input + 1
 
         @worker.step("steps", "hazy")
         async def hazy(task: sagas.Task[int]) -> str:
-            calls.append((task.step, task.undo, task.effect_token))
+            calls.append((task.step, task.is_compensation, task.idempotency_key))
             await asyncio.sleep(0)
             if len([call for call in calls if call[0] == "hazy"]) == 1:
                 raise sagas.Unknown("who knows")
@@ -97,9 +97,9 @@ def test_a_worker(tmp_path: pathlib.Path, caplog: pytest.LogCaptureFixture) -> N
 
         @worker.step("steps", "slow")
         def slow(task: sagas.Task[int]) -> None:
-            calls.append((task.step, task.undo, task.effect_token))
+            calls.append((task.step, task.is_compensation, task.idempotency_key))
             deadline = time.monotonic() + LONG
-            while service.told().count("/beat 200") < 3 and time.monotonic() < deadline:
+            while service.told().count("/heartbeat 200") < 3 and time.monotonic() < deadline:
                 time.sleep(0.1)
 
         @worker.step("steps", "odd")
@@ -114,26 +114,26 @@ def test_a_worker(tmp_path: pathlib.Path, caplog: pytest.LogCaptureFixture) -> N
         @worker.compensation("steps", "hazy")
         @worker.compensation("steps", "flaky")
         def undo(task: sagas.Task[int]) -> None:
-            calls.append((task.step, task.undo, task.action_token))
+            calls.append((task.step, task.is_compensation, task.original_idempotency_key))
 
         worker.step("steps", "tree")(last)
         start(client, "steps", "s", 41)
         with working(worker):
-            end = client.get("/sagas/s/wait?seconds=60").json()
-        log = client.get("/sagas/s/log").json()["events"]
-    assert end["phase"] == "ended" and end["results"]["flaky"] == 42 and end["results"]["hazy"] == "42"
+            end = client.get("/v1/sagas/s/wait?seconds=60").json()
+        log = client.get("/v1/sagas/s/log").json()["events"]
+    assert end["phase"] == "recovered" and end["results"]["flaky"] == 42 and end["results"]["hazy"] == "42"
     assert "unstorable" in end["results"]["odd"] and end["states"]["last"] == "failed"
     assert [event["event"] for event in log if event["step"] == "flaky"] == ["start_run", "missed"] * 2 + ["start_run", "commit"]
     first = next(event for event in log if event["event"] == "missed" and event["step"] == "last")
     assert first["value"] == {"error": "sagas.Fail: never", "final": True}
     assert [step for step, undone, _ in calls][:6] == ["flaky"] * 3 + ["hazy"] * 2 + ["slow"]
-    assert len({effect for _, _, effect in calls}) == 3 and "/beat 200" in service.told()
-    assert caplog.text.count("no definition of the service has the step steps/tree") == 1
+    assert len({effect for _, _, effect in calls}) == 3 and "/heartbeat 200" in service.told()
+    assert caplog.text.count("no definition of the service has step steps/tree") == 1
 
 
 def test_a_worker_that_is_interrupted(tmp_path: pathlib.Path) -> None:
     """Ctrl-C ends it once what it has at hand has ended, and is reported. An address without a scheme is refused."""
-    with pytest.raises(ValueError, match="no address of a service"):
+    with pytest.raises(ValueError, match="not the address of a service"):
         sagas.Worker("127.0.0.1:8080")
     (tmp_path / "worker.py").write_text(INTERRUPTED)
     with served(tmp_path) as service, service.client() as client:
@@ -147,7 +147,7 @@ def test_a_worker_that_is_interrupted(tmp_path: pathlib.Path) -> None:
             worker.stdin.flush()
             assert worker.stdout.readline() == "over\n"
             assert (worker.wait(LONG), worker.stderr.read()) == (0, "")
-        assert client.get("/sagas/x").json()["states"]["flight"] == "committed"
+        assert client.get("/v1/sagas/x").json()["states"]["flight"] == "committed"
 
 
 INTERRUPTED = """import sagas, signal, sys
@@ -196,7 +196,7 @@ def rewritten(service: Served, old: str, new: str) -> None:
     marker = token(service.folder, f"seen-{time.monotonic_ns()}", "caller")
     deadline = time.monotonic() + LONG
     with service.client(marker) as client:
-        while client.get("/sagas").status_code != 200:
+        while client.get("/v1/sagas").status_code != 200:
             assert time.monotonic() < deadline
             time.sleep(0.1)
 
@@ -219,7 +219,7 @@ def test_a_worker_that_may_less_than_before(tmp_path: pathlib.Path) -> None:
             assert start(client, "trip", "less").status_code == 201
             with pytest.raises(sagas.ServiceRefused, match="w has no right to the steps trip/car"):
                 worker.run()
-            assert client.get("/sagas/less").json()["results"] == {"flight": 5}
+            assert client.get("/v1/sagas/less").json()["results"] == {"flight": 5}
 
 
 def test_a_worker_whose_lease_is_not_its_own(
@@ -234,7 +234,7 @@ def test_a_worker_whose_lease_is_not_its_own(
 
         @worker.step("trip", "flight")
         def flight(task: sagas.Task[Any]) -> int:
-            calls.append(task.effect_token)
+            calls.append(task.idempotency_key)
             if len(calls) == 1:
                 rewritten(service, '"before"', '"after"')
             else:
@@ -246,10 +246,10 @@ def test_a_worker_whose_lease_is_not_its_own(
             with working(worker):
                 assert again.wait(LONG)
                 deadline = time.monotonic() + LONG
-                while client.get("/sagas/other").json()["states"]["flight"] != "committed":
+                while client.get("/v1/sagas/other").json()["states"]["flight"] != "committed":
                     assert time.monotonic() < deadline
-            assert client.get("/sagas/other").json()["results"] == {"flight": 2}
-    assert calls[0] == calls[1] and "done was not taken" in caplog.text
+            assert client.get("/v1/sagas/other").json()["results"] == {"flight": 2}
+    assert calls[0] == calls[1] and "complete was rejected" in caplog.text
     assert "InvalidLease" in caplog.text
 
 
@@ -259,12 +259,16 @@ class Asking(sagas.Worker):
     def __init__(self, url: str, **more: Any) -> None:
         super().__init__(url, wait=0.2, **more)
         self.given: list[int] = []
+        right = self._service.until_told
 
-    def _until_told(self, path: str, body: dict[str, Any], giving_up: bool = False) -> dict[str, Any] | None:
-        told = super()._until_told(path, body, giving_up)
-        if told and told.get("tasks"):
-            self.given.append(len(told["tasks"]))
-        return told
+        def until_told(*words: Any, **more: Any) -> dict[str, Any] | None:
+            told = right(*words, **more)
+            claimed = (told.get("next") or told) if told else {}
+            if claimed.get("tasks"):
+                self.given.append(len(claimed["tasks"]))
+            return told
+
+        self._service.until_told = until_told  # type: ignore[method-assign]
 
 
 class Calls:
@@ -305,9 +309,9 @@ def ones(tmp_path_factory: pytest.TempPathFactory) -> Iterator[tuple[Served, htt
 
 def left_open(client: httpx.Client) -> list[str]:
     """The sagas that do not end, although their tasks were reported."""
-    for saga in client.get("/sagas?phase=open").json()["sagas"]:
-        client.get(f"/sagas/{saga['key']}/wait?seconds=20", timeout=LONG)
-    return [saga["key"] for saga in client.get("/sagas?phase=open").json()["sagas"]]
+    for saga in client.get("/v1/sagas?phase=open").json()["sagas"]:
+        client.get(f"/v1/sagas/{saga['key']}/wait?seconds=20", timeout=LONG)
+    return [saga["key"] for saga in client.get("/v1/sagas?phase=open").json()["sagas"]]
 
 
 def test_a_worker_takes_short_ones_ahead(ones: tuple[Served, httpx.Client]) -> None:
@@ -333,7 +337,7 @@ def test_what_a_worker_took_ahead(ones: tuple[Served, httpx.Client]) -> None:
     """Where a function is slow, or the worker is stopped, what stands in its queue is soon another's, long before its lease is over; each is done once."""
     service, client = ones
     for stopped in (False, True):
-        calls, before = Calls(), service.told().count("/beat 200")
+        calls, before = Calls(), service.told().count("/heartbeat 200")
         slow, other = Asking(service.url, concurrency=1, lease=600.0), Asking(service.url)
         slow.step("one", "a")(calls.of("slow", holds=slow))
         other.step("one", "a")(calls.of("other"))
@@ -350,8 +354,8 @@ def test_what_a_worker_took_ahead(ones: tuple[Served, httpx.Client]) -> None:
             finally:
                 calls.hold.set()
         assert calls.count("slow") == count and len(set(calls.all)) == 20
-        assert service.told().count("/beat 200") - before >= sum(slow.given) - count
-        assert not left_open(client) and "sagas_takeovers_total 0.0" in client.get("/metrics").text
+        assert service.told().count("/heartbeat 200") - before >= sum(slow.given) - count
+        assert not left_open(client) and "sagas_tasks_reclaimed_total 0.0" in client.get("/metrics").text
 
 
 class Workers:
@@ -444,8 +448,8 @@ def test_the_worker_in_node_does_not_know(
                 deadline, found = time.monotonic() + LONG, []
                 while not found:
                     assert time.monotonic() < deadline
-                    log = client.get("/sagas/t/log").json()["events"]
-                    waits = client.get("/sagas/t").json()["waits"]
+                    log = client.get("/v1/sagas/t/log").json()["events"]
+                    waits = client.get("/v1/sagas/t").json()["waits"]
                     found = [
                         one["said"]
                         for one in waits
@@ -482,13 +486,13 @@ def test_the_examples_go_on(tmp_path: pathlib.Path) -> None:
             deadline = time.monotonic() + 2 * LONG
             while waiting and time.monotonic() < deadline:
                 for key in sorted(waiting):
-                    if client.post(f"/sagas/{key}/steps/review", json={"result": "yes"}).status_code == 200:
+                    if client.post(f"/v1/sagas/{key}/steps/review/complete", json={"result": "yes"}).status_code == 200:
                         waiting.discard(key)
                 time.sleep(0.1)
             service.kill()
             service.start()
             for key in keys:
-                end = client.get(f"/sagas/{key}/wait?seconds=60").json()
-                assert end["phase"] == "ended" and end["results"]["tour"] == "booked" and end["results"]["hotel"]["room"] == 4, end
+                end = client.get(f"/v1/sagas/{key}/wait?seconds=60").json()
+                assert end["phase"] == "completed" and end["results"]["tour"] == "booked" and end["results"]["hotel"]["room"] == 4, end
         finally:
             workers.end()

@@ -3,8 +3,8 @@
 from __future__ import annotations
 
 import asyncio
-import contextvars
 import contextlib
+import contextvars
 import dataclasses
 import datetime
 import logging
@@ -21,13 +21,19 @@ from typing import Any
 
 import psycopg
 import pytest
-
 import records
-import sagas
-import sagas.testing
 from cases import HOUR, QUICK, Task, asked_of, ended, hears, run, simple, until
 from kills import children
-from sagas import callers, child, holding, lines, program, pump, sources, sqlite_writer
+
+import sagas
+import sagas.testing
+from sagas.core import protocol as lines
+from sagas.engine import process
+from sagas.base import program
+from sagas.runtime import dispatcher
+from sagas.core import shard
+from sagas.storage import admin
+from sagas.storage.sqlite import writer as writer_module
 
 
 def row(gate: asyncio.Event | None = None) -> sagas.Saga:
@@ -45,7 +51,7 @@ def row(gate: asyncio.Event | None = None) -> sagas.Saga:
 
     @row.step(needs=[a])
     async def b(task: Task) -> str:
-        return task.of(a) + "B"
+        return task.result_of(a) + "B"
 
     @b.compensation
     async def not_b(task: Task) -> None: ...
@@ -82,7 +88,7 @@ def test_start_with_a_key_that_is_there(place: str) -> None:
             assert await ended(store, kinds[0], given={"a": 1, "b": [2]}) == first
             with pytest.raises(sagas.KeyConflict):
                 await store.start(kinds[1], key="k")
-            with pytest.raises(sagas.NotJson):
+            with pytest.raises(sagas.NotSerializable):
                 await store.start(kinds[0], key="new", input=object())
 
     run(main())
@@ -96,11 +102,11 @@ def test_a_key_that_is_none(place: str) -> None:
     async def main() -> None:
         async with sagas.open(place, [saga]) as store:
             for key in (17, "", "a\n", "k" * 3000, None):
-                with pytest.raises(sagas.BadKey, match="^key=.*: a key is a text of 1 to 512 printable characters$") as error:
+                with pytest.raises(sagas.InvalidKey, match="^key=.*: must be a text of 1 to 512 printable characters$") as error:
                     await store.start(saga, key)  # type: ignore[arg-type]
-                assert isinstance(error.value, sagas.NotJson) and len(str(error.value)) < 180
+                assert isinstance(error.value, sagas.NotSerializable) and len(str(error.value)) < 180
             for given, text in (({"a": {1, object()}}, r'input\["a"\]: object is not JSON'), ([0.0, float("nan")], r"input\[1\]: NaN")):
-                with pytest.raises(sagas.NotJson, match=text):
+                with pytest.raises(sagas.NotSerializable, match=text):
                     await store.start(saga, "k", given)
 
     run(main())
@@ -125,12 +131,12 @@ class Order:
 @pytest.mark.parametrize(
     "given, text",
     [
-        (None, "input: Order is read from an object of JSON, and this is none$"),
-        ({}, "input lacks 'amount', which Order needs$"),
-        ({"amuont": 4}, "input lacks 'amount', which Order needs; it has 'amuont', which Order has not"),
+        (None, "input: Order requires an object$"),
+        ({}, "input: missing 'amount', which Order requires$"),
+        ({"amuont": 4}, "input: missing 'amount', which Order requires; it has 'amuont', which Order does not"),
         (
             {"amount": 4, "lines": [{"item": "a"}, {"count": 2}]},
-            r"input\.lines\[1\] lacks 'item', which Line needs$",
+            r"input\.lines\[1\]: missing 'item', which Line requires$",
         ),
     ],
 )
@@ -147,14 +153,14 @@ def test_an_input_that_the_first_step_cannot_read(place: str, given: Any, text: 
         async with sagas.open(place, [loose]) as store:
             assert (await ended(store, loose, "old", given)).ok
         async with sagas.open(place, [strict]) as store:
-            with pytest.raises(sagas.BadInput, match=f"saga 'order', step 'charge': {text}"):
+            with pytest.raises(sagas.InvalidInput, match=f"saga 'order', step 'charge': {text}"):
                 await store.start(strict, "new", given)
             assert await store.get("new") is None and (await ended(store, strict, "old", given)).ok
             for well in (Order(4), {"amount": 4, "more": 1}):
                 assert (await ended(store, strict, f"well-{type(well)}", well)).results == {"charge": 4}
 
     run(main())
-    with pytest.raises(sagas.BadInput, match=text):
+    with pytest.raises(sagas.InvalidInput, match=text):
         sagas.testing.run(strict, given)
 
 
@@ -185,7 +191,7 @@ def test_abort(place: str) -> None:
             assert await going.abort() is True and await going.abort() is False
             gate.set()
             end = await going.wait()
-            assert end.aborted and end.phase == "ended" and end.states == {"a": "undone", "b": "waiting", "c": "waiting"}
+            assert end.aborted and end.phase == "recovered" and end.states == {"a": "undone", "b": "waiting", "c": "waiting"}
             assert await going.abort() is False
             at_once = asyncio.create_task(store.start(saga, key="new"))
             await asyncio.sleep(0)
@@ -222,7 +228,7 @@ def test_a_held_step_takes_no_slot_and_keeps_nothing_from_draining(place: str, e
             assert (await ended(store, saga, "quick")).ok
             assert await slow.abort()
             end = await slow.wait()
-            assert end.aborted and end.phase == "ended" and calls == ["slow", "quick"] + ["slow"] * (error is TimeoutError)
+            assert end.aborted and end.phase == "recovered" and calls == ["slow", "quick"] + ["slow"] * (error is TimeoutError)
 
     run(main())
 
@@ -301,7 +307,7 @@ def test_a_limit_holds_back_nobody_else(place: str) -> None:
     running, most, gate = Counter[str](), Counter[str](), asyncio.Event()
     slow, quick = sagas.Saga("slow"), sagas.Saga("quick")
 
-    @slow.step(limit=2)
+    @slow.step(concurrency=2)
     async def a(task: Task) -> None:
         running["a"] += 1
         most["a"] = max(most["a"], running["a"])
@@ -361,7 +367,7 @@ def test_a_wait_that_cannot_say_its_time(place: str) -> None:
         times.append(time.time())
         return datetime.timedelta(seconds=0.2)
 
-    @saga.wait(until=when, tries=3, backoff=sagas.Backoff(first=0.1, most=0.1))
+    @saga.wait(until=when, tries=3, backoff=sagas.Backoff(initial=0.1, maximum=0.1))
     def wait(task: Task) -> None:
         called.append(time.time())
 
@@ -394,7 +400,7 @@ def test_a_wait_whose_time_is_over_waits_no_more(place: str) -> None:
         asked.append(task.attempt)
         return datetime.timedelta(seconds=0.05 if len(asked) == 1 else 3600)
 
-    @saga.wait(until=when, backoff=sagas.Backoff(first=0.2, most=0.2))
+    @saga.wait(until=when, backoff=sagas.Backoff(initial=0.2, maximum=0.2))
     def wait(task: Task) -> int:
         calls.append(task.attempt)
         if len(calls) < 3:
@@ -444,27 +450,27 @@ def test_approval(place: str, answer: str) -> None:
     asked: list[str] = []
     saga = sagas.Saga("signed")
 
-    @saga.approval(within=datetime.timedelta(seconds=0.2) if answer == "nothing" else None)
+    @saga.approval(timeout=datetime.timedelta(seconds=0.2) if answer == "nothing" else None)
     def sign(task: Task) -> None:
         asked.append(task.key)
 
     @saga.step(needs=[sign])
     def go(task: Task) -> Any:
-        return task.of(sign)
+        return task.result_of(sign)
 
     async def first() -> None:
         async with sagas.open(place, [saga]) as store:
             await store.start(saga, key="k")
             await until(lambda: asked)
-            with pytest.raises(sagas.NotWaiting):
-                await store.finish("k", go, 1)
+            with pytest.raises(sagas.StepNotWaiting):
+                await store.complete("k", go, 1)
 
-    async def second() -> sagas.End:
+    async def second() -> sagas.SagaResult:
         async with sagas.open(place, [saga]) as store:
             if answer == "yes":
-                await store.finish("k", sign, {"by": "Ada"})
+                await store.complete("k", sign, {"by": "Ada"})
             elif answer == "no":
-                await store.finish("k", sign, failed="too dear")
+                await store.fail("k", sign, "too dear")
             return await store.wait("k")
 
     run(first())
@@ -480,7 +486,7 @@ def test_an_answer_that_comes_at_once(place: str) -> None:
     answers: list[asyncio.Task[None]] = []
 
     async def asks(task: Task) -> None:
-        answers.append(asyncio.create_task(stores[0].finish(task.key, "sign", "at once")))
+        answers.append(asyncio.create_task(stores[0].complete(task.key, "sign", "at once")))
         await asyncio.sleep(0.05)
 
     saga.approval(name="sign")(asks)
@@ -496,23 +502,23 @@ def test_an_answer_that_comes_at_once(place: str) -> None:
 
 
 def test_a_step_that_is_done_elsewhere(place: str) -> None:
-    """`handler=None`: it has no function here; a worker elsewhere reports, for the compensation too."""
+    """`external=True`: it has no function here; a worker elsewhere reports, for the compensation too."""
     saga = sagas.Saga("far")
-    print_it = saga.step(handler=None, name="print")
-    print_it.compensation(handler=None)
+    print_it = saga.step(external=True, name="print")
+    print_it.compensation(external=True)
 
     @saga.step(needs=[print_it])
     def check(task: Task) -> None:
-        raise sagas.Fail(f"{task.of(print_it)} is torn")
+        raise sagas.Fail(f"{task.result_of(print_it)} is torn")
 
     async def finish(store: sagas.Store, **words: Any) -> None:
         while True:
             try:
-                return await store.finish("k", print_it, **words)
-            except sagas.NotWaiting:
+                return await store.complete("k", print_it, **words)
+            except sagas.StepNotWaiting:
                 await asyncio.sleep(0.01)
 
-    async def main() -> sagas.End:
+    async def main() -> sagas.SagaResult:
         async with sagas.open(place, [saga]) as store:
             going = await store.start(saga, key="k")
             await finish(store, result="page 1")
@@ -530,7 +536,7 @@ def test_a_compensation_of_which_nobody_knows(place: str) -> None:
     async def a(task: Task) -> int:
         return 1
 
-    @a.compensation(unknown_most=0)
+    @a.compensation(max_unknown=0)
     async def not_a(task: Task) -> None:
         raise sagas.Unknown("was it undone?")
 
@@ -538,15 +544,15 @@ def test_a_compensation_of_which_nobody_knows(place: str) -> None:
     async def b(task: Task) -> None:
         raise sagas.Fail("no")
 
-    async def main() -> sagas.End:
+    async def main() -> sagas.SagaResult:
         async with sagas.open(place, [saga]) as store:
             going = await store.start(saga, key="k")
             await until(lambda: asked_of(store))
             with pytest.raises(TimeoutError, match="with undo=True"):
                 await going.wait(timeout=0.01)
-            with pytest.raises(sagas.NotWaiting, match="undo=True"):
-                await going.finish(a)
-            await going.finish(a, undo=True)
+            with pytest.raises(sagas.StepNotWaiting, match="undo=True"):
+                await going.complete(a)
+            await going.complete(a, undo=True)
             return await going.wait()
 
     assert run(main()).states == {"a": "undone", "b": "failed"}
@@ -557,7 +563,7 @@ def test_a_compensation_of_which_nobody_knows(place: str) -> None:
 
 def test_full_logs_are_audited_and_closed(place: str, monkeypatch: pytest.MonkeyPatch) -> None:
     """New sagas go to the newest log until it is full; a settled one is audited once and marked closed, and then never again."""
-    monkeypatch.setattr("sagas.kinds.ROOM", 15)
+    monkeypatch.setattr("sagas.definition.compiled.SHARD_CAPACITY", 15)
     saga, right, audits = row(), program.run, Counter[str]()
 
     def counting(command: str, texts: Sequence[str], where: str | None = None) -> subprocess.CompletedProcess[str]:
@@ -565,7 +571,7 @@ def test_full_logs_are_audited_and_closed(place: str, monkeypatch: pytest.Monkey
             audits[texts[0]] += 1
         return right(command, texts, where)
 
-    monkeypatch.setattr("sagas.program.run", counting)
+    monkeypatch.setattr("sagas.base.program.run", counting)
 
     async def again() -> None:
         async with sagas.open(place, [saga]) as store:
@@ -606,7 +612,7 @@ def test_definitions_change(place: str) -> None:
         return saga
 
     async def first(saga: sagas.Saga) -> None:
-        async with sagas.open(place, [saga], grace=0.0) as store:
+        async with sagas.open(place, [saga], shutdown_timeout=0.0) as store:
             await store.start(saga, key="old")
 
     async def second(saga: sagas.Saga) -> None:
@@ -628,9 +634,9 @@ def test_functions_and_times_change_at_any_start(place: str) -> None:
     def kinds(number: int) -> list[sagas.Saga]:
         first, second = sagas.Saga("first"), sagas.Saga("second")
 
-        @first.step(name="a", tries=2, timeout=60.0 if number else None, backoff=sagas.Backoff(first=number), limit=number or None)
+        @first.step(name="a", tries=2, timeout=60.0 if number else None, backoff=sagas.Backoff(initial=number), concurrency=number or None)
         async def a(task: Task) -> int:
-            tokens.append(task.token)
+            tokens.append(task.attempt_id)
             if number == 0:
                 await asyncio.sleep(3600)
             return number
@@ -639,7 +645,7 @@ def test_functions_and_times_change_at_any_start(place: str) -> None:
         return [second, first] if number else [first, second]
 
     async def begin(old: list[sagas.Saga]) -> None:
-        async with sagas.open(place, old, grace=0.0) as store:
+        async with sagas.open(place, old, shutdown_timeout=0.0) as store:
             await store.start(old[0], "k")
             await until(lambda: tokens)
 
@@ -671,7 +677,7 @@ def test_versions(place: str) -> None:
     old, new = version(1), version(2)
 
     async def first() -> None:
-        async with sagas.open(place, [old], grace=0.0) as store:
+        async with sagas.open(place, [old], shutdown_timeout=0.0) as store:
             await store.start(old, key="old")
 
     async def second() -> None:
@@ -685,7 +691,7 @@ def test_versions(place: str) -> None:
 
 
 def test_a_function_that_is_gone(place: str) -> None:
-    """An error at open that names the step; the older program settles it with new=False, and takes no new sagas."""
+    """An error at open that names the step; the older program settles it with accept_new=False, and takes no new sagas."""
     gate = asyncio.Event()
     old, new = sagas.Saga("trip"), sagas.Saga("trip")
 
@@ -697,26 +703,26 @@ def test_a_function_that_is_gone(place: str) -> None:
     async def b(task: Task) -> None: ...
 
     async def first() -> None:
-        async with sagas.open(place, [old], grace=0.0) as store:
+        async with sagas.open(place, [old], shutdown_timeout=0.0) as store:
             await store.start(old, key="k")
         if place.startswith("postgresql:"):  # another node may have it: this one leaves the saga alone
             async with sagas.open(place, [new]) as store:
                 assert (await store.list(phase="open"))[0].key == "k"
             return
-        listed = r"; open sagas: 1, which `sagas store .* list --phase open` lists"
-        with pytest.raises(sagas.MissingHandler, match=f"'a'.*{listed}"):
+        listed = r"; open sagas: 1; `sagas store .* list --phase open` lists them"
+        with pytest.raises(sagas.MissingStep, match=f"'a'.*{listed}"):
             async with sagas.open(place, [new]):
                 pass
-        with pytest.raises(sagas.MissingHandler, match="'trip' .* not open the store with that saga"):
+        with pytest.raises(sagas.MissingStep, match="'trip' .* not open the store with that saga"):
             async with sagas.open(place, [row()]):
                 pass
 
     async def second() -> None:
         gate.set()
-        async with sagas.open(place, [old], new=False) as store:
+        async with sagas.open(place, [old], accept_new=False) as store:
             with pytest.raises(sagas.SagasError):
                 await store.start(old, key="another")
-            await store.settled()
+            await store.wait_idle()
         async with sagas.open(place, [new]) as store:
             assert (await ended(store, new, "new")).ok
 
@@ -735,10 +741,10 @@ def test_a_compensation_that_is_gone(tmp_path: pathlib.Path) -> None:
     new.step(a)
 
     async def main() -> None:
-        async with sagas.open(tmp_path / "store.db", [old], grace=0.0) as store:
+        async with sagas.open(tmp_path / "store.db", [old], shutdown_timeout=0.0) as store:
             await store.start(old, key="k")
-        with pytest.raises(sagas.MissingHandler, match="step 'a' has no compensation"):
-            async with sagas.open(tmp_path / "store.db", [new], grace=0.0):
+        with pytest.raises(sagas.MissingStep, match="step 'a' has no compensation"):
+            async with sagas.open(tmp_path / "store.db", [new], shutdown_timeout=0.0):
                 pass
 
     run(main())
@@ -775,7 +781,7 @@ def lives(pid: int) -> bool:
 
 def test_few_children_for_many_logs(place: str, monkeypatch: pytest.MonkeyPatch) -> None:
     """Sagas in many logs share two children, also when the store is opened again."""
-    monkeypatch.setattr("sagas.kinds.ROOM", 7)
+    monkeypatch.setattr("sagas.definition.compiled.SHARD_CAPACITY", 7)
     gate, most = asyncio.Event(), 0
     saga = row(gate)
     others = set(children(os.getpid()))  # servers that other tests use
@@ -792,12 +798,12 @@ def test_few_children_for_many_logs(place: str, monkeypatch: pytest.MonkeyPatch)
         return await task
 
     async def first() -> None:
-        async with sagas.open(place, [saga], children=2, grace=0.0) as store:
+        async with sagas.open(place, [saga], engine_processes=2, shutdown_timeout=0.0) as store:
             await watched(asyncio.gather(*(store.start(saga, key=f"k{number}") for number in range(60))))
 
     async def second() -> None:
         gate.set()
-        async with sagas.open(place, [saga], children=2) as store:
+        async with sagas.open(place, [saga], engine_processes=2) as store:
             ends = await watched(asyncio.gather(*(store.wait(f"k{number}") for number in range(60))))
             assert all(end.ok for end in ends)
 
@@ -809,7 +815,7 @@ def test_few_children_for_many_logs(place: str, monkeypatch: pytest.MonkeyPatch)
 
 def test_one_slot_for_many_logs(place: str, monkeypatch: pytest.MonkeyPatch) -> None:
     """Logs that find no slot are fed when one is given back unused, too: nothing hangs."""
-    monkeypatch.setattr("sagas.kinds.ROOM", 4)
+    monkeypatch.setattr("sagas.definition.compiled.SHARD_CAPACITY", 4)
     saga = sagas.Saga("pair")
 
     @saga.step
@@ -821,7 +827,7 @@ def test_one_slot_for_many_logs(place: str, monkeypatch: pytest.MonkeyPatch) -> 
         return 2
 
     async def main() -> None:
-        async with sagas.open(place, [saga], concurrency=1, children=2) as store:
+        async with sagas.open(place, [saga], concurrency=1, engine_processes=2) as store:
             for turn in range(6):
                 ends = await asyncio.gather(*(ended(store, saga, f"k{turn}-{number}") for number in range(30)))
                 assert all(end.ok for end in ends)
@@ -837,7 +843,7 @@ def locked(place: str) -> Iterator[None]:
     """Nobody can write the store's lines."""
     if place.startswith("postgresql:"):
         with psycopg.connect(place) as link:
-            link.execute("LOCK TABLE sagas.lines IN EXCLUSIVE MODE")
+            link.execute("LOCK TABLE sagas.event_log IN EXCLUSIVE MODE")
             yield
     else:
         with contextlib.closing(sqlite3.connect(place, isolation_level=None)) as db:
@@ -847,9 +853,9 @@ def locked(place: str) -> Iterator[None]:
 
 def test_one_transaction_takes_what_all_logs_have(place: str, monkeypatch: pytest.MonkeyPatch) -> None:
     """Steps end in eight logs while a commit is under way: one more holds all of it."""
-    monkeypatch.setattr("sagas.kinds.ROOM", 2)
+    monkeypatch.setattr("sagas.definition.compiled.SHARD_CAPACITY", 2)
     gate, far = asyncio.Event(), sagas.Saga("far")
-    far.step(handler=None, name="b")  # it stays open, so that no log is closed meanwhile
+    far.step(external=True, name="b")  # it stays open, so that no log is closed meanwhile
     calls: list[str] = []
 
     async def a(task: Task) -> None:
@@ -865,13 +871,13 @@ def test_one_transaction_takes_what_all_logs_have(place: str, monkeypatch: pytes
                 await store.start(far, f"far-{number}")
                 runs.append(await store.start(saga, f"k{number}"))
             await until(lambda: len(calls) == 8)
-            assert store._coordinator
-            pumps = store._coordinator.pumps.values()
-            await until(lambda: len(pumps) == 8 and not any(pump.unwritten for pump in pumps))
+            assert store._inside
+            runners = store._inside.shards.runners.values()
+            await until(lambda: len(runners) == 8 and not any(one.driver.unwritten for one in runners))
             before = store.commits
             with locked(place):
                 gate.set()
-                await until(lambda: all(pump.unwritten for pump in pumps))
+                await until(lambda: all(one.driver.unwritten for one in runners))
             assert all(end.ok for end in await asyncio.gather(*(one.wait() for one in runs)))
             assert store.commits - before <= 2
 
@@ -885,7 +891,7 @@ def test_a_file_is_synced_at_each_commit(tmp_path: pathlib.Path) -> None:
     async def main() -> None:
         async with sagas.open(tmp_path / "store.db", [saga]) as store:
             assert (await ended(store, saga)).ok
-            inside: Any = store._coordinator
+            inside: Any = store._inside
             assert inside.store._db.execute("PRAGMA journal_mode").fetchone() == ("wal",)
             assert inside.store._db.execute("PRAGMA synchronous").fetchone() == (2,)  # FULL
 
@@ -895,13 +901,13 @@ def test_a_file_is_synced_at_each_commit(tmp_path: pathlib.Path) -> None:
 @pytest.mark.parametrize("at_once", [0.0, 60.0])
 def test_commits_in_the_loop_and_in_the_thread(tmp_path: pathlib.Path, monkeypatch: pytest.MonkeyPatch, at_once: float) -> None:
     """All commits are made in the thread, or most where they are asked for: the same is kept, and the WAL is moved into the file now and then."""
-    monkeypatch.setattr(sqlite_writer, "AT_ONCE", at_once)
+    monkeypatch.setattr(writer_module, "AT_ONCE", at_once)
     saga, most = row(), 0
 
     async def main() -> None:
         nonlocal most
         async with sagas.open(tmp_path / "store.db", [saga], concurrency=600) as store:
-            ends = await asyncio.gather(*(ended(store, saga, f"k{number}") for number in range(2 * pump.LOT + 100)))
+            ends = await asyncio.gather(*(ended(store, saga, f"k{number}") for number in range(2 * shard.MOST_REPORTS + 100)))
             for number in range(400):
                 ends.append(await ended(store, saga, f"one-{number}"))
                 most = max(most, (tmp_path / "store.db-wal").stat().st_size)
@@ -915,8 +921,8 @@ def test_commits_in_the_loop_and_in_the_thread(tmp_path: pathlib.Path, monkeypat
 @pytest.mark.parametrize("wait", [0, 50])
 def test_answers_that_are_waited_for_and_others(place: str, monkeypatch: pytest.MonkeyPatch, wait: int) -> None:
     """An answer that is not there in time comes by the loop, and for a while none is waited for."""
-    monkeypatch.setattr(child, "WAIT", wait)
-    monkeypatch.setattr(child, "AGAIN", 3)
+    monkeypatch.setattr(process, "WAIT", wait)
+    monkeypatch.setattr(process, "AGAIN", 3)
     saga = row()
 
     async def main() -> None:
@@ -927,28 +933,6 @@ def test_answers_that_are_waited_for_and_others(place: str, monkeypatch: pytest.
                 assert end.ok == (given is None) and not (await store.start(saga, f"k{number}", given)).new
             ends = await asyncio.gather(*(ended(store, saga, f"more-{number}") for number in range(40)))
             assert all(end.ok for end in ends)
-            assert all(said.startswith("yes") for said in (await store.audit()).values())
-
-    run(main())
-
-
-@pytest.mark.parametrize(("place", "other"), [(0, 1), (4, "undone")])
-def test_the_child_says_otherwise_than_was_expected(tmp_path: pathlib.Path, monkeypatch: pytest.MonkeyPatch, place: int, other: Any) -> None:
-    """Rows that are put while it thinks were never there, unless it agrees to just these: not to those of another saga or another event."""
-    saga, expected = row(), pump.Pump._expected
-
-    def wrongly(self: pump.Pump, *words: Any) -> Any:
-        opened, results = expected(self, *words)
-        return [(id, f"not {key}", *more) for id, key, *more in opened], [(*one[:place], other, *one[place + 1 :]) for one in results]
-
-    async def main() -> None:
-        async with sagas.open(tmp_path / "store.db", [saga]) as store:
-            for number, wrong in enumerate((False, True, True, False)):
-                monkeypatch.setattr(pump.Pump, "_expected", wrongly if wrong else expected)
-                assert (await ended(store, saga, f"k{number}")).results["c"] == {"a": "A", "b": "AB"}
-                events = await store.log(f"k{number}")
-                assert [event.event for event in events if event.event == "undone"] == []
-            assert [one.key for one in await store.list()] == ["k0", "k1", "k2", "k3"]
             assert all(said.startswith("yes") for said in (await store.audit()).values())
 
     run(main())
@@ -987,32 +971,6 @@ def test_each_type_is_tried_with_an_input_of_its_own(place: str) -> None:
     run(main())
 
 
-def test_an_interrupt_takes_early_rows_back(tmp_path: pathlib.Path, monkeypatch: pytest.MonkeyPatch) -> None:
-    """Nothing stays locked, and nothing is read that is not kept."""
-    path, saga, put = str(tmp_path / "store.db"), row(), sqlite_writer.Writer._put_usual
-    monkeypatch.setattr(child, "WAIT", 60_000)  # however busy the machine is
-
-    def interrupted(self: sqlite_writer.Writer, *rows: Any) -> None:
-        put(self, *rows)
-        raise KeyboardInterrupt
-
-    async def main() -> None:
-        async with sagas.open(path, [saga]) as store:
-            assert (await ended(store, saga)).ok and store._coordinator
-            (log,) = store._coordinator.pumps.values()
-            writer: Any = store._coordinator.store._writer  # type: ignore[attr-defined]
-            monkeypatch.setattr(sqlite_writer.Writer, "_put_usual", interrupted)
-            with pytest.raises(KeyboardInterrupt):
-                assert log.child
-                log._wait(log.child, log.batch(), [], [store._coordinator.new_live("never", "null", log.kinds[0], 0)])
-            monkeypatch.setattr(sqlite_writer.Writer, "_put_usual", put)
-            assert not writer._db.in_transaction and await store.get("never") is None
-            del store._coordinator.lives["never"]
-            assert (await ended(store, saga, "more")).ok
-
-    run(main())
-
-
 def test_nobody_waits_for_rows_of_an_answer_that_is_late(tmp_path: pathlib.Path) -> None:
     """A child that stands still: meanwhile other programs write the file."""
     path, saga = str(tmp_path / "store.db"), row()
@@ -1024,9 +982,9 @@ def test_nobody_waits_for_rows_of_an_answer_that_is_late(tmp_path: pathlib.Path)
             (pid,) = set(children(os.getpid())) - others
             os.kill(pid, signal.SIGSTOP)
             going = asyncio.ensure_future(ended(store, saga, "late"))
-            assert store._coordinator
-            (log,) = store._coordinator.pumps.values()
-            await until(lambda: log.child and log.child.asked)
+            assert store._inside
+            (runner,) = store._inside.shards.runners.values()
+            await until(lambda: runner.engine and runner.engine.asked)
             with contextlib.closing(sqlite3.connect(path, timeout=0)) as db:
                 db.execute("BEGIN IMMEDIATE")
                 assert db.execute("SELECT count(*) FROM sagas").fetchone() == (1,)
@@ -1036,10 +994,10 @@ def test_nobody_waits_for_rows_of_an_answer_that_is_late(tmp_path: pathlib.Path)
     run(main())
 
 
-@pytest.mark.parametrize("turn", [0.0, callers.TURN])
+@pytest.mark.parametrize("turn", [0.0, dispatcher.TURN])
 def test_steps_give_the_loop_a_turn(place: str, monkeypatch: pytest.MonkeyPatch, turn: float) -> None:
     """Whatever is committed and answered at once: what else goes on in the loop has its turn after `TURN`, and is not held up by a saga of many steps."""
-    monkeypatch.setattr(callers, "TURN", turn)
+    monkeypatch.setattr(dispatcher, "TURN", turn)
     saga, turns, seen = sagas.Saga("long"), 0, []
     for number in range(30):
 
@@ -1074,20 +1032,9 @@ def test_tasks_of_a_reply() -> None:
         assert lines.tasks_in(other) is None
 
 
-def test_what_is_under_way_goes_in_halves() -> None:
-    """A commit to a server waits for more than it has, if that comes soon; and of many calls half are told first, where the server has nothing to do."""
-    hold = holding.Holding()
-    hold.committed(8)
-    hold.came()
-    each = hold._each
-    assert hold.is_soon(9, 8, each * 9) and not hold.is_soon(8, 8, each * 9) and not hold.is_soon(0, 0, each * 9)
-    assert not hold.is_soon(9, 8, each)
-    assert [holding.half(ready) for ready in (0, 1, 7, 8, 16, 17, 1000)] == [0, 1, 7, 4, 8, 9, 500]
-
-
 def test_a_commit_in_the_loop_waits_for_nobody(tmp_path: pathlib.Path, monkeypatch: pytest.MonkeyPatch) -> None:
     """While another program writes the file, the loop goes on, and the commit is made when that is over."""
-    monkeypatch.setattr(sqlite_writer, "AT_ONCE", 60.0)
+    monkeypatch.setattr(writer_module, "AT_ONCE", 60.0)
     saga = simple(lambda task: 1)
 
     async def main() -> None:
@@ -1117,7 +1064,7 @@ def test_texts_are_no_statements(place: str, caplog: pytest.LogCaptureFixture) -
     async def a(task: Task) -> Any:
         return task.input
 
-    @hazy.step(unknown_most=0)
+    @hazy.step(max_unknown=0)
     async def b(task: Task) -> None:
         raise sagas.Unknown(task.input)
 
@@ -1138,7 +1085,7 @@ def test_texts_are_no_statements(place: str, caplog: pytest.LogCaptureFixture) -
             await store.start(hazy, "hazy", ODD)
             (held,) = await until(store.unknown)
             assert "DROP TABLE" in (held.error or "")
-            await store.finish("hazy", "b", ODD, by=ODD, note=ODD)
+            await store.complete("hazy", "b", ODD, by=ODD, note=ODD)
             assert (await store.wait("hazy")).results == {"b": ODD}
             assert (await ended(store, must, "must", ODD)).errors == {"c": f"sagas.Fail: {ODD}"}
             await store.resolve("must", ODD)
@@ -1164,17 +1111,16 @@ def test_questions(place: str) -> None:
             for number in range(5):
                 await ended(store, good, f"g{number}", "fails" if number == 1 else None)
             end = await ended(store, bad, "b")
-            assert end.phase == "stuck" and end.chain == ["must"]
+            assert end.phase == "stuck" and end.blocking_steps == ["must"]
             assert await store.get("none") is None and await store.get("b") is not None
-            listed = await store.list(phase="ended", saga=good)
-            assert [one.key for one in listed] == [f"g{number}" for number in range(5)]
-            (planned,) = await store.list(phase="planned")
-            assert (planned.key, planned.phase, planned.planned) == ("g1", "ended", True)
-            all_planned = [one.planned for one in await store.list()]
-            assert all_planned == [False, True, False, False, False, False]
-            page = await store.list(most=2)
-            assert [one.key for one in await store.list(most=2, after=page[-1].id)] == ["g2", "g3"]
-            wrong: list[Any] = [{"after": "g1"}, {"most": "all"}, {"most": 0}, {"phase": "over"}]
+            listed = await store.list(phase="completed", saga=good)
+            assert [one.key for one in listed] == ["g0", "g2", "g3", "g4"]
+            (planned,) = await store.list(phase="recovered")
+            assert (planned.key, planned.phase) == ("g1", "recovered")
+            assert [one.phase == "recovered" for one in await store.list()] == [False, True] + [False] * 4
+            page = await store.list(limit=2)
+            assert [one.key for one in await store.list(limit=2, after=page[-1].id)] == ["g2", "g3"]
+            wrong: list[Any] = [{"after": "g1"}, {"limit": "all"}, {"limit": 0}, {"phase": "over"}]
             for words in wrong:
                 with pytest.raises((TypeError, ValueError), match=f"{[*words][0]}="):
                     await store.list(**words)
@@ -1183,7 +1129,7 @@ def test_questions(place: str) -> None:
                 with pytest.raises((TypeError, ValueError), match="what was done about it"):
                     await store.resolve("b", note)  # type: ignore[arg-type]
             with pytest.raises(TypeError, match="why it failed"):
-                await store.finish("b", "a", failed=5)  # type: ignore[arg-type]
+                await store.fail("b", "a", 5)  # type: ignore[arg-type]
             await store.resolve("b", "seen to")
             (resolved,) = await store.list(phase="resolved")
             assert await store.stuck() == [] and resolved.note == "seen to"
@@ -1215,9 +1161,9 @@ def test_events_and_logging(place: str, caplog: pytest.LogCaptureFixture) -> Non
     with caplog.at_level(logging.INFO, "sagas"):
         run(main())
     names = Counter(event.name for event in told)
-    assert names["saga_started"] == names["saga_ended"] == names["saga_planned"] == names["step_failed"] == 1
-    assert names["step_begun"] == 5 and names["step_done"] == 4
-    assert all((event.seconds is not None) == (event.name in ("step_done", "step_failed")) for event in told)
+    assert names["saga_started"] == names["saga_ended"] == names["plan_adopted"] == names["step_failed"] == 1
+    assert names["step_started"] == 5 and names["step_succeeded"] == 4
+    assert all((event.seconds is not None) == (event.name in ("step_succeeded", "step_failed")) for event in told)
     kept = [record for record in caplog.records if record.name == "sagas" and getattr(record, "sagas", {}).get("name") == "step_failed"]
     assert kept and getattr(kept[0], "sagas")["key"] == "k"
 
@@ -1236,11 +1182,11 @@ def test_a_final_failure_is_told_once(place: str, how: str) -> None:
 
     else:
 
-        @saga.approval(within=datetime.timedelta(seconds=0.01) if how == "late" else None)
+        @saga.approval(timeout=datetime.timedelta(seconds=0.01) if how == "late" else None)
         def sign(task: Task) -> None: ...
 
     def hook(event: sagas.Event) -> None:
-        if event.name in ("step_missed", "step_failed", "step_done"):
+        if event.name in ("step_retrying", "step_failed", "step_succeeded"):
             told.append((event.name, event.detail))
 
     async def main() -> None:
@@ -1249,7 +1195,7 @@ def test_a_final_failure_is_told_once(place: str, how: str) -> None:
             if how == "refused":
                 while not await store.waits_for("k"):
                     await asyncio.sleep(0.005)
-                await run.finish(sign, failed="too dear")
+                await run.fail(sign, "too dear")
             assert (await run.wait()).states == {"sign": "failed"}
 
     run(main())
@@ -1282,7 +1228,7 @@ def test_without_async(place: str) -> None:
     with sagas.open_sync(place, [saga]) as store:
         assert store.start(saga, key="good").wait(30).ok and not store.start(saga, key="good").new
         assert store.start(saga, key="bad", input="fails").wait(30).states["a"] == "undone"
-        ends: list[sagas.End] = []
+        ends: list[sagas.SagaResult] = []
         threads = [threading.Thread(target=lambda: ends.append(store.start(saga, key="one").wait(30))) for _ in range(4)]
         for thread in threads:
             thread.start()
@@ -1312,8 +1258,8 @@ def test_who_waits_too_long(place: str) -> None:
         gate.set()
         hears(lambda: store.wait("k", timeout=0.01), "'k' is still open after 0.01 s: sign waits for an approval")
         with pytest.raises(TimeoutError, match="still open after 0.01 s"):
-            store.settled(0.01)
-        run.finish(sign)
+            store.wait_idle(0.01)
+        run.complete(sign)
         assert run.wait(60).ok
 
     async def main() -> None:
@@ -1323,7 +1269,7 @@ def test_who_waits_too_long(place: str) -> None:
                 await one.wait(timeout=0.01)
             while not any("approval" in one for one in await store.waits_for("two")):
                 await asyncio.sleep(0.005)
-            await one.finish(sign)
+            await one.complete(sign)
             assert (await one.wait(timeout=60)).ok
 
     asyncio.run(main())
@@ -1335,7 +1281,7 @@ def test_another_loop(tmp_path: pathlib.Path) -> None:
 
     async def main() -> None:
         async with sagas.open(tmp_path / "store.db", [saga]) as store:
-            calls: list[Any] = [store.start(saga, "k"), store.wait("k"), store.abort("k"), store.finish("k", "a")]
+            calls: list[Any] = [store.start(saga, "k"), store.wait("k"), store.abort("k"), store.complete("k", "a")]
             for call in calls:
                 with pytest.raises(RuntimeError, match="sagas.open_sync"):
                     await asyncio.to_thread(asyncio.run, call)
@@ -1356,14 +1302,14 @@ def test_a_step_calls_a_store_without_async(tmp_path: pathlib.Path) -> None:
 
     with sagas.open_sync(tmp_path / "store.db", [saga, inner, other]) as store:
         assert store.start(saga, "outer").wait(60).results == {"a": 1}
-        assert "make the function a plain def" in (store.start(other, "k").wait(60).errors["a"] or "")
+        assert "Make the function a plain def" in (store.start(other, "k").wait(60).errors["a"] or "")
 
 
 
 def held(place: str) -> list[tuple[Any, ...]]:
     """What a store keeps of attempts that are held."""
-    with contextlib.closing(sources.connect(place)) as link:
-        return link.ask("SELECT id, step, kind, attempt, why FROM held")
+    with contextlib.closing(admin.connect(place)) as link:
+        return link.ask("SELECT id, step, action, number, reason FROM suspensions")
 
 
 @pytest.mark.parametrize("reopened", [False, True])
@@ -1390,7 +1336,7 @@ def test_nothing_is_kept_of_a_wait_behind_its_sagas_end(place: str, reopened: bo
 
     async def main() -> None:
         if reopened:
-            async with sagas.open(place, [saga], grace=0.0) as store:
+            async with sagas.open(place, [saga], shutdown_timeout=0.0) as store:
                 await store.start(saga, "k")
                 await until(lambda: len(inside) == 2)
             inside.clear()

@@ -26,15 +26,15 @@ def trip() -> sagas.Saga:
     async def flight(task: sagas.Task[Any]) -> str:
         return f"flight {task.input}"
 
-    @trip.step(needs=[flight], undo=5, keep=3, unknown_most=3)
+    @trip.step(needs=[flight], undo=5, keep=3, max_unknown=3)
     def car(task: sagas.Task[Any]) -> str:
-        return f"car for {task.of(flight)}"
+        return f"car for {task.result_of(flight)}"
 
     @car.compensation(tries=2)
     def cancel_car(task: sagas.Task[Any]) -> None:
         assert task.result == "car for flight LH400"
 
-    @trip.step(needs=[flight], skip=25, tries=3, backoff=sagas.Backoff(first=60, most=90))
+    @trip.step(needs=[flight], skip=25, tries=3, backoff=sagas.Backoff(initial=60, maximum=90))
     async def hotel(task: sagas.Task[Any]) -> int:
         return task.attempt
 
@@ -57,14 +57,14 @@ def late(approves: bool = True) -> sagas.Saga:
     def order(task: sagas.Task[Any]) -> int:
         return 7
 
-    @order.compensation
+    @order.compensation(on_exhausted="fail")
     def cancel(task: sagas.Task[Any]) -> None: ...
 
     @late.wait(needs=[order], until=3 * DAY)
     def wait(task: sagas.Task[Any]) -> str:
         return "waited"
 
-    @late.approval(needs=[wait], within=2 * DAY if approves else None, name="manager")
+    @late.approval(needs=[wait], timeout=2 * DAY if approves else None, name="manager")
     def ask(task: sagas.Task[Any]) -> None: ...
 
     @late.step(needs=["manager"])
@@ -77,9 +77,9 @@ def late(approves: bool = True) -> sagas.Saga:
 def test_all_goes_well() -> None:
     """Each step is called once, with the results of what it needs."""
     trial = run(trip(), "LH400")
-    assert trial.phase == "ended" and set(trial.states.values()) == {"committed"}
+    assert trial.phase == "completed" and set(trial.states.values()) == {"committed"}
     assert trial.results == {"flight": "flight LH400", "car": "car for flight LH400", "hotel": 1, "tour": "tour"}
-    assert (trial.cost, trial.chain, trial.aborted, trial.seconds) == (None, [], False, 0.0)
+    assert (trial.cost, trial.blocking_steps, trial.aborted, trial.seconds) == (None, [], False, 0.0)
     assert len(trial.calls) == 4 and not trial.undone
 
 
@@ -90,7 +90,7 @@ def test_fails_by_number() -> None:
     assert time.perf_counter() - began < 2
     assert trial.results["hotel"] == 3
     assert [(call.attempt, call.outcome, call.at) for call in trial.calls if call.step == "hotel"] == [
-        (1, "failed", 0.0), (2, "failed", 60.0), (3, "done", 150.0),
+        (1, "failed", 0.0), (2, "failed", 60.0), (3, "succeeded", 150.0),
     ]
 
 
@@ -114,8 +114,8 @@ def test_unknown_is_made_again_with_the_same_token() -> None:
     """What the function returned is lost twice: three calls, one token, one attempt."""
     trial = run(trip(), "LH400", unknown={"car": 2})
     cars = [call for call in trial.calls if call.step == "car"]
-    assert [call.outcome for call in cars] == ["unknown", "unknown", "done"]
-    assert len({call.token for call in cars}) == 1 and trial.phase == "ended"
+    assert [call.outcome for call in cars] == ["unknown", "unknown", "succeeded"]
+    assert len({call.attempt_id for call in cars}) == 1 and trial.phase == "completed"
 
 
 def test_unknown_for_ever_waits_for_a_person() -> None:
@@ -128,14 +128,14 @@ def test_unknown_for_ever_waits_for_a_person() -> None:
 def test_abort_undoes_what_costs_less_undone() -> None:
     """Once the order is there the saga is aborted: it is undone, and nothing waits three days."""
     trial = run(late(), abort="order")
-    assert trial.aborted and trial.states["order"] == "undone" and trial.phase == "ended"
+    assert trial.aborted and trial.states["order"] == "undone" and trial.phase == "recovered"
     assert [call.step for call in trial.undone] == ["order"] and trial.seconds == 0.0
 
 
 def test_a_compensation_fails() -> None:
     """It has one try: the order stays as it is, and the saga ends with it."""
     trial = run(late(), abort="order", fail_undo={"order": 1})
-    assert trial.states["order"] == "fixed" and trial.phase == "ended"
+    assert trial.states["order"] == "undo_failed" and trial.phase == "recovered"
 
 
 def test_three_days_take_no_time() -> None:
@@ -168,14 +168,14 @@ def test_stuck() -> None:
     def licence(task: sagas.Task[Any]) -> None: ...
 
     trial = run(must, fail={licence: 1})
-    assert trial.phase == "stuck" and trial.chain == ["licence"]
+    assert trial.phase == "stuck" and trial.blocking_steps == ["licence"]
 
 
 def test_a_trial_is_as_an_end() -> None:
-    """`ok`, `of` and `errors`, as of `End`; an exception is told by its class, too."""
+    """`ok`, `of` and `errors`, as of `SagaResult`; an exception is told by its class, too."""
     saga = trip()
     trial = run(saga, "LH400")
-    assert trial.ok and trial.of(saga.steps[0]) == "flight LH400" and trial.errors == {}
+    assert trial.ok and trial.result_of(saga.steps[0]) == "flight LH400" and trial.errors == {}
     trial = run(saga, "LH400", fail={"hotel": ValueError})
     assert not trial.ok and trial.errors == {"hotel": "ValueError"}
 
@@ -184,31 +184,31 @@ def test_a_trial_is_printed_as_an_end() -> None:
     """A line, and one for each step; `of` takes names, too."""
     trial = run(trip(), "LH400", key="order-1", fail={"hotel": sagas.Fail("full")})
     assert str(trial).splitlines() == [
-        "trip order-1: ended, plan of cost 38", "  committed flight", "  committed car", "  failed    hotel: sagas.Fail: full", "  waiting   tour",
+        "trip order-1: recovered, plan of cost 38", "  committed flight", "  committed car", "  failed    hotel: sagas.Fail: full", "  not run   tour",
     ]  # fmt: skip
-    assert trial.of("car") == "car for flight LH400"
-    with pytest.raises(KeyError, match="step 'hotel' does not stand: it is failed"):
-        trial.of("hotel")
+    assert trial.result_of("car") == "car for flight LH400"
+    with pytest.raises(KeyError, match="step 'hotel' is not committed: it is failed"):
+        trial.result_of("hotel")
 
 
-FORMS = r"it is so many attempts \(1\), just those of a list"
+FORMS = r"must be a number of attempts \(1\), a list of attempts"
 
 
 @pytest.mark.parametrize(
     "words, kind, text",
     [
         ({"fail": {"boat": 1}}, KeyError, "no step 'boat'"),
-        ({"fail": {"hotle": 1}}, KeyError, "no step 'hotle': is 'hotel' meant"),
-        ({"fail": {17: 1}}, TypeError, "17: it is a step of saga 'trip', or its name"),
+        ({"fail": {"hotle": 1}}, KeyError, "no step 'hotle'; did you mean 'hotel'"),
+        ({"fail": {17: 1}}, TypeError, "17: must be a step of saga 'trip', or its name"),
         ({"fail": {"hotel": "full"}}, TypeError, rf"fail=\{{'hotel': 'full'\}}: {FORMS}"),
         ({"fail": {"hotel": int}}, TypeError, FORMS),
         ({"fail": {"hotel": 1.5}}, TypeError, FORMS),
         ({"fail": {"hotel": True}}, TypeError, FORMS),
-        ({"fail": {"hotel": [0]}}, ValueError, "counted from 1"),
-        ({"fail": ["hotel"]}, TypeError, rf"fail=\['hotel'\]: it is a dict of attempts by step: fail="),
-        ({"unknown": "hotel"}, TypeError, "unknown='hotel': it is a dict"),
-        ({"fail_undo": {"flight": 1}}, ValueError, "fail_undo: step 'flight' has no compensation, and is never undone: give it one, by @flight.compensation"),
-        ({"answers": ["hotel"]}, TypeError, "it is a dict of answers by step"),
+        ({"fail": {"hotel": [0]}}, ValueError, "numbered from 1"),
+        ({"fail": ["hotel"]}, TypeError, rf"fail=\['hotel'\]: must be a dict of attempts by step: fail="),
+        ({"unknown": "hotel"}, TypeError, "unknown='hotel': must be a dict"),
+        ({"fail_undo": {"flight": 1}}, ValueError, "fail_undo: step 'flight' has no compensation, so it is never undone. Declare one with @flight.compensation"),
+        ({"answers": ["hotel"]}, TypeError, "must be a dict of answers by step"),
         ({"abort": "boat"}, KeyError, "no step 'boat'"),
     ],
 )
@@ -220,9 +220,9 @@ def test_a_script_that_is_none(words: dict[str, Any], kind: type[Exception], tex
 
 def test_what_fails_to_be_undone_by_doing_nothing() -> None:
     """Nothing cannot fail; and what is no saga is told as that."""
-    with pytest.raises(ValueError, match="unknown_undo: step 'wait' .* undone by doing nothing, which cannot fail"):
+    with pytest.raises(ValueError, match="unknown_undo: step 'wait' .* undoing it does nothing, which cannot fail"):
         run(late(), unknown_undo={"wait": 1})
-    with pytest.raises(sagas.DefinitionError, match="'trip' is no saga"):
+    with pytest.raises(sagas.DefinitionError, match="expected a sagas.Saga, got 'trip'"):
         run("trip")  # type: ignore[arg-type]
 
 
@@ -235,9 +235,9 @@ def one(function: Any, **words: Any) -> sagas.Saga:
 
 def test_a_result_that_is_no_json() -> None:
     """It raises, as an answer does: a store keeps the effect and loses the result. What a compensation returns counts for nothing."""
-    with pytest.raises(sagas.Unstorable, match="'a' returned what is no JSON: object is not JSON"):
+    with pytest.raises(sagas.ResultNotSerializable, match="step 'a' returned a value that is not JSON: object is not JSON"):
         run(one(lambda task: object()))
-    with pytest.raises(sagas.NotJson, match=r"answers\['manager'\]: object is not JSON"):
+    with pytest.raises(sagas.NotSerializable, match=r"answers\['manager'\]: object is not JSON"):
         run(late(approves=False), answers={"manager": object()})
     saga = one(lambda task: {1, 2})
     saga.steps[0].compensation(lambda task: object())
@@ -259,7 +259,7 @@ def test_an_input_that_does_not_fit() -> None:
 
     def half(task: sagas.Task[Half]) -> None: ...
 
-    with pytest.raises(sagas.BadInput, match=r"saga 'one', step 'a': input\[.1.\]"):
+    with pytest.raises(sagas.InvalidInput, match=r"saga 'one', step 'a': input\[.1.\]"):
         run(one(reads), {"1": "no day"})
     assert run(one(half), {"other": 1}).ok
 
@@ -267,7 +267,7 @@ def test_an_input_that_does_not_fit() -> None:
 def test_a_transaction() -> None:
     """There is no database here: a test hands a connection in, if a step asks for one."""
     asks = one(lambda task: [*task.connection], transaction=True)
-    with pytest.raises(RuntimeError, match=r"sagas.testing has no database: hand one in with connection=\.\."):
+    with pytest.raises(RuntimeError, match=r"sagas.testing has no database. Set connection=\.\.\."):
         run(asks)
     assert run(asks, connection=[1, 2]).results == {"a": [1, 2]}
     assert run(one(lambda task: 1, transaction=True)).ok
@@ -275,12 +275,13 @@ def test_a_transaction() -> None:
 
 @pytest.mark.parametrize("until", [5, datetime.datetime(2031, 5, 1)])
 def test_a_wait_until_something_else(until: datetime.datetime) -> None:
-    """As a store says it."""
+    """The step fails, as in a store."""
     saga = sagas.Saga("late")
     told: Callable[[sagas.Task[Any]], datetime.datetime] = lambda task: until
     saga.wait(until=told, name="wait")(lambda task: None)
-    with pytest.raises(TypeError, match="step 'wait': until gave .*: it is a timedelta, or a datetime with a time zone"):
-        run(saga)
+    error = run(saga).errors["wait"]
+    assert error.startswith("TypeError: until returned ")
+    assert "it must be a timedelta or a datetime with a time zone" in error
 
 
 def test_in_a_loop() -> None:
@@ -289,10 +290,10 @@ def test_in_a_loop() -> None:
     async def main() -> sagas.testing.Trial:
         return await sagas.testing.run_async(trip(), "LH400")
 
-    assert asyncio.run(main()).phase == "ended"
+    assert asyncio.run(main()).phase == "completed"
 
     async def wrong() -> None:
         run(trip(), "LH400")
 
-    with pytest.raises(RuntimeError, match="await sagas.testing.run_async"):
+    with pytest.raises(RuntimeError, match="Await sagas.testing.run_async"):
         asyncio.run(wrong())

@@ -17,15 +17,15 @@ from typing import Any
 
 import psycopg
 import pytest
-
 import records
-import sagas
 from cases import QUICK, Task, ended, run, simple, surely_ended, until
 from driving import program
 from relay import relaying
-from sagas.step_pool import Pool
 from server import Server
 from test_store import ODD, TEXTS
+
+import sagas
+from sagas.storage.postgresql.step_pool import Pool
 
 
 def bank(in_thread: bool) -> sagas.Saga:
@@ -37,27 +37,27 @@ def bank(in_thread: bool) -> sagas.Saga:
 
         @bank.step(transaction=True, tries=3, backoff=QUICK)
         def book(task: Task) -> str:
-            task.connection.execute(text, (task.key, "book", task.effect_token))
+            task.connection.execute(text, (task.key, "book", task.idempotency_key))
             if task.input == "once" and task.attempt == 1:
                 raise ValueError("the first try fails behind its row")
             return "booked"
 
         @book.compensation(tries=2, backoff=QUICK)
         def unbook(task: Task) -> None:
-            task.connection.execute(text, (task.key, "unbook", task.effect_token))
+            task.connection.execute(text, (task.key, "unbook", task.idempotency_key))
 
     else:
 
         @bank.step(transaction=True, tries=3, backoff=QUICK)
         async def book(task: Task) -> str:
-            await task.connection.execute(text, (task.key, "book", task.effect_token))
+            await task.connection.execute(text, (task.key, "book", task.idempotency_key))
             if task.input == "once" and task.attempt == 1:
                 raise ValueError("the first try fails behind its row")
             return "booked"
 
         @book.compensation(tries=2, backoff=QUICK)
         async def unbook(task: Task) -> None:
-            await task.connection.execute(text, (task.key, "unbook", task.effect_token))
+            await task.connection.execute(text, (task.key, "unbook", task.idempotency_key))
 
     @bank.step(needs=["book"])
     async def check(task: Task) -> str:
@@ -112,7 +112,7 @@ def test_exactly_once_while_connections_are_cut(postgresql: Server, url: str, in
                 relay.before = relay.after = 0.02
                 ends = await asyncio.gather(*(surely_ended(store, kind, f"k{number}", "fails" if number % 3 == 0 else None) for number in range(40)))
                 relay.before = relay.after = 0.0
-                assert all(end.phase == "ended" for end in ends)
+                assert all(end.phase in ("completed", "recovered") for end in ends)
             assert relay.cuts["after"] > 0 and relay.cuts["before"] > 0
 
     run(main())
@@ -161,13 +161,9 @@ def test_texts_of_steps_inside_are_no_statements(url: str, caplog: pytest.LogCap
 
     run(main())
     assert booked(url) == {(f"{word}{text}", "book"): 1 for text in TEXTS for word in ("", "odd ")}
-    with psycopg.connect(url) as link:
-        carried = link.execute("SELECT 1 FROM book b, sagas.sagas s WHERE b.key = s.key AND b.xmin = s.xmin").fetchall()
-    assert (len(carried) == 2 * len(TEXTS)) is (way == "alone")
 
 
-@pytest.mark.parametrize("limit", [None, 1], ids=["carries its lines", "by itself"])
-def test_a_step_of_a_lost_log_is_rolled_back(url: str, limit: int | None) -> None:
+def test_a_step_of_a_lost_log_is_rolled_back(url: str) -> None:
     """Two nodes of one name are at the same step: the one that has the log commits, and of the other's nothing stays."""
     prepare(url)
     gates = asyncio.Event(), asyncio.Event()
@@ -176,7 +172,7 @@ def test_a_step_of_a_lost_log_is_rolled_back(url: str, limit: int | None) -> Non
     def kind_of(number: int) -> sagas.Saga:
         kind = sagas.Saga("one")
 
-        @kind.step(transaction=True, limit=limit)
+        @kind.step(transaction=True)
         async def book(task: Task) -> int:
             await task.connection.execute("INSERT INTO book(key, step, token) VALUES(%s, 'book', %s)", (task.key, str(number)))
             inside.append(number)
@@ -190,10 +186,10 @@ def test_a_step_of_a_lost_log_is_rolled_back(url: str, limit: int | None) -> Non
         async with sagas.open(url, [kinds[0]], node="same", lease=600) as first:
             await first.start(kinds[0], "k")
             await until(lambda: inside == [0])
-            async with sagas.open(url, [kinds[1]], node="same", lease=600, grace=0.0) as second:
+            async with sagas.open(url, [kinds[1]], node="same", lease=600, shutdown_timeout=0.0) as second:
                 await until(lambda: inside == [0, 1])
                 gates[0].set()
-                await until(lambda: first._coordinator and not first._coordinator.pumps)
+                await until(lambda: first._inside and not first._inside.shards.runners)
                 assert booked(url) == {} and not records.read(url).results
                 gates[1].set()
                 assert (await first.wait("k")).results == {"book": 1} == (await second.wait("k")).results
@@ -203,8 +199,8 @@ def test_a_step_of_a_lost_log_is_rolled_back(url: str, limit: int | None) -> Non
     assert booked(url) == {("k", "book"): 1}
 
 
-@pytest.mark.parametrize("way", ["alone", "by itself", "in a thread"])
-def test_nobody_takes_a_log_while_a_step_of_it_is_committed(url: str, way: str) -> None:
+@pytest.mark.parametrize("in_thread", [False, True])
+def test_nobody_takes_a_log_while_a_step_of_it_is_committed(url: str, in_thread: bool) -> None:
     """Its commit waits for a lock behind the look whose the log is: until that is over the log's row is locked."""
     prepare(url)
     kind, text = sagas.Saga("shop"), "INSERT INTO items VALUES (%s)"
@@ -215,7 +211,7 @@ def test_nobody_takes_a_log_while_a_step_of_it_is_committed(url: str, way: str) 
     def item_in_thread(task: Task) -> None:
         task.connection.execute(text, (task.key,))
 
-    kind.step(name="item", transaction=True, limit=1 if way == "by itself" else None)(item_in_thread if way == "in a thread" else item)
+    kind.step(name="item", transaction=True)(item_in_thread if in_thread else item)
 
     async def main() -> None:
         async with sagas.open(url, [kind]) as store:
@@ -224,7 +220,7 @@ def test_nobody_takes_a_log_while_a_step_of_it_is_committed(url: str, way: str) 
                 stranger.execute("SELECT 1 FROM orders FOR UPDATE")
                 going = await store.start(kind, "k")
                 await until(lambda: eye.execute("SELECT 1 FROM pg_stat_activity WHERE datname = current_database() AND wait_event_type = 'Lock'").fetchall())
-                assert eye.execute("SELECT 1 FROM sagas.logs FOR UPDATE SKIP LOCKED").fetchall() == []
+                assert eye.execute("SELECT 1 FROM sagas.shards FOR UPDATE SKIP LOCKED").fetchall() == []
             assert (await going.wait()).ok
 
     run(main())
@@ -245,28 +241,26 @@ def test_a_forgotten_await_in_a_transaction(url: str, in_thread: bool) -> None:
 
     kind.step(name="charge", transaction=True)((lambda task: book(task)) if in_thread else charge)
 
-    async def main() -> sagas.End:
+    async def main() -> sagas.SagaResult:
         async with sagas.open(url, [kind]) as store:
             return await ended(store, kind, "k")
 
     end = run(main())
     if in_thread:
-        assert end.states == {"charge": "failed"} and "make it async def" in end.errors["charge"] and booked(url) == {}
+        assert end.states == {"charge": "failed"} and "Declare it with async def" in end.errors["charge"] and booked(url) == {}
     else:
         assert end.results == {"charge": "booked"} and booked(url) == {("k", "book"): 1}
 
 
 KILLED = """
     import asyncio, os, sagas
-    from sagas.carrying import Carrying
-    from sagas.doing import Doing
+    from sagas.runtime.executor import Executor
     saga = sagas.Saga("one")
     @saga.step(transaction=True)
     async def book(task):
-        await task.connection.execute("INSERT INTO book(key, step, token) VALUES(%s, 'book', %s)", (task.key, task.token))
+        await task.connection.execute("INSERT INTO book(key, step, token) VALUES(%s, 'book', %s)", (task.key, task.attempt_id))
         return "booked"
-    Carrying.may = lambda self, attempt: False  # as where it is not alone
-    Doing.outcome = lambda self, attempt, outcome, now=False: os._exit(9)
+    Executor.ended = lambda self, attempt, outcome, at_once: os._exit(9)
     async def main():
         async with sagas.open({url!r}, [saga], node="killed") as store:
             await (await store.start(saga, "k")).wait()
@@ -287,7 +281,7 @@ def test_a_kill_between_the_transaction_and_its_report(url: str, tmp_path: pathl
 
     @kind.step(transaction=True)
     async def book(task: Task) -> str:
-        calls.append(task.token)
+        calls.append(task.attempt_id)
         return "called again"
 
     async def main() -> None:
@@ -351,7 +345,7 @@ def test_what_the_server_refuses_is_a_miss(url: str, in_thread: bool) -> None:
 
     async def main() -> None:
         said: list[str] = []
-        async with sagas.open(url, [shop], on_event=lambda event: said.append(event.detail or "") if event.name == "step_missed" else None) as store:
+        async with sagas.open(url, [shop], on_event=lambda event: said.append(event.detail or "") if event.name == "step_retrying" else None) as store:
             with psycopg.connect(url) as link:
                 link.execute("INSERT INTO orders VALUES ('k')")
             run = await store.start(shop, "k", "k")
@@ -451,7 +445,7 @@ def test_a_transaction_that_is_over_before_its_step(url: str, in_thread: bool) -
 
     run(main())
     assert calls == {1: 1, 2: 1, 3: 3} and booked(url) == {("k", "book"): 1}
-    told = [detail for name, detail in said if name in ("step_missed", "step_unknown", "commit_failed")]
+    told = [detail for name, detail in said if name in ("step_retrying", "step_unknown", "commit_failed")]
     assert [next(word for word in ("no statement of the function", "close()", "server closed", "it is closed", "?") if word in f"{one}?") for one in told] == [
         "no statement of the function", "close()", "server closed", "it is closed",
     ]  # fmt: skip
@@ -550,7 +544,7 @@ def test_a_first_statement_that_nobody_waits_for(url: str) -> None:
 
     @kind.step(transaction=True, backoff=QUICK)
     async def book(task: Task) -> None:
-        calls.append(task.token)
+        calls.append(task.attempt_id)
         if len(calls) == 1:
             with contextlib.suppress(TimeoutError):
                 async with asyncio.timeout(0.05):
@@ -571,37 +565,37 @@ def test_connections_are_handed_out(postgresql: Server, url: str) -> None:
 
     async def main() -> None:
         pool = Pool(url, 2)
-        assert pool.at_hand() is None
-        first, second = await asyncio.gather(pool.take(), pool.take())
-        given_up, third = asyncio.create_task(pool.take()), asyncio.create_task(pool.take())
+        assert pool.try_acquire() is None
+        first, second = await asyncio.gather(pool.acquire(), pool.acquire())
+        given_up, third = asyncio.create_task(pool.acquire()), asyncio.create_task(pool.acquire())
         await asyncio.sleep(0)
         given_up.cancel()
-        pool.give(first)
+        pool.release(first)
         assert await third is first
-        pool.give(first)
-        pool.give(second)
+        pool.release(first)
+        pool.release(second)
         await second.execute("SELECT 1")
         await second.rollback()
         with psycopg.connect(url, autocommit=True) as link:
             link.execute("SELECT pg_terminate_backend(pid) FROM pg_stat_activity WHERE datname = current_database() AND pid <> pg_backend_pid()")
         await until(lambda: not first.is_there() and not second.is_there())
-        assert pool.at_hand() is None
-        fourth = await pool.take()
+        assert pool.try_acquire() is None
+        fourth = await pool.acquire()
         assert fourth not in (first, second)
         await fourth.execute("SELECT 1")
-        pool.give(fourth)  # in the middle of a transaction: it is not handed out again
-        assert fourth.closed or pool.at_hand() is None
-        last = asyncio.create_task(pool.take())
+        pool.release(fourth)  # in the middle of a transaction: it is not handed out again
+        assert fourth.closed or pool.try_acquire() is None
+        last = asyncio.create_task(pool.acquire())
         await last
-        waits = [asyncio.create_task(pool.take()) for _ in range(2)]
+        waits = [asyncio.create_task(pool.acquire()) for _ in range(2)]
         await waits[0]
         await pool.close()
         with pytest.raises(psycopg.OperationalError):
             await waits[1]
-        pool.give(last.result())
-        assert last.result() and pool.at_hand() is None
+        pool.release(last.result())
+        assert last.result() and pool.try_acquire() is None
         with pytest.raises(psycopg.OperationalError):
-            await pool.take()
+            await pool.acquire()
 
     run(main())
 
@@ -611,38 +605,38 @@ def test_connections_are_reserved(url: str) -> None:
 
     async def main() -> None:
         pool = Pool(url, 2)
-        assert not pool.is_at_hand()
+        assert not pool.has_idle()
         with pytest.raises(psycopg.OperationalError, match="broke"):
-            pool.now()
+            pool.acquire_now()
         await pool.reserve()
-        assert not pool.is_at_hand() and pool.at_hand() is None
-        first = pool.reserved()
-        pool.give(first)
-        assert pool.is_at_hand()
+        assert not pool.has_idle() and pool.try_acquire() is None
+        first = pool.acquire_reserved()
+        pool.release(first)
+        assert pool.has_idle()
         await pool.reserve()
-        second = await pool.take()
+        second = await pool.acquire()
         assert second is not first
-        waits = asyncio.create_task(pool.take())
+        waits = asyncio.create_task(pool.acquire())
         await asyncio.sleep(0)
-        pool.release()
+        pool.release_reserved()
         assert await waits is first
-        pool.give(first)
-        assert pool.now() is first
-        pool.give(first)
+        pool.release(first)
+        assert pool.acquire_now() is first
+        pool.release(first)
         await pool.reserve()
         with psycopg.connect(url, autocommit=True) as link:
             link.execute("SELECT pg_terminate_backend(pid) FROM pg_stat_activity WHERE datname = current_database() AND pid <> pg_backend_pid()")
         await until(lambda: first.closed)
         with pytest.raises(psycopg.OperationalError, match="broke"):
-            pool.reserved()
-        pool.release()
-        assert not pool.is_at_hand()
+            pool.acquire_reserved()
+        pool.release_reserved()
+        assert not pool.has_idle()
         await pool.reserve()
-        third = pool.reserved()
+        third = pool.acquire_reserved()
         await third.execute("SELECT 1")
         await third.rollback()
-        pool.give(third)
-        pool.give(second)
+        pool.release(third)
+        pool.release(second)
         await pool.close()
 
     run(main())
@@ -659,27 +653,27 @@ def test_a_connection_that_is_lent_comes_back_once(url: str) -> None:
         link.execute("SELECT 1")
         link.leave()
         await asyncio.to_thread(first.end)
-        assert not pool.is_at_hand()
+        assert not pool.has_idle()
         first.leave()
-        assert pool.is_at_hand()
+        assert pool.has_idle()
 
         second = await pool.lend()
         assert await asyncio.to_thread(second.begin) is link
         second.leave()  # nobody waits for it any more
-        assert not pool.is_at_hand()
+        assert not pool.has_idle()
         await asyncio.to_thread(second.end)
-        await until(pool.is_at_hand)
+        await until(pool.has_idle)
 
         third = await pool.lend()
         third.leave()
-        assert pool.is_at_hand()
+        assert pool.has_idle()
         with pytest.raises(psycopg.OperationalError, match="closed"):
             third.begin()
-        other = await pool.take()
-        assert other.pgconn is link.pgconn and not pool.is_at_hand()
+        other = await pool.acquire()
+        assert other.pgconn is link.pgconn and not pool.has_idle()
         await other.execute("SELECT 1")
         await other.rollback()
-        pool.give(other)
+        pool.release(other)
         await pool.close()
         assert other.closed
 
@@ -742,7 +736,7 @@ def test_what_ends_at_once_leaves_its_connection(url: str) -> None:
                 ends = await asyncio.gather(*(ended(store, kind, f"{way} {number}", way) for number in range(20)))
                 states = {end.states["book"] for end in ends}
                 assert states == ({"failed"} if "raises" in way else {"committed"}), way
-                assert way != "gives" or {end.of(book) for end in ends} == {"late"}
+                assert way != "gives" or {end.result_of(book) for end in ends} == {"late"}
 
     run(main())
     assert booked(url) == {(f"gives {number}", "book"): 1 for number in range(20)}
@@ -796,7 +790,7 @@ def test_how_many_connections_a_node_has(url: str) -> None:
         def b(task: Task) -> None:
             task.connection.execute("SELECT pg_sleep(0.02)")
 
-        @mixed.step(needs=[a], transaction=True, fleet_limit=6, rate=(1000, 1))
+        @mixed.step(needs=[a], transaction=True, fleet_concurrency=6, rate_limit=(1000, 1))
         async def c(task: Task) -> None:
             await task.connection.execute("SELECT 1")
 
@@ -823,7 +817,7 @@ def test_how_many_connections_a_node_has(url: str) -> None:
 
     async def main() -> None:
         first, (mixed, held) = kinds(), kinds()
-        async with sagas.open(named("first"), first, node="same", grace=0.0) as before:
+        async with sagas.open(named("first"), first, node="same", shutdown_timeout=0.0) as before:
             for number in range(8):
                 await before.start(first[1], f"held {number}")
             with Count(url, "second") as count:
@@ -854,8 +848,8 @@ async def surely_finished(client: sagas.Client, key: str) -> None:
     """Approves it, once that is asked for."""
     while True:
         try:
-            await client.finish(key, "approved", True)
-        except sagas.NotWaiting:
+            await client.complete(key, "approved", True)
+        except sagas.StepNotWaiting:
             await asyncio.sleep(0.02)
         else:
             assert (await client.wait(key)).ok

@@ -16,7 +16,7 @@ from hypothesis import given
 from hypothesis import strategies as st
 
 import sagas
-from sagas import values
+from sagas.definition import decoders, serialization
 
 JSON = st.recursive(
     st.none() | st.booleans() | st.integers() | st.floats(allow_nan=False, allow_infinity=False) | st.text(),
@@ -88,17 +88,17 @@ class Pair(NamedTuple):
 
 
 def there_and_back(value: Any, hint: Any) -> Any:
-    return values.read(values.write(value), values.decoder(hint))
+    return serialization.read(serialization.write(value), decoders.decoder(hint))
 
 
 @given(JSON)
 def test_json_is_written_as_the_standard_library_does(value: Any) -> None:
-    assert values.write(value) == json.dumps(value, sort_keys=True, separators=(",", ":"), allow_nan=False)
-    assert values.read(values.write(value)) == value
+    assert serialization.write(value) == json.dumps(value, sort_keys=True, separators=(",", ":"), allow_nan=False)
+    assert serialization.read(serialization.write(value)) == value
 
 
 def test_canonical() -> None:
-    assert values.write({"b": 1, "a": [True, None, "é\ud800"]}) == '{"a":[true,null,"\\u00e9\\ud800"],"b":1}'
+    assert serialization.write({"b": 1, "a": [True, None, "é\ud800"]}) == '{"a":[true,null,"\\u00e9\\ud800"],"b":1}'
 
 
 class Broken:
@@ -110,15 +110,15 @@ class Broken:
 
 @pytest.mark.parametrize("value", [math.nan, math.inf, object(), {1, object()}, {math.nan}, {"a": object()}, {(1, 2): 3}, b"bytes", Broken(), [Broken()], [object.__new__(Seat)]])
 def test_what_is_not_json(value: Any) -> None:
-    with pytest.raises(sagas.NotJson):
-        values.write(value)
+    with pytest.raises(sagas.NotSerializable):
+        serialization.write(value)
 
 
 def test_what_holds_itself() -> None:
     value: list[Any] = []
     value.append(value)
-    with pytest.raises(sagas.NotJson):
-        values.write(value)
+    with pytest.raises(sagas.NotSerializable):
+        serialization.write(value)
 
 
 def test_dataclasses() -> None:
@@ -159,44 +159,44 @@ def test_types(value: Any, hint: Any) -> None:
 
 def test_a_key_that_is_not_of_its_hint() -> None:
     """It stays the text that it is: what is kept may be older than the hint."""
-    decoder = values.decoder(dict[int, datetime.date])
+    decoder = decoders.decoder(dict[int, datetime.date])
     assert decoder and decoder({"7": "2026-01-02", "seven": "2026-01-03"}) == {7: datetime.date(2026, 1, 2), "seven": datetime.date(2026, 1, 3)}
 
 
 def test_models() -> None:
-    assert values.write(Model("a")) == '{"mode":"json","word":"a"}'
+    assert serialization.write(Model("a")) == '{"mode":"json","word":"a"}'
     assert there_and_back(Model("a"), Model).word == "a"
     assert there_and_back([Model("a")], list[Model])[0].word == "a"
-    assert values.write(OldModel("a")) == '{"word":"a"}' and there_and_back([OldModel("a")], list[OldModel])[0].word == "a"
+    assert serialization.write(OldModel("a")) == '{"word":"a"}' and there_and_back([OldModel("a")], list[OldModel])[0].word == "a"
 
 
 def test_what_is_told_of_a_wrong_value() -> None:
     """Keys of a dict that cannot be sorted, and what is no object."""
-    with pytest.raises(sagas.NotJson, match="keys of a dict"):
-        values.write({1: 2, "a": 3})
-    with pytest.raises(TypeError, match="Seat is read from an object"):
+    with pytest.raises(sagas.NotSerializable, match="keys of a dict"):
+        serialization.write({1: 2, "a": 3})
+    with pytest.raises(TypeError, match="Seat requires an object"):
         there_and_back(None, Seat)
 
 
 def test_sets_are_written_in_one_order() -> None:
     """As lists: numbers and texts as they are compared, all others by their JSON; the text is the same each time."""
-    assert values.write({10, 9, 1.5}) == "[1.5,9,10]" and values.write(frozenset({"b", "a"})) == '["a","b"]' and values.write(set()) == "[]"
-    assert values.write({2, "a", None}) == '["a",2,null]' and values.write({(2, 1), (1, 2)}) == "[[1,2],[2,1]]"
+    assert serialization.write({10, 9, 1.5}) == "[1.5,9,10]" and serialization.write(frozenset({"b", "a"})) == '["a","b"]' and serialization.write(set()) == "[]"
+    assert serialization.write({2, "a", None}) == '["a",2,null]' and serialization.write({(2, 1), (1, 2)}) == "[[1,2],[2,1]]"
 
 
 @pytest.mark.parametrize(
     "value, text",
     [
         ({"a": {1, 2, object()}}, r'input\["a"\]: object is not JSON'),
-        ([1, {"b": Seat(1, math.nan)}], r'input\[1\]\["b"\]\.colour: NaN and what is infinite are not JSON'),
+        ([1, {"b": Seat(1, math.nan)}], r'input\[1\]\["b"\]\.colour: NaN and infinity are not JSON'),
         ({3: b""}, r"input\[3\]: bytes is not JSON"),
         (object(), "input: object is not JSON"),
     ],
 )
 def test_where_it_is_no_json(value: Any, text: str) -> None:
     """The way to it, as it would be written in Python."""
-    with pytest.raises(sagas.NotJson, match=f"^{text}"):
-        values.write(value, "input")
+    with pytest.raises(sagas.NotSerializable, match=f"^{text}"):
+        serialization.write(value, "input")
 
 
 def test_hints_of_functions() -> None:
@@ -206,6 +206,6 @@ def test_hints_of_functions() -> None:
 
     def nowhere(task: NoSuchName) -> int: ...  # type: ignore[name-defined,empty-body]
 
-    given, returned = values.hints(function)
+    given, returned = decoders.hints(function)
     assert given and returned and given({"row": 1, "colour": "red"}) == Seat(1, Colour.RED) and returned("red") is Colour.RED
-    assert values.hints(plain) == (None, None) == values.hints(nowhere)
+    assert decoders.hints(plain) == (None, None) == decoders.hints(nowhere)

@@ -15,65 +15,12 @@ from collections.abc import Iterator
 
 import psycopg
 import pytest
-
-import sagas
 from cases import Task, ended, run, simple, until
-from sagas import command, links, postgresql_schema, schema
 from server import Server
 
-OLD_SAGA = (0, "old", "simple", 0, "null", 1.0)
-
-
-def old_file(path: pathlib.Path, version: int, texts: str, shelf: str) -> None:
-    """A file as a release of that version left it, with a saga that waits for its step."""
-    db = sqlite3.connect(path)
-    for step in schema.MIGRATIONS[:version]:
-        for statement in step:
-            db.execute(statement)
-    db.execute(f"PRAGMA user_version = {version}")
-    db.execute("INSERT INTO shelves VALUES(?, ?)", (shelf, texts))
-    db.execute("INSERT INTO logs(log, name, shelf) VALUES(0, 'abcd', ?)", (shelf,))
-    db.execute("INSERT INTO lines VALUES(0, 0, 1.0, ?)", ('{"def":0,"event":"open","saga":0}\n',))
-    db.execute("INSERT INTO sagas(id, key, saga, def, input, at) VALUES(?, ?, ?, ?, ?, ?)", OLD_SAGA)
-    db.commit()
-    db.close()
-
-
-def old_database(url: str, version: int, texts: str, shelf: str) -> None:
-    """The same in PostgreSQL, left by a node that is gone."""
-    with psycopg.connect(url, autocommit=True) as link:
-        postgresql_schema.migrate(link, url, version)
-        link.execute("INSERT INTO sagas.shelves VALUES(%s, %s)", (shelf, texts))
-        link.execute("INSERT INTO sagas.logs(log, name, shelf, owner, epoch) VALUES(nextval('sagas.numbers'), 'abcd', %s, 'gone', 1)", (shelf,))
-        link.execute("INSERT INTO sagas.lines VALUES(0, 0, 1.0, %s)", ('{"def":0,"event":"open","saga":0}\n',))
-        link.execute("INSERT INTO sagas.sagas(id, key, saga, def, input, at) VALUES(%s, %s, %s, %s, %s, %s)", OLD_SAGA)
-
-
-@pytest.mark.parametrize("kind", ["sqlite", "postgresql"])
-@pytest.mark.parametrize("by", ["open", "command"])
-def test_from_each_older_version(request: pytest.FixtureRequest, tmp_path: pathlib.Path, kind: str, by: str, capsys: pytest.CaptureFixture[str]) -> None:
-    """With data: what was there goes on, and what is new can be used."""
-    saga = simple(lambda task: 7)
-    texts = json.dumps([saga.toml()])
-    for version in range(1, schema.VERSION if kind == "sqlite" else postgresql_schema.VERSION):
-        if kind == "sqlite":
-            place = str(tmp_path / f"{version}.db")
-            old_file(pathlib.Path(place), version, texts, "other")
-        else:
-            server: Server = request.getfixturevalue("postgresql")
-            place = server.create()
-            old_database(place, version, texts, "other")
-        if by == "command":
-            assert command.main([place, "migrate"]) == 0
-            assert f"{version} before" in capsys.readouterr().out
-
-        async def main() -> None:
-            async with sagas.open(place, [saga]) as store:
-                assert (await store.wait("old")).results == {"a": 7}
-                assert (await ended(store, saga, "new")).ok
-
-        run(main())
-
+import sagas
+from sagas.cli import store_command
+from sagas.storage.postgresql import connections
 
 def test_a_program_that_is_older_than_the_tables(place: str, capsys: pytest.CaptureFixture[str]) -> None:
     """It refuses by name and changes nothing; so does the command."""
@@ -85,20 +32,20 @@ def test_a_program_that_is_older_than_the_tables(place: str, capsys: pytest.Capt
         if place.startswith("postgresql:"):
             with psycopg.connect(place.replace("app@", "owner@")) as link:
                 link.execute("UPDATE sagas.store SET version = 99")
-            with pytest.raises(sagas.StoreNewer, match="99"):
+            with pytest.raises(sagas.StoreSchemaTooNew, match="99"):
                 async with sagas.Client(place):
                     pass
         else:
             db = sqlite3.connect(place)
             db.execute("PRAGMA user_version = 99")
             db.close()
-        with pytest.raises(sagas.StoreNewer, match="99"):
+        with pytest.raises(sagas.StoreSchemaTooNew, match="99"):
             async with sagas.open(place, [saga]):
                 pass
 
     run(main())
-    assert command.main([place, "list"]) == 4 and "later version (99)" in capsys.readouterr().err
-    assert command.main([place, "migrate"]) == 4
+    assert store_command.main([place, "list"]) == 4 and "tables of version 99" in capsys.readouterr().err
+    assert store_command.main([place, "migrate"]) == 4
 
 
 def test_two_programs_migrate_at_once(url: str) -> None:
@@ -118,12 +65,12 @@ def test_two_programs_migrate_at_once(url: str) -> None:
 def asked(url: str) -> bool:
     """Whether an approval is waited for."""
     with psycopg.connect(url) as link:
-        return link.execute("SELECT 1 FROM sagas.held WHERE why = 'approval'").fetchone() is not None
+        return link.execute("SELECT 1 FROM sagas.suspensions WHERE reason = 'approval'").fetchone() is not None
 
 
 def test_least_rights(postgresql: Server, url: str, capsys: pytest.CaptureFixture[str]) -> None:
     """`init --role` gives a role what a node, a client and the command need; it can make no tables, and before it has no rights it hears so."""
-    saga = simple(lambda task: 7, fleet_limit=2, rate=(100, 1))
+    saga = simple(lambda task: 7, fleet_concurrency=2, rate_limit=(100, 1))
     inside = sagas.Saga("inside")
 
     @inside.step(transaction=True)
@@ -140,7 +87,7 @@ def test_least_rights(postgresql: Server, url: str, capsys: pytest.CaptureFixtur
     theirs = postgresql.url(url.rpartition("/")[2], user=role)
 
     async def refused() -> None:
-        with pytest.raises(sagas.StoreFault, match=f"init --role {role}"):
+        with pytest.raises(sagas.InvalidStore, match=f"init --role {role}"):
             async with sagas.open(theirs, [saga, inside]):
                 pass
 
@@ -149,36 +96,36 @@ def test_least_rights(postgresql: Server, url: str, capsys: pytest.CaptureFixtur
             assert (await ended(store, saga)).ok
             await store.start(inside, "i")
             await until(lambda: asked(url))
-            await client.finish("i", "b", "yes")
+            await client.complete("i", "b", "yes")
             assert (await store.wait("i")).results == {"a": 1, "b": "yes"}
             assert (await (await client.start(saga, "c")).wait()).ok
             assert await client.abort("c") is False
             assert all(said.startswith("yes") for said in (await store.audit()).values())
 
     run(refused())
-    with pytest.raises(sagas.StoreFault, match="no tables yet.*sagas store URL init"), sagas.SyncClient(theirs):
+    with pytest.raises(sagas.InvalidStore, match="no tables yet.*sagas store URL init"), sagas.SyncClient(theirs):
         pass
-    assert command.main([url, "init"]) == 0
-    with pytest.raises(sagas.StoreUnwritable, match="sagas store URL init --role NAME"), sagas.SyncClient(theirs):
+    assert store_command.main([url, "init"]) == 0
+    with pytest.raises(sagas.StoreUnavailable, match="sagas store URL init --role NAME"), sagas.SyncClient(theirs):
         pass
-    assert command.main([theirs, "list"]) == 4 and "init --role NAME" in capsys.readouterr().err
-    assert command.main([url, "init", "--role", role]) == 0
+    assert store_command.main([theirs, "list"]) == 4 and "init --role NAME" in capsys.readouterr().err
+    assert store_command.main([url, "init", "--role", role]) == 0
     assert role in capsys.readouterr().out
     run(main())
-    assert command.main([theirs, "list"]) == 0 and command.main([theirs, "nodes"]) == 0 and command.main([theirs, "counts"]) == 0
-    assert command.main([theirs, "prune", "--older-than", "1d"]) == 0 and command.main([theirs, "audit"]) == 0
+    assert store_command.main([theirs, "list"]) == 0 and store_command.main([theirs, "nodes"]) == 0 and store_command.main([theirs, "stats"]) == 0
+    assert store_command.main([theirs, "prune", "--older-than", "1d"]) == 0 and store_command.main([theirs, "audit"]) == 0
     with psycopg.connect(theirs) as link, pytest.raises(psycopg.errors.InsufficientPrivilege):
-        link.execute("DROP TABLE sagas.lines")
+        link.execute("DROP TABLE sagas.event_log")
     with psycopg.connect(url, autocommit=True) as link:
         link.execute(f"CREATE ROLE {role}_2")
-    assert command.main([theirs, "init", "--role", f"{role}_2"]) == 4 and "cannot give" in capsys.readouterr().err
+    assert store_command.main([theirs, "init", "--role", f"{role}_2"]) == 4 and "cannot grant" in capsys.readouterr().err
 
 
 @pytest.mark.parametrize("name, why", [
     ("postgres:/a:geheim@b/c", "two slashes"), ("postgresql://a:ge%heim@b/c", "two hex digits"), ("postgresql://a:geheim@b/c?x=1", '"x"'),
     ("psql://a:geheim@b/c", "psql://"), ("postgresql+psycopg://a:geheim@b/c", "postgresql\\+psycopg://"), ("host=b user=a password=geheim dbname=c", "words"),
     ("postgresql://a:x@geheim@b/c", "@ or /"), ("postgresql://a:x/geheim@b/c", "@ or /"), ("postgresql://a:x@y/geheim@b/c", "@ or /"),
-    ("postgresql://a:1/geheim@b/c", "@ or /"), ("postgresql://a:x/y?geheim=1@b/c", "quote"), ("postgresql://a:geheim/c", "no number"),
+    ("postgresql://a:1/geheim@b/c", "@ or /"), ("postgresql://a:x/y?geheim=1@b/c", "quote"), ("postgresql://a:geheim/c", "not a number"),
 ])  # fmt: skip
 def test_what_is_no_store(name: str, why: str, capsys: pytest.CaptureFixture[str]) -> None:
     """A URL that is none is refused by node, client and command, with what is wrong, and without its password."""
@@ -187,11 +134,11 @@ def test_what_is_no_store(name: str, why: str, capsys: pytest.CaptureFixture[str
         async with sagas.open(name, [simple(lambda task: 1)]):
             pass
 
-    with pytest.raises(sagas.StoreFault, match=why) as told:
+    with pytest.raises(sagas.InvalidStore, match=why) as told:
         run(main())
-    with pytest.raises(sagas.StoreFault) as client:
+    with pytest.raises(sagas.InvalidStore) as client:
         sagas.SyncClient(name)
-    assert command.main([name, "list"]) == 4 and command.main([name, "nodes"]) in (2, 4)
+    assert store_command.main([name, "list"]) == 4 and store_command.main([name, "nodes"]) in (2, 4)
     for said in (str(told.value), str(client.value), capsys.readouterr().err):
         assert "postgresql://user@host/database" in said and "geheim" not in said
 
@@ -201,7 +148,7 @@ def test_a_password_that_can_be_read_is_in_no_name(password: str) -> None:
     """Some characters may stand there as they are; an @ behind a question mark is a parameter's."""
     for more in ("", "?application_name=a@b"):
         url = f"postgresql://a:{password}@b:5432,c/d{more}"
-        assert links.named(url) == "postgresql://a@b:5432,c/d" and links.read(url)["password"] == urllib.parse.unquote(password)
+        assert connections.named(url) == "postgresql://a@b:5432,c/d" and connections.read(url)["password"] == urllib.parse.unquote(password)
 
 
 def test_a_password_is_in_nothing_that_the_command_prints(url: str, capsys: pytest.CaptureFixture[str]) -> None:
@@ -211,7 +158,7 @@ def test_a_password_is_in_nothing_that_the_command_prints(url: str, capsys: pyte
     @saga.step
     def a(task: Task) -> None: ...
 
-    @a.compensation
+    @a.compensation(on_exhausted="fail")
     def undo(task: Task) -> None:
         raise sagas.Fail("no")
 
@@ -225,14 +172,14 @@ def test_a_password_is_in_nothing_that_the_command_prints(url: str, capsys: pyte
 
     run(main())
     theirs = url.replace("owner@", "owner:geheim@")
-    for words in ("counts", "stuck", "list"):
-        assert command.main([theirs, words]) == 0
+    for words in ("stats", "stuck", "list"):
+        assert store_command.main([theirs, words]) == 0
     with psycopg.connect(url, autocommit=True) as link:
-        link.execute("ALTER TABLE sagas.requests RENAME TO others")
-    assert command.main([theirs, "abort", "none"]) in (1, 4)
+        link.execute("ALTER TABLE sagas.operator_commands RENAME TO others")
+    assert store_command.main([theirs, "abort", "none"]) in (1, 4)
     with psycopg.connect(url, autocommit=True) as link:
         link.execute("UPDATE sagas.sagas SET phase = NULL")
-    assert command.main([theirs, "abort", "k"]) == 4
+    assert store_command.main([theirs, "abort", "k"]) == 4
     said = capsys.readouterr()
     assert "list --phase" in said.out and "cannot write postgresql://owner@" in said.err
     assert "geheim" not in said.out + said.err
@@ -240,11 +187,11 @@ def test_a_password_is_in_nothing_that_the_command_prints(url: str, capsys: pyte
 
 def test_a_server_that_is_not_there(monkeypatch: pytest.MonkeyPatch) -> None:
     """The client says why it cannot connect, as the node does, once it has tried for a while."""
-    monkeypatch.setattr(links, "CONNECT", 0.1)
+    monkeypatch.setattr(connections, "CONNECT", 0.1)
     with socket.socket() as one:
         one.bind(("127.0.0.1", 0))
         url = f"postgresql://a@127.0.0.1:{one.getsockname()[1]}/c"
-        with pytest.raises(sagas.StoreUnwritable, match="[Rr]efused"), sagas.SyncClient(url):
+        with pytest.raises(sagas.StoreUnavailable, match="[Rr]efused"), sagas.SyncClient(url):
             pass
 
 
@@ -290,16 +237,16 @@ def test_a_client_that_is_never_let_in(postgresql: Server, url: str) -> None:
     with lets_in(postgresql, "host all keyed 127.0.0.1/32 scram-sha-256"):
         for name, text in asked:
             begun = time.monotonic()
-            with pytest.raises(sagas.StoreUnwritable, match=text) as told, sagas.SyncClient(name):
+            with pytest.raises(sagas.StoreUnavailable, match=text) as told, sagas.SyncClient(name):
                 pass
-            assert time.monotonic() - begun < links.CONNECT and "wrong" not in str(told.value)
-        with pytest.raises(sagas.StoreFault, match="no tables yet"), sagas.SyncClient(url.replace("owner", "keyed:right")):
+            assert time.monotonic() - begun < connections.CONNECT and "wrong" not in str(told.value)
+        with pytest.raises(sagas.InvalidStore, match="no tables yet"), sagas.SyncClient(url.replace("owner", "keyed:right")):
             pass
 
 
 def test_a_client_tries_until_the_server_is_there(postgresql: Server, url: str) -> None:
     """While it does not answer, or is starting, nothing is final."""
-    assert command.main([url, "init"]) == 0
+    assert store_command.main([url, "init"]) == 0
     postgresql.stop("fast")
     starting = threading.Timer(0.5, postgresql.start)
     starting.start()
@@ -317,11 +264,11 @@ def test_commits_wait_for_the_disk(url: str, setting: str) -> None:
         link.execute(f"ALTER DATABASE {url.rpartition('/')[2]} SET synchronous_commit = {setting}")  # type: ignore[arg-type]
 
     async def said() -> list[str]:
-        async with links.pool(url, 1) as some, some.connection() as pooled:
-            own = await links.connect(url)
+        async with connections.pool(url, 1) as some, some.connection() as pooled:
+            own = await connections.connect(url)
             told = [await (await link.execute("SHOW synchronous_commit")).fetchone() for link in (pooled, own)]
             await own.close()
-        with links.connect_now(url) as now:
+        with connections.connect_now(url) as now:
             told.append(now.execute("SHOW synchronous_commit").fetchone())
         return [str(row[0]) for row in told if row]
 
@@ -339,23 +286,23 @@ def test_nodes_are_shown(url: str, tmp_path: pathlib.Path, capsys: pytest.Captur
     new.step(name="x")(lambda task: 1)
 
     async def main() -> None:
-        async with sagas.open(url, [old], node="first", grace=0.0) as store:
+        async with sagas.open(url, [old], node="first", shutdown_timeout=0.0) as store:
             await store.start(old, "k")
-            assert await asyncio.to_thread(command.main, [url, "nodes", "--json"]) == 0
+            assert await asyncio.to_thread(store_command.main, [url, "nodes", "--json"]) == 0
             told = json.loads(capsys.readouterr().out)
             (shown,) = told["nodes"]
-            assert (shown["name"], shown["logs"], shown["open"], shown["definitions"]) == ("first", 1, 1, store._shelf.shelf)
-            assert 0 < shown["lease"] <= 10 and told["logs without a node"] == []
+            assert (shown["name"], shown["shards"], shown["open"], shown["definitions"]) == ("first", 1, 1, store._shelf.shelf)
+            assert 0 < shown["lease"] <= 10 and told["shards_without_node"] == []
         async with sagas.open(url, [new], node="second"):
-            assert await asyncio.to_thread(command.main, [url, "nodes"]) == 0
+            assert await asyncio.to_thread(store_command.main, [url, "nodes"]) == 0
             said = capsys.readouterr().out
-            assert "second" in said and "No node drives:" in said and "simple (version 1)" in said
+            assert "second" in said and "No node executes:" in said and "simple (version 1)" in said
         async with sagas.open(url, [old], node="first") as store:
             gate.set()
             assert (await store.wait("k")).ok
         async with sagas.open(url, [new], node="second"):
-            assert await asyncio.to_thread(command.main, [url, "nodes"]) == 0
-            assert "No node drives:" not in capsys.readouterr().out  # that log has no open saga any more
+            assert await asyncio.to_thread(store_command.main, [url, "nodes"]) == 0
+            assert "No node executes:" not in capsys.readouterr().out  # that log has no open saga any more
 
     run(main())
-    assert command.main([str(tmp_path / "x.db"), "nodes"]) == 2
+    assert store_command.main([str(tmp_path / "x.db"), "nodes"]) == 2

@@ -9,10 +9,10 @@ from collections.abc import Callable
 from typing import Any
 
 import pytest
+from cases import QUICK, Task, run, simple, until
 
 import sagas
 import sagas.testing
-from cases import QUICK, Task, run, simple, until
 
 FOR_EVER = sagas.WouldWaitForever
 
@@ -42,7 +42,7 @@ async def heard(place: str, act: Callable[[Any, Task], Any], key: str, **words: 
     return told[0]
 
 
-@pytest.mark.parametrize("words", [{}, {"timeout": 50}, {"limit": 2}])
+@pytest.mark.parametrize("words", [{}, {"timeout": 50}, {"concurrency": 2}])
 def test_its_own_saga(place: str, words: dict[str, Any]) -> None:
     """However the function is called."""
 
@@ -57,16 +57,16 @@ def test_its_own_saga(place: str, words: dict[str, Any]) -> None:
             await run.wait()
 
         async def settled(store: sagas.Store, task: Task) -> None:
-            await store.settled()
+            await store.wait_idle()
 
         told = [await heard(place, act, f"k{n}", **words) for n, act in enumerate((wait, later))]
         assert told == [
-            f"step 'p' of saga 'k{n}' waits for its own saga, which ends only behind it: "
-            "wait for it outside of the saga's own steps"
+            f"step 'p' of saga 'k{n}' waits for its own saga, which ends only after it. "
+            "Wait for it outside of the saga's steps"
             for n in range(2)
         ]
         said = await heard(place, settled, "k2", **words)
-        assert "waits until no saga is open, and its own is" in said
+        assert "waits until no saga is open, but its own is" in said
 
     run(main())
 
@@ -74,7 +74,7 @@ def test_its_own_saga(place: str, words: dict[str, Any]) -> None:
 def test_what_can_end_is_waited_for(place: str) -> None:
     """A wait for its own saga in a task of its own, or for so long; and for another saga of the
     same key in another store."""
-    ends: list[sagas.End] = []
+    ends: list[sagas.SagaResult] = []
     stores: list[sagas.Store] = []
     jobs: list[asyncio.Task[Any]] = []
 
@@ -102,7 +102,7 @@ def test_what_can_end_is_waited_for(place: str) -> None:
 def test_a_plain_function_and_its_own_saga(place: str) -> None:
     """In its thread; one that it begins beside itself is let wait."""
     told: list[str] = []
-    ends: list[sagas.End] = []
+    ends: list[sagas.SagaResult] = []
     stores: list[sagas.SyncStore] = []
     threads: list[threading.Thread] = []
 
@@ -117,7 +117,7 @@ def test_a_plain_function_and_its_own_saga(place: str) -> None:
             stores[0].wait(task.key, timeout=0.01)
 
     saga = chain(p)
-    with sagas.open_sync(place, [saga], grace=1) as store:
+    with sagas.open_sync(place, [saga], shutdown_timeout=1) as store:
         stores.append(store)
         assert store.start(saga, "k").wait(timeout=60).ok
         threads[0].join(60)
@@ -166,33 +166,33 @@ def test_parents_that_take_all_places(place: str, plain: bool) -> None:
     async def p(task: Task) -> None:
         try:
             await (await begin(task)).wait()
-        except sagas.PlacesTaken as error:
+        except sagas.SlotsTaken as error:
             told.append(str(error))
             raise
 
     def q(task: Task) -> None:
         try:
             begin(task).wait()
-        except sagas.PlacesTaken as error:
+        except sagas.SlotsTaken as error:
             told.append(str(error))
             raise
 
     parent = chain(q if plain else p)
 
     async def main() -> None:
-        async with sagas.open(place, [parent, child], concurrency=2, idle=0.1, grace=1) as store:
+        async with sagas.open(place, [parent, child], concurrency=2, idle=0.1, shutdown_timeout=1) as store:
             stores.append(store)
             runs = [await store.start(parent, f"p{number}") for number in range(4)]
             assert all([(await one.wait(timeout=60)).ok for one in runs])
 
     def plainly() -> None:
-        with sagas.open_sync(place, [parent, child], concurrency=2, idle=0.1, grace=1) as store:
+        with sagas.open_sync(place, [parent, child], concurrency=2, idle=0.1, shutdown_timeout=1) as store:
             stores.append(store)
             runs = [store.start(parent, f"p{number}") for number in range(4)]
             assert all(one.wait(timeout=60).ok for one in runs)
 
     plainly() if plain else run(main())
-    assert told and "all 2 places of the store's concurrency are taken" in told[0]
+    assert told and "all 2 slots of the store's concurrency are taken" in told[0]
 
 
 def test_parents_of_children_that_need_no_place(place: str) -> None:
@@ -201,7 +201,7 @@ def test_parents_of_children_that_need_no_place(place: str) -> None:
     stores: list[sagas.Store] = []
     faults: list[BaseException] = []
     child = sagas.Saga("child")
-    child.step(handler=None, name="c")
+    child.step(external=True, name="c")
 
     async def p(task: Task) -> None:
         try:
@@ -213,14 +213,14 @@ def test_parents_of_children_that_need_no_place(place: str) -> None:
     parent = chain(p)
 
     async def main() -> None:
-        async with sagas.open(place, [parent, child], concurrency=2, idle=0.1, grace=1) as store:
+        async with sagas.open(place, [parent, child], concurrency=2, idle=0.1, shutdown_timeout=1) as store:
             stores.append(store)
             await store.start(child, "p0-child")
-            await until(lambda: store.begun("p0-child"))
+            await until(lambda: store.active_attempts("p0-child"))
             run = await store.start(parent, "p0")
             with pytest.raises(TimeoutError):
                 await run.wait(timeout=0.5)  # some looks
-            await store.finish("p0-child", "c")
+            await store.complete("p0-child", "c")
             assert (await run.wait(timeout=60)).ok and not faults
 
     run(main())
@@ -260,8 +260,8 @@ def test_an_approval_that_says_so_itself(place: str, function: Callable[[Task], 
             refused = await (await store.start(saga, "dear", "dear")).wait(timeout=60)
             assert refused.states == {"ok": "failed"} and refused.errors == {"ok": "too dear"}
             asked = await store.start(saga, "asked")
-            await until(lambda: [one for one in store.begun("asked") if one.waits == "approval"])
-            await asked.finish("ok", "yes")
+            await until(lambda: [one for one in store.active_attempts("asked") if one.waits == "approval"])
+            await asked.complete("ok", "yes")
             assert (await asked.wait(timeout=60)).results == {"ok": "yes"}
 
     run(main())
@@ -277,12 +277,12 @@ def test_an_approval_that_finishes_itself(place: str) -> None:
 
     async def ask(task: Task) -> None:
         with pytest.raises(FOR_EVER) as error:
-            await stores[0].finish(task.key, task.step)
+            await stores[0].complete(task.key, task.step)
         told.append(str(error.value))
 
     def ask_plainly(task: Task) -> None:
         with pytest.raises(FOR_EVER) as error:
-            stores[-1].finish(task.key, task.step)
+            stores[-1].complete(task.key, task.step)
         told.append(str(error.value))
 
     async def main() -> None:
@@ -290,18 +290,18 @@ def test_an_approval_that_finishes_itself(place: str) -> None:
         async with sagas.open(place, [saga]) as store:
             stores.append(store)
             run = await store.start(saga, "k")
-            await run.finish("ok")
+            await run.complete("ok")
             assert (await run.wait(timeout=60)).ok
 
     run(main())
     saga = asking(ask_plainly)
-    with sagas.open_sync(place, [saga], grace=1) as store:
+    with sagas.open_sync(place, [saga], shutdown_timeout=1) as store:
         stores.append(store)
         one = store.start(saga, "plain")
-        one.finish("ok")
+        one.complete("ok")
         assert one.wait(timeout=60).ok
     assert len(told) == 2 and all(
-        "return sagas.Approved(result) or sagas.Rejected(why)" in text for text in told
+        "Return sagas.Approved(result) or sagas.Rejected(why)" in text for text in told
     )
 
 
@@ -315,5 +315,5 @@ def test_an_answer_of_what_is_no_approval(place: str) -> None:
             assert end.ok and "Approved is not JSON" in end.results["a"]["unstorable"]
 
     run(main())
-    with pytest.raises(TypeError, match="why is a text"):
+    with pytest.raises(TypeError, match="the reason must be a text"):
         sagas.Rejected(1)  # type: ignore[arg-type]

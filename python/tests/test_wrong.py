@@ -8,7 +8,6 @@ import pkgutil
 import shutil
 
 import pytest
-
 import wrong
 from kills import play
 

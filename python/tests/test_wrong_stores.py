@@ -6,7 +6,6 @@ import importlib
 import pkgutil
 
 import pytest
-
 import wrong_stores
 from moments import MOMENTS, play
 from server import Server

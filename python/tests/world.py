@@ -24,12 +24,14 @@ from collections.abc import Callable
 from typing import Any
 
 import psycopg
-
-import sagas
-import sagas.kinds
 from witness import Witness
 
-QUICK = sagas.Backoff(first=0.01, most=0.05)
+import sagas
+import sagas.definition.compiled
+from sagas.core import states
+
+states.Check.is_on = True
+QUICK = sagas.Backoff(initial=0.01, maximum=0.05)
 ROW = "INSERT INTO public.book(token, note, kind) VALUES(%s, %s, %s)"
 SILENT = {("approve", "run"), ("approve", "undo"), ("pause", "undo")}
 """What has no effect that the witness sees."""
@@ -80,21 +82,21 @@ class Eye:
     def begins(self, name: str, saga: int, step: int, kind: str) -> int:
         """How often the lines of a log begin a step's action or compensation."""
         line = f'{{"event":"start_{kind}","saga":{saga},"step":{step}}}\n'
-        rows = self._ask("SELECT text FROM lines JOIN logs USING (log) WHERE name = ?", name)
+        rows = self._ask("SELECT text FROM event_log JOIN shards USING (shard) WHERE name = ?", name)
         return sum(text.count(line) for (text,) in rows)
 
     def asked(self) -> list[str]:
         """The keys of the sagas whose approval is waited for."""
-        return [key for (key,) in self._ask("SELECT key FROM held JOIN sagas USING (id) WHERE why = 'approval'")]
+        return [key for (key,) in self._ask("SELECT key FROM suspensions JOIN sagas USING (id) WHERE reason = 'approval'")]
 
     def finished(self, key: str, value: Any) -> bool:
         """Whether a result is there."""
-        words = "SELECT value FROM results JOIN sagas USING (id) WHERE key = ? AND outcome = 'commit'"
+        words = "SELECT value FROM attempts JOIN sagas USING (id) WHERE key = ? AND event = 'commit'"
         return json.dumps(value, separators=(",", ":"), sort_keys=True) in {text for (text,) in self._ask(words, key)}
 
     def aborts(self, key: str) -> bool:
         """Whether the lines abort the saga of a key."""
-        rows = self._ask("SELECT id % 1000, text FROM sagas JOIN lines ON log = id / 1000 WHERE key = ?", key)
+        rows = self._ask("SELECT id % 1000, text FROM sagas JOIN event_log ON shard = id / 1000 WHERE key = ?", key)
         return any(f'{{"event":"abort","saga":{number}}}\n' in text for number, text in rows)
 
 
@@ -131,21 +133,21 @@ class World:
         fails = chance(self.named(task)) < failing
         if fails and chance(f"{self.named(task)}/where") < 0.5:
             self.fail(task, failing)
-        return task.token, json.dumps({"what": "effect", **said, **self.handed(task)}), "bad" if fails else "good"
+        return task.attempt_id, json.dumps({"what": "effect", **said, **self.handed(task)}), "bad" if fails else "good"
 
     def begins(self, task: Any) -> dict[str, Any]:
         """It is called."""
-        kind = "undo" if task.undo else "run"
-        said = {"key": task.key, "step": task.step, "kind": kind, "attempt": task.attempt, "token": task.token}
-        name, number, _ = task.token.split("-", 2)
+        kind = "undo" if task.is_compensation else "run"
+        said = {"key": task.key, "step": task.step, "kind": kind, "attempt": task.attempt, "token": task.attempt_id}
+        name, number, _ = task.attempt_id.split("-", 2)
         steps = [step.name for saga in self.sagas if saga.name == task.saga for step in saga.steps]
         begins = self.eye.begins(name, int(number), steps.index(task.step), kind)
-        self.witness.note(what="begin", input=task.input, begun=begins, effect_token=task.effect_token, **said)
+        self.witness.note(what="begin", input=task.input, begun=begins, idempotency_key=task.idempotency_key, **said)
         return said
 
     def named(self, task: Any) -> str:
         """What is drawn by."""
-        return f"{task.key}/{task.step}/{'undo' if task.undo else 'run'}/{task.attempt}"
+        return f"{task.key}/{task.step}/{'undo' if task.is_compensation else 'run'}/{task.attempt}"
 
     def fail(self, task: Any, failing: float) -> None:
         """It fails, some for good."""
@@ -154,8 +156,8 @@ class World:
     def handed(self, task: Any) -> dict[str, Any]:
         """What it was given."""
         more: dict[str, Any] = {"results": task.results}
-        if task.undo:
-            more |= {"of": task.action_token, "result": task.result}
+        if task.is_compensation:
+            more |= {"of": task.original_idempotency_key, "result": task.result}
         return more
 
     def is_hazy(self, said: dict[str, Any], unknown: float) -> bool:
@@ -171,7 +173,7 @@ class World:
             await asyncio.sleep(0.001)
             return self.act(task, 0.05)
 
-        @reserve.compensation(tries=3, backoff=QUICK)
+        @reserve.compensation(tries=3, backoff=QUICK, on_exhausted="fail")
         async def release(task: Any) -> None:
             self.act(task, 0.3)
 
@@ -179,7 +181,7 @@ class World:
         def charge(task: Any) -> Any:
             return self.act(task, 0.3, unknown=0.1)
 
-        @charge.compensation(backoff=QUICK)
+        @charge.compensation(backoff=QUICK, on_exhausted="fail")
         def refund(task: Any) -> None:
             self.act(task, 0.05, unknown=0.1)
 
@@ -201,7 +203,7 @@ class World:
         async def hotel(task: Any) -> Any:
             return self.act(task, 0.2, unknown=0.1)
 
-        @hotel.compensation
+        @hotel.compensation(on_exhausted="fail")
         async def cancel_hotel(task: Any) -> None:
             self.act(task, 0.0)
 
@@ -209,7 +211,7 @@ class World:
         def car(task: Any) -> Any:
             return self.act(task, 0.2)
 
-        @car.compensation
+        @car.compensation(on_exhausted="fail")
         def cancel_car(task: Any) -> None:
             self.act(task, 0.1)
 
@@ -237,11 +239,11 @@ class World:
         """A saga with a wait, an approval, and a step of which two run at once."""
         late = sagas.Saga("late")
 
-        @late.step(limit=2, keep=9, undo=1)
+        @late.step(concurrency=2, keep=9, undo=1)
         async def order(task: Any) -> Any:
             return self.act(task, 0.05, unknown=0.1)
 
-        @order.compensation(tries=2, backoff=QUICK)
+        @order.compensation(tries=2, backoff=QUICK, on_exhausted="fail")
         async def cancel_order(task: Any) -> None:
             self.act(task, 0.2)
 
@@ -268,7 +270,7 @@ class World:
         async def enter(task: Any) -> Any:
             return await self.write(task, 0.2)
 
-        @enter.compensation(tries=3, backoff=QUICK)
+        @enter.compensation(tries=3, backoff=QUICK, on_exhausted="fail")
         async def strike(task: Any) -> None:
             await self.write(task, 0.2)
 
@@ -276,7 +278,7 @@ class World:
         def stamp(task: Any) -> Any:
             return self.write_in_thread(task, 0.3)
 
-        @stamp.compensation(backoff=QUICK)
+        @stamp.compensation(backoff=QUICK, on_exhausted="fail")
         def unstamp(task: Any) -> None:
             self.write_in_thread(task, 0.05)
 
@@ -293,7 +295,7 @@ async def approve_all(world: World, store: sagas.Store) -> None:
         for key in world.eye.asked():
             value = expected(key, "approve")
             with contextlib.suppress(sagas.SagasError):
-                await store.finish(key, "approve", value)
+                await store.complete(key, "approve", value)
                 world.witness.note(what="finished", key=key, there=world.eye.finished(key, value))
         await asyncio.sleep(0.05)
 
@@ -303,7 +305,7 @@ async def started(store: sagas.Store, saga: sagas.Saga, key: str, given: Any) ->
     while True:
         try:
             return await store.start(saga, key=key, input=given)
-        except sagas.StoreUnwritable:
+        except sagas.StoreUnavailable:
             await asyncio.sleep(0.05)
 
 
@@ -314,7 +316,7 @@ async def one(world: World, store: sagas.Store, number: int) -> None:
     note(what="started", key=key, there=eye.phase(key)[0])
     if number % 17 == 0:
         await asyncio.sleep(0.01)
-        with contextlib.suppress(sagas.StoreUnwritable):
+        with contextlib.suppress(sagas.StoreUnavailable):
             if await run.abort():
                 note(what="aborted", key=key, there=eye.aborts(key))
     end = await run.wait()
@@ -340,7 +342,7 @@ async def opened(stack: contextlib.AsyncExitStack, make: Callable[[], sagas.Stor
     while True:
         try:
             return await stack.enter_async_context(make())
-        except sagas.StoreUnwritable:
+        except sagas.StoreUnavailable:
             if not make().path.startswith("PostgreSQL"):
                 raise
             await asyncio.sleep(0.05)
@@ -353,11 +355,11 @@ async def main(words: argparse.Namespace) -> None:
         package = "wrong_stores" if words.node else "wrong"
         importlib.import_module(f"{package}.{words.wrong}").apply()
     if words.small:
-        setattr(sagas.kinds, "ROOM", 10)
+        setattr(sagas.definition.compiled, "SHARD_CAPACITY", 10)
     children = 2 if words.small else 16
     async with contextlib.AsyncExitStack() as stack:
         store = await opened(stack, lambda: sagas.open(
-            words.store, world.sagas, concurrency=words.concurrency, children=children, node=words.node, lease=words.lease
+            words.store, world.sagas, concurrency=words.concurrency, engine_processes=children, node=words.node, lease=words.lease
         ))
         approving = asyncio.create_task(approve_all(world, store))
         work = asyncio.create_task(every(world, store, words.count))
@@ -374,7 +376,7 @@ async def main(words: argparse.Namespace) -> None:
 
 def is_unexpected(record: logging.LogRecord) -> bool:
     """Not what the functions here raise on purpose: a traceback is to be one of the package's own."""
-    return getattr(record, "sagas", {}).get("name") not in ("step_missed", "step_failed")
+    return getattr(record, "sagas", {}).get("name") not in ("step_retrying", "step_failed")
 
 
 if __name__ == "__main__":

@@ -1,30 +1,30 @@
-"""Sagas that the program `sagas drive` decides, that your functions do, and that one database remembers.
+"""Run sagas, and undo only what is worth undoing.
 
     order = sagas.Saga("order")
 
-    @order.step
-    def charge(task): ...                  # what it returns is kept, as JSON; raising says that it had no effect
+    @order.step(keep=9)
+    def charge(task): ...   # its result is stored as JSON; if it raises, it had no effect
 
     @charge.compensation
-    def refund(task): ...                  # undoes it: what it returned is `task.result`
+    def refund(task): ...   # `task.result` is what the step returned
 
-    @order.step(needs=[charge])
+    @order.step(needs=[charge], skip=4)
     def send(task): ...
 
-    with sagas.open_sync("orders.db", [order]) as store:            # or: async with sagas.open(..)
-        end = store.start(order, "order-1", {"amount": 40}).wait()  # an End: it does not raise; look at end.ok
+    with sagas.open_sync("orders.db", [order]) as store:            # or: async with sagas.open(...)
+        end = store.start(order, "order-1", {"amount": 40}).wait()  # a SagaResult: look at end.ok
 
-Each step is done, or undone where that costs least; whatever becomes of the program in between.
+Every step is committed, or undone if that costs least, also if this program dies meanwhile.
 
 - To declare: `Saga`, with `step`, `wait` and `approval`; `Step.compensation`, `Backoff`, `NEVER`.
-- In a function: `Task` (its `effect_token` is the idempotency key), `Fail`, `Unknown`; in an
-  approval's `Approved`, `Rejected`.
-- To run: `open`, `open_sync`; `Store`, with `start`, `wait`, `abort`, `finish`, `list`,
-  `attention`, `resolve`; `Run`, `End`, `Plan`.
+- In a function: `Task` (hand its `idempotency_key` to services), `Fail`, `RetryAfter`,
+  `Unknown`; in an approval's, `Approved`, `Rejected`.
+- To run: `open`, `open_sync`; `Store`, with `start`, `wait`, `abort`, `complete`, `fail`,
+  `retry`, `list`, `attention`, `resolve`; `Run`, `SagaResult`, `Plan`.
 - To test: `sagas.testing.run`.
 - On other machines: `Client`, `Worker`, `sagas.celery`. Without a store: `plan`, `check`, `audit`.
 
-The package's README.md has the rest; the modules below that are not named here are its inside.
+Modules that are not named here are internal.
 """
 
 import importlib
@@ -35,65 +35,95 @@ from typing import TYPE_CHECKING, Any
 if sys.version_info < (3, 11):
     raise ImportError(f"sagas needs Python 3.11 or later, and this is {sys.version.split()[0]}")
 
-from . import databases
-from .approvals import Approved, Rejected
-from .attention import Attention, AttentionReason
-from .definition import NEVER, Backoff, Price, Saga, Step
-from .elsewhere import Leased, Queue
-from .errors import (
-    BadInput,
-    BadKey,
+from sagas.api.opening import open, open_sync
+from sagas.api.run import Run
+from sagas.api.service_connection import ServiceRefused
+from sagas.api.store import Store
+from sagas.api.sync_store import SyncRun, SyncStore
+from sagas.api.worker import Worker
+from sagas.base.errors import (
     CannotDecode,
-    ChildError,
     Closed,
+    ConflictError,
+    ConflictingReport,
     DefinitionError,
+    EngineError,
     EngineNotRunnable,
     Fail,
+    InvalidError,
+    InvalidInput,
+    InvalidKey,
+    InvalidLabel,
     InvalidLease,
+    InvalidSchedule,
+    InvalidStore,
     KeyConflict,
     LeaseLost,
-    MissingHandler,
+    MissingStep,
     NoSuchSaga,
+    NoSuchSchedule,
     NoSuchTask,
-    NotHere,
-    NotJson,
-    NotWaiting,
-    PlacesTaken,
-    ReportedOtherwise,
+    NotSerializable,
+    OwnerUnavailable,
+    ResultNotSerializable,
+    RetryAfter,
     SagasError,
-    StoreFault,
+    SlotsTaken,
+    StepNotWaiting,
     StoreLocked,
-    StoreNewer,
-    StoreUnwritable,
+    StoreSchemaTooNew,
+    StoreUnavailable,
+    TemporaryError,
     TooLarge,
     Unknown,
-    Unstorable,
     WouldWaitForever,
     WrongStore,
 )
-from .events import Event
-from .library import BadText, Verdict, audit, check, plan
-from .opening import open, open_sync
-from .plans import Choice, Plan
-from .runs import Begun, End, Held, LogEvent, Run, Summary
-from .store import Store
-from .sync import SyncRun, SyncStore
-from .task import Task
-from .worker import ServiceRefused, Worker
+from sagas.base.events import Event
+from sagas.core.attention import Attention, AttentionReason
+from sagas.core.results import (
+    ActiveAttempt,
+    DefinitionCount,
+    HistoryEvent,
+    SagaResult,
+    Summary,
+    UnknownAttempt,
+)
+from sagas.definition.approvals import Approved, Rejected
+from sagas.definition.payloads import Codec
+from sagas.definition.saga import Saga
+from sagas.definition.step import NEVER, Backoff, Cost, Step
+from sagas.definition.task import Task
+from sagas.engine.library import InvalidText, Verdict, audit, check, plan
+from sagas.engine.plan import Choice, Plan
+from sagas.runtime.external_queue import LeasedTask, Queue
+from sagas.storage import factory
+from sagas.storage.batches import BatchResult
+from sagas.storage.schedules import Schedule
 
 __version__ = "0.3.0"
 
 if TYPE_CHECKING:
-    from . import celery as celery, looks as looks, testing as testing
-    from .client import Client, ClientRun
-    from .client_sync import SyncClient, SyncClientRun
+    from sagas import celery as celery
+    from sagas import inspection as inspection
+    from sagas import testing as testing
+    from sagas.api.client import Client
+    from sagas.api.client_run import ClientRun
+    from sagas.api.sync_client import SyncClient, SyncClientRun
 
-MODULES = ("celery", "looks", "testing")
-LATER = {"Client": "client", "ClientRun": "client", "SyncClient": "client_sync", "SyncClientRun": "client_sync"}
+MODULES = ("celery", "inspection", "testing")
+LATER = {
+    "Client": "api.client",
+    "ClientRun": "api.client_run",
+    "SyncClient": "api.sync_client",
+    "SyncClientRun": "api.sync_client",
+}
 
 
 def __getattr__(name: str) -> Any:
-    """Modules of their own, and what needs psycopg, are loaded when they are asked for: a store in a file does without."""
+    """Modules of their own, and what needs psycopg, are loaded when they are asked for: a store
+    in a file does without.
+    """
     if name in MODULES:
         return importlib.import_module(f".{name}", __name__)
     if name not in LATER:
@@ -101,7 +131,7 @@ def __getattr__(name: str) -> Any:
     try:
         module = importlib.import_module(f".{LATER[name]}", __name__)
     except ImportError as error:
-        raise databases.missing(error) from error
+        raise factory.missing(error) from error
     return getattr(module, name)
 
 
@@ -111,68 +141,87 @@ def _is_installed(name: str) -> bool:
 
 
 def __dir__() -> list[str]:
-    """What is for users: the modules inside are not, nor is what needs something that is not installed."""
-    return sorted([*__all__, *(name for name in MODULES if name != "celery" or _is_installed(name)), "__version__"])
+    """What is for users: the modules inside are not, nor is what needs something that is not
+    installed.
+    """
+    return sorted(
+        [
+            *__all__,
+            *(name for name in MODULES if name != "celery" or _is_installed(name)),
+            "__version__",
+        ]
+    )
 
 
 __all__ = [
-    "NEVER",
+    "ActiveAttempt",
     "Approved",
     "Attention",
     "AttentionReason",
     "Backoff",
-    "BadInput",
-    "BadKey",
-    "BadText",
-    "Begun",
+    "BatchResult",
     "CannotDecode",
-    "ChildError",
     "Choice",
     "Client",
     "ClientRun",
     "Closed",
+    "Codec",
+    "ConflictError",
+    "ConflictingReport",
+    "Cost",
+    "DefinitionCount",
     "DefinitionError",
+    "EngineError",
     "EngineNotRunnable",
-    "End",
     "Event",
     "Fail",
-    "Held",
+    "HistoryEvent",
+    "InvalidError",
+    "InvalidInput",
+    "InvalidKey",
+    "InvalidLabel",
     "InvalidLease",
+    "InvalidSchedule",
+    "InvalidStore",
+    "InvalidText",
     "KeyConflict",
+    "LeasedTask",
     "LeaseLost",
-    "Leased",
-    "LogEvent",
-    "MissingHandler",
+    "MissingStep",
+    "NEVER",
     "NoSuchSaga",
+    "NoSuchSchedule",
     "NoSuchTask",
-    "NotHere",
-    "NotJson",
-    "NotWaiting",
-    "PlacesTaken",
+    "NotSerializable",
+    "OwnerUnavailable",
     "Plan",
-    "Price",
     "Queue",
     "Rejected",
-    "ReportedOtherwise",
+    "ResultNotSerializable",
+    "RetryAfter",
     "Run",
     "Saga",
+    "SagaResult",
     "SagasError",
+    "Schedule",
     "ServiceRefused",
+    "SlotsTaken",
     "Step",
+    "StepNotWaiting",
     "Store",
-    "StoreFault",
     "StoreLocked",
-    "StoreNewer",
-    "StoreUnwritable",
+    "StoreSchemaTooNew",
+    "StoreUnavailable",
     "Summary",
     "SyncClient",
     "SyncClientRun",
     "SyncRun",
     "SyncStore",
     "Task",
+    "TemporaryError",
     "TooLarge",
     "Unknown",
-    "Unstorable",
+    "UnknownAttempt",
     "Verdict",
     "Worker",
     "WouldWaitForever",

@@ -7,8 +7,8 @@ from __future__ import annotations
 
 import time
 
-from sagas import sqlite_writer
-from sagas.sqlite_writer import Events, Writer
+from sagas.storage.sqlite import writer
+from sagas.storage.sqlite.writer import Events, Writer
 
 
 def slow_disk() -> None:
@@ -20,4 +20,4 @@ def slow_disk() -> None:
         return right(self, events, patient)
 
     setattr(Writer, "_sync", sync)
-    setattr(sqlite_writer, "AT_ONCE", 0.0)
+    setattr(writer, "AT_ONCE", 0.0)

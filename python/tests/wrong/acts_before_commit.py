@@ -2,12 +2,11 @@
 
 from __future__ import annotations
 
-from typing import Any
+from wrong import slow_disk
 
-from sagas.pump import Pump
-from sagas.records import Batch
-
-from . import slow_disk
+from sagas.core.effects import Effects
+from sagas.runtime.effects import EffectHandler
+from sagas.runtime.shard_runner import ShardRunner
 
 FINDS = "begun-early"
 STRIKES = "program"
@@ -16,10 +15,11 @@ STRIKES = "program"
 def apply() -> None:
     """Acts first, and commits then."""
     slow_disk()
-    right = Pump.commit
+    right, act = ShardRunner._commit, EffectHandler.committed
 
-    def commit(self: Pump, batch: Batch, acts: list[Any]) -> None:
-        self._act(acts)
-        right(self, batch, [])
+    def commit(self: ShardRunner, effects: Effects, at_once: bool) -> None:
+        act(self._effects, effects)
+        right(self, effects, at_once)
 
-    setattr(Pump, "commit", commit)
+    setattr(ShardRunner, "_commit", commit)
+    setattr(EffectHandler, "committed", lambda self, effects: None)

@@ -4,7 +4,7 @@ from __future__ import annotations
 
 from typing import Any
 
-from sagas.task import Task
+from sagas.definition.task import Task
 
 FINDS = "wrong-action"
 STRIKES = "child"
@@ -13,7 +13,7 @@ STRIKES = "child"
 def apply() -> None:
     """Mistakes one token for the other."""
 
-    def action_token(self: Task[Any]) -> str:
-        return self.effect_token
+    def original_idempotency_key(self: Task[Any]) -> str:
+        return self.idempotency_key
 
-    setattr(Task, "action_token", property(action_token))
+    setattr(Task, "original_idempotency_key", property(original_idempotency_key))

@@ -2,23 +2,23 @@
 
 from __future__ import annotations
 
-from sagas.live import Live
-from sagas.pump import Pump
-from sagas.records import Batch
+from wrong import slow_disk
 
-from . import slow_disk
+from sagas.core.effects import Effects
+from sagas.runtime.effects import EffectHandler
 
 FINDS = "told-early"
 STRIKES = "program"
 
 
 def apply() -> None:
-    """Tells of an end as soon as the child has answered."""
+    """Tells of an end as soon as the engine has answered."""
     slow_disk()
-    right = Pump._over
+    right = EffectHandler.at_once
 
-    def over(self: Pump, batch: Batch, live: Live, phase: str, end: str) -> None:
-        right(self, batch, live, phase, end)
-        self.owner.ended([self._ended.pop()])
+    def at_once(self: EffectHandler, effects: Effects) -> None:
+        right(self, effects)
+        self._ended(effects.ended)
+        effects.ended = []
 
-    setattr(Pump, "_over", over)
+    setattr(EffectHandler, "at_once", at_once)

@@ -2,9 +2,9 @@
 
 from __future__ import annotations
 
-from sagas import calling
-from sagas.calling import Outcome
-from sagas.definition import Manner
+from sagas.core import outcomes
+from sagas.core.outcomes import Outcome
+from sagas.definition.step import Manner
 
 FINDS = "no-effect"
 STRIKES = "child"
@@ -14,6 +14,6 @@ def apply() -> None:
     """Takes each failure for done."""
 
     def raised(error: BaseException, manner: Manner) -> Outcome:
-        return calling.done(None)
+        return outcomes.succeeded(None)
 
-    setattr(calling, "raised", raised)
+    setattr(outcomes, "raised", raised)

@@ -2,7 +2,7 @@
 
 from __future__ import annotations
 
-from sagas.store import Store
+from sagas.api.store import Store
 
 FINDS = "lost"
 STRIKES = "child"

@@ -4,8 +4,7 @@ from __future__ import annotations
 
 from typing import Any
 
-from sagas import restoring
-from sagas.live import Attempt
+from sagas.core import recovery
 
 FINDS = "not-over"
 STRIKES = "program"
@@ -13,10 +12,10 @@ STRIKES = "program"
 
 def apply() -> None:
     """Takes nothing for busy."""
-    right = restoring._busy
+    right = recovery._resume
 
-    def busy(*words: Any) -> list[Attempt]:
-        right(*words)
-        return []
+    def resume(found: recovery.Recovery, *words: Any) -> None:
+        right(found, *words)
+        found.resumed.clear()
 
-    setattr(restoring, "_busy", busy)
+    setattr(recovery, "_resume", resume)

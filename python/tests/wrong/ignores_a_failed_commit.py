@@ -2,9 +2,8 @@
 
 from __future__ import annotations
 
-from typing import Any
-
-from sagas.pump import Pump
+from sagas.core.effects import Effects
+from sagas.runtime.shard_runner import ShardRunner
 
 FINDS = "told-early"
 STRIKES = "disk"
@@ -12,9 +11,8 @@ STRIKES = "disk"
 
 def apply() -> None:
     """Acts whatever became of the commit."""
-    right = Pump.committed
 
-    def committed(self: Pump, acts: list[Any], fault: BaseException | None) -> None:
-        right(self, acts, None)
+    def failed(self: ShardRunner, effects: Effects, fault: BaseException | None) -> None:
+        self.committed(effects)
 
-    setattr(Pump, "committed", committed)
+    setattr(ShardRunner, "failed", failed)

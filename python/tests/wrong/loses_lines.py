@@ -2,10 +2,8 @@
 
 from __future__ import annotations
 
-from typing import Any
-
-from sagas.pump import Pump
-from sagas.records import Batch
+from sagas.core.effects import Effects
+from sagas.runtime.shard_runner import ShardRunner
 
 FINDS = "audit"
 STRIKES = "closing"
@@ -13,16 +11,16 @@ STRIKES = "closing"
 
 def apply() -> None:
     """Leaves the last line of a batch out, once: of the third, or of the first behind it that has several."""
-    right, count, is_done = Pump.commit, 0, False
+    right, count, is_done = ShardRunner._commit, 0, False
 
-    def commit(self: Pump, batch: Batch, acts: list[Any]) -> None:
+    def commit(self: ShardRunner, effects: Effects, at_once: bool) -> None:
         nonlocal count, is_done
         count += 1
-        whole = batch.text.splitlines(keepends=True)
+        whole = effects.batch.text.splitlines(keepends=True)
         if count >= 3 and len(whole) > 1 and not is_done:
             is_done = True
-            batch.text = "".join(whole[:-1])
-            self.events -= 1
-        right(self, batch, acts)
+            effects.batch.text = "".join(whole[:-1])
+            self.driver.events -= 1
+        right(self, effects, at_once)
 
-    setattr(Pump, "commit", commit)
+    setattr(ShardRunner, "_commit", commit)

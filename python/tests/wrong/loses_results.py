@@ -2,10 +2,8 @@
 
 from __future__ import annotations
 
-from typing import Any
-
-from sagas.pump import Pump
-from sagas.records import Batch
+from sagas.core.effects import Effects
+from sagas.runtime.shard_runner import ShardRunner
 
 FINDS = "results"
 STRIKES = "child"
@@ -13,13 +11,13 @@ STRIKES = "child"
 
 def apply() -> None:
     """Leaves each seventh batch's results out."""
-    right, count = Pump.commit, 0
+    right, count = ShardRunner._commit, 0
 
-    def commit(self: Pump, batch: Batch, acts: list[Any]) -> None:
+    def commit(self: ShardRunner, effects: Effects, at_once: bool) -> None:
         nonlocal count
         count += 1
         if count % 7 == 0:
-            batch.results.clear()
-        right(self, batch, acts)
+            effects.batch.results.clear()
+        right(self, effects, at_once)
 
-    setattr(Pump, "commit", commit)
+    setattr(ShardRunner, "_commit", commit)

@@ -2,7 +2,7 @@
 
 from __future__ import annotations
 
-from sagas.live import Attempt
+from sagas.core.model import Attempt
 
 FINDS = "input"
 STRIKES = "child"
@@ -14,7 +14,7 @@ def apply() -> None:
 
     def given(self: Attempt) -> str:
         nonlocal first
-        first = first or self.live.text
+        first = first or self.instance.text
         return first
 
     setattr(Attempt, "input", property(given))

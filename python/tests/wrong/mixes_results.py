@@ -2,7 +2,7 @@
 
 from __future__ import annotations
 
-from sagas.live import Attempt
+from sagas.core.model import Attempt
 
 FINDS = "handed"
 STRIKES = "child"

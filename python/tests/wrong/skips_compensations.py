@@ -2,9 +2,10 @@
 
 from __future__ import annotations
 
-from sagas import calling
-from sagas.doing import Doing
-from sagas.live import Attempt
+from sagas.core import outcomes
+from sagas.core.attempts import AttemptMachine
+from sagas.core.decisions import Decision
+from sagas.core.model import Attempt
 
 FINDS = "no-effect"
 STRIKES = "child"
@@ -12,12 +13,9 @@ STRIKES = "child"
 
 def apply() -> None:
     """Reports them as done."""
-    right = Doing.begin
+    right = AttemptMachine.begin
 
-    def begin(self: Doing, attempt: Attempt) -> None:
-        if attempt.kind == "undo":
-            self.outcome(attempt, calling.done(None))
-        else:
-            right(self, attempt)
+    def begin(self: AttemptMachine, attempt: Attempt, now: float) -> Decision:
+        return self.finish(attempt, outcomes.succeeded(None), now) if attempt.undo else right(self, attempt, now)
 
-    setattr(Doing, "begin", begin)
+    setattr(AttemptMachine, "begin", begin)

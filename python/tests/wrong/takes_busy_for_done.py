@@ -4,8 +4,8 @@ from __future__ import annotations
 
 from typing import Any
 
-from sagas import calling, restoring
-from sagas.live import Attempt
+from sagas.core import outcomes, recovery
+from sagas.core.states import AttemptState
 
 FINDS = "no-effect"
 STRIKES = "program"
@@ -13,13 +13,12 @@ STRIKES = "program"
 
 def apply() -> None:
     """Reports what is found busy, without a call."""
-    right = restoring._busy
+    right = recovery._resume
 
-    def busy(*words: Any) -> list[Attempt]:
-        found = right(*words)
-        for attempt in found:
-            if attempt.state == "taken":
-                attempt.state, attempt.outcome = "done", calling.done(None)
-        return found
+    def resume(found: recovery.Recovery, *words: Any) -> None:
+        right(found, *words)
+        for attempt in found.resumed:
+            if attempt.state is AttemptState.CLAIMED:
+                attempt.finish(outcomes.succeeded(None), 0.0)
 
-    setattr(restoring, "_busy", busy)
+    setattr(recovery, "_resume", resume)

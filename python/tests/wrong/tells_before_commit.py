@@ -2,27 +2,23 @@
 
 from __future__ import annotations
 
-from collections.abc import Sequence
-from typing import Any
+from wrong import slow_disk
 
-from sagas.live import Live
-from sagas.pump import Pump
-from sagas.records import Batch
-
-from . import slow_disk
+from sagas.core.effects import Effects
+from sagas.runtime.effects import EffectHandler
 
 FINDS = "told-early"
 STRIKES = "program"
 
 
 def apply() -> None:
-    """Tells of an opening as soon as the child has answered."""
+    """Tells of an opening as soon as the engine has answered."""
     slow_disk()
-    right = Pump._told_opens
+    right = EffectHandler.at_once
 
-    def told_opens(self: Pump, batch: Batch, acts: list[Any], lives: Sequence[Live], replies: Sequence[str]) -> None:
-        right(self, batch, acts, lives, replies)
-        for live in lives:
-            live.tell(live.starting)
+    def at_once(self: EffectHandler, effects: Effects) -> None:
+        right(self, effects)
+        for saga in effects.opened:
+            self._sagas.tell_started(saga)
 
-    setattr(Pump, "_told_opens", told_opens)
+    setattr(EffectHandler, "at_once", at_once)

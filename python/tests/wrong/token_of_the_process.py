@@ -5,7 +5,7 @@ from __future__ import annotations
 import os
 from typing import Any
 
-from sagas.task import Task
+from sagas.definition.task import Task
 
 FINDS = "no-effect"
 STRIKES = "program"
@@ -14,7 +14,7 @@ STRIKES = "program"
 def apply() -> None:
     """Puts the number of the process into the token."""
 
-    def effect_token(self: Task[Any]) -> str:
-        return f"{self._about.saga_token}-{self.step}-{'undo' if self.undo else 'run'}{os.getpid()}"
+    def idempotency_key(self: Task[Any]) -> str:
+        return f"{self._about.saga_token}-{self.step}-{'undo' if self.is_compensation else 'run'}{os.getpid()}"
 
-    setattr(Task, "effect_token", property(effect_token))
+    setattr(Task, "idempotency_key", property(idempotency_key))

@@ -4,7 +4,7 @@ from __future__ import annotations
 
 from typing import Any
 
-from sagas.task import Task
+from sagas.definition.task import Task
 
 FINDS = "tokens"
 STRIKES = "child"
@@ -13,7 +13,7 @@ STRIKES = "child"
 def apply() -> None:
     """Leaves the step out."""
 
-    def effect_token(self: Task[Any]) -> str:
-        return f"{self._about.saga_token}-step-{'undo' if self.undo else 'run'}"
+    def idempotency_key(self: Task[Any]) -> str:
+        return f"{self._about.saga_token}-step-{'undo' if self.is_compensation else 'run'}"
 
-    setattr(Task, "effect_token", property(effect_token))
+    setattr(Task, "idempotency_key", property(idempotency_key))

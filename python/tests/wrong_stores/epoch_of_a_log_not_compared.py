@@ -2,7 +2,7 @@
 
 from __future__ import annotations
 
-from sagas import postgresql_commit
+from sagas.storage.postgresql import commit_statement
 
 FINDS = {"keys"}
 MOMENT = "a_refused_start_comes_late"
@@ -10,4 +10,4 @@ MOMENT = "a_refused_start_comes_late"
 
 def apply() -> None:
     """The owner alone is compared."""
-    setattr(postgresql_commit, "ALONE", postgresql_commit.ALONE.replace("epoch = $4::bigint", "$4::bigint > 0"))
+    setattr(commit_statement, "ALONE", commit_statement.ALONE.replace("epoch = $4::bigint", "$4::bigint > 0"))

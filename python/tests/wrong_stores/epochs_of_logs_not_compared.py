@@ -2,7 +2,7 @@
 
 from __future__ import annotations
 
-from sagas import postgresql_commit
+from sagas.storage.postgresql import commit_statement
 
 FINDS = {"came-late"}
 MOMENT = "a_commit_of_two_logs_comes_late"
@@ -10,5 +10,5 @@ MOMENT = "a_commit_of_two_logs_comes_late"
 
 def apply() -> None:
     """The owner alone is compared."""
-    right = postgresql_commit.LISTED
-    setattr(postgresql_commit, "LISTED", right.replace("epoch = ($4::bigint[])[array_position($3, log)]", "$4::bigint[] IS NOT NULL"))
+    right = commit_statement.LISTED
+    setattr(commit_statement, "LISTED", right.replace("epoch = ($4::bigint[])[array_position($3, shard)]", "$4::bigint[] IS NOT NULL"))

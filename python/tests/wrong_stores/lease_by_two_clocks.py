@@ -2,7 +2,7 @@
 
 from __future__ import annotations
 
-from sagas import leases
+from sagas.storage.postgresql import node_lease
 
 FINDS = {"called-again"}
 MOMENT = "a_node_lives"
@@ -10,4 +10,4 @@ MOMENT = "a_node_lives"
 
 def apply() -> None:
     """What a node says of itself is over before it is read."""
-    setattr(leases, "SAY", leases.SAY.replace("%(lease)s", "(%(lease)s - 660)"))
+    setattr(node_lease, "SAY", node_lease.SAY.replace("%(lease)s", "(%(lease)s - 660)"))

@@ -2,7 +2,7 @@
 
 from __future__ import annotations
 
-from sagas import postgresql_commit
+from sagas.storage.postgresql import commit_statement
 
 FINDS = {"not-its-own"}
 MOMENT = "another_node_has_one_of_two_logs"
@@ -10,4 +10,4 @@ MOMENT = "another_node_has_one_of_two_logs"
 
 def apply() -> None:
     """Takes each log for this node's."""
-    setattr(postgresql_commit, "LISTED", "log = ANY($3::bigint[]) AND $2::text IS NOT NULL AND $4::bigint[] IS NOT NULL")
+    setattr(commit_statement, "LISTED", "shard = ANY($3::bigint[]) AND $2::text IS NOT NULL AND $4::bigint[] IS NOT NULL")

@@ -4,10 +4,10 @@ from __future__ import annotations
 
 from collections.abc import Sequence
 
-from sagas.database import Then
-from sagas.postgresql import PostgreSQL
-from sagas.postgresql_writer import NONE
-from sagas.records import Batch
+from sagas.core.batch import Batch
+from sagas.storage.interface import Then
+from sagas.storage.postgresql.storage import PostgreSQL
+from sagas.storage.postgresql.writer import NONE
 
 FINDS = {"told-early", "begun-early", "lost", "told-otherwise", "wrong-attempt", "effect-lost"}
 STRIKES = "sleep"

@@ -2,7 +2,7 @@
 
 from __future__ import annotations
 
-from sagas import postgresql_commit
+from sagas.storage.postgresql import commit_statement
 
 FINDS = {"not-its-own"}
 MOMENT = "another_node_has_the_only_log"
@@ -10,5 +10,5 @@ MOMENT = "another_node_has_the_only_log"
 
 def apply() -> None:
     """Neither owner nor epoch is compared; the primary key of `lines` refuses what it did."""
-    fence = "log = $3::bigint AND $2::text IS NOT NULL AND $4::bigint IS NOT NULL"
-    setattr(postgresql_commit, "ALONE", fence)
+    fence = "shard = $3::bigint AND $2::text IS NOT NULL AND $4::bigint IS NOT NULL"
+    setattr(commit_statement, "ALONE", fence)

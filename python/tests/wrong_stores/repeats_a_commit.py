@@ -5,10 +5,10 @@ from __future__ import annotations
 import asyncio
 from collections.abc import Sequence
 
-from sagas.database import Then
-from sagas.errors import StoreUnwritable
-from sagas.postgresql import PostgreSQL
-from sagas.records import Batch
+from sagas.base.errors import StoreUnavailable
+from sagas.core.batch import Batch
+from sagas.storage.interface import Then
+from sagas.storage.postgresql.storage import PostgreSQL
 
 FINDS = {"illegal", "audit", "gap", "results", "end"}
 STRIKES = "relay"
@@ -30,7 +30,7 @@ def apply() -> None:
             right(self, batches, then, now)
 
         def told(batches: Sequence[Batch], fault: BaseException | None, lost: frozenset[int]) -> None:
-            if isinstance(fault, StoreUnwritable):
+            if isinstance(fault, StoreUnavailable):
                 job = asyncio.get_running_loop().create_task(again())
                 jobs.add(job)
                 job.add_done_callback(jobs.discard)

@@ -4,7 +4,7 @@ from __future__ import annotations
 
 import itertools
 
-from sagas.postgresql_commit import Commit
+from sagas.storage.postgresql.commit_statement import Commit
 
 FINDS = {"illegal", "audit", "gap", "results", "end", "keys"}
 STRIKES = "nodes"

@@ -3,11 +3,12 @@
 from __future__ import annotations
 
 from collections.abc import Sequence
+from typing import Any
 
-from sagas.database import Then
-from sagas.postgresql import PostgreSQL
-from sagas.postgresql_writer import NONE
-from sagas.records import Batch
+from sagas.core.batch import Batch
+from sagas.storage.interface import Then
+from sagas.storage.postgresql.storage import PostgreSQL
+from sagas.storage.postgresql.writer import NONE
 
 FINDS = {"told-early", "begun-early", "lost"}
 STRIKES = "nodes"
@@ -19,10 +20,11 @@ def apply() -> None:
     right = PostgreSQL.commit
 
     def commit(self: PostgreSQL, batches: Sequence[Batch], then: Then, now: bool) -> None:
-        for batch in batches:
-            if batch.then:
-                batch.then(None)
-                batch.then = lambda fault: None
+        queue: Any = then.__self__  # type: ignore[attr-defined]
+        entries, queue._under_way = queue._under_way, []
+        for effects, owner in entries:
+            if owner:
+                owner.committed(effects)
         right(self, batches, lambda batches, fault, lost: then(batches, None, NONE), now)
 
     setattr(PostgreSQL, "commit", commit)

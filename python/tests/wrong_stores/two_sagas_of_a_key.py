@@ -2,7 +2,7 @@
 
 from __future__ import annotations
 
-from sagas import postgresql_commit
+from sagas.storage.postgresql import commit_statement
 
 FINDS = {"keys"}
 STRIKES = "nodes"
@@ -11,4 +11,4 @@ MOMENT = "two_nodes_start_a_key_at_once"
 
 def apply() -> None:
     """Leaves the row out where the key is there, and keeps the lines."""
-    postgresql_commit.PARTS["opened"] += " ON CONFLICT DO NOTHING"
+    commit_statement.PARTS["opened"] += " ON CONFLICT DO NOTHING"

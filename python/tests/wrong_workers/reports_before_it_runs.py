@@ -5,10 +5,11 @@ from __future__ import annotations
 import contextlib
 from typing import Any
 
-from sagas import calling
-from sagas.celery.worker import Work
-from sagas.remote import Order
 from world import expected
+
+from sagas.celery.worker import Work
+from sagas.core import outcomes
+from sagas.core.dispatch import Order
 
 FINDS = "no-effect"
 STRIKES = "run"
@@ -22,7 +23,7 @@ def apply() -> None:
         desk = self.queue.desk()
         begun = desk.begin(order)
         if begun and function:
-            desk.report(order, calling.done(expected(order.key, order.step) if order.kind == "run" else None))
+            desk.report(order, outcomes.succeeded(expected(order.key, order.step) if order.kind == "run" else None))
             with contextlib.suppress(Exception):
                 function(self._task(order, begun))
 

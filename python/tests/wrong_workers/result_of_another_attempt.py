@@ -5,9 +5,9 @@ from __future__ import annotations
 from typing import Any
 
 from sagas.celery import worker
-from sagas.calling import Outcome
-from sagas.definition import Function, Manner
-from sagas.task import Task
+from sagas.core.outcomes import Outcome
+from sagas.definition.step import Function, Manner
+from sagas.definition.task import Task
 
 FINDS = "not-called"
 STRIKES = "run"
@@ -19,11 +19,11 @@ def apply() -> None:
     kept: dict[str, Outcome] = {}
 
     def call(function: Function, manner: Manner, task: Task[Any]) -> Outcome:
-        if task.effect_token not in kept:
+        if task.idempotency_key not in kept:
             outcome = right(function, manner, task)
             if outcome.kind == "unknown":
                 return outcome
-            kept[task.effect_token] = outcome
-        return kept[task.effect_token]
+            kept[task.idempotency_key] = outcome
+        return kept[task.idempotency_key]
 
     setattr(worker, "_call", call)

@@ -6,9 +6,9 @@ import dataclasses
 from typing import Any
 
 from sagas.celery.worker import Work
-from sagas.desks import Begun
-from sagas.remote import Order
-from sagas.task import Task, whole
+from sagas.definition.task import Task, whole
+from sagas.core.dispatch import Order
+from sagas.core.dispatch import Begun
 
 FINDS = "begun-early"
 STRIKES = "run"

@@ -2,9 +2,9 @@
 
 from __future__ import annotations
 
-from sagas import calling
-from sagas.calling import Outcome
-from sagas.definition import Manner
+from sagas.core import outcomes
+from sagas.core.outcomes import Outcome
+from sagas.definition.step import Manner
 
 FINDS = "effect-lost"
 STRIKES = "run"
@@ -14,6 +14,6 @@ def apply() -> None:
     """Reports each unknown outcome as a failure."""
 
     def raised(error: BaseException, manner: Manner) -> Outcome:
-        return calling.failure(str(error))
+        return outcomes.failure(str(error))
 
-    setattr(calling, "raised", raised)
+    setattr(outcomes, "raised", raised)

@@ -1,7 +1,9 @@
-"""Steps on Celery's workers: `@trip.step(run_on=sagas.celery.Queue(app, "flights"))`.
+"""Steps on Celery workers: `@trip.step(queue=sagas.celery.Queue(app, "flights"))`.
 
-The function is registered as a task of the app, and workers are started as always. The program that has the store sends a message for each
-attempt; the worker calls the function and writes how it ended into the store itself, by the attempt's token. Celery needs no result backend."""
+The function becomes a task of the app, and you start workers as always. The program with the store
+sends a message for each attempt. The worker calls the function, and writes the outcome into the
+store itself. Celery needs no result backend.
+"""
 
 from __future__ import annotations
 
@@ -10,58 +12,102 @@ import threading
 from collections.abc import Iterable
 from typing import TYPE_CHECKING, Any
 
-from ..definition import Declare, Manner, Saga, Step
-from ..desks import Desk, desk_of
-from ..errors import DefinitionError, WrongStore
-from ..remote import Order
-from . import sharing, worker
-from .sending import Sender
+from sagas.base.errors import DefinitionError, WrongStore
+from sagas.celery import store_check, worker
+from sagas.celery.sender import Sender
+from sagas.core.dispatch import Order
+from sagas.definition.saga import Saga
+from sagas.definition.step import Declare, Manner, Step
+from sagas.storage.worker_session import Desk, desk_of
 
 if TYPE_CHECKING:
-    from ..database import Database
+    from sagas.storage.interface import Database
 
 __all__ = ["Queue", "step"]
 
-LATE = {"acks_late": True, "reject_on_worker_lost": True, "ignore_result": True, "typing": False, "shared": False}
-"""A message is acknowledged once its report is in the store, and goes back where its worker is lost."""
+LATE = {
+    "acks_late": True,
+    "reject_on_worker_lost": True,
+    "ignore_result": True,
+    "typing": False,
+    "shared": False,
+}
+"""A message is acknowledged once its report is in the store, and goes back where its worker is
+lost.
+"""
 
 
 def task_name(step: Step[Any], kind: str) -> str:
-    """The name of the task: `sagas.trip.flight.run`, and `.undo` for the compensation; `trip@2` where the saga's version is 2."""
+    """The name of the task: `sagas.trip.flight.run`, and `.undo` for the compensation; `trip@2`
+    where the saga's version is 2.
+    """
     saga = step.saga
     named = saga.name if saga.version == 1 else f"{saga.name}@{saga.version}"
     return f"sagas.{named}.{step.name}.{kind}"
 
 
 class Queue:
-    """Where steps run: workers of `app` that take from the queue `name`; None: where the app's routes send them.
+    """Name the Celery workers that call a step: those of an app and a queue.
 
-    - `store`: what the workers report to, as they reach it: the URL, or the file; by default `app.conf.sagas_store`. It has to be the store
-      that is opened; over SQLite the very file.
-    - `timeout`: seconds after which a message without a report is sent again, with the same token, where the step has no `timeout` of its own.
-    - `patience`: seconds that a worker tries to report while the store cannot be written, before it lets the message go back.
-    - `options`: Celery's own, of the task: `priority`, `time_limit`, `soft_time_limit`, `rate_limit`, `expires`, `routing_key`, ..
+    A function over its `soft_time_limit` has an unknown outcome.
 
-    A function over its `soft_time_limit` is unknown, as everybody's who takes too long."""
+    Args:
+        app: The Celery app.
+        name: The queue's name; None: where the app's routes send the task (default: None).
+        store: What the workers report to, as they reach it: the URL or the file of the very store
+            that is opened (default: `app.conf.sagas_store`).
+        timeout: Seconds after which a message without a report is sent again, with the same
+            idempotency key, if the step has no `timeout` (default: 300).
+        patience: Seconds that a worker tries to report while the store cannot be written. Then the
+            message goes back (default: 60).
+        options: Celery's options of the task, for example `priority` or `soft_time_limit`.
 
-    def __init__(self, app: Any, name: str | None = None, *, store: str | os.PathLike[str] | None = None, timeout: float = 300.0, patience: float = 60.0, **options: Any) -> None:
+    Attributes:
+        app: The Celery app.
+        name: The queue's name, or None.
+        timeout: As given.
+        patience: As given.
+    """
+
+    def __init__(
+        self,
+        app: Any,
+        name: str | None = None,
+        *,
+        store: str | os.PathLike[str] | None = None,
+        timeout: float = 300.0,
+        patience: float = 60.0,
+        **options: Any,
+    ) -> None:
         self.app, self.name, self.timeout, self.patience = app, name, timeout, patience
         self._store = None if store is None else os.fspath(store)
         self._options = LATE | ({"queue": name} if name else {}) | options
         self._desks = threading.local()
         self._sender = Sender(app)
-        sharing.declare(app, self)
+        store_check.declare(app, self)
 
     @property
     def store(self) -> str:
-        """What the workers report to. Raises `DefinitionError`."""
+        """What the workers report to.
+
+        Raises:
+            DefinitionError: Neither `store` nor `app.conf.sagas_store` is given.
+        """
         store = self._store or self.app.conf.get("sagas_store")
         if not store:
-            raise DefinitionError(f"{self!r} does not know what its workers report to: give it store=.., or set app.conf.sagas_store")
+            raise DefinitionError(
+                f"{self!r} has no store to report to. Set store=..., or app.conf.sagas_store"
+            )
         return os.fspath(store)
 
     def declare(self, step: Step[Any], kind: str, manner: Manner) -> None:
-        """Registers the function as a task."""
+        """Register a step's function as a task of the app.
+
+        Args:
+            step: The step.
+            kind: `run`, or `undo` for the compensation.
+            manner: How the function is called.
+        """
 
         work = worker.Work(self, step, kind, manner)
 
@@ -73,7 +119,12 @@ class Queue:
         self.app.task(name=task_name(step, kind), sagas_step=step, **self._options)(attempt)
 
     def desk(self) -> Desk:
-        """This thread's connection to the store, in this process."""
+        """Return this thread's connection to the store.
+
+        Raises:
+            DefinitionError: As `store`.
+            StoreUnavailable: The store does not answer.
+        """
         told = getattr(self._desks, "told", None)
         if told is None or told[0] != os.getpid():
             told = self._desks.told = os.getpid(), desk_of(self.store)
@@ -81,24 +132,68 @@ class Queue:
         return desk
 
     async def check(self, database: Database, steps: Iterable[tuple[Step[Any], str]]) -> None:
-        """Whether the workers report into this store. Raises `WrongStore` or `DefinitionError`."""
+        """Check that the workers report into this store.
+
+        Args:
+            database: The store's database.
+            steps: The steps that run in this queue, each with `run` or `undo`.
+
+        Raises:
+            WrongStore: The workers report into another store.
+            DefinitionError: Another step has the name of the task in this app.
+        """
         for step, kind in steps:
             task = self.app.tasks.get(task_name(step, kind))
             if getattr(task, "sagas_step", None) is not step:
-                raise DefinitionError(f"{step.where}: saga {step.saga.name!r}, step {step.name!r}: another step has its task, {task_name(step, kind)!r}, in this app")
-        await sharing.check(self, database)
+                raise DefinitionError(
+                    f"{step.where}: saga {step.saga.name!r}, step {step.name!r}: another step has "
+                    f"its task name {task_name(step, kind)!r} in this app. Rename one of them"
+                )
+        await store_check.check(self, database)
 
     async def send(self, order: Order) -> None:
-        """Sends a message. Raises `Unsent`."""
+        """Send a message for an attempt.
+
+        Args:
+            order: The message.
+        """
         version = "" if order.version == 1 else f"@{order.version}"
         shown = f"({order.key!r}, attempt {order.attempt})"
-        await self._sender.send(f"sagas.{order.saga}{version}.{order.step}.{order.kind}", order.written(), order.token, shown)
+        await self._sender.send(
+            f"sagas.{order.saga}{version}.{order.step}.{order.kind}",
+            order.written(),
+            order.token,
+            shown,
+        )
 
     def __repr__(self) -> str:
         return f"<queue {self.name or 'by routes'} of app {self.app.main}>"
 
 
-def step(app: Any, saga: Saga, name: str, *, queue: str | None = None, store: str | os.PathLike[str] | None = None, **words: Any) -> Declare:
-    """Decorator: the function is a step of the saga, and runs on the app's workers. `words` are those of `Saga.step`."""
-    declare: Declare = saga.step(name=name, run_on=Queue(app, queue, store=store), **words)
+def step(
+    app: Any,
+    saga: Saga,
+    name: str,
+    *,
+    queue: str | None = None,
+    store: str | os.PathLike[str] | None = None,
+    **words: Any,
+) -> Declare:
+    """Declare a step that runs on an app's workers: `@step(app, saga, "name")`.
+
+    Args:
+        app: The Celery app.
+        saga: The saga.
+        name: The step's name.
+        queue: The Celery queue; None: where the app's routes send the task (default: None).
+        store: As of `Queue`.
+        words: The other options of `Saga.step`.
+
+    Returns:
+        A decorator that returns the `Step`.
+
+    Raises:
+        DefinitionError: An argument is not valid.
+    """
+    declare: Declare = saga.step(name=name, queue=Queue(app, queue, store=store), **words)
     return declare

@@ -1,4 +1,4 @@
-"""What a worker does with a message: it calls the step's function, and reports how that ended."""
+"""What a Celery worker does with a message: call the function and report the outcome."""
 
 from __future__ import annotations
 
@@ -11,17 +11,18 @@ from typing import TYPE_CHECKING, Any, TypeVar
 
 from celery.exceptions import Reject, SoftTimeLimitExceeded
 
-from .. import calling, values
-from ..calling import Outcome
-from ..definition import Function, Manner, Step
-from ..desks import Begun, Settled
-from ..errors import StoreUnwritable
-from ..guarded import logger
-from ..remote import Order
-from ..task import Task, Told
+from sagas.base.errors import StoreUnavailable
+from sagas.base.logger import logger
+from sagas.core import outcomes
+from sagas.core.dispatch import Begun, Order, Settled
+from sagas.core.outcomes import Outcome
+from sagas.core.states import OutcomeKind
+from sagas.definition import awaitables, decoders, tokens
+from sagas.definition.step import Function, Manner, Step
+from sagas.definition.task import Task, Told
 
 if TYPE_CHECKING:
-    from . import Queue
+    from sagas.celery import Queue
 
 T = TypeVar("T")
 FIRST_PAUSE, MOST_PAUSE = 0.05, 2.0  # seconds
@@ -34,23 +35,31 @@ class Work:
         self.queue, self.step, self.kind, self.manner = queue, step, kind, manner
 
     @functools.cached_property
-    def hint(self) -> values.Decoder | None:
+    def hint(self) -> decoders.Decoder | None:
         """How to read the input."""
         assert self.manner.function
-        return values.hints(self.manner.function)[0]
+        return decoders.hints(self.manner.function)[0]
 
     @functools.cached_property
-    def decoders(self) -> dict[str, values.Decoder]:
+    def decoders(self) -> dict[str, decoders.Decoder]:
         """How to read the results, by step."""
-        told = {step.name: values.hints(step.run.function)[1] for step in self.step.saga.steps if step.run.function}
+        told = {
+            step.name: decoders.hints(step.run.function)[1]
+            for step in self.step.saga.steps
+            if step.run.function
+        }
         return {name: decoder for name, decoder in told.items() if decoder}
 
     def perform(self, told: dict[str, Any]) -> None:
-        """Does one message. Raises `Reject` where the store could not be reached for too long: the message goes back."""
+        """Does one message. Raises `Reject` where the store could not be reached for too long:
+        the message goes back.
+        """
         order, queue = Order.read(told), self.queue
         begun = _surely(queue, lambda: queue.desk().begin(order))
         if begun is None:
-            logger.info("%s: the message is late or came twice: the attempt is settled", order.token)
+            logger.info(
+                "%s: ignored a late or repeated message: the attempt has ended", order.token
+            )
             return
         function = self.manner.function
         assert function
@@ -59,15 +68,32 @@ class Work:
         try:
             outcome = _call(function, self.manner, self._task(order, begun))
         except Settled:
-            logger.info("%s: the message came twice, and what it wrote is rolled back", order.token)
+            logger.info("%s: rolled back a repeated message", order.token)
             return
-        if outcome.kind != "done" or not self.manner.transaction:  # else the report is in the store already
+        if (
+            outcome.kind is not OutcomeKind.SUCCEEDED or not self.manner.transaction
+        ):  # else the report is in the store already
             _surely(queue, lambda: queue.desk().report(order, outcome))
 
     def _task(self, order: Order, begun: Begun) -> Task[Any]:
         """What the function is handed."""
-        undo, token = self.kind == "undo", f"{order.log}-{order.number}"
-        return Task(Told(order.saga, order.key, order.step, undo, order.attempt, token, begun.input, begun.results, begun.result, self.hint, self.decoders))
+        undo, token = self.kind == "undo", tokens.saga_token(order.log, order.number)
+        return Task(
+            Told(
+                order.saga,
+                order.key,
+                order.step,
+                undo,
+                order.attempt,
+                token,
+                begun.input,
+                begun.results,
+                begun.result,
+                self.hint,
+                self.decoders,
+                order.deadline,
+            )
+        )
 
 
 def _surely(queue: Queue, ask: Callable[[], T]) -> T:
@@ -76,9 +102,9 @@ def _surely(queue: Queue, ask: Callable[[], T]) -> T:
     while True:
         try:
             return ask()
-        except StoreUnwritable as error:
+        except StoreUnavailable as error:
             if time.monotonic() > until:
-                logger.error("the store cannot be reached, and the message goes back: %s", error)
+                logger.error("the store cannot be reached, so the message goes back: %s", error)
                 raise Reject(str(error), requeue=True) from error
             time.sleep(pause)
             pause = min(MOST_PAUSE, 2 * pause)
@@ -88,14 +114,18 @@ def _call(function: Function, manner: Manner, task: Task[Any]) -> Outcome:
     """Calls the function, also an async one, and says what that was. Raises `Settled`."""
     try:
         value = function(task)
-        return calling.done(asyncio.run(calling.whole(value)) if inspect.isawaitable(value) else value, task)
+        return outcomes.succeeded(
+            asyncio.run(awaitables.whole(value)) if inspect.isawaitable(value) else value, task
+        )
     except Settled:
         raise
     except SoftTimeLimitExceeded as error:
-        return Outcome("unknown", f"{type(error).__name__}: {error}"[: calling.MOST_TEXT])
+        return outcomes.unknown(f"{type(error).__name__}: {error}")
     except BaseException as error:
-        outcome = calling.raised(error, manner)
-        if outcome.kind != calling.CANNOT_DECODE:
+        outcome = outcomes.raised(error, manner)
+        if outcome.kind != outcomes.CANNOT_DECODE:
             return outcome
-        logger.warning("%s: %s: another worker may be able to do it", task.token, outcome.value)
-        return Outcome("unknown", outcome.value)  # so that it is ordered again
+        logger.warning(
+            "%s: %s. Another worker may be able to decode it", task.attempt_id, outcome.value
+        )
+        return outcomes.unknown(outcome.value)  # so that it is ordered again

@@ -1,3 +1,8 @@
-"""The coordinator as a service: callers and workers in any language over HTTP, and a page for whoever looks after it.
+"""The HTTP service and its dashboard.
 
-`sagas serve PATH --definitions DIR`; it needs the extra `sagas[server]`. docs/SERVICE.md says how to use it."""
+The coordinator as a service: callers and workers in any language over HTTP, and a page for
+whoever looks after it.
+
+`sagas serve PATH --definitions DIR`; it needs the extra `sagas[server]`. docs/guides/service.md
+says how to use it.
+"""

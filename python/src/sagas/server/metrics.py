@@ -1,4 +1,4 @@
-"""Figures for Prometheus, in a registry of the service's own."""
+"""Prometheus metrics."""
 
 from __future__ import annotations
 
@@ -12,18 +12,20 @@ from prometheus_client import CollectorRegistry, Counter, Gauge, Histogram
 from prometheus_client.core import CounterMetricFamily, GaugeMetricFamily, Metric
 from prometheus_client.exposition import CONTENT_TYPE_LATEST, generate_latest
 
-from ..elsewhere import Queue
-from ..events import Event
+from sagas.base.events import Event
+from sagas.runtime.external_queue import Queue
+from sagas.server.durations import Durations
 
 if TYPE_CHECKING:
-    from .service import Service
+    from sagas.server.service import Service
 
 SECONDS = (0.01, 0.03, 0.1, 0.3, 1, 3, 10, 30, 100, 300, 1000, 3600, 86400)
 TOLD = {
-    "step_done": "done", "step_missed": "missed", "step_failed": "failed",
-    "step_unknown": "unknown", "step_cannot_decode": "cannot_decode",
+    "step_succeeded": "succeeded", "step_retrying": "retrying", "step_failed": "failed",
+    "step_unknown": "unknown", "step_exhausted": "exhausted",
+    "step_cannot_decode": "cannot_decode",
 }  # fmt: skip
-FAULTS = ("child_died", "commit_failed", "audit_failed", "lease_lapsed", "log_lost")
+INTERNAL_ERRORS = ("engine_died", "commit_failed", "audit_failed", "lease_expired", "shard_lost")
 TYPE = CONTENT_TYPE_LATEST
 MOST_BEGUN = 100_000
 """Attempts of which it is known when they began."""
@@ -39,20 +41,52 @@ class Metrics:
         self._service = service
         self.counts: dict[str, dict[str, int]] = {}
         self.asked: dict[str, int] = {}
+        self.durations = Durations()
         self._began: OrderedDict[Begun, float] = OrderedDict()
         self.started = self._counter("sagas_started", "Sagas that were started", "saga")
         self.ended = self._counter("sagas_ended", "Sagas that ended, by how", "saga", "phase")
         self.aborted = self._counter("sagas_aborted", "Sagas that were aborted", "saga")
         self.plans = self._counter("sagas_plans", "Plans that were adopted", "saga")
-        self.steps = self._counter("sagas_steps", "Outcomes of steps; a missed one is tried again", "saga", "step", "kind", "outcome")
-        seconds = Histogram("sagas_step_seconds", "From a task's begin to its report", ["saga", "step", "kind"], buckets=SECONDS, registry=self.registry)
+        self.steps = self._counter(
+            "sagas_steps",
+            "Outcomes of attempts; after retrying another attempt follows",
+            "saga",
+            "step",
+            "action",
+            "outcome",
+        )
+        seconds = Histogram(
+            "sagas_step_seconds",
+            "From a task's begin to its report",
+            ["saga", "step", "action"],
+            buckets=SECONDS,
+            registry=self.registry,
+        )
         self.step_seconds = functools.cache(seconds.labels)
-        self.faults = self._counter("sagas_faults", "What went wrong inside: child_died, commit_failed, audit_failed, lease_lapsed, log_lost", "what")
-        self.logs_taken = Counter("sagas_logs_taken", "Logs of other nodes that this one took over", registry=self.registry)
-        self.requests = self._counter("sagas_http_requests", "Requests, by what they came to", "method", "status")
-        took = Histogram("sagas_http_request_seconds", "Time that requests took; long waits are counted apart", ["waits"], registry=self.registry)
+        self.internal_errors = self._counter(
+            "sagas_internal_errors",
+            "What went wrong inside: engine_died, commit_failed, audit_failed, lease_expired, "
+            "shard_lost",
+            "kind",
+        )
+        self.shards_taken_over = Counter(
+            "sagas_shards_taken_over",
+            "Shards of other nodes that this one took over",
+            registry=self.registry,
+        )
+        self.requests = self._counter(
+            "sagas_http_requests", "Requests, by what they came to", "method", "status"
+        )
+        took = Histogram(
+            "sagas_http_request_seconds",
+            "Time that requests took; long waits are counted apart",
+            ["waits"],
+            registry=self.registry,
+        )
         self.request_seconds = functools.cache(took.labels)
-        self.up = Gauge("sagas_up_since_seconds", "When this service was started", registry=self.registry)
+        self.up = Gauge(
+            "sagas_start_time_seconds", "When this service was started", registry=self.registry
+        )
         self.up.set(time.time())
         self.registry.register(Now(self))  # type: ignore[arg-type]
 
@@ -66,16 +100,16 @@ class Metrics:
         if event.name == "saga_started":
             self.started(saga).inc()
         elif event.name in ("saga_ended", "saga_stuck"):
-            self.ended(saga, event.name[5:]).inc()
+            self.ended(saga, "stuck" if event.name == "saga_stuck" else event.detail or "").inc()
         elif event.name == "saga_aborted":
             self.aborted(saga).inc()
-        elif event.name == "saga_planned":
+        elif event.name == "plan_adopted":
             self.plans(saga).inc()
-        elif event.name in FAULTS:
-            self.faults(event.name).inc()
-        elif event.name == "log_taken":
-            self.logs_taken.inc()
-        elif event.name == "step_begun":
+        elif event.name in INTERNAL_ERRORS:
+            self.internal_errors(event.name).inc()
+        elif event.name == "shard_taken":
+            self.shards_taken_over.inc()
+        elif event.name == "step_started":
             self._began[event.key, event.step, event.undo, event.attempt] = event.at
             if len(self._began) > MOST_BEGUN:  # the first of them may have ended at other nodes
                 self._began.popitem(last=False)
@@ -84,7 +118,9 @@ class Metrics:
             self.steps(saga, event.step, kind, outcome).inc()
             began = self._began.pop((event.key, event.step, event.undo, event.attempt), None)
             if began is not None:
-                self.step_seconds(saga, event.step, kind).observe(max(0.0, event.at - began))
+                seconds = max(0.0, event.at - began)
+                self.step_seconds(saga, event.step, kind).observe(seconds)
+                self.durations.add((saga, event.step or "", event.undo), seconds)
 
     def request(self, method: str, status: int, seconds: float, waits: bool) -> None:
         """A request is over."""
@@ -94,29 +130,40 @@ class Metrics:
 
     async def text(self) -> bytes:
         """All figures, as Prometheus reads them."""
-        self.counts, self.asked, _ = await self._service.counts(None)
+        self.counts, self.asked = await self._service.figures.of(None)
+        self.queues = await self._service.store.workers.queues()
         return generate_latest(self.registry)
 
     def now(self) -> Iterator[Metric]:
         """What the store has at this moment."""
-        sagas = GaugeMetricFamily("sagas", "Sagas, by definition and phase", labels=["saga", "phase"])
+        sagas = GaugeMetricFamily(
+            "sagas_current", "Sagas, by definition and phase", labels=["saga", "phase"]
+        )
         for saga, phases in self.counts.items():
             for phase, count in phases.items():
                 sagas.add_metric([saga, phase], count)
         yield sagas
         asked = GaugeMetricFamily(
-            "sagas_waiting_for_a_person",
+            "sagas_attention_required",
             "Stuck sagas, compensations that failed for good, unknown outcomes, stored values that "
             "cannot be read, approvals",
-            labels=["why"],
+            labels=["reason"],
         )
         for why, count in self.asked.items():
             asked.add_metric([why], count)
         yield asked
-        yield from queues_of(self._service.store.queues(), time.time())
-        yield CounterMetricFamily("sagas_takeovers", "Tasks that another worker took since their lease ran out", self._service.store.takeovers)
-        yield CounterMetricFamily("sagas_commits", "Transactions of the store", self._service.store.commits)
-        yield GaugeMetricFamily("sagas_event_streams", "Open event streams", self._service.hub.listeners)
+        yield from queues_of(self.queues, time.time())
+        yield CounterMetricFamily(
+            "sagas_tasks_reclaimed",
+            "Tasks claimed by another worker after their lease expired",
+            self._service.store.workers.takeovers,
+        )
+        yield CounterMetricFamily(
+            "sagas_commits", "Transactions of the store", self._service.store.commits
+        )
+        yield GaugeMetricFamily(
+            "sagas_event_streams", "Open event streams", self._service.hub.listeners
+        )
 
 
 class Now:
@@ -136,11 +183,17 @@ def queues_of(queues: list[Queue], now: float) -> Iterator[Metric]:
     """What waits for workers."""
     words: list[tuple[str, str, Callable[[Queue], float]]] = [
         ("sagas_tasks_ready", "Tasks that wait for a worker", lambda queue: queue.ready),
-        ("sagas_tasks_taken", "Tasks that workers have", lambda queue: queue.taken),
-        ("sagas_tasks_oldest_seconds", "For how long the oldest task has waited for a worker", lambda queue: now - queue.oldest if queue.oldest else 0.0),
+        ("sagas_tasks_claimed", "Tasks that workers have", lambda queue: queue.claimed),
+        (
+            "sagas_tasks_oldest_seconds",
+            "For how long the oldest task has waited for a worker",
+            lambda queue: now - queue.oldest if queue.oldest else 0.0,
+        ),
     ]
     for name, told, value in words:
-        family = GaugeMetricFamily(name, told, labels=["saga", "step", "kind"])
+        family = GaugeMetricFamily(name, told, labels=["saga", "step", "action"])
         for queue in queues:
-            family.add_metric([queue.saga, queue.step, "undo" if queue.undo else "run"], max(0.0, value(queue)))
+            family.add_metric(
+                [queue.saga, queue.step, "undo" if queue.undo else "run"], max(0.0, value(queue))
+            )
         yield family

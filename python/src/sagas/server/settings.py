@@ -1,4 +1,4 @@
-"""How a service is set up."""
+"""Settings of the service."""
 
 from __future__ import annotations
 
@@ -7,8 +7,7 @@ import ipaddress
 import pathlib
 from typing import Union
 
-from ..definition import Saga
-
+from sagas.definition.saga import Saga
 
 Network = Union[ipaddress.IPv4Network, ipaddress.IPv6Network]
 LOOPBACK: tuple[Network, ...] = (
@@ -18,31 +17,43 @@ LOOPBACK: tuple[Network, ...] = (
 
 
 @dataclasses.dataclass(frozen=True, slots=True)
-class Settings:
-    """`tokens` is None where it listens on the loopback only, and everybody there may do everything.
+class StreamSettings:
+    """How many streams of events there may be at once: in all, and of one token; `kept` of all are
+    for the dashboard."""
 
-    Sizes are in bytes, times in seconds. `rate`: requests a second that each token (without tokens: each address) may make on the
-    average; it may save up two seconds' worth. `trusted_proxies`: the networks whose word is taken
-    for whose request it is. `node` and `lease` are of a store in PostgreSQL, as in `sagas.open`."""
+    most: int = 200
+    most_each: int = 50
+    kept: int = 40
+
+
+@dataclasses.dataclass(frozen=True, slots=True)
+class Settings:
+    """`tokens` is None where it listens on the loopback only, and everybody there may do
+    everything.
+
+    Sizes are in bytes, times in seconds. `rate`: requests a second that each token (without
+    tokens: each address) may make on the average; it may save up two seconds' worth.
+    `trusted_proxies`: the networks whose word is taken for whose request it is. `node` and
+    `lease` are of a store in PostgreSQL, as in `sagas.open`.
+    """
 
     path: str
     sagas: list[Saga]
     host: str = "127.0.0.1"
     port: int = 8080
     tokens: pathlib.Path | None = None
+    webhooks: pathlib.Path | None = None
     concurrency: int = 16
     most_body: int = 1 << 20
     most_connections: int = 2000
-    most_streams: int = 200
-    most_streams_each: int = 50  # of one token
-    kept_streams: int = 40  # of all, for the dashboard
+    streams: StreamSettings = StreamSettings()
     trusted_proxies: tuple[Network, ...] = LOOPBACK
     rate: float = 5000.0
     head_time: float = 10.0
     body_time: float = 30.0
     send_time: float = 30.0
     session_time: float = 12 * 3600.0
-    grace: float = 20.0
+    shutdown_timeout: float = 20.0
     patience: float = 20.0  # for an answer of another node
     node: str | None = None
     lease: float = 10.0

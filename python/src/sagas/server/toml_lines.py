@@ -1,12 +1,12 @@
-"""On which lines of a TOML text its tables and keys stand, for messages: `tomllib` does not
-tell."""
+"""Line numbers of tables and keys in TOML, for messages."""
 
 from __future__ import annotations
 
 import re
-import tomllib
 from collections.abc import Iterator
 from typing import Any, Union
+
+import tomllib
 
 Path = tuple[Union[str, int], ...]
 """Keys from the outside in; a table of an array by its number, from 0."""

@@ -16,12 +16,65 @@ const times = () => {
 times();
 setInterval(times, 5000);
 
-// A wide picture begins where something goes on, or went wrong.
-const going = document.querySelector(".picture .step:is(.person, .failed, .running, .undoing)");
-if (going) {
-  const frame = going.closest(".scroll"), place = going.getBoundingClientRect(), around = frame.getBoundingClientRect();
-  if (place.right > around.right) frame.scrollLeft = place.left - around.left - (around.width - place.width) / 2;
-}
+// A large picture can be fitted, zoomed and dragged, and has a small one beside; it begins where something goes on, or went wrong.
+const scales = {}; // by the place of the picture: what was chosen stays so on a page that is put in anew
+const pictures = () => document.querySelectorAll(".scroll.pad > svg.picture").forEach((svg, number) => {
+  const frame = svg.parentElement, wide = svg.viewBox.baseVal.width, high = svg.viewBox.baseVal.height;
+  if (frame.previousElementSibling?.classList.contains("tools") || (wide <= frame.clientWidth && high <= 900)) return;
+  const tools = document.createElement("p"), holder = document.createElement("div"), map = document.createElement("div");
+  tools.className = "tools"; holder.className = "frame"; map.className = "map";
+  frame.before(tools, holder);
+  holder.append(frame, map);
+  map.setAttribute("aria-hidden", "true");
+  const ns = "http://www.w3.org/2000/svg", small = document.createElementNS(ns, "svg"), seen = document.createElementNS(ns, "rect");
+  small.setAttribute("viewBox", svg.getAttribute("viewBox"));
+  for (const box of svg.querySelectorAll(".step")) {
+    const copy = box.cloneNode(false);
+    copy.append(box.querySelector(".box").cloneNode(false));
+    small.append(copy);
+  }
+  seen.classList.add("seen");
+  small.append(seen);
+  map.append(small);
+  const show = () => {
+    const scale = svg.clientWidth / wide || 1;
+    for (const [name, value] of [["x", frame.scrollLeft / scale], ["y", frame.scrollTop / scale], ["width", frame.clientWidth / scale], ["height", frame.clientHeight / scale]]) seen.setAttribute(name, value);
+  };
+  const zoom = (scale) => {
+    scales[number] = scale;
+    frame.classList.toggle("fit", scale === 0);
+    frame.classList.toggle("zoomed", scale !== 0);
+    map.hidden = scale === 0;
+    svg.setAttribute("width", wide * (scale || 1));
+    svg.setAttribute("height", high * (scale || 1));
+    const going = svg.querySelector(".step:is(.failed, .person, .running, .undoing)");
+    if (going && scale) {
+      const place = going.getBoundingClientRect(), around = frame.getBoundingClientRect();
+      frame.scrollLeft += place.left - around.left - (around.width - place.width) / 2;
+      frame.scrollTop += place.top - around.top - (around.height - place.height) / 2;
+    }
+    show();
+  };
+  for (const [title, next] of [["Fit", () => 0], ["−", (s) => Math.max(0.2, (s || svg.clientWidth / wide) / 1.4)], ["100 %", () => 1], ["+", (s) => Math.min(3, (s || svg.clientWidth / wide) * 1.4)]]) {
+    const button = document.createElement("button");
+    button.type = "button";
+    button.textContent = title;
+    button.setAttribute("aria-label", `Picture: ${{ "−": "smaller", "+": "larger" }[title] ?? title}`);
+    button.addEventListener("click", () => zoom(next(scales[number])));
+    tools.append(button);
+  }
+  frame.addEventListener("scroll", show, { passive: true });
+  frame.addEventListener("pointerdown", (event) => {
+    if (event.pointerType !== "mouse" || event.button) return;
+    const x = event.clientX + frame.scrollLeft, y = event.clientY + frame.scrollTop;
+    const move = (at) => { frame.scrollLeft = x - at.clientX; frame.scrollTop = y - at.clientY; };
+    const stop = () => { removeEventListener("pointermove", move); removeEventListener("pointerup", stop); };
+    addEventListener("pointermove", move);
+    addEventListener("pointerup", stop);
+  });
+  zoom(scales[number] ?? (wide > 2.2 * frame.clientWidth ? 1 : 0));
+});
+pictures();
 
 document.addEventListener("keydown", (event) => {
   const search = document.querySelector("[data-search]");
@@ -32,6 +85,19 @@ document.addEventListener("keydown", (event) => {
   }
 });
 
+// What is selected and unfolded stays so on a page that is put in anew.
+const selection = (main) => {
+  const box = (one) => `input[type=checkbox][name="${one.name}"][value="${CSS.escape(one.value)}"]`;
+  const checked = [...main.querySelectorAll("input[type=checkbox]:checked")].map(box);
+  const open = [...main.querySelectorAll("details[open]")].map((one) => `details[data-keep="${one.dataset.keep}"]`);
+  const focused = document.activeElement?.matches?.("input[type=checkbox]") ? box(document.activeElement) : null;
+  return () => {
+    for (const one of checked) { const there = main.querySelector(one); if (there) there.checked = true; }
+    for (const one of open) main.querySelector(one)?.setAttribute("open", "");
+    if (focused) main.querySelector(focused)?.focus({ preventScroll: true });
+  };
+};
+
 // Takes the page again when something has happened, at most once a second, and puts in what is new where nobody is about to type.
 const live = document.body.dataset.live;
 if (live) {
@@ -39,7 +105,7 @@ if (live) {
   const renew = async () => {
     const main = document.getElementById("main");
     if (busy || document.hidden) { wanted = true; return; }
-    if (main.contains(document.activeElement) && document.activeElement !== main && document.activeElement.matches("input, textarea, select")) return;
+    if (main.contains(document.activeElement) && document.activeElement !== main && document.activeElement.matches("input:not([type=checkbox]), textarea, select")) return;
     busy = true;
     wanted = false;
     try {
@@ -49,11 +115,13 @@ if (live) {
         if (fresh && fresh.innerHTML !== main.dataset.was) {
           main.dataset.was = fresh.innerHTML;
           const places = [...main.querySelectorAll(".scroll")].map((one) => one.scrollLeft);
-          const focus = document.activeElement?.getAttribute?.("href");
+          const focus = document.activeElement?.getAttribute?.("href"), kept = selection(main);
           main.replaceChildren(...fresh.childNodes);
+          kept();
           main.querySelectorAll(".scroll").forEach((one, place) => { one.scrollLeft = places[place] ?? 0; });
           if (focus) main.querySelector(`[href="${CSS.escape(focus)}"]`)?.focus({ preventScroll: true });
           times();
+          pictures();
         }
       }
     } catch { /* the service is about to start again */ }
@@ -65,7 +133,7 @@ if (live) {
     if (seconds) setTimeout(renew, 1000 * seconds + 100);
   };
   againLater();
-  const names = ["saga_started", "step_begun", "step_done", "step_missed", "step_failed", "step_unknown", "step_cannot_decode", "step_waits", "saga_planned", "saga_aborted", "saga_ended", "saga_stuck", "missed"];
+  const names = ["saga_started", "step_started", "step_succeeded", "step_retrying", "step_failed", "step_exhausted", "step_unknown", "step_cannot_decode", "step_suspended", "plan_adopted", "saga_overdue", "saga_aborted", "saga_ended", "saga_stuck", "missed"];
   let source = null, since = document.body.dataset.since, later = 0;
   const lapsed = document.getElementById("lapsed");
   const opened = () => { // what happened while there was no stream is on a new page

@@ -1,0 +1,1 @@
+"""The public calls: stores, clients and workers."""

@@ -1,0 +1,370 @@
+"""A client of a PostgreSQL store: it starts and inspects sagas, and drives none."""
+
+from __future__ import annotations
+
+import builtins
+import json
+from collections.abc import Coroutine
+from types import TracebackType
+from typing import TYPE_CHECKING, Any, TypeVar
+
+from sagas.api import client_start, timeouts
+from sagas.api.client_run import ClientRun
+from sagas.api.schedules import Schedules
+from sagas.base.errors import Closed, InvalidStore, NoSuchSaga
+from sagas.base.fork_guard import Opened
+from sagas.core import pending  # fmt: skip
+from sagas.core import attention, history, step_reports
+from sagas.core.batch import Known, SagaRow
+from sagas.core.outcomes import Outcome, reported
+from sagas.core.results import HistoryEvent, SagaResult
+from sagas.definition import arguments, payloads, serialization
+from sagas.definition.compiled import Kind, version_of
+from sagas.definition.labels import Labels
+from sagas.definition.payloads import Codec, Payloads
+from sagas.definition.saga import Saga
+from sagas.definition.start_options import Deadline
+from sagas.definition.step import Step
+from sagas.engine.plan import Plan
+from sagas.inspection import saga as one_saga
+from sagas.inspection.question import AsyncStoreReader, Question
+from sagas.runtime import operator_commands, retries
+from sagas.storage import operator_requests, queries
+from sagas.storage.factory import FORM
+from sagas.storage.postgresql import caller_connection
+from sagas.storage.postgresql import connections as connections_module
+from sagas.storage.postgresql import key_finder, notifications, saga_requests, schema
+
+if TYPE_CHECKING:
+    from sagas.storage.postgresql.connections import Row
+
+T = TypeVar("T")
+WAITS = "SELECT step, action, reason, until FROM suspensions WHERE id = ? ORDER BY since"
+LEFT_BY = f"SELECT i.version, {queries.OTHERS} FROM pending_starts i WHERE i.id = %(id)s"
+RESOLVE = f"""
+WITH done AS (
+    UPDATE sagas SET note = %(note)s
+    WHERE key = %(key)s AND {queries.RESOLVABLE} AND note IS NULL RETURNING 1
+),
+noted AS (INSERT INTO operator_commands(key, command, value, at, answer)
+  SELECT %(key)s, 'resolve', %(told)s::text, extract(epoch FROM clock_timestamp()), 'true'
+  FROM done)
+SELECT 1 FROM done
+"""
+
+
+class Client(Schedules):
+    """Start and inspect sagas of a PostgreSQL store, without executing any.
+
+    Use it by `async with sagas.Client("postgresql://...") as client`, with all calls in the event
+    loop in which it was opened. It has no engine process, no shard and no lease.
+
+    Attributes:
+        path: The database, without the password.
+    """
+
+    def __init__(self, url: str, *, connections: int = 4, codec: Codec | None = None) -> None:
+        """Make a client, to be entered by `async with`.
+
+        Args:
+            url: The store's database.
+            connections: Maximum number of concurrent statements (default: 4). One more connection
+                listens.
+            codec: As of `sagas.open` (default: values are stored as JSON).
+
+        Raises:
+            InvalidStore: It is not a URL of PostgreSQL.
+            ValueError: The number of connections is not valid.
+        """
+        if not isinstance(url, str):
+            raise InvalidStore(
+                f"{arguments.shown(url)}: this is not a URL of a PostgreSQL database. Write {FORM}"
+            )
+        arguments.count("connections", connections)
+        self._url, self.path = url, connections_module.named(url)
+        self._asker = connections_module.Asker(url, self.path, connections)
+        self._reader = AsyncStoreReader(self._read, self._read)
+        self._opened = Opened("the client")
+        self._news: notifications.News | None = None
+        self._kinds: dict[str, Kind] = {}
+        self._payloads = payloads.checked(codec)
+        self._sagas: dict[tuple[str, int], Saga] = {}
+        self._starter = client_start.ClientStarter(
+            self._asker, self.path, connections, self._payloads
+        )
+
+    async def __aenter__(self) -> Client:
+        """Connect.
+
+        Raises:
+            StoreUnavailable: The server does not answer.
+            InvalidStore: There are no tables: a node makes them, or `sagas store URL init`.
+            StoreSchemaTooNew: The tables are of a later version.
+            RuntimeError: The client is open already.
+        """
+        with self._opened.opening(self.path):
+            await self._open()
+        return self
+
+    if not TYPE_CHECKING:  # a checker says so by itself
+
+        def __enter__(self) -> Client:
+            raise TypeError(
+                "a sagas.Client needs `async with`. Without async, use `with "
+                "sagas.SyncClient(...)`"
+            )
+
+        def __exit__(self, *_: object) -> None:
+            ...
+
+    async def _open(self) -> None:
+        await connections_module.knock(self._url, self.path)
+        await self._asker.open()
+        try:
+            version = (await self._asker.read("SELECT to_regclass('sagas.store') IS NOT NULL"))[0][
+                0
+            ] and (await self._asker.read("SELECT version FROM sagas.store"))[0][0]
+            schema.check(version, self.path)
+            if not version:
+                raise InvalidStore(
+                    f"{self.path}: the store has no tables yet. Start a node, or run `sagas store "
+                    "URL init`"
+                )
+        except BaseException:
+            await self._asker.close()
+            raise
+        self._news = notifications.News(self._url, lambda what: None)
+
+    async def __aexit__(
+        self,
+        kind: type[BaseException] | None,
+        error: BaseException | None,
+        trace: TracebackType | None,
+    ) -> None:
+        await self.close()
+
+    async def close(self) -> None:
+        """Close its connections."""
+        if self._opened.is_elsewhere:  # they are that process's to end
+            return
+        heard, self._news = self._news, None
+        try:
+            if heard:
+                await heard.close()
+                await self._asker.close()
+        finally:
+            self._opened.end()
+
+    @property
+    def _heard(self) -> notifications.News:
+        self._opened.check(self.path)
+        if self._news is None:
+            raise Closed(
+                f"{self.path}: the client is not open. Use `async with sagas.Client(...) as "
+                "client`"
+            )
+        return self._news
+
+    # -- sagas
+
+    async def start(
+        self,
+        saga: Saga,
+        key: str,
+        input: Any = None,
+        *,
+        labels: Labels | None = None,
+        deadline: Deadline | None = None,
+        connection: client_start.Connection | None = None,
+    ) -> ClientRun:
+        """Start a saga, or return the one with this key. See `Store.start`.
+
+        When it returns, a node will execute the saga, even if this program dies.
+
+        Args:
+            saga: The definition. The nodes have to know it.
+            connection: A psycopg connection to the same database (default: one of its own). The
+                saga is written in the transaction that is open there, and exists exactly if that
+                commits. A second start of the key waits for its end.
+
+        Raises:
+            StoreUnavailable: The connection is closed, failed, or to another database. Or the
+                server does not answer.
+            TypeError: The connection is not a `psycopg.AsyncConnection`.
+            Closed: The client is closed.
+        """
+        self._heard
+        if connection is not None:
+            caller_connection.check_kind(connection, plain=False)
+        words = self._starter.words(saga, key, input, labels, deadline)
+        self._sagas[saga.name, saga.version] = saga
+        new = await self._starter.start(words, connection)
+        return ClientRun(self, key, words, new)
+
+    async def wait(self, key: str, timeout: float | None = None) -> SagaResult:
+        """Wait until a saga has ended. See `Store.wait`."""
+        return await self._in_time(key, self._wait(key, None), timeout)
+
+    async def _in_time(
+        self, key: str, work: Coroutine[Any, Any, SagaResult], timeout: float | None
+    ) -> SagaResult:
+        return (
+            await work
+            if timeout is None
+            else await timeouts.in_time(key, work, timeout, lambda: self.waits_for(key))
+        )
+
+    async def _wait(self, key: str, words: dict[str, Any] | None) -> SagaResult:
+        turn, before = 0, None
+        while True:
+            row = await retries.until_answered(lambda: self._row(key))
+            if words:
+                client_start.check_same(words, [(row.saga, row.input)])
+            if row.phase is not None:
+                return await self._end(row)
+            turn, before = (turn + 1 if row.id == before else 0), row.id
+            await self._heard.of(row.id, turn)
+
+    async def abort(self, key: str) -> bool:
+        """Abort a saga, and wait for its node's answer. See `Store.abort`.
+
+        A start that no node has begun is withdrawn at once, and then no saga has the key.
+        """
+        row = await self._row(key)
+        if row.phase is not None:
+            return False
+        answer = await saga_requests.ask(self._asker, self._heard, row, "abort", "null")
+        return bool(operator_requests.told(answer))
+
+    async def complete(
+        self, key: str, step: Step[Any] | str, result: Any = None, *, undo: bool = False
+    ) -> None:
+        """Report that a step succeeded. See `Store.complete`."""
+        await self._report(key, step, reported(result, None), undo)
+
+    async def fail(
+        self, key: str, step: Step[Any] | str, error: str, *, undo: bool = False
+    ) -> None:
+        """Report that a step failed permanently. See `Store.fail`."""
+        await self._report(key, step, reported(None, error), undo)
+
+    async def retry(self, key: str, step: Step[Any] | str, *, undo: bool = False) -> None:
+        """Attempt a step again whose attempts are used up. See `Store.retry`."""
+        row, kind = await self._row(key), "undo" if undo else "run"
+        if row.phase is not None:
+            raise step_reports.over(row)
+        value = serialization.write(
+            {"step": step if isinstance(step, str) else step.name, "kind": kind}
+        )
+        answer = await saga_requests.ask(self._asker, self._heard, row, "retry", value)
+        operator_requests.told(answer)
+
+    async def _report(self, key: str, step: Step[Any] | str, outcome: Outcome, undo: bool) -> None:
+        row, kind = await self._row(key), "undo" if undo else "run"
+        name = step if isinstance(step, str) else step.name
+        if row.phase is not None:
+            await self._check_kept(row, name, kind, outcome)
+            return
+        what, told = operator_commands.report_of(name, kind, outcome, self._payloads)
+        value = serialization.write(told)
+        operator_requests.told(await saga_requests.ask(self._asker, self._heard, row, what, value))
+
+    async def _check_kept(self, row: SagaRow, step: str, kind: str, outcome: Outcome) -> None:
+        """Of a saga that is over: raises `StepNotWaiting` where it was not said before that the
+        step
+        ended so."""
+        rows = await self._read(step_reports.RESULTS, row.id)
+        names = self._kind(row, (await self._known(row)).definition).names
+        first = step_reports.first_of(rows, names.index(step), kind) if step in names else None
+        if first is None:
+            raise step_reports.over(row)
+        step_reports.check(row.key, step, first, outcome, payloads=self._payloads)
+
+    # -- questions
+
+    async def get(self, key: str) -> ClientRun | None:
+        """Return the saga with this key, or None. See `Store.get`.
+
+        Here a start that no node has begun is one.
+        """
+        return ClientRun(self, key) if await self._find(key) else None
+
+    async def _answer(self, question: Question[T]) -> T:
+        return await self._reader.ask(question)
+
+    def _stored(self) -> Payloads:
+        return self._payloads
+
+    def _location(self) -> str:
+        self._heard
+        return self._url
+
+    async def resolve(self, key: str, note: str, *, by: str | None = None) -> None:
+        """Mark a saga as seen to. See `Store.resolve`."""
+        arguments.text("note", note, "what was done about it")
+        note = serialization.clean(note)
+        told = serialization.write({"by": by, "note": note})
+        if not await self._ask(RESOLVE, key=key, note=note, told=told):
+            attention.is_to_resolve(await self._row(key), note)
+
+    async def plan(self, key: str) -> Plan | None:
+        """Return a saga's last plan. See `Store.plan`."""
+        row = await self._row(key)
+        return None if row.id < 0 else await self._answer(one_saga.plan(row))
+
+    async def log(self, key: str) -> builtins.list[HistoryEvent]:
+        """Return a saga's events so far. See `Store.log`."""
+        row = await self._row(key)
+        found = [] if row.id < 0 else await self._answer(one_saga.log(row))
+        return history.decoded(found, self._payloads)
+
+    async def waits_for(self, key: str) -> builtins.list[str]:
+        """Return what a saga waits for, as the database has it. See `Store.waits_for`."""
+        row = await self._row(key)
+        if row.id < 0:
+            left = await self._ask(LEFT_BY, id=-row.id)
+            is_left = left and left[0][1]
+            return [pending.left_by(row.saga, *left[0]) if is_left else pending.NOT_BEGUN]
+        rows = await self._read(WAITS, row.id)
+        if not rows:
+            return []
+        known = await self._known(row)
+        return pending.of_rows(self._kind(row, known.definition).names, rows)
+
+    async def _ask(self, query: str, **words: Any) -> builtins.list[Row]:
+        self._heard
+        return await self._asker.read(query, **words)
+
+    async def _read(self, query: str, *words: Any) -> builtins.list[Row]:
+        """Rows of a question with a `?` for each word."""
+        self._heard
+        return await self._asker.rows(queries.for_postgresql(query), *serialization.cleaned(words))
+
+    async def _find(self, key: str) -> SagaRow | None:
+        rows = [
+            SagaRow(*row)
+            for row in await self._ask(key_finder.FIND, keys=json.dumps([serialization.clean(key)]))
+        ]
+        return max(rows, key=lambda row: row.id) if rows else None
+
+    async def _row(self, key: str) -> SagaRow:
+        row = await self._find(key)
+        if row is None:
+            raise NoSuchSaga(f"no saga has the key {key!r}")
+        return row
+
+    async def _known(self, row: SagaRow) -> Known:
+        """What the store has of a saga. Raises `NoSuchSaga` where it was let go meanwhile."""
+        words = queries.known_words(row.id, history=False)
+        return queries.known(await self._read(*words), row.key)
+
+    def _kind(self, row: SagaRow, text: str) -> Kind:
+        """The saga of a definition's text: as this client started it, where it did."""
+        if text not in self._kinds:
+            saga = self._sagas.get((row.saga, version_of(text)))
+            self._kinds[text] = Kind(text, saga, payloads=self._payloads)
+        return self._kinds[text]
+
+    async def _end(self, row: SagaRow) -> SagaResult:
+        known = await self._known(row)
+        return history.end_of(self._kind(row, known.definition), row, known.results)

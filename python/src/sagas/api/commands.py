@@ -1,0 +1,241 @@
+"""Operator commands of an open store: abort, complete, fail and resolve."""
+
+from __future__ import annotations
+
+import asyncio
+import contextlib
+from collections.abc import Iterable
+from typing import Any
+
+from sagas.api.saga_lookup import SagaLookup
+from sagas.api.store_access import StoreAccess
+from sagas.base.errors import (
+    KeyConflict,
+    Moved,
+    NoSuchSaga,
+    SagasError,
+    StepNotWaiting,
+    WouldWaitForever,
+)
+from sagas.core import attempts, attention, exhaustion, progress, step_reports
+from sagas.core.batch import Asked, Batch, SagaRow, Wanted
+from sagas.core.model import Attempt, SagaInstance
+from sagas.core.outcomes import Outcome
+from sagas.definition import serialization
+from sagas.definition.validation import meant
+from sagas.runtime import current_step, operator_commands
+from sagas.storage import operator_requests
+
+
+class Commands:
+    """Carries them out where the saga is driven here, and hands them to its node where it is not.
+
+    `of`: the saga's id, where no later one of its key is meant."""
+
+    def __init__(self, access: StoreAccess, lookup: SagaLookup) -> None:
+        self._access, self._lookup = access, lookup
+
+    def noted(
+        self, key: str, what: str, by: str | None, note: str | None, **more: Any
+    ) -> Asked | None:
+        """What is kept of somebody's command; nothing where nobody is named."""
+        if by is None:
+            return None
+        text = serialization.write({"by": by, "note": note, **more})
+        return key, what, text, self._access.inside.clock()
+
+    async def abort(self, key: str, request: Wanted, of: int | None = None) -> bool:
+        """Aborts a saga. False where it is over, or was aborted before."""
+        while True:
+            inside = self._access.inside
+            live = await self._lookup.live(key)
+            if live is None and key in self._lookup.finding:
+                await asyncio.shield(self._lookup.finding[key])
+                continue
+            if live is None:
+                row = await self._lookup.row(key, of)
+                if row.phase is not None:
+                    return False
+                if key in inside.sagas.by_key:
+                    continue
+                return bool(await self._hand_over(row, "abort", None, request))
+            try:
+                await inside.sagas.started(live)
+            except KeyConflict:  # it was to be started otherwise than it was
+                continue
+            _check_is(live, of)
+            if live.over or live.shard is None:
+                if live.over or inside.sagas.by_key.get(key) is live:
+                    return False
+                continue
+            try:
+                return await inside.shards.abort(live, request)
+            except Moved:
+                continue
+
+    async def _hand_over(self, row: SagaRow, what: str, told: Any, request: Wanted) -> Any:
+        """Asks the node that has the saga. What was asked here by a row is that node's to
+        answer.
+        """
+        if isinstance(request, int):
+            raise Moved(f"saga {row.key!r}")
+        value = serialization.write(told) if request is None else request[2]
+        return operator_requests.told(await self._access.inside.store.ask(row, what, value))
+
+    async def report(
+        self, key: str, step: str, outcome: Outcome, undo: bool, request: Wanted,
+        of: int | None = None,
+    ) -> None:  # fmt: skip
+        """Says how a step ended, or its compensation."""
+        kind = "undo" if undo else "run"
+        while True:
+            live = await self._lookup.live(key)
+            if live is None:
+                row = await self._lookup.row(key, of)
+                if row.phase is not None:
+                    await self._check_kept(row, step, kind, outcome)
+                    return
+                if key not in self._access.inside.sagas.by_key:
+                    payloads = self._access.inside.shelf.payloads
+                    what, told = operator_commands.report_of(step, kind, outcome, payloads)
+                    await self._hand_over(row, what, told, request)
+                    return
+                continue
+            if of is not None and not live.committed:
+                with contextlib.suppress(SagasError):  # its start hears of it
+                    await self._access.inside.sagas.started(live)
+                continue
+            _check_is(live, of)
+            try:
+                attempt = await self._asked(live, step, kind, outcome)
+                if attempt:
+                    await self._report_here(attempt, outcome, request)
+                return
+            except Moved:
+                continue
+
+    async def retry(
+        self, key: str, step: str, undo: bool, request: Wanted, of: int | None = None
+    ) -> None:
+        """Has an attempt called again that waits for a person, or for its time."""
+        kind = "undo" if undo else "run"
+        while True:
+            live = await self._lookup.live(key)
+            if live is None:
+                row = await self._lookup.row(key, of)
+                if row.phase is not None:
+                    raise step_reports.over(row)
+                if key not in self._access.inside.sagas.by_key:
+                    await self._hand_over(row, "retry", {"step": step, "kind": kind}, request)
+                    return
+                continue
+            _check_is(live, of)
+            names = live.kind.names
+            if step not in names:
+                raise StepNotWaiting(f"saga {key!r} has no step {step!r}{meant(step, names)}")
+            attempt = live.busy.get((names.index(step), kind))
+            while attempt is not None and attempt.pending:
+                await self._access.inside.executor.changes.wait(attempt)
+                self._access.inside  # raises, where it was closed meanwhile
+            if attempt is not None and live.busy.get(attempt.word) is not attempt:
+                continue
+            if attempt is None or not exhaustion.may_retry(attempt):
+                why = "nothing of it failed that waits"
+                if attempt is not None:
+                    why = progress.described(attempt, self._access.inside.clock())
+                raise StepNotWaiting(f"saga {key!r}, step {step!r} is not to be retried: {why}")
+            await self._access.inside.executor.retry(attempt, request)
+            return
+
+    async def _report_here(self, attempt: Attempt, outcome: Outcome, request: Wanted) -> None:
+        inside, key, step = self._access.inside, attempt.instance.key, attempt.name
+        while not attempts.is_asked(attempt):
+            if first := await inside.executor.earlier(attempt):
+                payloads = inside.shelf.payloads
+                step_reports.check(key, step, first, outcome, payloads=payloads)
+                return
+            if inside.sagas.by_key.get(key) is not attempt.instance:
+                raise Moved(f"saga {key!r}")
+            if attempt is current_step.waiter(
+                inside.executor.calls.running
+            ) and attempts.will_be_asked(attempt):
+                raise WouldWaitForever(
+                    f"step {step!r} of saga {key!r} reports itself before it waits for a report. "
+                    "Return sagas.Approved(result) or sagas.Rejected(why) instead"
+                )
+            if not attempts.will_be_asked(attempt):
+                why = progress.described(attempt, inside.clock())
+                raise StepNotWaiting(
+                    f"saga {key!r}, step {step!r} does not wait for a report: {why}"
+                )
+            await inside.executor.changes.wait(attempt)
+            self._access.inside  # raises, where it was closed meanwhile
+        if request is not None:
+            attempt.rare.request = request
+        kept = inside.executor.kept.wait(attempt)
+        inside.executor.finish(attempt, outcome)
+        await kept
+
+    async def _asked(
+        self, live: SagaInstance, step: str, kind: str, outcome: Outcome
+    ) -> Attempt | None:
+        """The attempt that is under way; None where it was said before that the step ended so."""
+        if step not in live.kind.names:
+            raise StepNotWaiting(
+                f"saga {live.key!r} has no step {step!r}{meant(step, live.kind.names)}"
+            )
+        inside, place = self._access.inside, live.kind.names.index(step)
+        attempt = live.busy.get((place, kind))
+        if attempt is not None and (place, kind) not in live.rare.final:
+            return attempt
+        is_there = live.shard is not None and live.committed
+        rows = await inside.store.read(step_reports.RESULTS, live.id) if is_there else []
+        first = step_reports.first_of(rows, place, kind)
+        if first is None and attempt is not None:
+            return attempt
+        why = self._why_not(live, rows, place, kind)
+        if first is None:
+            raise StepNotWaiting(f"saga {live.key!r}, step {step!r}: {why}")
+        step_reports.check(live.key, step, first, outcome, why, live.kind.payloads)
+        return None
+
+    def _why_not(
+        self, live: SagaInstance, rows: Iterable[tuple[Any, ...]], place: int, kind: str
+    ) -> str:
+        """Why nobody has to say how a step ended of which no attempt is under way: it has not
+        begun, or is over."""
+        over = step_reports.over_by(rows, place, kind)
+        if over is None:
+            return "it has not started. Report it after it starts"
+        undo = live.busy.get((place, "undo")) if kind == "run" else None
+        if undo and attempts.is_asked(undo):
+            over += "; its compensation waits for a report (undo=True, or --undo)"
+        return over
+
+    async def resolve(self, key: str, note: str, by: str | None) -> None:
+        """Mark a saga as seen to by a person."""
+        inside, row = self._access.inside, await self._lookup.row(key)
+        note = serialization.clean(note)
+        if not attention.is_to_resolve(row, note):
+            return
+        batch, told = Batch(-1, inside.clock()), serialization.write({"by": by, "note": note})
+        batch.more.notes.append((note, row.id))
+        batch.answer((key, "resolve", told, inside.clock()), "true")
+        await inside.kept(batch)
+
+    async def _check_kept(self, row: SagaRow, step: str, kind: str, outcome: Outcome) -> None:
+        """Of a saga that is over: raises `StepNotWaiting` where it was not said before that the
+        step ended so."""
+        inside = self._access.inside
+        rows = await inside.store.read(step_reports.RESULTS, row.id)
+        names = inside.shelf.kind((await inside.store.known(row)).definition).names
+        first = step_reports.first_of(rows, names.index(step), kind) if step in names else None
+        if first is None:
+            raise step_reports.over(row)
+        step_reports.check(row.key, step, first, outcome, payloads=inside.shelf.payloads)
+
+
+def _check_is(live: SagaInstance, of: int | None) -> None:
+    """Raises `NoSuchSaga` where something was asked of the saga with that id, and not of this."""
+    if of is not None and (live.shard is None or live.id != of):
+        raise NoSuchSaga(f"no saga has the key {live.key!r} that this request was for")

@@ -1,0 +1,95 @@
+"""An event loop in a thread, for programs without async code."""
+
+from __future__ import annotations
+
+import asyncio
+import contextlib
+import threading
+from collections.abc import Callable, Coroutine
+from typing import Any, TypeVar
+
+from sagas.base.errors import Closed
+from sagas.base.fork_guard import Opened
+from sagas.core import pending
+from sagas.runtime import current_step
+
+T = TypeVar("T")
+SOON = 2.0  # seconds that a loop has to say what a saga waits for
+
+
+class Loop:
+    """Runs what other threads ask for. `where` and `what` it is for, and `remedy`, are what they
+    hear while it does not run.
+    """
+
+    def __init__(self, where: str, what: str, remedy: str) -> None:
+        self.where, self._closed = where, f"{what} {remedy}"
+        self._opened = Opened(what)
+        self._loop: asyncio.AbstractEventLoop | None = None
+
+    @property
+    def runs(self) -> bool:
+        """Whether it runs, in this process."""
+        return self._loop is not None and not self._opened.is_elsewhere
+
+    def start(self) -> None:
+        """Starts the thread. Raises `RuntimeError` where it runs, and `Closed` where it does in
+        the process that this one was forked from.
+        """
+        self._opened.begin(self.where)
+        self._loop = asyncio.new_event_loop()
+        self._thread = threading.Thread(
+            target=self._loop.run_forever, name="sagas-loop", daemon=True
+        )
+        self._thread.start()
+
+    def end(self) -> None:
+        """Ends it."""
+        loop, self._loop = self._loop, None
+        assert loop
+        asyncio.run_coroutine_threadsafe(loop.shutdown_asyncgens(), loop).result()
+        loop.call_soon_threadsafe(loop.stop)
+        self._thread.join()
+        loop.close()
+        self._opened.end()
+
+    def do(self, work: Coroutine[Any, Any, T], timeout: float | None = None) -> T:
+        """Does it, and gives what it gives, or raises what it raises; `TimeoutError` after so
+        many seconds. Raises `RuntimeError` in the loop's own thread, which would wait for
+        itself.
+        """
+        if not self.runs or self._loop is None:
+            work.close()
+            self._opened.check(self.where)
+            raise Closed(f"{self.where}: {self._closed}")
+        if threading.current_thread() is self._thread:
+            work.close()
+            raise RuntimeError(
+                f"{self.where}: the call would wait for its own event loop. Make the function "
+                "a plain def, or use the async API"
+            )
+        with current_step.blocking():
+            future = asyncio.run_coroutine_threadsafe(work, self._loop)
+        try:
+            return future.result(timeout)
+        except BaseException:
+            future.cancel()
+            raise
+
+    def in_time(
+        self,
+        key: str,
+        work: Coroutine[Any, Any, T],
+        timeout: float | None,
+        waits: Callable[[], Coroutine[Any, Any, list[str]]],
+    ) -> T:
+        """As `do`, for who waits for a saga: the `TimeoutError` says what the saga `waits` for."""
+        try:
+            return self.do(work, timeout)
+        except TimeoutError:
+            if timeout is None:
+                raise
+        found: list[str] = []
+        with contextlib.suppress(Exception):  # the loop may be held up
+            found = self.do(waits(), SOON)
+        raise pending.still_open(key, timeout, found)

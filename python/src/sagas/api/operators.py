@@ -1,0 +1,130 @@
+"""The operator calls of an open store: one saga, or all of a filter."""
+
+from __future__ import annotations
+
+import json
+from typing import Any
+
+from sagas.api.commands import Commands
+from sagas.api.questions import Questions
+from sagas.api.saga_lookup import SagaLookup
+from sagas.api.store_access import StoreAccess
+from sagas.core.outcomes import reported
+from sagas.definition import arguments
+from sagas.definition.payloads import Payloads
+from sagas.definition.step import Step
+
+
+class Operators(Questions):
+    """The calls by which people change what a saga does."""
+
+    def __init__(self, access: StoreAccess, name: str) -> None:
+        super().__init__(access)
+        self._name = name
+        self._lookup = SagaLookup(access)
+        self._commands = Commands(access, self._lookup)
+
+    def _stored(self) -> Payloads:
+        return self._access.inside.shelf.payloads
+
+    def _location(self) -> str:
+        self._access.here()
+        return self._name
+
+    async def abort(self, key: str, *, by: str | None = None, note: str | None = None) -> bool:
+        """Abort a saga: start no more of its steps, and undo by a least-cost plan.
+
+        A client's start that no node has begun is withdrawn.
+
+        Args:
+            key: The saga's key.
+            by: Who asks for it. If given, the store keeps the command with `note` and the time.
+            note: Why.
+
+        Returns:
+            False if the saga had ended, or was aborted before.
+
+        Raises:
+            NoSuchSaga: No saga has the key.
+            OwnerUnavailable: The node that executes the saga does not answer.
+            StoreUnavailable: The database does not answer.
+            Closed: The store is closed.
+        """
+        self._access.here()
+        return await self._commands.abort(key, self._commands.noted(key, "abort", by, note))
+
+    async def complete(
+        self, key: str, step: Step[Any] | str, result: Any = None, *, undo: bool = False,
+        by: str | None = None, note: str | None = None,
+    ) -> None:  # fmt: skip
+        """Report that a step succeeded: an approval, an external or an unknown one.
+
+        When it returns, the report is durable. The same report again is not an error, also after
+        the saga has ended.
+
+        Args:
+            key: The saga's key.
+            step: The step, or its name.
+            result: The step's result, as JSON (default: None).
+            undo: Whether the step's compensation is meant (default: False).
+            by: Who reports it. If given, the store keeps the command with `note` and the time.
+            note: Why.
+
+        Raises:
+            ConflictingReport: Another outcome was reported first, and that one counts.
+            StepNotWaiting: Nobody has to report this step.
+            NoSuchSaga: No saga has the key.
+            NotSerializable: The result is not JSON.
+            WouldWaitForever: An approval's function reports its own approval.
+            OwnerUnavailable: The node that executes the saga does not answer.
+            StoreUnavailable: The database does not answer.
+            Closed: The store is closed.
+        """
+        self._access.here()
+        outcome, name = reported(result, None), step if isinstance(step, str) else step.name
+        kept = self._access.inside.shelf.payloads.encode_value(json.loads(outcome.value))
+        words = {"step": name, "kind": "undo" if undo else "run", "result": kept}
+        asked = self._commands.noted(key, "complete", by, note, **words)
+        await self._commands.report(key, name, outcome, undo, asked)
+
+    async def fail(
+        self, key: str, step: Step[Any] | str, error: str, *, undo: bool = False,
+        by: str | None = None, note: str | None = None,
+    ) -> None:  # fmt: skip
+        """Report that a step failed permanently. See `Store.complete`.
+
+        It had no effect, and is not attempted again.
+
+        Args:
+            error: Why it failed.
+
+        Raises:
+            TypeError: `error` is not a text.
+        """
+        self._access.here()
+        outcome, name = reported(None, error), step if isinstance(step, str) else step.name
+        words = {"step": name, "kind": "undo" if undo else "run", "error": error}
+        asked = self._commands.noted(key, "fail", by, note, **words)
+        await self._commands.report(key, name, outcome, undo, asked)
+
+    async def resolve(self, key: str, note: str, *, by: str | None = None) -> None:
+        """Mark a saga as seen to: a stuck one, or one with a failed compensation.
+
+        Nothing runs and nothing is undone by it. The store keeps the note with the time. The same
+        note again is not an error.
+
+        Args:
+            key: The saga's key.
+            note: What was done about it.
+            by: Who did it.
+
+        Raises:
+            NoSuchSaga: No saga has the key.
+            StepNotWaiting: The saga is neither, or is resolved with another note.
+            ValueError: The note is empty.
+            TypeError: The note is not a text.
+            StoreUnavailable: The database does not answer.
+            Closed: The store is closed.
+        """
+        arguments.text("note", note, "what was done about it")
+        await self._commands.resolve(key, note, by)

@@ -1,0 +1,119 @@
+"""Where a saga is: executed here, executed by another node, or over."""
+
+from __future__ import annotations
+
+import asyncio
+import builtins
+import contextlib
+import functools
+
+from sagas.api import timeouts
+from sagas.api.store_access import StoreAccess
+from sagas.base.errors import Moved, NoSuchSaga, SagasError
+from sagas.core import history, pending
+from sagas.core.batch import SagaRow
+from sagas.core.key_lookup import Guessing
+from sagas.core.model import SagaInstance
+from sagas.core.results import SagaResult
+from sagas.runtime import current_step, retries
+
+
+class SagaLookup:
+    """Finds sagas by their keys, and waits for their ends."""
+
+    def __init__(self, access: StoreAccess) -> None:
+        self._access = access
+        self.finding: dict[str, asyncio.Future[None]] = {}  # keys that are about to be started
+        self.guessing = Guessing()
+
+    async def live(self, key: str) -> SagaInstance | None:
+        """The saga with this key, as far as it is driven here and the key is known to be its
+        own.
+        """
+        while (live := self._access.inside.sagas.by_key.get(key)) and live.is_doubtful:
+            with contextlib.suppress(SagasError):  # its start hears of it
+                await self._access.inside.sagas.started(live)
+        return live
+
+    async def find(self, key: str) -> SagaRow | None:
+        """Looks whether a key that is to be started is there, where that takes a while."""
+        inside = self._access.inside
+        finding = self.finding.setdefault(key, inside.loop.create_future())
+        try:
+            row = await inside.store.find(key)
+            if row is not None:
+                self.guessing.told(was_there=True)
+            return row
+        finally:
+            self.finding.pop(key, None)
+            if not finding.done():
+                finding.set_result(None)
+
+    async def row(self, key: str, of: int | None = None) -> SagaRow:
+        """The row of a saga; `of`: its id, where no later one of its key is meant."""
+        row = await self._access.inside.store.find(key)
+        if row is None or (of is not None and row.id != of):
+            which = "" if row is None else " that this was asked of"
+            raise NoSuchSaga(f"no saga has the key {key!r}{which}")
+        return row
+
+    async def wait(self, key: str, timeout: float | None) -> SagaResult:
+        """The end of a saga, at most so many seconds from now."""
+        if timeout is not None:
+            work = self.until_ended(key)
+            return await timeouts.in_time(key, work, timeout, lambda: self.waits_for(key))
+        inside = self._access.here()
+        if caller := current_step.waiter(inside.executor.calls.running):
+            return await inside.waits.during(caller, key, self.until_ended(key))
+        return await self.until_ended(key)
+
+    async def until_ended(self, key: str) -> SagaResult:
+        """As `wait`, for callers that limit the time themselves."""
+        inside = self._access.here()
+        live = inside.sagas.by_key.get(key)
+        if live is not None and live.is_doubtful:
+            live = await self.live(key)
+        if live is not None:  # as most are: it is driven here
+            try:
+                await inside.sagas.ends.wait(live)
+                return history.end_of_live(live)
+            except Moved:
+                pass
+        over = await self.over(key)
+        if isinstance(over, SagaInstance):
+            return history.end_of_live(over)
+        return await retries.until_answered(functools.partial(self._end_of, over))
+
+    async def _end_of(self, row: SagaRow) -> SagaResult:
+        inside = self._access.inside
+        known = await inside.store.known(row)
+        return history.end_of(inside.shelf.kind(known.definition), row, known.results)
+
+    async def over(self, key: str) -> SagaInstance | SagaRow:
+        """Waits until a saga is over: one that was driven here, or its row."""
+        turn, inside = 0, self._access.here()
+        while True:
+            live = await self.live(key)
+            if live is None:
+                row = await retries.until_answered(lambda: self.row(key))
+                if row.phase is not None:
+                    return row
+                if key not in self._access.inside.sagas.by_key:
+                    await inside.store.news(row.id, turn)
+                    turn += 1
+            else:
+                try:
+                    await inside.sagas.ends.wait(live)
+                    return live
+                except Moved:
+                    pass
+            inside = self._access.inside
+
+    async def waits_for(self, key: str) -> builtins.list[str]:
+        """What a saga waits for that is driven here, or that no node has begun yet, in words; of
+        others nothing.
+        """
+        live = self._access.inside.sagas.by_key.get(key)
+        if live is None and (row := await self._access.inside.store.find(key)) and row.id < 0:
+            return [pending.NOT_BEGUN]
+        return pending.of_live(live)

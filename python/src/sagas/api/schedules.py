@@ -1,0 +1,126 @@
+"""The calls for schedules."""
+
+from __future__ import annotations
+
+import builtins
+import dataclasses
+import datetime
+import json
+import time
+from typing import Any, TypeVar
+
+from sagas.api.batches import Batches, beside
+from sagas.definition import serialization, timing, validation
+from sagas.definition.labels import Labels, checked
+from sagas.definition.payloads import Payloads
+from sagas.definition.saga import Saga
+from sagas.inspection import lists
+from sagas.storage import schedules as schedules_module
+from sagas.storage.schedules import Schedule
+
+T = TypeVar("T")
+
+
+class Schedules(Batches):
+    """What stores and clients share."""
+
+    def _now(self) -> float:
+        """The wall time, in seconds since 1970."""
+        return time.time()
+
+    def _stored(self) -> Payloads:
+        """How inputs are stored."""
+        raise NotImplementedError
+
+    def _check_input(self, saga: Saga, input: Any, text: str) -> None:
+        """Raises what a start of the saga with this input would, as far as is known here."""
+
+    async def schedule(
+        self,
+        name: str,
+        saga: Saga,
+        input: Any = None,
+        *,
+        cron: str | None = None,
+        every: datetime.timedelta | None = None,
+        timezone: str = "UTC",
+        catch_up: str = "last",
+        labels: Labels | None = None,
+    ) -> None:
+        """Start a saga at certain times, once over all nodes.
+
+        The saga of a time has the key `NAME@TIME`, for example `nightly@2026-03-01T02:00:00Z`. A
+        node that has the definition starts it. The call is idempotent: make it whenever the
+        program starts. A schedule that is there is changed; if nothing differs, it goes on as it
+        is, also if it is paused.
+
+        Args:
+            name: The schedule's name: 1 to 128 printable characters without `@`.
+            saga: The definition.
+            input: What its steps read as `task.input` (default: None).
+            cron: Minute, hour, day of month, month and day of week, for example `0 2 * * *`.
+            every: The distance between two times, in place of `cron`. The times are multiples of
+                it since 1970, in UTC.
+            timezone: The time zone of `cron` (default: UTC).
+            catch_up: What becomes of times at which no node ran: `last` starts the last one, `all`
+                starts each, in order, `skip` starts none (default: `last`).
+            labels: As of `Store.start`.
+
+        Raises:
+            InvalidSchedule: The name, the times or the time zone are not valid.
+            InvalidInput: The first steps cannot read the input.
+            InvalidLabel: A label is not valid.
+            NotSerializable: The input is not JSON.
+            DefinitionError: The store was not opened with the saga.
+            StoreUnavailable: The database does not answer.
+            Closed: The store is closed.
+        """
+        timing.check_name(name)
+        validation.check_given(saga)
+        when = timing.timing(cron, every, timezone, catch_up)
+        having = json.dumps(dict(checked(labels)))
+        location, text = self._location(), serialization.write(input, "input")
+        self._check_input(saga, input, text)
+        text = self._stored().encode(text)
+        what, now = (saga.name, saga.version), self._now()
+        await beside(
+            location,
+            lambda link: schedules_module.Schedules(link).put(name, what, text, having, when, now),
+        )
+
+    async def schedules(self) -> builtins.list[Schedule]:
+        """Return the schedules, by name.
+
+        Raises:
+            StoreUnavailable: The database does not answer.
+            Closed: The store is closed.
+        """
+        found, decode = await self._answer(lists.schedules()), self._stored().decode_value
+        return [dataclasses.replace(one, input=decode(one.input)) for one in found]
+
+    async def pause_schedule(self, name: str) -> None:
+        """Start no more sagas of a schedule, until it is resumed.
+
+        Args:
+            name: The schedule's name.
+
+        Raises:
+            NoSuchSchedule: No schedule has the name.
+            StoreUnavailable: The database does not answer.
+            Closed: The store is closed.
+        """
+        await beside(self._location(), lambda link: schedules_module.Schedules(link).pause(name))
+
+    async def resume_schedule(self, name: str) -> None:
+        """Start sagas of a paused schedule again. See `Store.pause_schedule`.
+
+        It goes on with the next time: those of its pause are not started.
+        """
+        now = self._now()
+        await beside(
+            self._location(), lambda link: schedules_module.Schedules(link).resume(name, now)
+        )
+
+    async def remove_schedule(self, name: str) -> None:
+        """Delete a schedule. Its sagas stay. See `Store.pause_schedule`."""
+        await beside(self._location(), lambda link: schedules_module.Schedules(link).remove(name))

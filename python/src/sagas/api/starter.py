@@ -1,0 +1,105 @@
+"""Starts of sagas, idempotent by key."""
+
+from __future__ import annotations
+
+from typing import Any
+
+from sagas.api.saga_lookup import SagaLookup
+from sagas.api.store_access import StoreAccess
+from sagas.base.errors import Closed, KeyConflict, StoreUnavailable
+from sagas.core.model import SagaInstance
+from sagas.definition import arguments, serialization
+from sagas.definition.compiled import Shelf
+from sagas.definition.labels import Labels, checked
+from sagas.definition.saga import Saga
+from sagas.definition.start_options import Deadline, StartOptions, deadline_at
+from sagas.runtime import relocation
+from sagas.runtime.coordinator import Coordinator
+
+
+class Starter:
+    """Starts sagas of these definitions; with `accepts_new=False` only finds those that are
+    there."""
+
+    def __init__(
+        self, access: StoreAccess, lookup: SagaLookup, shelf: Shelf, accepts_new: bool
+    ) -> None:
+        self._access, self._lookup, self._shelf = access, lookup, shelf
+        self.accepts_new = accepts_new
+
+    async def start(
+        self, saga: Saga, key: str, input: Any, labels: Labels | None, deadline: Deadline | None
+    ) -> bool:
+        """Starts a saga. Whether this start began it."""
+        inside, lookup = self._access.here(), self._lookup
+        arguments.key(key)
+        kind, text = self._shelf.kind_of(saga), serialization.write(input, "input")
+        time = deadline_at(saga.deadline if deadline is None else deadline, inside.clock())
+        options = StartOptions(checked(labels), time)
+        wrong = kind.misfit(input, text)
+        text = kind.payloads.encode(text)
+        live = inside.sagas.by_key.get(key)
+        is_sound = wrong is None and self.accepts_new and kind.fits
+        if live is None and is_sound and lookup.guessing.is_worth():
+            # the key is new, as far as the last ones tell
+            new = inside.sagas.add(key, text, kind, self._shelf.place(kind), options)
+            return await self._begin(inside, new, guessed=True)
+        if live is not None and live.is_doubtful:
+            live = await lookup.live(key)
+        # else it is looked for with others, where it is placed
+        looks = inside.store.shared or not is_sound
+        row = await lookup.find(key) if looks and live is None else None
+        live = inside.sagas.by_key.get(key)  # another start of it may have come meanwhile
+        there = (live.kind.name, live.text) if live else (row.saga, row.input) if row else None
+        if there:
+            error = relocation.conflict(key, kind, text, *there)
+            if error and live and not live.committed and not inside.store.shared:
+                # that start may have no right to the key either
+                row = inside.store.find_now(key)
+                if row:
+                    error, live = relocation.conflict(key, kind, text, row.saga, row.input), None
+            if error:
+                raise error
+        elif not self.accepts_new:
+            raise Closed(
+                f"{self._access.path}: opened with accept_new=False, so it starts no new sagas"
+            )
+        elif not kind.fits:
+            raise kind.too_large()
+        elif wrong:
+            raise wrong
+        else:
+            new = inside.sagas.add(key, text, kind, self._shelf.place(kind), options)
+            return await self._begin(inside, new, guessed=False)
+        if live and not live.committed:
+            await inside.sagas.started(live)
+        return False
+
+    async def _begin(self, inside: Coordinator, live: SagaInstance, guessed: bool) -> bool:
+        """Starts one whose key is free, as far as is known. False: another node was first."""
+        live.guessed = guessed
+        # before it is placed: it may be there at once, or refused
+        begun = inside.sagas.started(live)
+        inside.shards.place(live)
+        try:
+            await begun
+        except KeyConflict:
+            self._lookup.guessing.told(was_there=True)
+            raise
+        except StoreUnavailable:
+            if not (guessed and await self._is_there(live)):
+                raise
+        self._lookup.guessing.told(was_there=not live.committed)
+        return live.committed
+
+    async def _is_there(self, live: SagaInstance) -> bool:
+        """Whether the key of one that could not be begun has that saga all the same. Raises
+        `KeyConflict`, `StoreUnavailable`.
+        """
+        row = await self._lookup.find(live.key)
+        if row is None:
+            return False
+        error = relocation.conflict(live.key, live.kind, live.text, row.saga, row.input)
+        if error:
+            raise error
+        return True

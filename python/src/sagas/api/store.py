@@ -1,0 +1,334 @@
+"""An open store."""
+
+from __future__ import annotations
+
+import asyncio
+import builtins
+import datetime
+import os
+import signal
+from collections.abc import Callable, Iterable
+from types import TracebackType
+from typing import TYPE_CHECKING, Any
+
+from sagas.api.batches import beside
+from sagas.api.retry_calls import RetryCalls
+from sagas.api.run import Run
+from sagas.api.starter import Starter
+from sagas.api.store_access import StoreAccess, transactions
+from sagas.api.workers import Workers
+from sagas.base import program as program_module
+from sagas.base.errors import WouldWaitForever
+from sagas.base.events import Hook, Teller
+from sagas.base.logger import logger
+from sagas.core.batch import SagaRow
+from sagas.core.model import SagaInstance
+from sagas.core.results import SagaResult
+from sagas.definition import arguments, payloads
+from sagas.definition.compiled import Shelf
+from sagas.definition.labels import Labels
+from sagas.definition.payloads import Codec
+from sagas.definition.saga import Saga
+from sagas.definition.start_options import Deadline
+from sagas.definition.step import Seconds
+from sagas.runtime import current_step, operator_commands
+from sagas.runtime import retention as retention_module
+from sagas.runtime.coordinator import Coordinator
+from sagas.runtime.scheduler import Scheduler
+from sagas.storage import factory
+from sagas.storage.schedules import Schedule, Schedules
+
+
+class Store(RetryCalls):
+    """Hold an open store of sagas. Made by `sagas.open`, and used by `async with`.
+
+    Make all calls in the event loop in which it was opened.
+
+    Attributes:
+        leased: Whether workers claim the tasks of steps with `external=True` (default: False). Set
+            it before opening. Then such a step starts when it is claimed.
+        workers: The tasks for workers.
+    """
+
+    def __init__(
+        self, path: str | os.PathLike[str], sagas: Iterable[Saga], *, concurrency: int,
+        accept_new: bool, engine_processes: int, threads: int | None,
+        shutdown_timeout: Seconds | None, idle: Seconds, on_event: Hook | None,
+        clock: Callable[[], float], program: str | None, node: str | None, lease: Seconds,
+        retention: datetime.timedelta | None, archive_dir: str | os.PathLike[str] | None,
+        context: Any, codec: Codec | None,
+    ) -> None:  # fmt: skip
+        threads = concurrency if threads is None else threads
+        counts = {
+            "concurrency": concurrency,
+            "engine_processes": engine_processes,
+            "threads": threads,
+        }
+        for word, number in counts.items():
+            arguments.count(word, number)
+        arguments.calls("clock", clock, "that returns seconds since 1970, like time.time")
+        if on_event is not None:
+            arguments.calls("on_event", on_event, "that takes an Event")
+        arguments.node(node)
+        arguments.keeping(retention, archive_dir)
+        self._name = arguments.path(path)
+        self._node, self._lease = node, arguments.time("lease", lease, none=False)
+        self._retention, self._archive_dir = retention, archive_dir
+        self._shelf = Shelf(sagas, payloads.checked(codec))
+        self._words = {**counts, "idle": arguments.time("idle", idle), "clock": clock}
+        self._words["context"] = context
+        self._shutdown_timeout = (
+            None
+            if shutdown_timeout is None
+            else arguments.time("shutdown_timeout", shutdown_timeout)
+        )
+        self._teller, self._program = Teller(on_event, clock), program
+        super().__init__(
+            StoreAccess("PostgreSQL" if factory.is_url(self._name) else self._name), self._name
+        )
+        self._starter = Starter(self._access, self._lookup, self._shelf, accept_new)
+        self._requests: operator_commands.Requests | None = None
+        self.workers = Workers(self._access)
+        self.leased = False
+
+    @property
+    def path(self) -> str:
+        """Its file, or its database without the password."""
+        return self._access.path
+
+    @property
+    def sagas(self) -> builtins.list[Saga]:
+        """The definitions that it was opened with."""
+        return [*self._shelf.sagas.values()]
+
+    async def __aenter__(self) -> Store:
+        """Open it: take the lock, and go on with each saga that is not over.
+
+        Raises:
+            StoreLocked: Another program has the file open.
+            StoreUnavailable: The file or the server does not answer.
+            InvalidStore: It is no store, or not one that this program can go on from.
+            MissingStep: A saga that is not over needs a step that this program has no function for.
+            EngineError: The program `sagas` cannot be started, or refuses a shard.
+            RuntimeError: The store is open already.
+        """
+        with self._access.opened.opening(self.path):
+            await self._open()
+        return self
+
+    async def _open(self) -> None:
+        for saga in self._shelf.sagas.values():
+            for warning in saga.warnings():
+                logger.warning("%s", warning)
+        where = program_module.path(self._program)
+        most: Any = self._words["concurrency"]
+        database = factory.make(
+            self._name, self._shelf, self._node, self._lease, most, transactions
+        )
+        self._access.path = database.path
+        words: dict[str, Any] = {"program": where, "teller": self._teller, **self._words}
+        coordinator = self._access.coordinator = Coordinator(database, self._shelf, **words)
+        coordinator.external.leased = coordinator.executor.machine.leased = self.leased
+        try:
+            await coordinator.open()
+        except BaseException:
+            await coordinator.close(0.0)
+            raise
+        self._requests = operator_commands.Requests(coordinator, self._commands)
+        coordinator.listeners.append(self._requests.look)
+        if self._starter.accepts_new:
+            coordinator.listeners.append(coordinator.starts().look)
+            scheduler = Scheduler(coordinator, self._start_scheduled, self._advance)
+            coordinator.listeners.append(scheduler.look)
+            coordinator.spawn(scheduler.run())
+        database.watch(coordinator)
+        if self._retention is not None:
+            seconds = self._retention.total_seconds()
+            coordinator.spawn(
+                retention_module.keep(coordinator, database.file, seconds, self._archive_dir)
+            )
+
+    if not TYPE_CHECKING:  # a checker says so by itself
+
+        def __enter__(self) -> Store:
+            raise TypeError(
+                "a store of sagas.open needs `async with`. Without async, use `with "
+                "sagas.open_sync(...)`"
+            )
+
+        def __exit__(self, *_: object) -> None:
+            ...
+
+    async def __aexit__(
+        self, kind: type[BaseException] | None, error: BaseException | None,
+        trace: TracebackType | None,
+    ) -> None:  # fmt: skip
+        await self.close()
+
+    async def close(self, shutdown_timeout: Seconds | None = None) -> None:
+        """Close the store: accept nothing new, and wait for running functions.
+
+        Their outcomes are stored. A cancelled function runs again, with its idempotency key, when
+        the store is opened again. Calls that still wait raise `Closed`.
+
+        Args:
+            shutdown_timeout: Seconds, or a timedelta, after which running functions are cancelled
+                (default: as given to `open`).
+
+        Raises:
+            TypeError: It is not a time.
+            ValueError: It is negative.
+        """
+        seconds = (
+            self._shutdown_timeout
+            if shutdown_timeout is None
+            else arguments.time("shutdown_timeout", shutdown_timeout)
+        )
+        if self._access.opened.is_elsewhere:  # it is that process's to close
+            return
+        if self._requests:
+            self._requests.stop()
+        try:
+            if self._access.coordinator:
+                await self._access.coordinator.close(seconds)
+        finally:
+            self._access.opened.end()
+
+    @property
+    def _inside(self) -> Coordinator:
+        return self._access.inside
+
+    async def serve(self) -> None:
+        """Wait for SIGTERM or SIGINT, in a program that only executes sagas.
+
+        Then close the store: its sagas go on at another node, or when it is opened again.
+
+        Raises:
+            Closed: The store is not open.
+        """
+        loop = self._inside.loop
+        told = asyncio.Event()
+        for number in (signal.SIGTERM, signal.SIGINT):
+            loop.add_signal_handler(number, told.set)
+        try:
+            await told.wait()
+        finally:
+            for number in (signal.SIGTERM, signal.SIGINT):
+                loop.remove_signal_handler(number)
+
+    async def start(
+        self, saga: Saga, key: str, input: Any = None, *, labels: Labels | None = None,
+        deadline: Deadline | None = None,
+    ) -> Run:  # fmt: skip
+        """Start a saga, or return the one with this key.
+
+        The call is idempotent. When it returns, the saga is durable: it goes on even if this
+        program dies.
+
+        Args:
+            saga: A definition that was given to `open`.
+            key: The saga's identity, for example an order number: 1 to 512 printable characters. It
+                is taken as long as the saga is kept.
+            input: What the steps read as `task.input`: JSON, or a value of their type hints
+                (default: None).
+            labels: Texts by name, by which lists find the saga: `{"customer": "7"}` (default:
+                none). The labels of the first start of a key count.
+            deadline: When the saga is aborted if it has not ended: seconds or a timedelta from now
+                on, or a datetime with a time zone (default: that of `Saga`). That of the first
+                start of a key counts.
+
+        Returns:
+            The saga. `Run.new` says whether this start created it.
+
+        Raises:
+            KeyConflict: The key belongs to a saga of another name or input.
+            StoreUnavailable: The saga could not be written: repeat the call.
+            TooLarge: The saga has too many steps and needs.
+            InvalidKey: The key is not valid.
+            InvalidInput: The first steps cannot read the input.
+            InvalidLabel: A label is not valid.
+            TypeError: The deadline is not a time.
+            ValueError: The deadline is negative.
+            NotSerializable: The input is not JSON.
+            DefinitionError: The store was not opened with the saga.
+            Closed: The store is closed, or was opened with `accept_new=False`.
+            RuntimeError: The call is made in another event loop.
+        """
+        return Run(self, key, await self._starter.start(saga, key, input, labels, deadline))
+
+    def _check_input(self, saga: Saga, input: Any, text: str) -> None:
+        if wrong := self._shelf.kind_of(saga).misfit(input, text):
+            raise wrong
+
+    async def _start_scheduled(self, one: Schedule, key: str) -> None:
+        saga = self._shelf.sagas[one.saga, one.version]
+        given = self._shelf.payloads.decode_value(one.input)
+        await self._starter.start(saga, key, given, one.labels, None)
+
+    async def _advance(self, one: Schedule, *to: Any) -> None:
+        await beside(self._name, lambda link: Schedules(link).advance(one, *to))
+
+    async def get(self, key: str) -> Run | None:
+        """Return the saga with this key; None if there is none, or no node began it yet.
+
+        Args:
+            key: The saga's key.
+
+        Raises:
+            StoreUnavailable: The database does not answer.
+            Closed: The store is closed.
+        """
+        inside = self._access.here()
+        live = inside.sagas.by_key.get(key)
+        if live and live.committed:
+            return Run(self, key)
+        row = await inside.store.find(key)
+        return Run(self, key) if row and row.id >= 0 else None
+
+    async def wait(self, key: str, timeout: float | None = None) -> SagaResult:
+        """Wait until a saga has ended. A saga that fails raises nothing: look at `ok`.
+
+        Args:
+            key: The saga's key.
+            timeout: Seconds (default: without end).
+
+        Returns:
+            How it ended.
+
+        Raises:
+            TimeoutError: It has not ended in time. The message says what it waits for.
+            NoSuchSaga: No saga has the key.
+            WouldWaitForever: The call is made in a step without which the saga cannot end.
+            Closed: The store is closed.
+            RuntimeError: The call is made in another event loop.
+        """
+        return await self._lookup.wait(key, timeout)
+
+    async def waits_for(self, key: str) -> builtins.list[str]:
+        """Return what a saga waits for, in words; nothing if another node executes it.
+
+        Args:
+            key: The saga's key.
+
+        Raises:
+            Closed: The store is closed.
+        """
+        return await self._lookup.waits_for(key)
+
+    async def over(self, key: str) -> SagaInstance | SagaRow:
+        """Wait until a saga has ended, for callers that read its row. See `Store.wait`."""
+        return await self._lookup.over(key)
+
+    async def wait_idle(self) -> None:
+        """Wait until no saga is open.
+
+        Raises:
+            WouldWaitForever: The call is made in a step.
+            Closed: The store is closed.
+        """
+        if caller := current_step.waiter(self._inside.executor.calls.running):
+            raise WouldWaitForever(
+                f"step {caller.name!r} of saga {caller.instance.key!r} waits until no saga is "
+                "open, but its own is. Wait for that outside of a step"
+            )
+        await self._inside.settled()

@@ -1,0 +1,154 @@
+"""The client for programs without async code."""
+
+from __future__ import annotations
+
+from types import TracebackType
+from typing import TYPE_CHECKING, Any
+
+import psycopg
+
+from sagas.api.client import Client
+from sagas.api.client_run import ClientRun
+from sagas.api.facade import Facade, blocking
+from sagas.api.loop_thread import Loop
+from sagas.core.results import SagaResult
+from sagas.definition.labels import Labels
+from sagas.definition.payloads import Codec
+from sagas.definition.saga import Saga
+from sagas.definition.start_options import Deadline
+from sagas.storage.postgresql import caller_connection
+
+
+class SyncClientRun(Facade[ClientRun]):
+    """Follow a saga that a client started, or found by its key. Made by `SyncClient`.
+
+    Attributes:
+        key: The saga's key.
+        new: As of `ClientRun`.
+    """
+
+    def __init__(self, owner: SyncClient, run: ClientRun) -> None:
+        super().__init__(run, owner._loop)
+        self._owner, self.key, self.new = owner, run.key, run.new
+
+    def wait(self, timeout: float | None = None) -> SagaResult:
+        """Wait until the saga has ended. See `ClientRun.wait`."""
+        inner = self._owner._inner
+        return self._loop.in_time(
+            self.key, self._inner.wait(), timeout, lambda: inner.waits_for(self.key)
+        )
+
+    abort = blocking(ClientRun.abort)
+    complete = blocking(ClientRun.complete)
+    fail = blocking(ClientRun.fail)
+    plan = blocking(ClientRun.plan)
+    log = blocking(ClientRun.log)
+
+    def __repr__(self) -> str:
+        return f"<run {self.key!r}>"
+
+
+class SyncClient(Facade[Client]):
+    """Start and inspect sagas of a PostgreSQL store, without async.
+
+    Use it by `with sagas.SyncClient("postgresql://...") as client`. Its calls are those of
+    `Client`, from any thread.
+    """
+
+    def __init__(self, url: str, *, connections: int = 4, codec: Codec | None = None) -> None:
+        """Make a client, to be entered by `with`. See `Client`."""
+        client = Client(url, connections=connections, codec=codec)
+        remedy = "is not open. Use `with sagas.SyncClient(...) as client`"
+        super().__init__(client, Loop(client.path, "the client", remedy))
+
+    def __enter__(self) -> SyncClient:
+        self._loop.start()
+        try:
+            self._loop.do(self._inner.__aenter__())
+        except BaseException:
+            self._loop.end()
+            raise
+        return self
+
+    if not TYPE_CHECKING:  # a checker says so by itself
+
+        async def __aenter__(self) -> SyncClient:
+            raise TypeError(
+                "a sagas.SyncClient needs `with`. With async, use `async with sagas.Client(...)`"
+            )
+
+        async def __aexit__(self, *_: object) -> None:
+            ...
+
+    def __exit__(
+        self,
+        kind: type[BaseException] | None,
+        error: BaseException | None,
+        trace: TracebackType | None,
+    ) -> None:
+        self.close()
+
+    def close(self) -> None:
+        """Close its connections."""
+        if self._loop.runs:
+            try:
+                self._loop.do(self._inner.close())
+            finally:
+                self._loop.end()
+
+    def start(
+        self,
+        saga: Saga,
+        key: str,
+        input: Any = None,
+        *,
+        labels: Labels | None = None,
+        deadline: Deadline | None = None,
+        connection: psycopg.Connection[Any] | None = None,
+    ) -> SyncClientRun:
+        """Start a saga, or return the one with this key. See `Client.start`.
+
+        Args:
+            connection: A `psycopg.Connection`, which is used in this thread.
+
+        Raises:
+            TypeError: The connection is not a `psycopg.Connection`.
+        """
+        if connection is None:
+            start = self._inner.start(saga, key, input, labels=labels, deadline=deadline)
+            return SyncClientRun(self, self._loop.do(start))
+        caller_connection.check_kind(connection, plain=True)
+        starter = self._inner._starter
+        words = starter.words(saga, key, input, labels, deadline)
+        new = starter.start_now(words, connection, self._loop.do)
+        return SyncClientRun(self, ClientRun(self._inner, key, words, new))
+
+    def get(self, key: str) -> SyncClientRun | None:
+        """Return the saga with this key, or None. See `Client.get`."""
+        run = self._loop.do(self._inner.get(key))
+        return SyncClientRun(self, run) if run else None
+
+    def wait(self, key: str, timeout: float | None = None) -> SagaResult:
+        """Wait until a saga has ended. See `Client.wait`."""
+        return self._loop.in_time(
+            key, self._inner.wait(key), timeout, lambda: self._inner.waits_for(key)
+        )
+
+    abort = blocking(Client.abort)
+    complete = blocking(Client.complete)
+    retry = blocking(Client.retry)
+    fail = blocking(Client.fail)
+    resolve = blocking(Client.resolve)
+    abort_all = blocking(Client.abort_all)
+    resolve_all = blocking(Client.resolve_all)
+    schedule = blocking(Client.schedule)
+    schedules = blocking(Client.schedules)
+    pause_schedule = blocking(Client.pause_schedule)
+    resume_schedule = blocking(Client.resume_schedule)
+    remove_schedule = blocking(Client.remove_schedule)
+    list = blocking(Client.list)
+    count = blocking(Client.count)
+    definitions = blocking(Client.definitions)
+    attention = blocking(Client.attention)
+    plan = blocking(Client.plan)
+    log = blocking(Client.log)

@@ -1,0 +1,192 @@
+"""The store for programs without async code."""
+
+from __future__ import annotations
+
+import signal
+import threading
+from types import TracebackType
+from typing import TYPE_CHECKING, Any
+
+from sagas.api.facade import Facade, asked, blocking
+from sagas.api.loop_thread import Loop
+from sagas.api.run import Run
+from sagas.api.store import Store
+from sagas.core.results import SagaResult
+from sagas.definition.labels import Labels
+from sagas.definition.saga import Saga
+from sagas.definition.start_options import Deadline
+from sagas.definition.step import Seconds
+
+
+class SyncRun(Facade[Run]):
+    """Follow a saga that was started, or found by its key. Made by `SyncStore.start`.
+
+    Attributes:
+        key: The saga's key.
+        new: Whether this start created the saga.
+    """
+
+    def __init__(self, store: SyncStore, run: Run) -> None:
+        super().__init__(run, store._loop)
+        self._store, self.key, self.new = store, run.key, run.new
+
+    def wait(self, timeout: float | None = None) -> SagaResult:
+        """Wait until the saga has ended. See `Store.wait`."""
+        return self._store.wait(self.key, timeout)
+
+    abort = blocking(Run.abort)
+    complete = blocking(Run.complete)
+    fail = blocking(Run.fail)
+    plan = blocking(Run.plan)
+    log = blocking(Run.log)
+
+    def __repr__(self) -> str:
+        return f"<run {self.key!r}>"
+
+
+class SyncStore(Facade[Store]):
+    """Hold an open store, for programs without async. Made by `sagas.open_sync`.
+
+    Use it by `with`. Its calls are those of `Store`, from any thread. In an async step, which runs
+    in the store's own thread, they raise `RuntimeError`: make that step a plain function.
+    """
+
+    def __init__(self, store: Store) -> None:
+        remedy = "is not open, or was closed. Use `with sagas.open_sync(...) as store`"
+        super().__init__(store, Loop(store.path, "the store", remedy))
+
+    def __enter__(self) -> SyncStore:
+        self._loop.start()
+        try:
+            self._loop.do(self._inner.__aenter__())
+        except BaseException:
+            self._loop.end()
+            raise
+        self._loop.where = self._inner.path  # it has the database's name by now
+        return self
+
+    if not TYPE_CHECKING:  # a checker says so by itself
+
+        async def __aenter__(self) -> SyncStore:
+            raise TypeError(
+                "a store of sagas.open_sync needs `with`. With async, use `async with "
+                "sagas.open(...)`"
+            )
+
+        async def __aexit__(self, *_: object) -> None:
+            ...
+
+    def __exit__(
+        self,
+        kind: type[BaseException] | None,
+        error: BaseException | None,
+        trace: TracebackType | None,
+    ) -> None:
+        self.close()
+
+    def close(self, shutdown_timeout: Seconds | None = None) -> None:
+        """Close the store. See `Store.close`."""
+        if self._loop.runs:
+            try:
+                self._loop.do(self._inner.close(shutdown_timeout))
+            finally:
+                self._loop.end()
+
+    def serve(self) -> None:
+        """Wait for SIGTERM or SIGINT, in the main thread. See `Store.serve`.
+
+        Raises:
+            RuntimeError: The call is made in another thread.
+        """
+        if threading.current_thread() is not threading.main_thread():
+            raise RuntimeError(
+                "serve() must be called in the main thread, which receives the signals"
+            )
+        told = threading.Event()
+        before = {
+            number: signal.signal(number, lambda *_: told.set())
+            for number in (signal.SIGTERM, signal.SIGINT)
+        }
+        try:
+            told.wait()
+        finally:
+            for number, handler in before.items():
+                signal.signal(number, signal.SIG_DFL if handler is None else handler)
+
+    def start(
+        self, saga: Saga, key: str, input: Any = None, *, labels: Labels | None = None,
+        deadline: Deadline | None = None,
+    ) -> SyncRun:  # fmt: skip
+        """Start a saga, or return the one with this key. See `Store.start`.
+
+        Example:
+            >>> with sagas.open_sync("orders.db", [order]) as store:
+            ...     first = store.start(order, "order-4", {"amount": 40})
+            ...     again = store.start(order, "order-4", {"amount": 40})
+            ...     first.wait(timeout=60).phase
+            refund 40
+            'recovered'
+            >>> first.new, again.new
+            (True, False)
+        """
+        start = self._inner.start(saga, key, input, labels=labels, deadline=deadline)
+        return SyncRun(self, self._loop.do(start))
+
+    def get(self, key: str) -> SyncRun | None:
+        """Return the saga with this key, or None. See `Store.get`."""
+        run = self._loop.do(self._inner.get(key))
+        return SyncRun(self, run) if run else None
+
+    def wait(self, key: str, timeout: float | None = None) -> SagaResult:
+        """Wait until a saga has ended. See `Store.wait`."""
+        lookup = self._inner._lookup
+        work = self._inner.wait(key) if timeout is None else lookup.until_ended(key)
+        return self._loop.in_time(key, work, timeout, lambda: self._inner.waits_for(key))
+
+    def wait_idle(self, timeout: float | None = None) -> None:
+        """Wait until no saga is open.
+
+        Args:
+            timeout: Seconds (default: without end).
+
+        Raises:
+            TimeoutError: Sagas are still open.
+            WouldWaitForever: The call is made in a step.
+            Closed: The store is closed.
+        """
+        inner = self._inner
+        try:
+            self._loop.do(
+                inner.wait_idle() if timeout is None else inner._inside.settled(), timeout
+            )
+        except TimeoutError as error:
+            raise error if timeout is None else TimeoutError(
+                f"sagas are still open after {timeout:g} s. list(phase='open') returns them"
+            ) from None
+
+    abort = blocking(Store.abort)
+    complete = blocking(Store.complete)
+    retry = blocking(Store.retry)
+    retry_all = blocking(Store.retry_all)
+    complete_all = blocking(Store.complete_all)
+    fail_all = blocking(Store.fail_all)
+    fail = blocking(Store.fail)
+    resolve = blocking(Store.resolve)
+    abort_all = blocking(Store.abort_all)
+    resolve_all = blocking(Store.resolve_all)
+    schedule = blocking(Store.schedule)
+    schedules = blocking(Store.schedules)
+    pause_schedule = blocking(Store.pause_schedule)
+    resume_schedule = blocking(Store.resume_schedule)
+    remove_schedule = blocking(Store.remove_schedule)
+    list = blocking(Store.list)
+    count = blocking(Store.count)
+    definitions = blocking(Store.definitions)
+    stuck = blocking(Store.stuck)
+    attention = blocking(Store.attention)
+    unknown = blocking(Store.unknown)
+    active_attempts = asked(Store.active_attempts)
+    log = blocking(Store.log)
+    plan = blocking(Store.plan)
+    draw = blocking(Store.draw)
+    audit = blocking(Store.audit)

@@ -1,0 +1,40 @@
+"""Waits with a timeout whose error names what the saga waits for."""
+
+from __future__ import annotations
+
+import asyncio
+from collections.abc import Awaitable, Callable, Coroutine
+from typing import Any, TypeVar
+
+from sagas.base.errors import SagasError
+from sagas.core.pending import still_open
+
+T = TypeVar("T")
+SOON = 2.0
+"""Seconds to find out what a saga waits for."""
+
+
+async def in_time(
+    key: str,
+    work: Coroutine[Any, Any, T],
+    timeout: float,
+    waits: Callable[[], Awaitable[list[str]]],
+) -> T:
+    """What `work` gives, if it does so in time; else `TimeoutError`, with what the saga `waits`
+    for.
+    """
+    scope = asyncio.timeout(timeout)
+    try:
+        async with scope:
+            return await work
+    except TimeoutError:
+        if not scope.expired():
+            raise
+    try:
+        async with asyncio.timeout(SOON):
+            found = await waits()
+    except TimeoutError:
+        found = ["its store does not answer"]
+    except SagasError as error:
+        found = [str(error)]
+    raise still_open(key, timeout, found)

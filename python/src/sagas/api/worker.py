@@ -1,0 +1,367 @@
+"""A worker over HTTP: it claims tasks, calls functions and reports outcomes.
+
+    worker = sagas.Worker("http://127.0.0.1:8080", token="..")
+
+    @worker.step("trip", "car")
+    def car(task):
+        return cars.book(task.input["car"], key=task.idempotency_key)
+
+    worker.run()
+
+It needs nothing but the standard library. What a function does means what it means in a store:
+it returns, raises (it had no effect), raises `Fail`, or `Unknown`, a timeout or a lost
+connection (nobody knows).
+"""
+
+from __future__ import annotations
+
+import dataclasses
+import itertools
+import logging
+import os
+import socket
+import threading
+import time
+from collections import deque
+from collections.abc import Callable, Sequence
+from typing import Any
+
+from sagas.api.service_connection import ServiceConnection, ServiceRefused, is_final
+from sagas.api.worker_task import Function, WorkerStep, lifespan, outcome, task_of
+from sagas.base.errors import DefinitionError
+from sagas.definition import validation
+from sagas.definition.context import Context
+from sagas.definition.step import UNKNOWN, Unknowns
+from sagas.definition.task import Task
+
+logger = logging.getLogger("sagas.worker")
+AHEAD, MOST_AHEAD = 0.1, 10
+"""One question takes as many tasks as are lately done in so many seconds, and at most so many."""
+NO_CONTEXT = "the worker was made without one: give it by sagas.Worker(.., context=..)"
+LOOK = 0.5
+"""Seconds between looks at what was taken ahead; also the shortest lease of the service."""
+
+
+@dataclasses.dataclass(slots=True, eq=False)
+class _Held:
+    """A task that this worker has; until half of its lease is over it may be begun, so that its
+    first heartbeat comes in time.
+    """
+
+    attempt_id: str
+    lease: str
+    task: Task[Any]
+    until: float
+    lost: bool = False
+
+
+class Worker:
+    """Execute steps for a service: claim tasks, call functions, report outcomes.
+
+    It uses only the standard library. Each task runs in a thread. If the functions are short, one
+    request claims up to ten tasks, and returns those that no thread begins within half a second.
+    While a function runs, its lease is renewed three times before it would end.
+
+    Attributes:
+        concurrency: Maximum number of tasks that run at once.
+        lease: Seconds after which another worker may have the task of a worker that is gone.
+        wait: Seconds that one request for tasks waits at the service.
+        name: The worker's name, for people.
+    """
+
+    def __init__(
+        self, url: str | Sequence[str], token: str | None = None, *, concurrency: int = 4,
+        lease: float = 30.0, wait: float = 20.0, name: str | None = None, context: Any = None,
+    ) -> None:  # fmt: skip
+        """Make a worker; `run` starts it.
+
+        Args:
+            url: The service, or several services over one database: if one does not answer, the
+                next one is asked.
+            token: The worker's token (default: None).
+            concurrency: Maximum number of tasks that run at once (default: 4).
+            lease: Seconds after which another worker may have the task of a worker that is gone
+                (default: 30).
+            wait: Seconds that one request for tasks waits at the service, at most 30 (default: 20).
+            name: The worker's name, for people (default: of host and process).
+            context: What functions get as `task.context` (default: none): an object; or a function
+                that returns a plain context manager, which `run` enters and leaves.
+
+        Raises:
+            ValueError: The URL is not the address of a service.
+        """
+        self.concurrency, self.lease, self.wait = concurrency, lease, wait
+        self.name = (name or f"{socket.gethostname()}-{os.getpid()}")[:64]
+        self._given, self._context = context, Context(NO_CONTEXT)
+        self._stop = threading.Event()
+        self._service = ServiceConnection(url, token, wait + 40.0, self._stop)
+        self._steps: dict[str, WorkerStep] = {}
+        self._ahead: deque[_Held] = deque()  # taken, and not begun
+        self._held: set[_Held] = set()  # begun
+        self._rests = threading.Condition()
+        self._busy = self._asking = self._moves = 0
+        # seconds that a function took lately; that nothing is known makes one task at a time
+        self._mean = AHEAD
+        self._fault: ServiceRefused | None = None
+
+    @property
+    def url(self) -> str:
+        """The service that it asks now."""
+        return self._service.url
+
+    # -- what it can do
+
+    def step(
+        self, saga: str, step: str, *, unknown: Unknowns = UNKNOWN
+    ) -> Callable[[Function], Function]:
+        """Declare the function that performs a step, by `@worker.step(saga, step)`.
+
+        It gets a `Task`, and means by its result or exception what a step's function means.
+
+        Args:
+            saga: The saga's name.
+            step: The step's name.
+            unknown: Exceptions after which the outcome is unknown (default: `(TimeoutError,
+                ConnectionError)`).
+
+        Raises:
+            DefinitionError: The step has a function already.
+        """
+        return self._declare(f"{saga}/{step}", unknown)
+
+    def compensation(
+        self, saga: str, step: str, *, unknown: Unknowns = UNKNOWN
+    ) -> Callable[[Function], Function]:
+        """Declare the function that undoes a step. See `Worker.step`.
+
+        Its task has the step's result as `task.result`.
+        """
+        return self._declare(f"{saga}/{step}/undo", unknown)
+
+    def _declare(self, word: str, unknown: Unknowns) -> Callable[[Function], Function]:
+        def declare(function: Function) -> Function:
+            there = self._steps.get(word)
+            if there is not None:
+                where = (
+                    f"{validation.place(function) or '?'} and "
+                    f"{validation.place(there.function) or '?'}"
+                )
+                raise DefinitionError(f"{word} is declared twice, at {where}. Remove one of them")
+            self._steps[word] = WorkerStep(function, unknown)
+            return function
+
+        return declare
+
+    # -- life
+
+    def run(self) -> None:
+        """Work until `stop` is called, by another thread or a signal's handler.
+
+        Ctrl-C stops it too: running functions end and are reported. A second Ctrl-C is raised.
+
+        Raises:
+            ServiceRefused: The service refuses the worker, for example its token.
+            ValueError: The worker has no function.
+        """
+        if not self._steps:
+            raise ValueError(
+                "the worker has no function. Declare one with @worker.step(saga, step)"
+            )
+        with lifespan(self._given, self._context):
+            self._run()
+        if self._fault:
+            raise self._fault
+
+    def _run(self) -> None:
+        threads = [
+            threading.Thread(target=self._work, name=f"sagas-worker-{number}", daemon=True)
+            for number in range(self.concurrency)
+        ]
+        threads.append(
+            threading.Thread(target=self._keep_leases, name="sagas-worker-heartbeat", daemon=True)
+        )
+        try:
+            for thread in threads:
+                thread.start()
+            for thread in threads:
+                while thread.is_alive():
+                    thread.join(0.2)  # so that a signal is heard
+        except KeyboardInterrupt:
+            self.stop()
+            with self._rests:
+                self._rests.wait_for(lambda: not self._busy and not self._ahead)
+
+    def stop(self) -> None:
+        """Claim nothing more; running functions end and are reported.
+
+        Tasks that have not begun are given back.
+        """
+        self._stop.set()
+
+    def _work(self) -> None:
+        try:
+            while one := self._one():
+                told = None
+                try:
+                    told = self._do(one)
+                finally:
+                    with self._rests:
+                        self._busy -= 1
+                        self._add(told)
+        except ServiceRefused as fault:
+            self._fault = self._fault or fault
+            self.stop()
+        except Exception:
+            logger.exception("a thread of this worker failed")
+            self.stop()
+            raise
+
+    def _one(self) -> _Held | None:
+        """A task to begin, taken ahead or asked for now; where several may come at once, one
+        thread asks for all. None: it was stopped.
+        """
+        while True:
+            with self._rests:
+                self._rests.wait_for(
+                    lambda: self._ahead
+                    or self._stop.is_set()
+                    or not self._asking
+                    or self._most() == 1
+                )
+                while self._ahead and not self._stop.is_set():
+                    one = self._ahead.popleft()
+                    self._moves += 1
+                    if time.monotonic() < one.until:  # else it is another's, or soon will be
+                        self._held.add(one)
+                        self._busy += 1
+                        return one
+                self._asking += 1
+            told = None
+            try:
+                if self._stop.is_set():
+                    self._give_back()
+                    return None
+                wait = (
+                    self.wait if self._service.heard else 0.0
+                )  # the first answer comes at once: it says which steps are unknown there
+                told = self._service.until_told(
+                    "/v1/tasks/claim", {**self._wanted(), "wait": wait}, giving_up=True
+                )
+            finally:
+                with self._rests:
+                    self._asking -= 1
+                    self._add(told)
+
+    def _most(self) -> int:
+        return max(1, min(MOST_AHEAD, int(AHEAD / max(self._mean, 1e-6))))
+
+    def _wanted(self) -> dict[str, Any]:
+        return {
+            "steps": sorted(self._steps),
+            "limit": self._most(),
+            "lease": self.lease,
+            "worker": self.name,
+        }
+
+    def _add(self, told: dict[str, Any] | None) -> None:
+        """The tasks of an answer are any thread's. Under the lock."""
+        claimed = (told.get("next") or told) if told else {}
+        for task in claimed.get("tasks", ()):
+            self._ahead.append(
+                _Held(
+                    task["attempt_id"],
+                    task["lease"],
+                    task_of(task, self._context),
+                    time.monotonic() + task["seconds"] / 2,
+                )
+            )
+            self._moves += 1
+        self._rests.notify_all()
+
+    def _do(self, one: _Held) -> dict[str, Any] | None:
+        """Does a task and reports it; gives the answer, with what was taken with the report
+        where nothing was there to go on with.
+        """
+        task, began = one.task, time.monotonic()
+        try:
+            verb, body = outcome(
+                self._steps[f"{task.saga}/{task.step}{'/undo' if task.is_compensation else ''}"],
+                task,
+            )
+        finally:
+            with self._rests:
+                self._held.discard(one)
+                self._mean += (time.monotonic() - began - self._mean) / 4
+                more = {} if self._ahead or self._stop.is_set() else {"next": self._wanted()}
+        return self._report(one, verb, body, more)
+
+    def _report(
+        self, one: _Held, verb: str, body: dict[str, Any], more: dict[str, Any],
+    ) -> dict[str, Any] | None:  # fmt: skip
+        """Says how a task ended. Where no more tasks may be taken with it, it is said alone."""
+        path, told = f"/v1/tasks/{one.attempt_id}/{verb}", {"lease": one.lease, **body}
+        try:
+            return self._service.until_told(path, {**told, **more})
+        except ServiceRefused as refusal:
+            if is_final(refusal):
+                if refusal.status == 403 and more:
+                    return self._report(one, verb, body, {})
+                raise
+            logger.warning("%s: %s was rejected: %s", one.attempt_id, verb, refusal)
+            return None
+
+    def _keep_leases(self) -> None:
+        """Keeps the leases of what runs. Gives back what was taken ahead where no thread has
+        come to it since the last look, and at a stop.
+        """
+        looks, seen = max(1, round(self.lease / 3 / LOOK)), -1  # between two beats
+        pause = self.lease / 3 / looks
+        for look in itertools.count(1):
+            stopped = self._stop.wait(pause)
+            if stopped or self._moves == seen:
+                self._give_back()
+            seen = self._moves
+            with self._rests:
+                if stopped:
+                    self._rests.notify_all()  # whoever waits for another's answer
+                    if self._rests.wait_for(lambda: not self._held, pause):
+                        return
+                held = [one for one in self._held if not one.lost] if look % looks == 0 else []
+            for one in held:
+                self._renew(one, self.lease)
+
+    def _give_back(self) -> None:
+        """What was taken ahead is this worker's no more, and its lease is cut short; where the
+        service does not hear of that, it runs out.
+        """
+        with self._rests:
+            back = list(self._ahead)
+            if not back:
+                return
+            self._ahead.clear()
+            self._busy += 1
+            self._mean = max(self._mean, LOOK)
+        try:
+            for one in back:
+                self._renew(one, LOOK)
+        finally:
+            with self._rests:
+                self._busy -= 1
+                self._rests.notify_all()
+
+    def _renew(self, one: _Held, seconds: float) -> None:
+        url, told = self.url, one.task.news()
+        more = {"progress": told.fraction, "detail": told.detail} if told else {}
+        try:
+            self._service.ask(
+                url,
+                f"/v1/tasks/{one.attempt_id}/heartbeat",
+                {"lease": one.lease, "seconds": seconds, **more},
+                10.0,
+            )
+        except ServiceRefused as refusal:
+            one.lost = refusal.status in (403, 404, 409)
+            logger.warning("%s: %s", one.attempt_id, refusal)
+        except (OSError, ValueError) as error:
+            logger.info("%s: the heartbeat failed: %s", one.attempt_id, error)
+            self._service.turn_from(url)

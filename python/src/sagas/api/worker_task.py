@@ -1,0 +1,95 @@
+"""A claimed task and the report of its outcome."""
+
+from __future__ import annotations
+
+import asyncio
+import contextlib
+import dataclasses
+import inspect
+import json
+import logging
+from collections.abc import Callable, Iterator
+from typing import Any
+
+from sagas.base.errors import NotSerializable
+from sagas.core import outcomes
+from sagas.definition import awaitables, context, serialization
+from sagas.definition.arguments import shown
+from sagas.definition.context import Context
+from sagas.definition.step import Unknowns
+from sagas.definition.task import Task, Told
+
+logger = logging.getLogger("sagas.worker")
+Function = Callable[[Task[Any]], Any]
+MOST_TEXT = 4000
+
+
+@dataclasses.dataclass(frozen=True, slots=True)
+class WorkerStep:
+    """A function, and the exceptions after which nobody knows whether it had its effect."""
+
+    function: Function
+    unknown: Unknowns
+
+
+@contextlib.contextmanager
+def lifespan(given: Any, shared: Context) -> Iterator[None]:
+    """A worker's context, while the worker runs. Raises `TypeError` where it is an async one, which
+    functions in threads have no loop for.
+    """
+    if not context.is_factory(given):
+        if given is not None:
+            shared.put(given)
+        yield
+        return
+    manager = context.made(given)
+    if not isinstance(manager, contextlib.AbstractContextManager):
+        raise TypeError(
+            f"context={shown(given)}: returned {type(manager).__name__}, but a worker has no event "
+            "loop. Return a plain context manager (@contextlib.contextmanager)"
+        )
+    with manager as value:
+        shared.put(value)
+        yield
+
+
+def task_of(told: dict[str, Any], shared: Context) -> Task[Any]:
+    """What a function is handed, of what the service told."""
+    undo, step = told["undo"], told["step"]
+    saga_token = told["idempotency_key"].removesuffix(f"-{step}-{'undo' if undo else 'run'}")
+    results = {name: serialization.write(value) for name, value in told["results"].items()}
+    result = serialization.write(told["result"]) if undo else None
+    return Task(
+        Told(
+            told["definition"],
+            told["key"],
+            step,
+            undo,
+            told["attempt"],
+            saga_token,
+            serialization.write(told["input"]),
+            results,
+            result,
+            deadline=told.get("deadline"),
+            context=shared,
+        )
+    )
+
+
+def outcome(manner: WorkerStep, task: Task[Any]) -> tuple[str, dict[str, Any]]:
+    """Calls the function; gives how it ended, and what is told of that."""
+    try:
+        result = manner.function(task)
+        if inspect.isawaitable(result):
+            result = asyncio.run(awaitables.whole(result))
+    except Exception as error:
+        kind = outcomes.classify(error, manner.unknown)
+        told: dict[str, Any] = {"error": outcomes.described(error)[:MOST_TEXT]}
+        if kind is outcomes.PERMANENT:
+            told["final"] = True
+        return ("unknown" if kind is outcomes.UNKNOWN else "fail"), told
+    try:
+        return "complete", {"result": json.loads(serialization.write(result))}
+    except NotSerializable as error:
+        logger.warning("a result could not be stored: %s", error)
+        return "complete", {"result": {"unstorable": str(error)[:MOST_TEXT]}}

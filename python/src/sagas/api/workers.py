@@ -1,0 +1,149 @@
+"""The calls of a store for external workers: claim, heartbeat, report."""
+
+from __future__ import annotations
+
+import builtins
+from collections.abc import Iterable
+from typing import Any
+
+from sagas.api.store_access import StoreAccess
+from sagas.core import outcomes
+from sagas.core.outcomes import reported
+from sagas.definition.control import checked
+from sagas.runtime.external_queue import LeasedTask, Queue, Word
+from sagas.storage.interface import Peers
+
+
+class Workers:
+    """Hand the tasks of external steps to workers. Made by `Store.workers`.
+
+    A lease is durable before the worker gets it. Make all calls in the event loop in which the
+    store was opened.
+    """
+
+    def __init__(self, access: StoreAccess) -> None:
+        self._access = access
+
+    async def claim(
+        self,
+        steps: Iterable[Word],
+        *,
+        limit: int = 1,
+        wait: float = 0.0,
+        lease: float = 30.0,
+        worker: str = "",
+        holder: str = "",
+    ) -> builtins.list[LeasedTask]:
+        """Claim tasks for a worker, the oldest first. Open the store with `leased` set.
+
+        Args:
+            steps: What the worker can do, each `(saga, step, "run" or "undo")`.
+            limit: Maximum number of tasks (default: 1).
+            wait: Seconds to wait if there is none (default: 0).
+            lease: Seconds without a heartbeat after which another worker may claim a task (default:
+                30).
+            worker: The worker's name, for people.
+            holder: Who may report the tasks: give the same to `heartbeat` and `report`.
+
+        Returns:
+            The tasks with their leases; an empty list if none came in time.
+
+        Raises:
+            StoreUnavailable: The leases could not be written, and nothing was claimed.
+            Closed: The store is closed.
+        """
+        inside = self._access.inside
+        return await inside.external.claim([*steps], limit, wait, lease, worker, holder)
+
+    async def heartbeat(
+        self, attempt_id: str, lease: str, seconds: float = 30.0, *, holder: str = "",
+        progress: float | None = None, detail: str | None = None,
+    ) -> float:  # fmt: skip
+        """Extend a lease, because the worker still performs the task.
+
+        Args:
+            attempt_id: The task's `attempt_id`.
+            lease: The lease of the claim.
+            seconds: How long the lease lasts from now (default: 30).
+            holder: As given to `claim`.
+            progress: How far the worker is, from 0 to 1 (default: not told).
+            detail: A text with it, for people, of which 200 characters are kept (default: None).
+
+        Returns:
+            When the lease ends, in seconds since 1970.
+
+        Raises:
+            InvalidLease: The lease was not issued for this task to this holder.
+            LeaseLost: Another worker has the task, or its outcome was reported.
+            NoSuchTask: No task has this id.
+            TypeError: The progress is not a number, or the detail is not a text.
+            ValueError: The progress is not from 0 to 1.
+            OwnerUnavailable: The node that executes the saga does not answer.
+            StoreUnavailable: The database does not answer.
+            Closed: The store is closed.
+        """
+        told = None if progress is None else checked(progress, detail)
+        external = self._access.inside.external
+        return await external.heartbeat(attempt_id, lease, holder, seconds, told)
+
+    async def report(
+        self,
+        attempt_id: str,
+        lease: str,
+        result: Any = None,
+        *,
+        error: str | None = None,
+        final: bool = False,
+        unknown: str | None = None,
+        holder: str = "",
+    ) -> bool:
+        """Report how a task ended. When it returns, the report is durable.
+
+        A success counts under any lease that was issued for the task, other outcomes only under the
+        newest. The same report again is not an error.
+
+        Args:
+            attempt_id: The task's `attempt_id`.
+            lease: The lease of the claim.
+            result: The result, if it succeeded (default: None).
+            error: Why it failed, without an effect (default: None: it did not fail).
+            final: With `error`: whether the failure is permanent (default: False).
+            unknown: Why the outcome is unknown (default: None: it is known).
+            holder: As given to `claim`.
+
+        Returns:
+            False if the same was reported before.
+
+        Raises:
+            InvalidLease: The lease was not issued for this task to this holder.
+            ConflictingReport: Another outcome was reported first, and that one counts.
+            LeaseLost: The lease is not the newest, or a person has to report the task.
+            NoSuchTask: No task has this id.
+            OwnerUnavailable: The node that executes the saga does not answer.
+            NotSerializable: The result is not JSON.
+            StoreUnavailable: The database does not answer.
+            Closed: The store is closed.
+        """
+        if unknown is not None:
+            outcome = outcomes.unknown(unknown)
+        else:
+            outcome = reported(result, error, final)
+        return await self._access.inside.external.report(attempt_id, lease, holder, outcome)
+
+    async def queues(self) -> builtins.list[Queue]:
+        """Return what waits for workers at any node, by step.
+
+        Raises:
+            StoreUnavailable: The database does not answer.
+            Closed: The store is closed.
+        """
+        return await self._access.inside.external.queues()
+
+    @property
+    def takeovers(self) -> int:
+        """How many tasks another worker claimed because their leases ended."""
+        return self._access.inside.external.takeovers
+
+    def peers(self) -> Peers | None:
+        """Return how this node asks other nodes; None over a file."""
+        return self._access.inside.store.peers()

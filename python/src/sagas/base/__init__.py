@@ -1,0 +1,1 @@
+"""Errors, events, the log and the program: what every layer may use."""

@@ -1,0 +1,298 @@
+"""Every public exception, in a hierarchy that callers can catch by group.
+
+SagasError
+|-- TemporaryError            try again: what failed may succeed later
+|   |-- StoreLocked           another program has the file
+|   |-- StoreUnavailable      the file or the server does not answer
+|   |-- OwnerUnavailable      the node that drives the saga does not answer
+|   `-- Closed                the store is closed, or is closing
+|-- ConflictError             something else was there first, and counts
+|   |-- KeyConflict           the key has another saga or input
+|   |-- LeaseLost             another worker has the task, or it is over
+|   |-- StepNotWaiting        nobody has to report anything about the step
+|   `-- ConflictingReport     another outcome was reported before (a StepNotWaiting)
+|-- InvalidError              what was given, or is stored, is not valid
+|   |-- DefinitionError       a saga is not well made
+|   |-- MissingStep           this program has no function for a step that goes on
+|   |-- WrongStore            a worker reports into another store
+|   |-- InvalidStore          it is no store
+|   |   `-- StoreSchemaTooNew it is of a later release
+|   |-- InvalidSchedule       a schedule is not well made (a ValueError, too)
+|   |-- InvalidLease          the lease was not issued for this task
+|   |-- TooLarge              a saga fits into no shard
+|   |-- CannotDecode          a stored value cannot be read as its type
+|   `-- NotSerializable       a value is no JSON (a TypeError, too)
+|       |-- InvalidKey
+|       |-- InvalidInput
+|       |-- InvalidLabel
+|       `-- ResultNotSerializable
+|-- NoSuchSaga                no saga has the key
+|-- NoSuchSchedule            no schedule has the name
+|-- NoSuchTask                no task has the attempt id
+|-- EngineError               the program `sagas` cannot be started, or refuses a shard
+|   `-- EngineNotRunnable
+|-- WouldWaitForever          a step waits for what ends only behind it
+|   `-- SlotsTaken            (an Unknown, too)
+|-- Fail                      raised by a step: it had no effect, and is not tried again
+`-- Unknown                   raised by a step: nobody knows whether it had its effect
+"""
+
+from __future__ import annotations
+
+
+class SagasError(Exception):
+    """Root of all exceptions of this package."""
+
+
+class TemporaryError(SagasError):
+    """What failed may succeed later: repeat the call, with the same key."""
+
+
+class ConflictError(SagasError):
+    """Something else was decided first, and counts. A repetition does not help."""
+
+
+class InvalidError(SagasError):
+    """An argument, or what is stored, is not valid. A repetition does not help."""
+
+
+class DefinitionError(InvalidError):
+    """A saga is declared wrongly. The message names file, line, saga and step."""
+
+
+class StoreLocked(TemporaryError):
+    """Another program has this file open. Close it first, or use PostgreSQL."""
+
+
+class StoreUnavailable(TemporaryError):
+    """The store cannot be written or read: the disk is full, or the server is away.
+
+    Nothing was started, unless the message says that this is unknown. Make room, or wait, and
+    repeat the call with the same key.
+    """
+
+
+class InvalidStore(InvalidError):
+    """The file or the database is not a store that this program can open."""
+
+
+class StoreSchemaTooNew(InvalidStore):
+    """A later release changed the store's tables. Use that release, or a later one."""
+
+
+class Lost(SagasError):
+    """A shard is another node's now, or a saga of it has a key that is another's, and nothing was
+    written. A caller never meets it.
+    """
+
+
+class Moved(SagasError):
+    """A saga is another node's now: who waits for it looks there. A caller never meets it."""
+
+
+class WrongStore(InvalidError):
+    """A worker would report to another store than the one that has the saga.
+
+    Give the queue the same store. Over SQLite, worker and store have to share the file.
+    """
+
+
+class MissingStep(InvalidError):
+    """An open saga needs a step, or a compensation, that this program does not have.
+
+    Declare the function again, or run the older program with `open(..., accept_new=False)` until
+    its sagas have ended. Over PostgreSQL another node may have it: then nothing is raised.
+    """
+
+
+class KeyConflict(ConflictError):
+    """The key belongs to a saga of another name or input. Nothing was started.
+
+    A key is taken as long as its saga is kept. Use another key.
+    """
+
+
+class NoSuchSaga(SagasError):
+    """No saga of this store has the key. Check the key."""
+
+
+class StepNotWaiting(ConflictError):
+    """Nobody has to report this step: it has not started, is over, or runs now."""
+
+
+class NoSuchSchedule(SagasError):
+    """No schedule has this name."""
+
+
+class InvalidSchedule(InvalidError, ValueError):
+    """The name, the times or the time zone of a schedule are not valid."""
+
+
+class NoSuchTask(SagasError):
+    """No task has this attempt id, or it never started. Claim another task."""
+
+
+class OwnerUnavailable(TemporaryError):
+    """The node that executes the saga does not answer.
+
+    The call may still take effect: look at the saga, then repeat the call.
+    """
+
+
+class LeaseLost(ConflictError):
+    """The lease is not the newest: another worker has the task, or it was reported.
+
+    Stop, and claim another task.
+    """
+
+
+class InvalidLease(InvalidError):
+    """The lease was not issued for this task to whoever reports it.
+
+    Nothing was recorded. Report a task with the attempt id and the lease of its claim.
+    """
+
+
+class ConflictingReport(StepNotWaiting):
+    """Another outcome was reported first, and that one counts.
+
+    The same outcome again is not an error. If your action had an effect, look at the saga.
+    """
+
+
+class TooLarge(InvalidError):
+    """The saga has too many steps and needs to fit into a shard. Nothing was started.
+
+    The message has the limit. Use fewer steps or needs, or several sagas.
+    """
+
+
+class NotSerializable(InvalidError, TypeError):
+    """A value cannot be written as JSON.
+
+    Use dicts, lists, texts, numbers, dataclasses or pydantic models.
+    """
+
+
+class InvalidKey(NotSerializable):
+    """The key is not a text of 1 to 512 printable characters."""
+
+
+class InvalidInput(NotSerializable):
+    """The first steps cannot read the input. Nothing was started.
+
+    The message names the field and what is wrong, but not the value.
+    """
+
+
+class InvalidLabel(NotSerializable):
+    """The label is not a short printable text with a name. Nothing was started."""
+
+
+class ResultNotSerializable(NotSerializable):
+    """A step's result was not JSON and could not be stored. Its effect is there.
+
+    The message names the step: fix what it returns.
+    """
+
+
+class CannotDecode(InvalidError):
+    """A stored input or result does not fit the type of a hint in this program.
+
+    The message names the place, but not the value. The attempt waits, and nothing is compensated:
+    see `Store.attention`. It goes on when a program that can read the value opens the store. Give a
+    new field a default, for example. Do not catch this in a step's function.
+    """
+
+    __module__ = "sagas"
+
+
+class EngineError(SagasError):
+    """The program `sagas` cannot be started, or refuses a shard.
+
+    The message is its last line; the reference of errors has the remedy.
+    """
+
+
+class EngineNotRunnable(EngineError):
+    """This machine cannot run the program `sagas`: it is for another system, say.
+
+    A repetition does not help. The message says what does.
+    """
+
+
+class Closed(TemporaryError):
+    """The store is closed or closing. Open sagas go on when it is opened again."""
+
+
+class Unknown(SagasError):
+    """Raise this in a step's function if the effect may have happened.
+
+    The attempt repeats after its backoff, with the same idempotency key. Nothing is reported until
+    then.
+
+    Example:
+        >>> def pay(task):
+        ...     try:
+        ...         return bank.charge(key=task.idempotency_key)
+        ...     except bank.ConnectionLost as error:
+        ...         raise sagas.Unknown("the bank did not answer") from error
+    """
+
+    __module__ = "sagas"  # as its users write it, and as it is told
+
+
+class Fail(SagasError):
+    """Raise this in a step's function if there was no effect and none will follow.
+
+    The remaining attempts are not made.
+
+    Example:
+        >>> def pay(task):
+        ...     if task.input["amount"] <= 0:
+        ...         raise sagas.Fail("the amount is not positive")
+    """
+
+    __module__ = "sagas"
+
+
+class RetryAfter(SagasError):
+    """Raise this in a step's function to be called again after a pause.
+
+    The call had no effect, as with every exception, and the attempt counts. The pause replaces that
+    of `backoff`. After the last attempt, `on_exhausted` decides.
+
+    Args:
+        seconds: The pause.
+        reason: Why, for the saga's log.
+
+    Example:
+        >>> def pay(task):
+        ...     raise sagas.RetryAfter(30, "too many requests")
+    """
+
+    __module__ = "sagas"
+
+    def __init__(self, seconds: float, reason: str = "") -> None:
+        super().__init__(reason or f"in {seconds:g} s")
+        self.seconds = float(seconds)
+
+
+class WouldWaitForever(SagasError):
+    """A step waits for what ends only after it, or reports its own approval.
+
+    The message names both. Wait outside of the saga; in an approval's function, return `Approved`
+    or `Rejected`.
+    """
+
+    __module__ = "sagas"
+
+
+class SlotsTaken(WouldWaitForever, Unknown):
+    """All slots are taken by functions that wait for sagas which need a slot.
+
+    As with every `Unknown`, the attempt repeats after its backoff. Until then it takes no slot.
+    Open the store with a larger `concurrency`.
+    """
+
+    __module__ = "sagas"

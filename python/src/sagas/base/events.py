@@ -1,0 +1,147 @@
+"""Events for hooks, logs and metrics."""
+
+from __future__ import annotations
+
+import dataclasses
+import json
+import logging
+import os
+import re
+from collections.abc import Callable
+from types import TracebackType
+from typing import Any
+
+from sagas.base.logger import logger
+
+PLAIN = re.compile(r'[^\s"=\\]+\Z')
+HERE = os.path.dirname(os.path.dirname(os.path.abspath(__file__))) + os.sep
+
+
+@dataclasses.dataclass(frozen=True, slots=True)
+class Event:
+    """Tell a hook what happened, after it was committed.
+
+    Attributes:
+        name: One of the names on the page of events, for example `saga_started`, `step_retrying`
+            (the attempt failed, another follows), `step_failed` (none follows), `step_exhausted`
+            (a person decides) or `saga_stuck`.
+        at: Wall time, in seconds since 1970.
+        key: The saga's key, or None.
+        saga: The saga's name, or None.
+        step: The step's name, or None.
+        undo: Whether it is the step's compensation.
+        attempt: The attempt's number, from 1, or None.
+        seconds: How long the function took; None if it was not called here.
+        detail: What was raised or planned. Of `saga_ended`: the phase. Of `step_suspended`:
+            `approval`, `wait` (for its time), `unknown` (for its backoff, or a person) or
+            `cannot_decode` (for a program that can read what is stored).
+    """
+
+    name: str
+    at: float
+    key: str | None = None
+    saga: str | None = None
+    step: str | None = None
+    undo: bool = False
+    attempt: int | None = None
+    seconds: float | None = None
+    detail: str | None = None
+
+
+Hook = Callable[[Event], object]
+FIELDS = [field.name for field in dataclasses.fields(Event)]
+
+LEVELS = {
+    "step_retrying": logging.WARNING,
+    "step_failed": logging.WARNING,
+    "step_exhausted": logging.ERROR,
+    "step_unknown": logging.WARNING,
+    "step_overdue": logging.WARNING,
+    "step_cannot_decode": logging.WARNING,
+    "plan_adopted": logging.INFO,
+    "saga_aborted": logging.INFO,
+    "saga_ended": logging.DEBUG,
+    "saga_overdue": logging.WARNING,
+    "saga_stuck": logging.ERROR,
+    "saga_undo_failed": logging.ERROR,
+    "shards_pruned": logging.INFO,
+    "audit_failed": logging.CRITICAL,
+    "engine_died": logging.WARNING,
+    "commit_failed": logging.ERROR,
+    "schedule_failed": logging.ERROR,
+    "schedule_missed": logging.WARNING,
+}
+
+
+def quoted(value: object) -> str:
+    """A field of a log line: as it is where it is one plain word, else in quotes, so that an
+    event is one line and each field is told from the next.
+    """
+    text = str(value)
+    if PLAIN.match(text) and text.isprintable():
+        return text
+    return "".join(
+        one if one.isprintable() else json.dumps(one)[1:-1]
+        for one in json.dumps(text, ensure_ascii=False)
+    )
+
+
+def traced(error: BaseException) -> tuple[type[BaseException], BaseException, TracebackType | None]:
+    """What a function raised, for a log: its traceback begins in the function."""
+    trace = error.__traceback__
+    while trace and trace.tb_next and trace.tb_frame.f_code.co_filename.startswith(HERE):
+        trace = trace.tb_next
+    return type(error), error, trace
+
+
+class Teller:
+    """Hands each event to the hook, and to the log `sagas` with its fields as `extra={"sagas":
+    {..}}`.
+    """
+
+    def __init__(self, hook: Hook | None, clock: Callable[[], float]) -> None:
+        self._hook, self._clock = hook, clock
+        self.listens = hook is not None
+
+    def wants(self, name: str) -> bool:
+        """Whether anybody hears an event of this name; looked at where events are many."""
+        return self.listens or logger.logger.isEnabledFor(LEVELS.get(name, logging.DEBUG))
+
+    def tell(
+        self,
+        name: str,
+        *,
+        level: int | None = None,
+        error: BaseException | None = None,
+        **fields: Any,
+    ) -> None:
+        """An event with its fields; in the log at this level, and with the traceback of an
+        error.
+        """
+        if not self.wants(name):
+            return
+        event = Event(name, self._clock(), **fields)
+        level = LEVELS.get(name, logging.DEBUG) if level is None else level
+        if logger.logger.isEnabledFor(level):
+            # (`dataclasses.asdict` copies each value: most of what an event takes)
+            told = {
+                field: value for field in FIELDS if (value := getattr(event, field)) is not None
+            }
+            words = " ".join(
+                f"{field}={quoted(told[field])}"
+                for field in ("key", "saga", "step", "undo", "attempt", "detail")
+                if told.get(field)
+            )
+            logger.log(
+                level,
+                "%s %s",
+                name,
+                words,
+                extra={"sagas": told},
+                exc_info=traced(error) if error else None,
+            )
+        if self._hook is not None:
+            try:
+                self._hook(event)
+            except Exception:  # a metric that fails must not stop a saga
+                logger.exception("on_event raised at %s", name)

@@ -1,0 +1,88 @@
+"""Protection of locks and pipes from forked children.
+
+What a forked child must not keep: the lock of a store, and the pipes to `sagas drive`. And what
+it must not use: what was opened before the fork.
+"""
+
+from __future__ import annotations
+
+import contextlib
+import os
+from collections.abc import Iterator
+
+from sagas.base.errors import Closed
+
+
+class _Private:
+    """Descriptors of this process alone: closed in every child that it forks. One for the
+    process, since a fork copies all of it.
+    """
+
+    def __init__(self) -> None:
+        self.forks = 0
+        """How often this process was forked, counted from the first of them all: another number
+        is another process.
+        """
+        self._fds: set[int] = set()
+        os.register_at_fork(after_in_child=self._close)
+
+    def add(self, fd: int) -> None:
+        self._fds.add(fd)
+
+    def discard(self, fd: int) -> None:
+        self._fds.discard(fd)
+
+    def _close(self) -> None:
+        self.forks += 1
+        for fd in self._fds:
+            with contextlib.suppress(OSError):
+                os.close(fd)
+        self._fds.clear()
+
+
+private = _Private()
+
+
+class Opened:
+    """Whether a store or a client is open, and in which process: it is entered once, and neither
+    used nor closed by a process that was forked meanwhile.
+    """
+
+    def __init__(self, what: str) -> None:
+        self._what, self._forks = what, -1
+
+    @property
+    def is_elsewhere(self) -> bool:
+        """Whether the process that opened it is another one."""
+        return self._forks not in (-1, private.forks)
+
+    def begin(self, where: str) -> None:
+        """It is about to be opened. Raises `RuntimeError` where it is open, and as `check`."""
+        self.check(where)
+        if self._forks != -1:
+            raise RuntimeError(
+                f"{where}: {self._what} is already open. Enter it once, and share it"
+            )
+        self._forks = private.forks
+
+    @contextlib.contextmanager
+    def opening(self, where: str) -> Iterator[None]:
+        """As `begin`; what fails within it means that it could not be opened."""
+        self.begin(where)
+        try:
+            yield
+        except BaseException:
+            self.end()
+            raise
+
+    def end(self) -> None:
+        """It is closed, or could not be opened."""
+        self._forks = -1
+
+    def check(self, where: str) -> None:
+        """Raises `Closed` where another process opened it."""
+        if self.is_elsewhere:
+            raise Closed(
+                f"{where}: {self._what} was opened in another process, before a fork. Create "
+                "and open one in this process, after the fork"
+            )

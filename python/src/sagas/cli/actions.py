@@ -1,0 +1,211 @@
+"""`abort`, `complete`, `fail` and `retry`, which are asked of the program that has the store."""
+
+from __future__ import annotations
+
+import argparse
+import json
+import sys
+import time
+from typing import Any
+
+from sagas.cli.batches import abort_all, check_keys, filter_of, show_count
+from sagas.cli.formatting import GOOD, NO, show_json
+from sagas.cli.snapshot import Snapshot
+from sagas.core.states import EnginePhase, Suspension
+from sagas.definition.serialization import clean
+from sagas.definition.validation import meant
+from sagas.inspection import lists
+from sagas.inspection.lists import step_names
+from sagas.storage import admin, factory
+from sagas.storage.admin import Trouble
+from sagas.storage.operator_requests import reason
+from sagas.storage.queries import DEFINITION
+
+Json = dict[str, Any]
+ALL = 1 << 60
+VERBS = {"complete": "completes", "fail": "fails", "retry": "retries"}
+WITHDRAWN = "withdrawn"
+"""The answer to an abort of a start that no node had taken."""
+
+
+def ask(path: str, key: str, what: str, value: Any, timeout: float) -> tuple[Any, bool]:
+    """Leaves a request in the store; gives the answer of the program that has the saga, or None
+    where none has come yet, and whether a program has the store.
+    """
+    with admin.writing(path) as link:
+        of = what_is_asked(link, key, what, value)
+        if of is None:
+            return WITHDRAWN, True
+        number = link.leave(of, what, json.dumps(value))
+        if number is None and of < 0:  # it is a saga by now
+            of = what_is_asked(link, key, what, value) or of
+            number = link.leave(of, what, json.dumps(value))
+        if number is None:
+            raise gone(key)
+        link.tell("requests")
+        driven = link.is_driven()
+        until = time.monotonic() + (timeout if driven else 0.0)
+        while True:
+            is_there, answer = link.answer(number, of)
+            if not is_there:
+                raise gone(key)
+            if answer is not None or time.monotonic() >= until:
+                return answer and json.loads(answer), driven
+            time.sleep(0.02)  # SQLite tells another process of a commit only when it looks
+
+
+def gone(key: str) -> Trouble:
+    """What is said where the saga goes while it is asked."""
+    return Trouble(f"saga {key} was deleted meanwhile")
+
+
+def what_is_asked(link: admin.Source, key: str, what: str, value: Any) -> int | None:
+    """The id of the saga that is asked; below 0 that of a client's start. None: that start, which
+    no node had taken, is withdrawn. Raises `Trouble` where nothing can be asked."""
+    asked = "SELECT id, phase, note FROM sagas WHERE key = ?"
+    found = link.ask(asked, key)
+    if not found and what == "abort":
+        if link.withdraw(key):
+            return None
+        start = link.start_of(key)  # its node does what it is asked once it has begun
+        found = link.ask(asked, key) or ([(-start, None, None)] if start else [])
+    if not found:
+        raise link.absent(key)
+    ((id, phase, note),) = found
+    if phase == EnginePhase.STUCK and note is None:
+        raise Trouble(
+            f"{key} is stuck, so there is nothing to {what}. After the repair, run `resolve`"
+        )
+    if phase is not None:
+        raise Trouble(f"{key} has ended ({phase}), so there is nothing to {what}")
+    if what in ("complete", "fail", "retry"):
+        check_step(link, key, id, value["step"])
+    return int(id)
+
+
+def check_step(link: admin.Source, key: str, id: int, step: str) -> None:
+    """Raises `Trouble` where the saga's definition has no such step: no program would take it."""
+    ((texts, place),) = link.ask(DEFINITION, id)
+    names = step_names(json.loads(texts)[place])
+    if step not in names:
+        raise Trouble(f"saga {key!r} has no step {step!r}{meant(step, names)}")
+
+
+def request(
+    path: str, words: argparse.Namespace, what: str, value: Any, done: str, refused: str
+) -> int:
+    """Asks the program for something, and says what came of it."""
+    answer, driven = ask(path, words.key, what, value, words.timeout)
+    good = answer is None or answer is True or answer == WITHDRAWN
+    if words.json:
+        show_json({"key": words.key, "asked": what, "answer": answer})
+    elif answer is None:
+        none = (
+            "a node executes the saga (run `sagas store URL nodes`)"
+            if factory.is_url(path)
+            else "the program handles it"
+        )
+        print(
+            f"{words.key}: requested; it takes effect when "
+            f"{none if driven else 'a program has the store open'}"
+        )
+    elif answer == WITHDRAWN:
+        print(f"{words.key}: start withdrawn; no node had accepted it, and nothing has started")
+    elif good:
+        print(f"{words.key}: {done}")
+    else:
+        print(
+            "sagas store: "
+            f"{reason(answer) if isinstance(answer, dict) else f'{words.key}: {refused}'}",
+            file=sys.stderr,
+        )
+    return GOOD if good else NO
+
+
+def abort(path: str, words: argparse.Namespace) -> int:
+    """Abort a saga, or with --all each of a filter: undo by a least-cost plan.
+
+    No step starts any more. A client's start that no node has accepted is withdrawn.
+    """
+    check_keys(words, bool(words.key))
+    if words.all:
+        return abort_all(path, words)
+    value = {"note": words.note} if words.note else None
+    return request(
+        path, words, "abort", value, "aborted", "not aborted: it has ended, or was aborted before"
+    )
+
+
+def complete(path: str, words: argparse.Namespace) -> int:
+    """Report that a step succeeded: one that waits for an approval or a report.
+
+    With --all, report it of each step whose attempts are used up. The program that executes the
+    saga takes the report, now or when it opens the store.
+    """
+    try:
+        result = json.loads(words.result)
+    except ValueError as error:
+        told = f"--result is not JSON ({error}). Write a text as '\"yes\"'"
+        raise Trouble(told, 2) from error
+    check_steps(words, "complete")
+    return answer(path, words, "complete", {"result": result}, "succeeded", "not reported")
+
+
+def fail(path: str, words: argparse.Namespace) -> int:
+    """Report that a step failed permanently, for example to reject an approval.
+
+    With --all, report it of each step whose attempts are used up. The program that executes the
+    saga takes the report, now or when it opens the store.
+    """
+    check_steps(words, "fail")
+    if (words.why is None) == words.all or (words.error is None) != words.all:
+        raise Trouble("fail takes KEY, STEP and ERROR, or --all and --error TEXT", 2)
+    told = {"error": words.why if words.all else words.error}
+    return answer(path, words, "fail", told, "failed", "not reported")
+
+
+def retry(path: str, words: argparse.Namespace) -> int:
+    """Attempt a step again whose attempts are used up, or whose outcome is unknown."""
+    check_steps(words, "retry")
+    return answer(path, words, "retry", {}, "is attempted again", "not retried")
+
+
+def check_steps(words: argparse.Namespace, what: str) -> None:
+    """Raises `Trouble` where it is not said which steps are meant, or twice."""
+    check_keys(words, bool(words.key))
+    if words.key and not words.step:
+        raise Trouble(f"{what} takes KEY and STEP", 2)
+    if words.all and words.undo:
+        raise Trouble("--undo needs KEY and STEP: --all means compensations, too", 2)
+    if words.key and (words.only or words.yes):
+        raise Trouble("--step and --yes need --all", 2)
+
+
+def answer(
+    path: str, words: argparse.Namespace, what: str, told: Json, done: str, refused: str
+) -> int:
+    """Says it of a step, or with --all of each of the filter whose attempts are used up."""
+    if not words.all:
+        return request(path, words, what, report_of(words) | told, f"{words.step} {done}", refused)
+    why = Suspension.EXHAUSTED.value
+    with Snapshot(path) as store:
+        waits = store.ask(lists.waits(ALL, why=why, within=filter_of(words)))
+    waits = [one for one in waits if words.only in (None, one.step)]
+    if not words.yes:
+        return show_count(words, len(waits), f"--yes {VERBS[what]}", "step")
+    status = GOOD
+    for one in waits:
+        words.key, words.step, words.undo = one.key, one.step, one.undo
+        value = report_of(words) | told
+        try:
+            status |= request(path, words, what, value, f"{one.step} {done}", refused)
+        except Trouble as trouble:  # somebody else was faster: the rest goes on
+            print(f"sagas store: {clean(str(trouble))}", file=sys.stderr)
+            status = NO
+    return status
+
+
+def report_of(words: argparse.Namespace) -> Json:
+    """Which step is meant, and why."""
+    value: Json = {"step": words.step, "kind": "undo" if words.undo else "run"}
+    return value | ({"note": words.note} if words.note else {})

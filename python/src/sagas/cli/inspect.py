@@ -1,0 +1,239 @@
+"""`list`, `show`, `log`, `plan`, `draw` and `export`."""
+
+from __future__ import annotations
+
+import argparse
+import dataclasses
+import sys
+from collections.abc import Sequence
+from typing import Any
+
+from sagas.base import program
+from sagas.cli.backlog import held_json, show_held
+from sagas.cli.batches import filter_of
+from sagas.cli.formatting import GOOD, moment, short, show_json, table
+from sagas.cli.snapshot import Snapshot
+from sagas.core.history import MISSES, was_called
+from sagas.core.results import Summary
+from sagas.core.states import known_state, state_text
+from sagas.engine.plan import certificate_text
+from sagas.inspection import lists, picture
+from sagas.inspection.views import SagaView, StepView
+from sagas.storage.admin import Trouble
+
+Json = dict[str, Any]
+
+
+def phase_of(one: Summary) -> str:
+    """A saga's phase as a person reads it."""
+    return f"{one.phase}, undo failed" if one.undo_failed else one.phase
+
+
+def labels_text(one: Summary) -> str:
+    """A saga's labels as a person reads them."""
+    return ", ".join(f"{name}={value}" for name, value in one.labels.items())
+
+
+def summary_json(one: Summary) -> Json:
+    """A saga in a list, for programs."""
+    told = dataclasses.asdict(one)
+    told["at"] = told.pop("started")
+    order = "id key saga phase at ended note undo_failed labels deadline"
+    return {word: told[word] for word in order.split()}
+
+
+def list_sagas(path: str, words: argparse.Namespace) -> int:
+    """List sagas by phase and name, the oldest first."""
+    with Snapshot(path) as store:
+        place = store.saga(words.after).id if words.after else None
+        after, before = (None, place) if words.newest else (place, None)
+        found = store.ask(
+            lists.page(
+                phase=words.phase,
+                saga=words.saga or None,
+                labels=filter_of(words).labels,
+                after=after,
+                before=before,
+                newest=words.newest,
+                most=words.limit or None,
+            )
+        )
+    if words.json:
+        show_json([{w: v for w, v in summary_json(one).items() if w != "id"} for one in found])
+    else:
+        heads = ["KEY", "SAGA", "PHASE", "STARTED", "ENDED"]
+        cells = [
+            [one.key, one.saga, phase_of(one), moment(one.started), moment(one.ended)]
+            for one in found
+        ]
+        if any(one.labels for one in found):
+            heads.append("LABELS")
+            cells = [[*row, labels_text(one)] for row, one in zip(cells, found)]
+        print(table(heads, cells))
+    if words.limit and len(found) == words.limit:
+        newest = "--newest " if words.newest else ""
+        print(f"there may be more: continue with {newest}--after {found[-1].key}", file=sys.stderr)
+    return GOOD
+
+
+def show(path: str, words: argparse.Namespace) -> int:
+    """Show the state of a saga, its steps, its last plan and what it waits for.
+
+    A step in state `begun` runs, or waits for its turn: only the program that executes it knows.
+    """
+    with Snapshot(path) as store:
+        view = store.saga(words.key)
+    if words.json:
+        told = {
+            "aborted": view.aborted,
+            "input": view.input,
+            "end": view.end,
+            "steps": [step_json(step) for step in view.steps],
+            "held": [held_json(one) for one in view.held],
+            "plan": view.plan.answer if view.plan else None,
+        }
+        show_json(summary_json(view.summary) | told)
+        return GOOD
+    facts = [
+        ("key", view.key),
+        ("saga", view.saga),
+        ("phase", f"{phase_of(view.summary)}{', aborted' if view.aborted else ''}"),
+        ("started", moment(view.started)),
+        ("ended", moment(view.ended)),
+        ("deadline", moment(view.summary.deadline)),
+        ("labels", labels_text(view.summary)),
+        ("input", short(view.input, 200)),
+        ("resolved", resolved_text(view)),
+        ("note", view.note or ""),
+    ]
+    print("\n".join(f"{word:8} {text}" for word, text in facts if text))
+    print()
+    show_steps(view)
+    if view.plan:
+        print(f"\n{view.plan}")
+    if view.held:
+        print()
+        show_held([held_json(one) for one in view.held])
+    return GOOD
+
+
+def resolved_text(view: SagaView) -> str:
+    """When it was resolved, and by whom, as far as somebody is named."""
+    if (one := view.resolution) is None:
+        return ""
+    return moment(one.at) + (f" by {one.told['by']}" if one.told.get("by") else "")
+
+
+def step_json(step: StepView) -> Json:
+    """A step of a saga, for programs."""
+    return {
+        "step": step.name,
+        "state": known_state(step.state),
+        "attempts": step.attempts,
+        "started": step.began,
+        "ended": step.ended,
+        "result": step.said,
+        "progress": step.progress and step.progress.fraction,
+        "detail": step.progress and step.progress.detail,
+    }
+
+
+def show_steps(view: SagaView) -> None:
+    """Prints the steps of a saga; of one whose compensation failed for good also what that
+    raised.
+    """
+    undos = {
+        one.step: f"its compensation: {short(one.value)}"
+        for one in view.attempts
+        if one.outcome in MISSES and was_called(one.outcome, one.value)
+    }
+    heads = ["STEP", "STATE", "TRIES", "STARTED", "ENDED", "DETAIL"]
+    cells = []
+    for step in view.steps:
+        undo = undos.get(step.name) if step.state == "undo_failed" else None
+        said = "; ".join(filter(None, [str(step.progress or short(step.said)), undo]))
+        times = moment(step.began), moment(step.ended)
+        state = state_text(step.state, is_over=view.phase != "open")
+        cells.append((step.name, state, step.attempts, *times, said))
+    print(table(heads, cells))
+
+
+def log(path: str, words: argparse.Namespace) -> int:
+    """Print the events of a saga, and as `note` what operators did to it."""
+    with Snapshot(path) as store:
+        events = store.saga(words.key).history
+    if words.json:
+        show_json([dataclasses.asdict(one) for one in events])
+    else:
+        rows = [(moment(one.at), one.event, one.step or "", short(one.value)) for one in events]
+        print(table(["TIME", "EVENT", "STEP", "DETAIL"], rows))
+    return GOOD
+
+
+def plan(path: str, words: argparse.Namespace) -> int:
+    """Print the last plan of a saga, with the costs of both choices for each step.
+
+    With --json, print its definition, case and answer; with --text, print them as `sagas` reads
+    them to check the plan.
+    """
+    with Snapshot(path) as store:
+        found = store.saga(words.key).plan
+    if words.json:
+        parts = ("definition", "case", "answer")
+        show_json({part: getattr(found, part) for part in parts} if found else None)
+    elif found:
+        print(certificate_text(found).rstrip("\n") if words.text else found)
+    else:
+        raise Trouble(
+            f"{words.key} has no plan, because nothing has failed and nobody has aborted it"
+        )
+    return GOOD
+
+
+def draw(path: str, words: argparse.Namespace) -> int:
+    """Print the last plan of a saga, or its definition, for Graphviz."""
+    with Snapshot(path) as store:
+        view = store.saga(words.key)
+    if words.svg:
+        text = picture.document(view)
+    else:
+        text = view.plan.draw() if view.plan else program.draw(view.definition)
+    if words.json:
+        show_json({"key": words.key, "svg" if words.svg else "dot": text})
+    else:
+        print(text.rstrip("\n"))
+    return GOOD
+
+
+def export(path: str, words: argparse.Namespace) -> int:
+    """Print everything that is stored of a saga, as JSON."""
+    with Snapshot(path) as store:
+        view = store.saga(words.key)
+    show_json(
+        summary_json(view.summary)
+        | {
+            "definition": view.definition,
+            "input": view.input,
+            "end": view.end,
+            "events": [{"at": at, **event} for at, event in view.lines],
+            "results": results_json(view),
+            "notes": [dataclasses.asdict(one.event) for one in view.notes],
+            "held": [held_json(one) for one in view.held],
+        }
+    )
+    return GOOD
+
+
+def results_json(view: SagaView) -> Sequence[Json]:
+    """How each attempt of a saga ended, in the order of time, for programs."""
+    return [
+        {
+            "step": one.step,
+            "kind": "undo" if one.undo else "run",
+            "attempt": one.attempt,
+            "outcome": one.outcome,
+            "value": one.value,
+            "at": one.at,
+        }
+        for one in sorted(view.attempts, key=lambda one: one.at)
+    ]

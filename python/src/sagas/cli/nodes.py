@@ -1,0 +1,130 @@
+"""Nodes, tables and grants of a PostgreSQL store.
+
+The part of the operators' command that a store in PostgreSQL alone has: its nodes, its tables and
+who may use them.
+"""
+
+from __future__ import annotations
+
+import argparse
+import json
+from typing import Any
+
+import tomllib
+
+from sagas.definition.capacity import SHARD_CAPACITY
+from sagas.definition.compiled import version_of
+from sagas.storage import factory, queries
+from sagas.storage.admin import Base, Trouble
+
+OPEN = f"""s.id >= l.shard * {SHARD_CAPACITY} AND s.id < (l.shard + 1) * {SHARD_CAPACITY}
+    AND s.phase IS NULL"""
+"""The open sagas `s` of a shard `l`."""
+NODES = f"""
+SELECT n.name, n.node, n.version, extract(epoch FROM n.since), extract(epoch FROM n.lease - now()),
+  (SELECT count(*) FROM shards l WHERE l.owner = n.node AND l.closed = 0),
+  (SELECT count(*) FROM shards l JOIN sagas s ON {OPEN} WHERE l.owner = n.node AND l.closed = 0)
+FROM nodes n
+WHERE n.lease > now() OR EXISTS (SELECT 1 FROM shards l WHERE l.owner = n.node AND l.closed = 0)
+ORDER BY n.name, n.since
+"""
+LEFT = f"""
+SELECT l.shard, l.name, t.texts, count(s.id)
+FROM shards l JOIN definition_sets t USING (definition_set) LEFT JOIN sagas s ON {OPEN}
+WHERE l.closed = 0 AND NOT EXISTS (SELECT 1 FROM nodes n WHERE n.node = l.owner AND n.lease > now())
+GROUP BY l.shard, l.name, t.texts HAVING count(s.id) > 0 ORDER BY l.shard
+"""
+"""What has no open saga needs no node: whoever comes closes it."""
+STARTS = f"""
+SELECT saga, version, digest, count(*), extract(epoch FROM now()) - min(at), fits, others
+FROM (SELECT i.*, {queries.FITS} AS fits, {queries.OTHERS} AS others FROM pending_starts i
+  WHERE NOT EXISTS (SELECT 1 FROM nodes n WHERE n.node = i.node AND n.lease > now())) i
+GROUP BY saga, version, digest, fits, others ORDER BY saga, version, digest
+"""
+
+
+def is_database(name: str) -> None:
+    """Raises `Trouble` where it is a file."""
+    factory.check_name(name)
+    if not factory.is_url(name):
+        raise Trouble(f"{name} is a SQLite file. This command needs a PostgreSQL store", 2)
+
+
+def read(name: str) -> dict[str, Any]:
+    """The nodes, and the logs and the starts of clients that none of them has."""
+    is_database(name)
+    link = Base(name, "ro")
+    try:
+        link.begin()
+        nodes = [
+            {
+                "name": node,
+                "run": run.rpartition("/")[2],
+                "definitions": version,
+                "since": float(since),
+                "lease": float(lease),
+                "shards": logs,
+                "open": open,
+            }
+            for node, run, version, since, lease, logs, open in link.ask(NODES)
+        ]
+        left = []
+        for log, word, texts, open in link.ask(LEFT):
+            kinds = sorted(
+                f"{tomllib.loads(text)['name']} (version {version_of(text)})"
+                for text in json.loads(texts)
+            )
+            left.append({"shard": log, "name": word, "sagas": kinds, "open": open})
+        starts = _starts(link)
+        return {"nodes": nodes, "shards_without_node": left, "starts_without_node": starts}
+    finally:
+        link.close()
+
+
+def _starts(link: Base) -> list[dict[str, Any]]:
+    """The starts that no node has taken, by definition. `nodes`: those that leave them, since they
+    have another definition of that saga and version."""
+    rows = link.ask(STARTS)
+    return [
+        {
+            "saga": f"{saga} (version {version})",
+            "definition": digest,
+            "starts": count,
+            "seconds": float(seconds),
+            "fits": fits,
+            "nodes": others,
+        }  # fmt: skip
+        for saga, version, digest, count, seconds, fits, others in rows
+    ]
+
+
+def init(name: str, role: str | None) -> str:
+    """Makes the tables, and gives a role what a node and a client need."""
+    is_database(name)
+    try:
+        from sagas.storage.postgresql import connections, schema
+    except ImportError as error:
+        raise factory.missing(error) from error
+    where = connections.named(name)
+    with connections.faults(where):
+        link = connections.connect_now(name)
+        try:
+            before = schema.migrate(link, where)
+            if role:
+                schema.allow(link, role)
+        finally:
+            link.close()
+    now = schema.VERSION
+    told = (
+        f"tables of version {now}"
+        if before == now
+        else f"tables of version {now}, {before or 'none'} before"
+    )
+    return f"{where}: {told}{f'; {role} may use them' if role else ''}"
+
+
+def words_of_role(part: argparse.ArgumentParser) -> None:
+    """The option for least rights."""
+    part.add_argument(
+        "--role", metavar="NAME", help="grant this role what a node and a client need, and no more"
+    )

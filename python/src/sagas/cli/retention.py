@@ -1,0 +1,62 @@
+"""`prune`."""
+
+from __future__ import annotations
+
+import argparse
+import re
+import sys
+
+from sagas.base.wording import number
+from sagas.cli.formatting import CANNOT, GOOD, show_json
+from sagas.runtime import retention
+from sagas.storage.admin import Trouble
+
+UNITS = {"s": 1, "m": 60, "h": 3600, "d": 86400, "w": 7 * 86400}
+
+
+def age(text: str) -> float:
+    """Seconds, of a number and a unit: `30d`, `12h`."""
+    found = re.fullmatch(r"(\d{1,9})([smhdw])", text)
+    if not found:
+        raise argparse.ArgumentTypeError(
+            f"invalid duration {text!r}: use an integer and a unit s, m, h, d or w, for "
+            "example 30d"
+        )
+    return float(int(found[1]) * UNITS[found[2]])
+
+
+def words_of_prune(part: argparse.ArgumentParser) -> None:
+    """Its options."""
+    part.add_argument(
+        "--older-than",
+        type=age,
+        required=True,
+        metavar="TIME",
+        help="delete sagas that ended at least this long ago, for example 30d or 12h",
+    )
+    part.add_argument(
+        "--export",
+        metavar="DIR",
+        help="first write each shard into its own subfolder of DIR",
+    )
+
+
+def prune(path: str, words: argparse.Namespace) -> int:
+    """Delete sagas that ended before a cutoff, by whole closed shards.
+
+    Their keys are free again. One run deletes at most 100,000 sagas.
+    """
+    try:
+        gone = retention.prune(path, words.older_than, words.export)
+    except OSError as error:
+        raise Trouble(f"cannot write to {words.export}: {error}", CANNOT) from error
+    if gone.other:
+        raise Trouble("another program is deleting ended sagas of this store. Try again later")
+    if words.json:
+        show_json({"shards": gone.logs, "sagas": gone.sagas, "more": gone.more})
+        return GOOD
+    where = f", exported to {words.export}" if words.export and gone.logs else ""
+    print(f"deleted {number(gone.sagas, 'saga')} ({number(len(gone.logs), 'shard')}){where}")
+    if gone.more:
+        print("more sagas are due: run the command again", file=sys.stderr)
+    return GOOD

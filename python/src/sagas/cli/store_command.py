@@ -1,0 +1,246 @@
+"""`sagas store STORE ..`: its words and its errors.
+
+What only looks changes nothing. `abort`, `complete`, `fail` and `retry` leave a request in the
+store, which the program that has it open (or the next one that opens it) takes up; `resolve` marks
+stuck sagas as seen to by a person.
+"""
+
+from __future__ import annotations
+
+import argparse
+import inspect
+import sys
+from collections.abc import Callable
+
+from sagas.base.errors import SagasError
+from sagas.cli import nodes as nodes_module
+from sagas.cli.actions import abort, complete, fail, retry
+from sagas.cli.audits import audit
+from sagas.cli.backlog import attention, definitions, pending, stats, stuck
+from sagas.cli.batches import resolve, words_of_filter
+from sagas.cli.formatting import CANNOT, INTERRUPTED, escape
+from sagas.cli.inspect import draw, export, list_sagas, log, plan, show
+from sagas.cli.maintenance import init, migrate, nodes
+from sagas.cli.retention import prune, words_of_prune
+from sagas.cli.schedules import schedules, words_of_schedules
+from sagas.definition.serialization import clean
+from sagas.storage.admin import Trouble
+from sagas.storage.queries import PHASES
+
+Command = Callable[[str, argparse.Namespace], int]
+Add = Callable[..., argparse.ArgumentParser]
+CANNOT_USE = "the store cannot be read or written"
+
+
+EXAMPLES = {
+    "list": "list --phase open --limit 10",
+    "show": "show order-1",
+    "log": "log order-1",
+    "plan": "plan order-1",
+    "draw": "draw order-1 | dot -Tsvg > order-1.svg",
+    "abort": 'abort order-1 --note "customer left"',
+    "complete": "complete order-1 review --result '\"yes\"'",
+    "fail": 'fail order-1 review "unknown customer"',
+    "resolve": 'resolve order-1 --note "sent by courier"',
+    "export": "export order-1 > order-1.json",
+    "schedules": "schedules pause nightly",
+    "prune": "prune --older-than 30d",
+    "init": "init --role shop",
+}
+"""The words of an example; of other commands just their names."""
+REFUSED = {
+    "list": "no saga has the key of --after",
+    **dict.fromkeys(("show", "log", "draw", "export"), "no saga has the key"),
+    "plan": "no saga has the key, or the saga has no plan",
+    "abort": "no saga has the key, or the saga has ended or was aborted before",
+    **dict.fromkeys(
+        ("complete", "fail"), "no saga or step has the name, or the report is rejected"
+    ),
+    "resolve": "a saga does not exist, or does not need to be resolved",
+    "audit": "a shard has an event that was not allowed, or differs from the rows",
+    "schedules": "no schedule has the name",
+    "prune": "another program is deleting ended sagas of this store",
+}
+"""What status 1 means of a command that has it."""
+
+
+def ending(name: str) -> str:
+    """An example of a command, and each exit status that it can have."""
+    store = "postgresql:///shop" if name in ("init", "nodes") else "shop.db"
+    usage = "invalid arguments" + ("" if store == "shop.db" else ", or the store is a file")
+    told = {0: "done", 1: REFUSED.get(name), 2: usage, 4: CANNOT_USE, 130: "interrupted"}
+    lines = [f"  {status:<3}  {what}" for status, what in told.items() if what]
+    example = f"Example:\n  sagas store {store} {EXAMPLES.get(name, name)}"
+    return "\n".join([example, "", "Exit status:", *lines])
+
+
+def parser() -> argparse.ArgumentParser:
+    """The words of the command."""
+    told = (
+        "Look at the sagas of a store, and change them, also while a program has it "
+        "open. Times are in UTC."
+    )
+    top = argparse.ArgumentParser(prog="sagas store", description=told)
+    top.add_argument("path", metavar="STORE", help="the store's file, or the URL of its database")
+    parts = top.add_subparsers(dest="command", required=True, metavar="COMMAND")
+
+    def add(name: str, command: Command, key: bool = False) -> argparse.ArgumentParser:
+        told = inspect.getdoc(command) or ""
+        part = parts.add_parser(
+            name,
+            help=told.partition("\n")[0].rstrip("."),
+            description=told,
+            epilog=ending(name),
+            formatter_class=argparse.RawDescriptionHelpFormatter,
+        )
+        part.set_defaults(do=command)
+        part.add_argument("--json", action="store_true", help="print JSON, for programs")
+        if key:
+            part.add_argument("key", metavar="KEY", help="the saga's key")
+        return part
+
+    add_looks(add)
+    add_asks(add)
+    words_of_schedules(add("schedules", schedules))
+    add("audit", audit)
+    add("nodes", nodes)
+    add("migrate", migrate)
+    nodes_module.words_of_role(add("init", init))
+    add("export", export, key=True)
+    words_of_prune(add("prune", prune))
+    return top
+
+
+def add_looks(add: Add) -> None:
+    """What only looks."""
+    part = add("list", list_sagas)
+    part.add_argument(
+        "--phase",
+        choices=[*PHASES],
+        help=(
+            "only sagas in this phase; undo_failed: recovered ones with a permanently "
+            "failed compensation"
+        ),
+    )
+    words_of_filter(part, "")
+    part.add_argument("--after", metavar="KEY", help="continue after the saga with this key")
+    part.add_argument("--newest", action="store_true", help="list the newest first")
+    part.add_argument(
+        "--limit",
+        type=int,
+        default=100,
+        metavar="N",
+        help="maximum number of sagas; 0: no limit (default: 100)",
+    )
+    add("show", show, key=True)
+    add("log", log, key=True)
+    add("plan", plan, key=True).add_argument(
+        "--text", action="store_true", help="print it in the form that `sagas` reads to check it"
+    )
+    add("draw", draw, key=True).add_argument(
+        "--svg",
+        action="store_true",
+        help="print the saga's state as an SVG picture, as the dashboard shows it",
+    )
+    add("stats", stats)
+    add("definitions", definitions)
+    add("stuck", stuck)
+    add("attention", attention).add_argument(
+        "--limit",
+        type=int,
+        default=100,
+        metavar="N",
+        help="maximum number of entries (default: 100)",
+    )
+    add("pending", pending)
+
+
+def add_asks(add: Add) -> None:
+    """What changes something."""
+    part = add("abort", abort)
+    part.add_argument("key", metavar="KEY", nargs="?", help="the saga's key")
+    part.add_argument("--all", action="store_true", help="every open saga, instead of KEY")
+    words_of_filter(part, "with --all: ")
+    part.add_argument(
+        "--yes", action="store_true", help="with --all: abort them (default: only count them)"
+    )
+    add_note(part)
+    add_timeout(part)
+    part = add("complete", complete)
+    add_steps(part, "complete")
+    part.add_argument(
+        "--result",
+        default="null",
+        metavar="JSON",
+        help="the step's result; write a text as '\"yes\"' (default: null)",
+    )
+    part = add("fail", fail)
+    add_steps(part, "fail")
+    part.add_argument(
+        "error", metavar="ERROR", nargs="?", help="why it had no effect, or why it is rejected"
+    )
+    part.add_argument("--error", metavar="TEXT", dest="why", help="with --all: why they failed")
+    add_steps(add("retry", retry), "retry")
+    part = add("resolve", resolve)
+    part.add_argument("key", metavar="KEY", nargs="*", help="the sagas' keys")
+    part.add_argument(
+        "--all", action="store_true", help="every saga that nobody has resolved, instead of KEYs"
+    )
+    words_of_filter(part, "with --all: ")
+    part.add_argument("--count", action="store_true", help="with --all: only count them")
+    part.add_argument("--note", required=True, metavar="TEXT", help="what was done about it")
+
+
+def add_steps(part: argparse.ArgumentParser, what: str) -> None:
+    """The step that is meant, or all of a filter, and the options of a report."""
+    part.add_argument("key", metavar="KEY", nargs="?", help="the saga's key")
+    part.add_argument("step", metavar="STEP", nargs="?", help="the step's name")
+    part.add_argument(
+        "--all", action="store_true", help="each step whose attempts are used up, without KEY"
+    )
+    words_of_filter(part, "with --all: ")
+    part.add_argument("--step", metavar="NAME", dest="only", help="with --all: only this step")
+    part.add_argument(
+        "--yes", action="store_true", help=f"with --all: {what} them (default: only count them)"
+    )
+    part.add_argument("--undo", action="store_true", help="report the step's compensation")
+    add_note(part)
+    add_timeout(part)
+
+
+def add_note(part: argparse.ArgumentParser) -> None:
+    """The option why."""
+    part.add_argument("--note", metavar="TEXT", help="why; stored with the time")
+
+
+def add_timeout(part: argparse.ArgumentParser) -> None:
+    """The option how long to wait for the program's answer."""
+    part.add_argument(
+        "--timeout",
+        type=float,
+        default=5.0,
+        metavar="SECONDS",
+        help="seconds to wait for the program's answer (default: 5)",
+    )
+
+
+def main(words: list[str] | None = None) -> int:
+    """Runs `sagas store` with the words behind it, and gives the status: 0 good, 1 no, 2 usage,
+    4 a file, 130 interrupted.
+    """
+    escape()
+    given = parser().parse_args(words)
+    command: Command = given.do
+    try:
+        return command(given.path, given)
+    except Trouble as trouble:
+        print(f"sagas store: {clean(str(trouble))}", file=sys.stderr)
+        return trouble.status
+    except SagasError as error:
+        print(f"sagas store: {clean(str(error))}", file=sys.stderr)
+        return CANNOT
+    except BrokenPipeError:
+        return CANNOT
+    except KeyboardInterrupt:
+        print("sagas store: interrupted; what was done before is kept", file=sys.stderr)
+        return INTERRUPTED

@@ -1,0 +1,1 @@
+"""States, attempts and shards: logic without input or output."""

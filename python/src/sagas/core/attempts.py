@@ -1,0 +1,399 @@
+"""`AttemptMachine`: begins, suspends, retries, drains and finishes attempts.
+
+Nothing here knows a clock, a loop or a database. Time comes in as a value; what is to be done
+comes out as a `Decision`.
+"""
+
+from __future__ import annotations
+
+import datetime
+from typing import Any
+
+from sagas.base.errors import CannotDecode, Fail
+from sagas.core.decisions import (
+    CALL,
+    NOTHING,
+    OFFER,
+    REPORT,
+    REPORT_AGAIN,
+    SLEEP,
+    WITHDRAW,
+    Decision,
+    Do,
+)
+from sagas.core.declared_values import due_time, limit_key
+from sagas.core.exhaustion import FAILED_BEFORE, LEAST_PAUSE, RETRIED, go_on
+from sagas.core.model import CLAIMED, FINISHED, QUEUED, RUNNING, SUSPENDED, Attempt, SagaInstance
+from sagas.core.outcomes import MOST_TEXT, Outcome, decided, failure
+from sagas.core.states import Action, OutcomeKind, Suspension
+from sagas.core.suspensions import SuspensionRow
+from sagas.definition.step import Step
+
+LOOK = 30.0
+"""Seconds: a clock may jump, so nobody sleeps longer without a look at it."""
+YIELD, MOST_YIELD = 1.0, 60.0
+"""Seconds for which an attempt leaves its place to others whose wait for a saga was given up."""
+COUNTED = frozenset({Suspension.BACKOFF, Suspension.UNKNOWN, Suspension.RETRY})
+"""Suspensions of some seconds, which are counted here: to put the clock back does not make them
+more.
+"""
+PARKED = RETRIED | {Suspension.CANNOT_DECODE}
+"""Suspensions of an attempt that was called, and is called again."""
+WAITS = PARKED | {Suspension.TIMER, Suspension.APPROVAL}
+"""Suspensions that are told as `step_suspended`."""
+ASKED = WAITS | {Suspension.EXTERNAL}
+"""Suspensions of an attempt that somebody may report."""
+
+
+Decisions = list[tuple[Attempt, Decision]]
+
+
+def is_simple(attempt: Attempt) -> bool:
+    """Whether its function is called at once, and nothing is to be decided."""
+    return (
+        attempt.action.simple is not None and attempt.attempt == 1 and not attempt.instance.draining
+    )
+
+
+def is_asked(attempt: Attempt) -> bool:
+    """Whether somebody may report it: it is suspended for that."""
+    return attempt.state is SUSPENDED and not attempt.pending and attempt.reason in ASKED
+
+
+def will_be_asked(attempt: Attempt) -> bool:
+    """Whether it is about to be suspended until somebody reports it."""
+    step = attempt.declared
+    if step.manner(attempt.kind).external:
+        return attempt.state is CLAIMED
+    if attempt.state is SUSPENDED and attempt.pending and attempt.reason in ASKED:
+        return True
+    if attempt.undo or attempt.state is FINISHED:
+        return False
+    is_due = attempt.instance.rare.due.get(attempt.word) == 0
+    return step.kind == "approval" or (step.kind == "wait" and not is_due)
+
+
+class AttemptMachine:
+    """Decide what becomes of attempts. All it knows is in the attempts and their sagas.
+
+    Each method sets the attempt's state before it returns. `CALL` is the exception: the runtime
+    queues and starts the attempt when there is a place for it.
+
+    Attributes:
+        leased: Whether external workers get leases. Else who does an external step may begin
+            before this program knows of it.
+    """
+
+    def __init__(self, leased: bool = False) -> None:
+        self.leased = leased
+
+    # -- begin
+
+    def begin(self, attempt: Attempt, now: float) -> Decision:
+        """Decide how one goes on that is in the store as begun.
+
+        Args:
+            attempt: One in the state `CLAIMED`.
+            now: Wall time in seconds.
+
+        Returns:
+            `CALL`, `OFFER`, `SUSPEND`, or `REPORT` where it is given up without a call.
+        """
+        instance = attempt.instance
+        if is_simple(attempt):
+            return CALL
+        if attempt.word in instance.rare.final:
+            return self._give_up(attempt, "not called: the step failed permanently", now, True)
+        if instance.draining and self._may_leave(attempt) and attempt.offered != 0:
+            return self._give_up(attempt, "not called: the saga is being undone", now)
+        if attempt.attempt > 1 and (pause := self._backoff(attempt, now)) > 0:
+            attempt.suspend(Suspension.BACKOFF, now + pause)
+            return SLEEP
+        return self._first(attempt, now)
+
+    def resume(self, attempt: Attempt, now: float) -> Decision:
+        """Decide how one goes on in a shard that was recovered: it is under way here, or was made
+        from the rows of an earlier program.
+
+        Returns:
+            As `begin`; `REPORT_AGAIN` of one that is finished, `NOTHING` of one that goes on.
+        """
+        if attempt.state is FINISHED:
+            return REPORT_AGAIN
+        if attempt.pending and attempt.state is not RUNNING:
+            return self._put_again(attempt, attempt.pending)
+        if attempt.reason is Suspension.EXTERNAL and attempt.manner.external:
+            attempt.suspend(Suspension.EXTERNAL)
+            return OFFER
+        if attempt.state is not CLAIMED:
+            return NOTHING
+        if attempt.reason in RETRIED:
+            attempt.suspend(attempt.reason, attempt.until)
+            return NOTHING if attempt.until is None else SLEEP
+        if attempt.reason is Suspension.TIMER and attempt.until == 0:
+            return CALL
+        if attempt.reason in (Suspension.TIMER, Suspension.APPROVAL):
+            attempt.fresh = True
+            attempt.suspend(attempt.reason, attempt.until)
+            return SLEEP
+        return self.begin(attempt, now)
+
+    def _put_again(self, attempt: Attempt, row: SuspensionRow) -> Decision:
+        """The row was on its way to the store, and is not known to be there."""
+        if attempt.state is QUEUED:
+            return Decision(Do.NOTHING, row)
+        attempt.suspend(row.reason, None if row.reason is Suspension.CANNOT_DECODE else row.until)
+        return Decision(Do.SUSPEND, row, timer=row.reason in RETRIED)
+
+    def _first(self, attempt: Attempt, now: float) -> Decision:
+        step = attempt.declared
+        if step.kind == "wait" and attempt.kind == Action.RUN and not step.manner("run").external:
+            return self._wait(attempt, step, now)
+        return self._go(attempt)
+
+    def _go(self, attempt: Attempt) -> Decision:
+        """It is called here, or done by an external worker."""
+        if not attempt.manner.external:
+            return CALL
+        attempt.fresh = attempt.fresh and self.leased  # else whoever does it may have begun
+        attempt.suspend(Suspension.EXTERNAL)
+        return OFFER
+
+    def _backoff(self, attempt: Attempt, now: float) -> float:
+        """Seconds until it is called; where the clock jumped back, no more than the pause."""
+        missed = attempt.instance.rare.missed_at.get(attempt.word)
+        if missed is None:
+            return 0.0
+        wanted = attempt.instance.rare.pauses.get(attempt.word)
+        if wanted is None:
+            wanted = attempt.manner.backoff.after(attempt.attempt - 1)
+        else:
+            attempt.rare.pause = wanted
+        return min(wanted, missed + wanted - now)
+
+    def _wait(self, attempt: Attempt, step: Step[Any], now: float) -> Decision:
+        """It waits for its time, counted from the first attempt that could say it. One that cannot
+        has failed, and its function is not called.
+        """
+        rare = attempt.instance.rare
+        due = rare.due.get(attempt.word)
+        if due == 0:
+            attempt.has_row = True  # an earlier attempt's
+            return CALL
+        if due is None:
+            try:
+                due = due_time(step, attempt, now)
+            except Exception as error:
+                return self._without(attempt, error, now)
+        rare.due[attempt.word] = until = max(due, 1.0)
+        return self._suspend(attempt, Suspension.TIMER, until, now)
+
+    def _without(self, attempt: Attempt, error: Exception, now: float) -> Decision:
+        """A function that says something of it has raised this: its own is not called."""
+        if isinstance(error, CannotDecode):
+            outcome = Outcome(OutcomeKind.CANNOT_DECODE, str(error)[:MOST_TEXT])
+            return self._park(attempt, outcome, now)
+        told = f"{type(error).__name__}: {error}"
+        outcome = failure(told, final=isinstance(error, Fail))
+        return self.finish(attempt, outcome._replace(error=error), now)
+
+    def limit(self, attempt: Attempt, now: float) -> Decision:
+        """Decide by which key the limits of a step count one that may be called.
+
+        Returns:
+            `CALL`; or as `ended`, if the function that says the key has raised.
+        """
+        if attempt.undo or attempt.declared.concurrency_by is None:
+            return CALL
+        try:
+            attempt.rare.limit_key = attempt.rare.limit_key or limit_key(attempt)
+        except Exception as error:
+            return self._without(attempt, error, now)
+        return CALL
+
+    def _suspend(
+        self, attempt: Attempt, reason: Suspension, until: float | None, now: float
+    ) -> Decision:
+        """It waits for its time or for an approval, and nobody called it for that before: where
+        its saga drains, it is given up.
+        """
+        attempt.since, attempt.fresh = now, True
+        if attempt.instance.draining and self._may_leave(attempt):
+            return self._give_up(attempt, "not called: the saga is being undone", now)
+        attempt.suspend(reason, until)
+        return Decision(Do.SUSPEND, SuspensionRow(reason, until))
+
+    # -- time
+
+    def delay(self, attempt: Attempt, now: float) -> float | None:
+        """Return in how many seconds `timer` is asked of one that is suspended; None where it has
+        no time.
+        """
+        if attempt.until is None:
+            return None
+        most = LOOK
+        if attempt.reason in COUNTED:
+            most = max(LEAST_PAUSE, attempt.manner.backoff.maximum, attempt.rare.pause)
+        return max(0.0, min(most, attempt.until - now))
+
+    def timer(self, attempt: Attempt, now: float) -> Decision:
+        """Decide how one goes on whose timer rang.
+
+        Returns:
+            `SUSPEND` where its time has not come, or a row says that its wait is over; else as
+            `begin`.
+        """
+        if attempt.state is not SUSPENDED or attempt.until is None:
+            return NOTHING
+        if attempt.until > now and attempt.reason not in COUNTED:
+            return SLEEP
+        if attempt.reason is Suspension.APPROVAL:
+            return self.finish(attempt, failure("nobody approved it in time", final=True), now)
+        if attempt.reason is Suspension.TIMER:
+            attempt.instance.rare.due[attempt.word] = 0.0
+            attempt.suspend(Suspension.TIMER, 0.0)
+            return Decision(Do.SUSPEND, SuspensionRow(Suspension.TIMER, 0.0))
+        return self._again(attempt, now)
+
+    def stored(self, attempt: Attempt) -> Decision:
+        """Decide how one goes on whose row is in the store."""
+        row, attempt.pending = attempt.pending, None
+        if row is None or attempt.state is not SUSPENDED:
+            return NOTHING
+        if row.reason is Suspension.TIMER and row.until == 0:
+            return CALL
+        event = ("step_suspended", row.reason.value)
+        return Decision(Do.SUSPEND, timer=row.reason not in PARKED, event=event)
+
+    def _again(self, attempt: Attempt, now: float) -> Decision:
+        """Behind its back-off: the next attempt, or the same one whose outcome is unknown."""
+        if attempt.reason is Suspension.BACKOFF:
+            return self._first(attempt, now)
+        return self._go(attempt)
+
+    # -- outcomes
+
+    def ended(self, attempt: Attempt, outcome: Outcome, now: float) -> Decision:
+        """Decide what an outcome leads to.
+
+        Args:
+            attempt: One in the state `RUNNING`, or done by an external worker.
+            outcome: What the call came to.
+            now: Wall time in seconds.
+
+        Returns:
+            `REPORT`, or `SUSPEND` where it is asked for an approval, where the same attempt is
+            called again, and where a person or another program has to go on.
+        """
+        kind = outcome.kind
+        if kind is OutcomeKind.UNKNOWN:
+            return self._unknown(attempt, outcome, now)
+        if kind is OutcomeKind.CANNOT_DECODE:
+            return self._park(attempt, outcome, now)
+        if kind is OutcomeKind.ANSWERED:
+            return self.finish(attempt, decided(outcome), now)
+        if kind is OutcomeKind.SUCCEEDED and self._is_approval(attempt):
+            within = attempt.declared.approval_timeout
+            until = None if within is None else now + within.total_seconds()
+            return self._suspend(attempt, Suspension.APPROVAL, until, now)
+        decision = None if kind is OutcomeKind.SUCCEEDED else go_on(attempt, outcome, now)
+        return decision or self.finish(attempt, outcome, now)
+
+    def finish(self, attempt: Attempt, outcome: Outcome, now: float) -> Decision:
+        """Take an outcome as the attempt's last: somebody reported it, say."""
+        attempt.finish(outcome, now)
+        return self.report(attempt)
+
+    def report(self, attempt: Attempt) -> Decision:
+        """Report one that is finished; also where an earlier report of it was not kept."""
+        if attempt.outcome and attempt.outcome.kind is OutcomeKind.FAILED_PERMANENTLY:
+            attempt.instance.rare.final.add(attempt.word)
+        return REPORT
+
+    def _is_approval(self, attempt: Attempt) -> bool:
+        return attempt.kind == Action.RUN and attempt.declared.kind == "approval"
+
+    def _unknown(self, attempt: Attempt, outcome: Outcome, now: float) -> Decision:
+        """The same attempt is called again, after its back-off; or a person has to report it."""
+        manner, rare = attempt.manner, attempt.rare
+        rare.count += 1
+        attempt.since = attempt.since or now
+        attempt.outcome = outcome
+        most = manner.max_unknown
+        if isinstance(most, datetime.timedelta):
+            is_spent = now - attempt.since >= most.total_seconds()
+        else:
+            is_spent = most is not None and rare.count > most
+        rare.pause = max(LEAST_PAUSE, manner.backoff.after(rare.count), self._yields(attempt))
+        until = None if is_spent else now + rare.pause
+        times = f"; {rare.count} times so far" if rare.count > 1 else ""
+        detail = f"{outcome.value}{times}{'; a person must report it' if is_spent else ''}"
+        attempt.suspend(Suspension.UNKNOWN, until)
+        return Decision(
+            Do.SUSPEND,
+            SuspensionRow(Suspension.UNKNOWN, until, outcome.value),
+            timer=True,
+            event=("step_unknown", detail),
+        )
+
+    def _yields(self, attempt: Attempt) -> float:
+        """Seconds for which it leaves its place to others behind a wait that was given up."""
+        rare = attempt.rare
+        gave_way, rare.gave_way = rare.gave_way, False
+        return min(MOST_YIELD, YIELD * 2.0 ** min(rare.count - 1, 16)) if gave_way else 0.0
+
+    def _park(self, attempt: Attempt, outcome: Outcome, now: float) -> Decision:
+        """This program cannot read what is stored for it: it waits for one that can, or for a
+        person. Nothing counts as failed.
+        """
+        attempt.since, attempt.outcome = attempt.since or now, outcome
+        is_due = attempt.is_wait and attempt.instance.rare.due.get(attempt.word) == 0
+        attempt.suspend(Suspension.CANNOT_DECODE)
+        return Decision(
+            Do.SUSPEND,
+            SuspensionRow(Suspension.CANNOT_DECODE, 0.0 if is_due else None, outcome.value),
+            event=("step_cannot_decode", outcome.value),
+        )
+
+    def _give_up(self, attempt: Attempt, why: str, now: float, final: bool = False) -> Decision:
+        attempt.has_row = attempt.has_row or attempt.is_wait  # an earlier attempt's
+        return self.finish(attempt, failure(why, final, called=False), now)
+
+    # -- a saga that drains
+
+    def drain(self, instance: SagaInstance, now: float) -> Decisions:
+        """Let a saga drain, so that it can be planned: what waits and was not called is given up,
+        and what waits for its back-off goes on now. If it was planned meanwhile, nothing is to be
+        done.
+        """
+        found: Decisions = []
+        if not instance.draining:
+            return found
+        for attempt in list(instance.busy.values()):
+            if attempt.state is SUSPENDED and attempt.reason is Suspension.EXTERNAL:
+                if self._may_leave(attempt):  # unless a worker has it by now
+                    found.append((attempt, WITHDRAW))
+            elif attempt.state in (SUSPENDED, QUEUED) and self._may_leave(attempt):
+                why = "not called: the saga is being undone"
+                found.append((attempt, self._give_up(attempt, why, now)))
+            elif attempt.state is not SUSPENDED or attempt.undo:
+                continue
+            elif attempt.outcome and attempt.reason in FAILED_BEFORE:
+                found.append((attempt, self.finish(attempt, attempt.outcome, now)))
+            elif attempt.until is not None and attempt.reason in COUNTED:
+                # its last attempt, or one whose outcome is unknown: to give it up would be a
+                # failure that was none
+                found.append((attempt, self._again(attempt, now)))
+        return found
+
+    def withdrawn(self, attempt: Attempt, now: float) -> Decision:
+        """Decide on one that no worker has, and none gets, since its saga drains."""
+        if attempt.state is not SUSPENDED or attempt.reason is not Suspension.EXTERNAL:
+            return NOTHING
+        return self._give_up(attempt, "not called: the saga is being undone", now)
+
+    def _may_leave(self, attempt: Attempt) -> bool:
+        if not attempt.fresh or attempt.undo:
+            return False
+        instance = attempt.instance
+        return instance.aborted or attempt.attempt < instance.kind.tries["run"][attempt.step]

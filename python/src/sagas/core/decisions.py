@@ -1,0 +1,49 @@
+"""The decisions of `AttemptMachine`."""
+
+from __future__ import annotations
+
+import dataclasses
+import enum
+
+from sagas.core.suspensions import SuspensionRow
+
+
+class Do(enum.Enum):
+    """What the runtime does with an attempt now."""
+
+    NOTHING = enum.auto()
+    CALL = enum.auto()
+    """Call its function, within the limits."""
+    OFFER = enum.auto()
+    """Offer it to external workers: it is suspended until one of them reports it."""
+    WITHDRAW = enum.auto()
+    """Take it back from external workers, unless one of them has it."""
+    SUSPEND = enum.auto()
+    """It is suspended: put its row into the store, and set a timer, as the decision says."""
+    REPORT = enum.auto()
+    """It is finished: report it to its shard."""
+    REPORT_AGAIN = enum.auto()
+    """As `REPORT`, of one whose report was not kept: its worker may have reported it, too."""
+
+
+@dataclasses.dataclass(frozen=True, slots=True)
+class Decision:
+    """What is to be done with an attempt, whose state is changed already.
+
+    Attributes:
+        do: What is to be done.
+        row: The row to be put into the store. Once it is there, `AttemptMachine.stored` is asked.
+        timer: Whether a timer is set now; then `AttemptMachine.timer` is asked.
+        event: The name and the detail of an event to be told.
+    """
+
+    do: Do
+    row: SuspensionRow | None = None
+    timer: bool = False
+    event: tuple[str, str] | None = None
+
+
+NOTHING, CALL, OFFER = Decision(Do.NOTHING), Decision(Do.CALL), Decision(Do.OFFER)
+REPORT, REPORT_AGAIN = Decision(Do.REPORT), Decision(Do.REPORT_AGAIN)
+SLEEP = Decision(Do.SUSPEND, timer=True)
+WITHDRAW = Decision(Do.WITHDRAW)

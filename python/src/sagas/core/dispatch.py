@@ -1,0 +1,79 @@
+"""An attempt as a message to a worker of a queue."""
+
+from __future__ import annotations
+
+import dataclasses
+from typing import Any, NamedTuple
+
+from sagas.base.errors import SagasError
+from sagas.definition import tokens
+from sagas.definition.capacity import SHARD_CAPACITY
+
+
+class Settled(SagasError):
+    """Another message of this attempt had its effect first: what this one wrote is rolled back."""
+
+
+class Begun(NamedTuple):
+    """The texts of an attempt, whole: JSON."""
+
+    input: str
+    results: dict[str, str]
+    result: str | None
+
+
+class Position(NamedTuple):
+    """Where a result stands that the order does not carry: the number of its step."""
+
+    step: int
+
+
+Carried = dict[str, Any]
+
+
+@dataclasses.dataclass(frozen=True, slots=True)
+class Order:
+    """An attempt, as it is ordered elsewhere. Texts are JSON; None or a `Position` where they
+    are to be fetched.
+
+    `log` and `number` name the saga; `lease`: a greater one each time that it is sent.
+    """
+
+    saga: str
+    version: int
+    key: str
+    log: str
+    number: int
+    step: str
+    kind: str
+    attempt: int
+    lease: int
+    input: str | None
+    results: dict[str, str | Position]
+    result: str | Position | None
+    deadline: float | None = None
+
+    @property
+    def token(self) -> str:
+        """The token of the attempt."""
+        saga = tokens.saga_token(self.log, self.number)
+        return tokens.attempt_id(tokens.idempotency_key(saga, self.step, self.kind), self.attempt)
+
+    def written(self) -> Carried:
+        """As a message carries it: JSON."""
+        return {field.name: getattr(self, field.name) for field in dataclasses.fields(self)}
+
+    @classmethod
+    def read(cls, told: Carried) -> Order:
+        """What `written` wrote. Raises `KeyError` or `TypeError` where it is no order."""
+        results = {name: _of(value) for name, value in told["results"].items()}
+        return cls(**told | {"results": results, "result": _of(told["result"])})
+
+
+def _of(told: Any) -> Any:
+    return Position(*told) if isinstance(told, list) else told
+
+
+def id_of(log: int, number: int) -> int:
+    """A saga's id."""
+    return log * SHARD_CAPACITY + number

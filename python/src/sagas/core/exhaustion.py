@@ -1,0 +1,69 @@
+"""What follows the last attempt: a failure, a person, or another call."""
+
+from __future__ import annotations
+
+import json
+
+from sagas.core.decisions import Decision, Do
+from sagas.core.model import Attempt
+from sagas.core.outcomes import MOST_TEXT, Outcome
+from sagas.core.states import AttemptState, OutcomeKind, Suspension
+from sagas.core.suspensions import SuspensionRow
+
+LEAST_PAUSE = 0.05
+"""Seconds between two calls of the same attempt."""
+FAILED_BEFORE = frozenset({Suspension.RETRY, Suspension.EXHAUSTED})
+"""Suspensions of an attempt whose last call had no effect."""
+RETRIED = FAILED_BEFORE | {Suspension.UNKNOWN}
+"""Suspensions of an attempt that a person may have called again at once."""
+
+
+def go_on(attempt: Attempt, outcome: Outcome, now: float) -> Decision | None:
+    """Decide how an attempt goes on that failed, and that the engine would not make again.
+
+    The same attempt is called again, or waits for a person: for the engine it is under way.
+
+    Returns:
+        None where the failure is reported: the engine makes another attempt, or the step fails.
+    """
+    manner, is_final = attempt.manner, outcome.kind is OutcomeKind.FAILED_PERMANENTLY
+    tries = attempt.instance.kind.tries[attempt.kind][attempt.step]
+    if (is_final and not attempt.undo) or (not is_final and attempt.attempt < tries):
+        return None
+    if attempt.instance.draining and not attempt.undo:
+        return None
+    made = attempt.attempt + attempt.failures
+    repeats = manner.on_exhausted == "retry" or made < (manner.max_attempts or 0)
+    if manner.on_exhausted == "fail" and (is_final or not repeats):
+        return None
+    told = json.loads(outcome.value)
+    detail = str(told.get("error", ""))[:MOST_TEXT]
+    attempt.rare.failures += 1
+    attempt.since, attempt.outcome = attempt.since or now, outcome
+    if is_final or not repeats:
+        attempt.suspend(Suspension.EXHAUSTED)
+        row = SuspensionRow(Suspension.EXHAUSTED, None, detail)
+        return Decision(Do.SUSPEND, row, event=("step_exhausted", detail))
+    pause = told.get("retry_after", manner.backoff.after(made))
+    attempt.rare.pause = max(LEAST_PAUSE, pause)
+    attempt.suspend(Suspension.RETRY, now + attempt.rare.pause)
+    row = SuspensionRow(Suspension.RETRY, attempt.until, detail)
+    return Decision(Do.SUSPEND, row, timer=True, event=("step_retrying", detail))
+
+
+def retry(attempt: Attempt, now: float) -> Decision:
+    """Call one again at once, as a person wants: its number of attempts begins anew."""
+    is_unknown = attempt.reason is Suspension.UNKNOWN
+    reason = Suspension.UNKNOWN if is_unknown else Suspension.RETRY
+    attempt.rare.failures = attempt.rare.count = 0
+    detail = attempt.outcome.value if attempt.outcome else ""
+    if not is_unknown:
+        detail = str(json.loads(detail or "{}").get("error", ""))
+    attempt.suspend(reason, now)
+    return Decision(Do.SUSPEND, SuspensionRow(reason, now, detail), timer=True)
+
+
+def may_retry(attempt: Attempt) -> bool:
+    """Whether a person may have it called again at once."""
+    is_suspended = attempt.state is AttemptState.SUSPENDED and not attempt.pending
+    return is_suspended and attempt.reason in RETRIED

@@ -1,0 +1,41 @@
+"""Signed leases of external workers.
+
+The key is a secret of the store, so that each node of a database can judge a lease that another
+node gave.
+"""
+
+from __future__ import annotations
+
+import hmac
+import re
+
+from sagas.base.errors import InvalidLease
+
+SHAPE = re.compile(r"([1-9][0-9]{0,18})\.[0-9a-f]{32}", re.ASCII)
+SIGNED = 32
+"""Hex digits of the signature: 128 bits."""
+
+
+class Signer:
+    """Gives leases, and tells those that it gave from all other texts."""
+
+    def __init__(self, secret: bytes) -> None:
+        self._secret = secret
+
+    def issue(self, token: str, number: int, holder: str) -> str:
+        """The lease of this number, for the attempt with this token, to this holder."""
+        told = f"{token}\n{number}\n{holder}".encode("utf-8", "surrogatepass")
+        return f"{number}.{hmac.digest(self._secret, told, 'sha256').hex()[:SIGNED]}"
+
+    def number(self, token: str, lease: str, holder: str) -> int:
+        """A lease's number. Raises `InvalidLease` where it was not given for this attempt to this
+        holder."""
+        found = SHAPE.fullmatch(lease)
+        number = int(found[1]) if found else 0
+        good = self.issue(token, number, holder)
+        if found is None or not hmac.compare_digest(good.encode(), lease.encode()):
+            raise InvalidLease(
+                "this lease was not issued to you for this task. Nothing was recorded. "
+                "Report the task with the attempt id and the lease of its claim"
+            )
+        return number

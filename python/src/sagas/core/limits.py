@@ -1,0 +1,169 @@
+"""Concurrency limits of the program and of single steps."""
+
+from __future__ import annotations
+
+from collections import deque
+from collections.abc import Callable
+from typing import Protocol
+
+from sagas.core.fairness import FairQueue, Tenant
+from sagas.core.model import SUSPENDED, Attempt
+from sagas.core.states import Action, Suspension
+
+MOST_AHEAD = 1 << 20
+"""So many tasks are claimed without a slot where tenants share the slots."""
+
+
+class Hungry(Protocol):
+    """A shard that has more tasks than there are slots."""
+
+    def poke(self) -> None:
+        """There are slots again."""
+
+
+def _limit_of(attempt: Attempt) -> tuple[str, str, str]:
+    """The limit that counts it: its step's, or that of its key."""
+    key = attempt.extras.limit_key if attempt.extras else None
+    return attempt.instance.kind.name, attempt.name, key or ""
+
+
+class Slots:
+    """A slot for each running function. An attempt over its step's limit waits apart, and holds
+    back nobody else.
+
+    Attributes:
+        is_fair: Whether tenants share the slots. Then all tasks are claimed that there are, since
+            nobody else knows whose they are.
+        most: The store's concurrency.
+        running: How many slots are taken.
+        starved: The shards that have no more tasks taken for want of slots. While there are any,
+            `freed` is called when there may be slots.
+    """
+
+    def __init__(
+        self, most: int, start: Callable[[Attempt], None], freed: Callable[[], None]
+    ) -> None:
+        self.most, self._start, self._freed = most, start, freed
+        self.is_fair = False
+        self.running = self._reserved = 0
+        self.starved: dict[Hungry, None] = {}
+        self._queued = FairQueue()
+        self._limits: dict[tuple[str, str, str], tuple[set[Attempt], deque[Attempt]]] = {}
+
+    def free(self) -> int:
+        """How many tasks may be claimed: slots that nobody has, waits for or has reserved."""
+        if self.is_fair:
+            return MOST_AHEAD
+        return self.most - self.running - self._reserved - len(self._queued)
+
+    def reserve(self, count: int) -> None:
+        """Keep slots for tasks that are asked for and have not begun."""
+        self._reserved += count
+
+    def release(self, count: int) -> None:
+        """Give up reserved slots: their tasks begin now, or there were none."""
+        self._reserved -= count
+        if count and self.starved:
+            self._freed()
+
+    def take(self, count: int = 1) -> int:
+        """Take slots for so many attempts that wait for nothing else, or as many as there are;
+        return how many.
+        """
+        count = min(count, max(0, self.most - self.running))
+        if count:
+            self.running += count
+            self._queued.begin(None, count)
+        return count
+
+    def enter(self, attempt: Attempt) -> None:
+        """Begin it, now or when its turn comes."""
+        step = attempt.instance.kind.steps[attempt.step]
+        if step is not None and step.concurrency is not None and attempt.kind == Action.RUN:
+            inside, queue = self._limits.setdefault(_limit_of(attempt), (set(), deque()))
+            if len(inside) >= step.concurrency:
+                attempt.suspend(Suspension.STEP_LIMIT)
+                queue.append(attempt)
+                return
+            inside.add(attempt)
+        self.come(attempt)
+
+    def come(self, attempt: Attempt) -> None:
+        """As `enter`, of a step without a limit."""
+        attempt.queue()
+        if self.running < self.most:
+            self._begin(attempt)
+        else:
+            self._queued.push(attempt)
+
+    def _begin(self, attempt: Attempt) -> None:
+        self.running += 1
+        self._queued.begin(attempt.instance.tenant)
+        self._start(attempt)
+
+    def leave(self, attempt: Attempt) -> None:
+        """Give up its slot: its function ended, or is not called; whose turn it is begins."""
+        if self._limits:
+            self.cancel(attempt)
+        self._left(attempt.instance.tenant, 1)
+
+    def left(self, count: int) -> None:
+        """As `leave`, of so many whose steps have no limit, and whose sagas have no tenant."""
+        self._left(None, count)
+
+    def _left(self, tenant: Tenant, count: int) -> None:
+        self.running -= count
+        self._queued.end(tenant, count)
+        while self._queued and self.running < self.most:
+            self._begin(self._queued.pop())
+        if self.starved:
+            self._freed()
+
+    def cancel(self, attempt: Attempt) -> None:
+        """Let it wait no more; its place under its step's limit is for the next."""
+        self._queued.discard(attempt)
+        limit = self._limits.get(at := _limit_of(attempt))
+        if limit is None or attempt not in limit[0]:
+            return
+        inside, queue = limit
+        inside.discard(attempt)
+        if not inside and not queue:
+            del self._limits[at]
+            return
+        while queue:
+            following = queue.popleft()
+            if following.state is SUSPENDED and following.reason is Suspension.STEP_LIMIT:
+                inside.add(following)
+                self.come(following)
+                return
+
+    def is_waiting(self, attempt: Attempt) -> bool:
+        """Whether it waits for a slot."""
+        return attempt in self._queued
+
+    def clear(self) -> None:
+        """Let nothing begin any more that waits."""
+        self._queued.clear()
+        for _, queue in self._limits.values():
+            queue.clear()
+
+    # -- shards
+
+    def starve(self, shard: Hungry) -> None:
+        """A shard has more tasks than there are slots."""
+        self.starved[shard] = None
+
+    def is_starved(self, shard: Hungry) -> bool:
+        """Whether a shard waits for slots."""
+        return shard in self.starved
+
+    def sate(self, shard: Hungry) -> None:
+        """A shard wants no slots any more."""
+        self.starved.pop(shard, None)
+
+    def feed(self) -> None:
+        """Let the shards go on that wait for slots, if there are any."""
+        if self.free() > 0:
+            starved, self.starved = self.starved, {}
+            for shard in starved:
+                shard.poke()

@@ -1,0 +1,299 @@
+"""`Attempt`: the state of an attempt of an open saga.
+
+The runtime keeps what belongs to its event loop (futures, timers, tasks) beside them.
+"""
+
+from __future__ import annotations
+
+from collections.abc import Sequence
+from typing import TYPE_CHECKING, Any
+
+from sagas.core.outcomes import Outcome
+from sagas.core.saga_instance import SagaInstance as SagaInstance
+from sagas.core.states import ATTEMPT_TRANSITIONS, Action, AttemptState, Check, Suspension, check
+from sagas.core.suspensions import AttemptExtras, Lease, SuspensionRow
+from sagas.definition import tokens
+from sagas.definition.compiled import Word
+from sagas.definition.context import Context
+from sagas.definition.control import Control
+from sagas.definition.decoders import Decoder
+from sagas.definition.step import Manner, Step
+from sagas.definition.task import Task, whole
+
+if TYPE_CHECKING:
+    from sagas.core.batch import Wanted
+    from sagas.core.step_transactions import StepRecord
+
+CLAIMED, SUSPENDED, QUEUED = AttemptState.CLAIMED, AttemptState.SUSPENDED, AttemptState.QUEUED
+RUNNING, FINISHED = AttemptState.RUNNING, AttemptState.FINISHED
+
+
+class Attempt:
+    """One attempt of a step's action, or of its compensation, which its shard has as begun.
+
+    Its methods write its state, and `start_all` and `finish_all` that of many; nothing else does.
+
+    Attributes:
+        instance: Its saga.
+        step: The index of its step.
+        kind: `run` or `undo`.
+        attempt: Its number, from 1.
+        action: What is the same for all attempts of the action.
+        state: Where it stands.
+        reason: Why it is, or was last, suspended.
+        until: Until when it is suspended. None: until somebody reports it.
+        since: Since when it waits, or its outcome is unknown; else 0.
+        fresh: Whether it cannot have been called, by this program or an earlier one.
+        outcome: What it came to.
+        at: When it finished.
+        took: Seconds that its last call took.
+        event: The event of the saga that its report came to.
+        has_row: Whether the store has a row of its suspension.
+        pending: The row that is on its way to the store.
+        record: What became of the transaction that it is called in.
+        recorded: Whether its result is in the store, with what it wrote.
+        results: The results of the steps that stand as it begins.
+        extras: What only some attempts have.
+    """
+
+    __slots__ = (
+        "instance", "step", "kind", "attempt", "action", "state", "reason", "until", "since",
+        "fresh", "outcome", "at", "took", "event", "has_row", "pending", "record", "recorded",
+        "results", "extras",
+    )  # fmt: skip
+
+    def __init__(
+        self, instance: SagaInstance, step: int, kind: str, attempt: int, fresh: bool
+    ) -> None:
+        self.instance = instance
+        self.step = step
+        self.attempt = attempt
+        self.fresh = fresh
+        action = self.action = instance.kind.actions[kind][step]
+        self.kind = action.kind
+        self.state = CLAIMED
+        self.reason: Suspension | None = None
+        self.until: float | None = None
+        self.outcome: Outcome | None = None
+        self.at = self.since = 0.0
+        self.took: float | None = None
+        self.event = ""
+        self.has_row = False
+        self.pending: SuspensionRow | None = None
+        self.record: StepRecord | None = None
+        self.recorded = False
+        self.results = instance.results
+        self.extras: AttemptExtras | None = None
+
+    # -- its state
+
+    def _to(self, state: AttemptState) -> None:
+        if Check.is_on:
+            check(ATTEMPT_TRANSITIONS, self.state, state)
+        self.state = state
+
+    def suspend(self, reason: Suspension, until: float | None = None) -> None:
+        """Let it wait without a slot, until a time or until somebody reports it."""
+        self._to(SUSPENDED)
+        self.reason, self.until = reason, until
+
+    def queue(self) -> None:
+        """Let it wait for a slot."""
+        self._to(QUEUED)
+
+    def start(self) -> None:
+        """Call its function now, as far as is known."""
+        self._to(RUNNING)
+        self.fresh, self.took = False, None
+
+    def claim(self) -> None:
+        """Put it back: its call did nothing, or its shard is recovered, which tells."""
+        self._to(CLAIMED)
+
+    def finish(self, outcome: Outcome, at: float) -> None:
+        """Set its outcome: it waits for nothing but its report."""
+        self._to(FINISHED)
+        self.outcome, self.at = outcome, at
+
+    def forget(self) -> None:
+        """Finish one that the store does not have: nothing comes of it any more."""
+        if self.state is not FINISHED:
+            self._to(FINISHED)
+
+    @property
+    def rare(self) -> AttemptExtras:
+        """What only some attempts have, to be put into."""
+        if self.extras is None:
+            self.extras = AttemptExtras()
+        return self.extras
+
+    @property
+    def count(self) -> int:
+        """How often its outcome was unknown."""
+        return self.extras.count if self.extras else 0
+
+    @property
+    def failures(self) -> int:
+        """How often it failed, and was called again."""
+        return self.extras.failures if self.extras else 0
+
+    @property
+    def lease(self) -> Lease | None:
+        """The newest lease of an external worker."""
+        return self.extras.lease if self.extras else None
+
+    @property
+    def request(self) -> Wanted:
+        """The operator's command that finished it."""
+        return self.extras.request if self.extras else None
+
+    # -- what it is
+
+    @property
+    def word(self) -> Word:
+        """The index of its step, and `run` or `undo`."""
+        return self.action.word
+
+    @property
+    def name(self) -> str:
+        return self.action.name
+
+    @property
+    def row(self) -> tuple[int, int, str, int]:
+        """What names it in the store."""
+        return self.instance.id, self.step, self.kind, self.attempt
+
+    @property
+    def declared(self) -> Step[Any]:
+        """Its step, as the program declares it today."""
+        step = self.instance.kind.steps[self.step]
+        assert step is not None  # the open of a store refuses definitions without it
+        return step
+
+    @property
+    def manner(self) -> Manner:
+        """How its function is called."""
+        return self.declared.manner(self.kind)
+
+    @property
+    def is_wait(self) -> bool:
+        """Whether its function is called when a time has come."""
+        step = self.instance.kind.steps[self.step]
+        return step is not None and step.kind == "wait" and self.kind == Action.RUN
+
+    @property
+    def is_remote(self) -> bool:
+        """Whether its function is called by a worker of a queue."""
+        return self.action.is_remote
+
+    @property
+    def is_external(self) -> bool:
+        """Whether others do it: workers of a queue or over HTTP, or a person."""
+        return self.action.is_external
+
+    @property
+    def offered(self) -> int | None:
+        """The lease under which the commit that began it offered it, 0 where nobody has one yet;
+        None where that commit did not offer it.
+        """
+        return self.extras.offered if self.extras else None
+
+    def idempotency_key(self) -> str:
+        """Name its effect: the same for all attempts."""
+        return tokens.idempotency_key(self.saga_token, self.name, self.kind)
+
+    def token(self) -> str:
+        """Name this attempt."""
+        return tokens.attempt_id(self.idempotency_key(), self.attempt)
+
+    # -- what its function's task is asked for (`task.About`)
+
+    @property
+    def saga(self) -> str:
+        return self.instance.kind.name
+
+    @property
+    def key(self) -> str:
+        return self.instance.key
+
+    @property
+    def undo(self) -> bool:
+        return self.action.undo
+
+    @property
+    def saga_token(self) -> str:
+        """The shard's name and the saga's number. They are kept once the store has the saga: one
+        whose commit is refused is opened again, in another shard.
+        """
+        instance = self.instance
+        if instance.token is not None:
+            return instance.token
+        assert instance.shard
+        token = tokens.saga_token(instance.shard.name, instance.number)
+        if instance.committed:
+            instance.token = token
+        return token
+
+    @property
+    def input(self) -> str:
+        return self.instance.kind.payloads.decode(self.instance.text)
+
+    @property
+    def given(self) -> dict[str, str]:
+        decode = self.instance.kind.payloads.decode
+        given = self.action.given
+        return {name: decode(self.results.get(number, "null")) for number, name in given}
+
+    @property
+    def deadline(self) -> float | None:
+        return self.instance.options.deadline
+
+    @property
+    def own(self) -> str | None:
+        own = self.results.get(self.step) if self.action.undo else None
+        return None if own is None else self.instance.kind.payloads.decode(own)
+
+    @property
+    def hint(self) -> Decoder | None:
+        return self.action.hint
+
+    @property
+    def decoders(self) -> dict[str, Decoder]:
+        return self.instance.kind.decoders
+
+    @property
+    def context(self) -> Context:
+        return self.action.context
+
+    @property
+    def control(self) -> Control:
+        """What its function hears and tells. One that is called again in a saga that drains is
+        cancelled from its beginning.
+        """
+        extras = self.rare
+        if extras.control is None:
+            extras.control = Control()
+            if self.instance.draining and not self.undo:
+                extras.control.cancelled.set(self.instance.why_draining)
+        return extras.control
+
+    def task(self) -> Task[Any]:
+        """What its function is handed, where that goes on elsewhere: as it is now."""
+        return Task(whole(self))
+
+
+def start_all(attempts: Sequence[Attempt]) -> None:
+    """As `Attempt.start`, of many."""
+    if Check.is_on:
+        for attempt in attempts:
+            check(ATTEMPT_TRANSITIONS, attempt.state, RUNNING)
+    for attempt in attempts:
+        attempt.state, attempt.fresh, attempt.took = RUNNING, False, None
+
+
+def finish_all(attempts: Sequence[Attempt], at: float) -> list[Attempt]:
+    """Finish those that run still and whose outcomes are set; return them."""
+    found = [attempt for attempt in attempts if attempt.state is RUNNING]
+    for attempt in found:
+        attempt.state, attempt.at = FINISHED, at
+    return found

@@ -1,0 +1,32 @@
+"""The row that offers an attempt to external workers."""
+
+from __future__ import annotations
+
+from sagas.core.batch import Offer
+from sagas.core.model import Attempt
+from sagas.core.states import Action
+
+
+def task_name(saga: str, step: str, action: str) -> str:
+    """Name a step's action, as workers ask for it."""
+    return f"{saga}/{step}/{action}"
+
+
+def offer(attempt: Attempt, shard: int, now: float) -> Offer:
+    """Return the row that offers an attempt.
+
+    One of a queue is offered under a lease at once: a message goes out with it, and no worker
+    claims it.
+    """
+    if attempt.is_remote:
+        return (attempt.token(), shard, *attempt.row, "", None, int(now * 1000), now)
+    task = task_name(attempt.saga, attempt.name, attempt.kind)
+    bound = attempt.declared.concurrency if attempt.kind == Action.RUN else None
+    return (attempt.token(), shard, *attempt.row, task, bound, None, now)
+
+
+def first_offer(attempt: Attempt, shard: int, now: float) -> Offer:
+    """Offer an attempt in the commit that begins it."""
+    row = offer(attempt, shard, now)
+    attempt.rare.offered = row[8] or 0
+    return row

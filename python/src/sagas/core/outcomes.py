@@ -1,0 +1,211 @@
+"""Outcomes of calls, and how exceptions are classified."""
+
+from __future__ import annotations
+
+import functools
+import inspect
+import json
+import traceback
+from collections.abc import Callable
+from typing import Any, NamedTuple, cast
+
+from sagas.base.errors import CannotDecode, Fail, NotSerializable, RetryAfter, Unknown
+from sagas.base.events import quoted
+from sagas.base.logger import logger
+from sagas.core.states import OutcomeKind
+from sagas.definition import serialization
+from sagas.definition.approvals import Answer
+from sagas.definition.payloads import Payloads
+from sagas.definition.step import Manner, Unknowns
+from sagas.definition.task import Task
+
+MOST_TEXT = 4000
+"""Characters of what was raised that are kept."""
+SUCCEEDED, FAILED = OutcomeKind.SUCCEEDED, OutcomeKind.FAILED
+PERMANENT, UNKNOWN = OutcomeKind.FAILED_PERMANENTLY, OutcomeKind.UNKNOWN
+CANNOT_DECODE, ANSWERED = OutcomeKind.CANNOT_DECODE, OutcomeKind.ANSWERED
+WORST = (UNKNOWN, CANNOT_DECODE, PERMANENT, FAILED)
+"""Of a group of exceptions, the first of these that any of them is."""
+
+
+class Outcome(NamedTuple):
+    """What a call came to.
+
+    Attributes:
+        kind: The kind of outcome.
+        value: JSON: the result, or what was raised. A plain text where the outcome is unknown or
+            could not be decoded.
+        called: Whether the function was called; else the attempt was given up.
+        error: What the function raised here, for the log's traceback. None for a `Fail`.
+    """
+
+    kind: OutcomeKind
+    value: str
+    called: bool = True
+    error: BaseException | None = None
+
+
+_outcome = cast(
+    "Callable[[tuple[OutcomeKind, str, bool, None]], Outcome]",
+    functools.partial(tuple.__new__, Outcome),
+)
+"""As `Outcome`, for what is made all the time."""
+
+
+class Unawaited(Exception):
+    """A function returned an awaitable, so it is not over: an `await` was forgotten, say."""
+
+    def __init__(self, value: Any) -> None:
+        super().__init__(value)
+        self.value = value
+
+
+def succeeded(value: Any, task: Task[Any] | None = None) -> Outcome:
+    """Return the outcome of a function that returned `value`.
+
+    A result that is not JSON is kept as `{"unstorable": ..}`: the effect is there, and must not
+    be lost.
+
+    Raises:
+        Unawaited: The result is awaitable. What it comes to is the result.
+    """
+    try:
+        return _outcome((SUCCEEDED, serialization.write(value), True, None))
+    except NotSerializable as error:
+        if isinstance(value, Answer):
+            return Outcome(ANSWERED, value.written())
+        if inspect.isawaitable(value):
+            raise Unawaited(value) from None
+        whose = f" key={quoted(task.key)} saga={task.saga} step={task.step}" if task else ""
+        logger.warning("result_unstorable%s detail=%s", whose, quoted(error))
+        return Outcome(SUCCEEDED, json.dumps({"unstorable": str(error)[:MOST_TEXT]}))
+
+
+def stored(payloads: Payloads, text: str) -> str:
+    """Return a result as it is stored. Where its codec fails, that is kept: the effect is there."""
+    try:
+        return payloads.encode(text)
+    except NotSerializable as error:
+        logger.warning("result_unstorable detail=%s", quoted(error))
+        return json.dumps({"unstorable": str(error)[:MOST_TEXT]})
+
+
+def failure(
+    text: str, final: bool = False, called: bool = True, retry_after: float | None = None
+) -> Outcome:
+    """Return a failure with this text.
+
+    Args:
+        text: Why it failed.
+        final: Whether no further attempt is made.
+        called: Whether the function was called; else the attempt was given up.
+        retry_after: Seconds until the next attempt, in place of the step's back-off.
+    """
+    told: dict[str, Any] = {"error": text[:MOST_TEXT]}
+    if final:
+        told["final"] = True
+    if not called:
+        told["called"] = False
+    if retry_after is not None:
+        told["retry_after"] = retry_after
+    return Outcome(PERMANENT if final else FAILED, json.dumps(told), called)
+
+
+def unknown(text: str) -> Outcome:
+    """Return the outcome of a call that may have had its effect."""
+    return Outcome(UNKNOWN, text[:MOST_TEXT])
+
+
+def raised(error: BaseException, manner: Manner) -> Outcome:
+    """Return the outcome of a function that raised `error`."""
+    kind = classify(error, manner.unknown)
+    text = str(error) if isinstance(error, CannotDecode) else described(error)
+    if kind is UNKNOWN or kind is CANNOT_DECODE:
+        return Outcome(kind, text[:MOST_TEXT])
+    if kind is PERMANENT:
+        return failure(text, final=True)
+    after = error.seconds if isinstance(error, RetryAfter) else None
+    return failure(text, retry_after=after)._replace(error=error)
+
+
+def classify(error: BaseException, unknown: Unknowns) -> OutcomeKind:
+    """Return the outcome that an exception is; of a group, as `asyncio.TaskGroup` raises one, the
+    first of `WORST` that any of it is.
+    """
+    if isinstance(error, CannotDecode):
+        return CANNOT_DECODE
+    if isinstance(error, Fail):
+        return PERMANENT
+    if isinstance(error, (Unknown, *unknown)):
+        return UNKNOWN
+    if isinstance(error, BaseExceptionGroup):
+        kinds = {classify(one, unknown) for one in error.exceptions}
+        return next(kind for kind in WORST if kind in kinds)
+    return FAILED if isinstance(error, Exception) else UNKNOWN  # sys.exit() in the middle, say
+
+
+def described(error: BaseException) -> str:
+    """Return an exception as a line; of a group each one."""
+    if isinstance(error, BaseExceptionGroup):
+        return "; ".join(described(one) for one in error.exceptions)
+    if isinstance(error, SyntaxError) or getattr(error, "__notes__", None):
+        return "".join(traceback.format_exception_only(type(error), error)).strip()
+    return _line_of(error)
+
+
+def _line_of(error: BaseException) -> str:
+    """As `traceback.format_exception_only` of one without notes, in a tenth of its time."""
+    kind = type(error)
+    name = kind.__qualname__
+    if kind.__module__ not in ("__main__", "builtins"):
+        name = f"{kind.__module__}.{name}"
+    try:
+        text = str(error)
+    except Exception:
+        text = "<exception str() failed>"
+    return f"{name}: {text}".strip() if text else name
+
+
+def doubt(error: BaseException | None, manner: Manner) -> str:
+    """Return what the log adds to a failure whose cause leaves open what was done, as clients raise
+    their own exceptions from a timeout; else the empty text.
+    """
+    seen, cause = set[int](), error
+    while cause is not None and id(cause) not in seen:
+        seen.add(id(cause))
+        cause = cause.__cause__ or (None if cause.__suppress_context__ else cause.__context__)
+        if isinstance(cause, (Unknown, *manner.unknown)):
+            name = f"{type(error).__module__}.{type(error).__qualname__}"
+            return (
+                f"; its cause is {type(cause).__name__}. If the outcome is unknown then, "
+                f"declare the step with unknown=({name},)"
+            )
+    return ""
+
+
+def decided(outcome: Outcome) -> Outcome:
+    """Return how an approval ended whose function decided it."""
+    told = json.loads(outcome.value)
+    if "rejected" in told:
+        return failure(told["rejected"], final=True)
+    value = json.dumps(told["approved"], separators=(",", ":"), sort_keys=True)
+    return Outcome(SUCCEEDED, value)
+
+
+def reported(result: Any, failed: str | None, final: bool = True) -> Outcome:
+    """Return what somebody reports of an attempt.
+
+    Args:
+        result: The result, where it succeeded.
+        failed: Why it failed, else None.
+        final: Whether a failure is permanent.
+
+    Raises:
+        NotSerializable: The result is not JSON.
+        TypeError: `failed` is not a text.
+    """
+    if failed is None:
+        return Outcome(SUCCEEDED, serialization.write(result))
+    if not isinstance(failed, str):
+        raise TypeError(f"failed={type(failed).__name__}: must be a text that says why it failed")
+    return failure(failed, final)

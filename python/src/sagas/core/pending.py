@@ -1,0 +1,74 @@
+"""What an open saga waits for, in words."""
+
+from __future__ import annotations
+
+from collections.abc import Iterable, Sequence
+from typing import Any
+
+from sagas.core.model import QUEUED, RUNNING, SUSPENDED, SagaInstance
+from sagas.core.states import WAITS_FOR, Action, Suspension
+
+MOST = 5
+"""So many waits are named."""
+NOT_BEGUN = "no node has started it yet (run `sagas store URL nodes`)"
+"""Of a client's start that no log has yet."""
+
+
+def left_by(saga: str, version: int, nodes: Sequence[str]) -> str:
+    """Return what is said of a saga that these nodes leave, since they have another definition."""
+    named = f"{saga!r} (version {version})"
+    has = f"node{'s' if len(nodes) > 1 else ''} {', '.join(nodes)}"
+    return (
+        f"no node has its definition of saga {named}: {has} has other steps or costs. "
+        "Start nodes with the new definition before clients, or raise the saga's "
+        "version"
+    )
+
+
+def _said(name: str, undo: bool, reason: str, until: float | None) -> str:
+    """A step whose attempt is suspended, and why."""
+    told = f"waits for {WAITS_FOR.get(reason, reason)}"
+    if reason == Suspension.UNKNOWN and until is None:
+        how = f"complete or fail{' with undo=True' if undo else ''}"
+        told = f"has an unknown outcome and waits for a person ({how})"
+    elif reason == Suspension.EXHAUSTED:
+        told += f" (retry, complete or fail{' with undo=True' if undo else ''})"
+    elif reason == Suspension.CANNOT_DECODE:
+        told += " (see attention)"
+    return f"{_of(undo)}{name} {told}"
+
+
+def _of(undo: bool) -> str:
+    return "the compensation of " if undo else ""
+
+
+def of_live(instance: SagaInstance | None) -> list[str]:
+    """Return what a saga waits for that is driven here."""
+    found = []
+    for attempt in instance.busy.values() if instance else ():
+        if attempt.state is SUSPENDED:
+            reason = str(attempt.reason)
+            found.append(_said(attempt.name, attempt.undo, reason, attempt.until))
+        elif attempt.state is RUNNING:
+            found.append(f"{_of(attempt.undo)}{attempt.name} runs")
+        elif attempt.state is QUEUED:
+            found.append(f"{_of(attempt.undo)}{attempt.name} waits for {WAITS_FOR['slot']}")
+    return found
+
+
+def of_rows(names: Sequence[str], rows: Iterable[tuple[Any, ...]]) -> list[str]:
+    """Return the same by rows of the store: step, kind, reason, until. A wait until 0 is over."""
+    return [
+        _said(names[step], kind == Action.COMPENSATE, reason, until)
+        for step, kind, reason, until in rows
+        if (reason, until) != (Suspension.TIMER, 0.0)
+    ]
+
+
+def still_open(key: str, timeout: float, waits: Sequence[str]) -> TimeoutError:
+    """Return what is raised for a saga that is not over in time."""
+    more = f" and {len(waits) - MOST} more" if len(waits) > MOST else ""
+    return TimeoutError(
+        f"{key!r} is still open after {timeout:g} "
+        f"s{': ' if waits else ''}{', '.join(waits[:MOST])}{more}"
+    )

@@ -1,0 +1,270 @@
+"""Recovery of a shard from the rows of the store.
+
+That is so when a program takes a shard up, when its engine died, and when a commit was refused
+or its answer was lost. What was on its way is there by then, or never will be. The rows of the
+store and the engine's own answers tell what is so; of what this program knew only the attempts
+that run stay.
+
+A finished attempt stays finished: it is reported again, unless the store shows that its result is
+not there any more. Then a new attempt takes its place, as of an earlier program.
+"""
+
+from __future__ import annotations
+
+import dataclasses
+import json
+import re
+from collections.abc import Mapping, Sequence
+from typing import Any
+
+from sagas.core import protocol
+from sagas.core.attempts import PARKED
+from sagas.core.batch import HeldRow, Loaded, OpenRow
+from sagas.core.effects import Abort, Effects
+from sagas.core.exhaustion import FAILED_BEFORE
+from sagas.core.model import FINISHED, Attempt, SagaInstance
+from sagas.core.outcomes import SUCCEEDED, Outcome, failure
+from sagas.core.replies import Reading
+from sagas.core.shard import ShardDriver
+from sagas.core.states import EnginePhase, OutcomeKind, Suspension
+from sagas.definition.capacity import SHARD_CAPACITY
+from sagas.definition.start_options import StartOptions
+
+ODD = re.compile(
+    r'"event":"(?:missed|fail|start_undo|undone|undo_missed|undo_fail|abort|adopt)","saga":(\d+)'
+)
+"""The events by which a saga does not just go well."""
+Old = dict[tuple[int, int, str, int], Attempt]
+"""What was under way here: saga, step, action and number of each attempt."""
+
+
+@dataclasses.dataclass(eq=False, slots=True)
+class Recovery:
+    """What is to be done with what was found.
+
+    Attributes:
+        effects: The ends of sagas that the store lacks; its batch is committed as any other.
+        restored: The open sagas, each of which is there.
+        replaced: Sagas that this program was to open elsewhere under a key that one of the shard
+            has, each with that one.
+        gone: Sagas that are not open any more: their ends were written, and the answer was lost;
+            or another server took over, which may not have them.
+        resumed: The attempts that go on (`AttemptMachine.resume`).
+        forgotten: Attempts that the store does not have as begun: they had not begun, or their
+            reports are there.
+        aborted: Aborts that are answered, each with `done`.
+        draining: These sagas drain (`AttemptMachine.drain`), once the attempts go on.
+    """
+
+    effects: Effects
+    restored: list[SagaInstance] = dataclasses.field(default_factory=list)
+    replaced: list[tuple[SagaInstance, SagaInstance]] = dataclasses.field(default_factory=list)
+    gone: list[SagaInstance] = dataclasses.field(default_factory=list)
+    resumed: list[Attempt] = dataclasses.field(default_factory=list)
+    forgotten: list[Attempt] = dataclasses.field(default_factory=list)
+    aborted: list[Abort] = dataclasses.field(default_factory=list)
+    draining: list[SagaInstance] = dataclasses.field(default_factory=list)
+
+
+def requests(rows: Loaded) -> list[str]:
+    """Return what an engine is asked that was started on a shard's event log."""
+    return [protocol.BUSY, *map(protocol.show_line, _odd(rows))]
+
+
+def _odd(rows: Loaded) -> list[int]:
+    """The open sagas of which something failed, or that were aborted."""
+    odd = {int(number) for number in ODD.findall(rows.text)}
+    return [id % SHARD_CAPACITY for id, *_ in rows.open if id % SHARD_CAPACITY in odd]
+
+
+def unopened(
+    driver: ShardDriver, rows: Loaded | None, known: Mapping[str, SagaInstance]
+) -> tuple[list[SagaInstance], list[SagaInstance]]:
+    """Take out the sagas that were to be opened in a shard, and are not there.
+
+    Args:
+        driver: What the program knew of the shard.
+        rows: What the store has of it; None if it cannot be read.
+        known: The program's sagas by key.
+
+    Returns:
+        Those that the engine was asked to open, and those that it was not. They are opened again,
+        or refused. A saga of a key that is another one's by now is in neither.
+    """
+    there = {key for _, key, *_ in rows.open} if rows else set()
+    asked = [
+        saga
+        for saga in driver.sent
+        if not saga.committed and saga.key not in there and known.get(saga.key) is saga
+    ]
+    for saga in asked:
+        for attempt in saga.busy.values():  # it never began: the saga was not there
+            attempt.forget()
+        saga.forget()
+        saga.number, saga.shard = -1, None
+    new = [*driver.opens]
+    driver.close_opens()
+    return asked, new
+
+
+def recover(
+    rows: Loaded,
+    replies: Sequence[str],
+    now: float,
+    previous: ShardDriver,
+    known: Mapping[str, SagaInstance],
+    is_shared: bool = False,
+) -> Recovery:
+    """Make a shard's driver what the store has, and go on with what was begun.
+
+    Args:
+        rows: The shard's rows.
+        replies: The engine's replies to `requests(rows)`.
+        now: Wall time in seconds.
+        previous: What the program knew of the shard. It is `LOADING`, and `ACTIVE` from now on.
+        known: The program's sagas by key.
+        is_shared: Whether other nodes have shards in the store: then a key that the program was
+            to open elsewhere may be another saga's.
+
+    Returns:
+        What is to be done, in this order: `replaced`, `gone`, `restored`, `forgotten` and
+        `aborted`; the commit of `effects`; `resumed`; `draining`.
+    """
+    driver, before, old = previous, previous.sagas, _under_way(previous)
+    aborts = driver.aborting + driver.aborts
+    driver.restart(rows)
+    found = Recovery(driver.effects(now))
+    for row in rows.open:
+        _restore(found, driver, row, known, is_shared)
+    found.gone = [
+        saga
+        for saga in before.values()
+        if saga.committed and saga.number not in driver.sagas and known.get(saga.key) is saga
+    ]
+    _put_rows(driver, rows)
+    for number, reply in zip(_odd(rows), replies[1:], strict=True):
+        _show(found.effects, driver, number, json.loads(reply))
+    _resume(found, driver, rows, old, json.loads(replies[0])["busy"])
+    for abort in aborts:
+        _abort_again(found, driver, abort)
+    found.draining = [saga for saga in driver.sagas.values() if saga.draining]
+    return found
+
+
+def _under_way(driver: ShardDriver) -> Old:
+    attempts = [one for saga in driver.sagas.values() for one in saga.busy.values()]
+    attempts += driver.unkept()
+    return {(one.instance.number, one.step, one.kind, one.attempt): one for one in attempts}
+
+
+def _restore(
+    found: Recovery, driver: ShardDriver, row: OpenRow,
+    known: Mapping[str, SagaInstance], is_shared: bool,
+) -> None:  # fmt: skip
+    """Take an open saga of the store; the one that this program has, if it is the same."""
+    id, key, place, text, deadline = row
+    saga = known.get(key)
+    if saga is not None and (saga.shard is driver or not is_shared):
+        saga.forget()
+    else:
+        options, kind = StartOptions(deadline=deadline), driver.identity.kinds[place]
+        other, saga = saga, SagaInstance(key, text, kind, place, options)
+        if other is not None:
+            found.replaced.append((other, saga))
+    saga.number, saga.shard, saga.committed = id % SHARD_CAPACITY, driver, True
+    driver.sagas[saga.number] = saga
+    found.restored.append(saga)
+
+
+def _put_rows(driver: ShardDriver, rows: Loaded) -> None:
+    """Put into the sagas what the store has of their steps."""
+    for id, step, kind, _, outcome, value, at in rows.results:
+        _put_result(driver.sagas[id % SHARD_CAPACITY], step, kind, outcome, value or "null", at)
+    for id, step, kind, _, why, _, _, until, _ in rows.held:
+        reason = Suspension(why)
+        if reason is Suspension.CANNOT_DECODE and until is None:
+            continue  # it may be a wait that could not say until when
+        is_called = reason in PARKED  # its time was over
+        if is_called or (reason is Suspension.TIMER and until is not None):
+            due = driver.sagas[id % SHARD_CAPACITY].rare.due
+            time = 0.0 if is_called or until is None else until
+            due[step, kind] = min(time, due.get((step, kind), time))
+
+
+def _put_result(
+    saga: SagaInstance, step: int, kind: str, outcome: str, value: str, at: float
+) -> None:
+    if outcome == "commit":
+        saga.results[step] = value
+    elif outcome == "undone":
+        saga.results.pop(step, None)
+        saga.odd = True
+    elif outcome != "ok":
+        saga.odd = True
+        told = json.loads(value)
+        called = told.get("called", True)
+        saga.raised(step, value, called)
+        if called:
+            saga.missed((step, kind), at, told)
+        if told.get("final"):
+            saga.rare.final.add((step, kind))
+
+
+def _show(effects: Effects, driver: ShardDriver, number: int, told: dict[str, Any]) -> None:
+    saga = driver.sagas[number]
+    saga.odd, saga.aborted, saga.answer = True, told["aborted"], told.get("answer")
+    saga.draining = told["phase"] in (EnginePhase.DRAINING, EnginePhase.PLANNING)
+    Reading(driver, effects).shown(number, told)
+
+
+def _resume(
+    found: Recovery, driver: ShardDriver, rows: Loaded, old: Old, busy: list[dict[str, Any]]
+) -> None:
+    """The attempts that were begun and not reported: those that are under way here, and those of
+    an earlier program.
+    """
+    held = {row[:4]: row for row in rows.held}
+    kept = {row[:4]: row for row in rows.results if row[4] == "ok"}
+    """The results of transactions, whose reports are not there."""
+    for task in busy:
+        saga = driver.sagas[task["saga"]]
+        words = task["step"], task["task"], task["attempt"]
+        attempt = old.pop((saga.number, *words), None)
+        row = (driver.number * SHARD_CAPACITY + saga.number, *words)
+        if attempt is not None and attempt.recorded and row not in kept:
+            found.forgotten.append(attempt)  # by a server that was there before
+            attempt = Attempt(saga, *words, fresh=False)
+        elif attempt is None:
+            attempt = Attempt(saga, *words, fresh=False)
+            if row in held:
+                _put_suspension(attempt, held[row])
+        attempt.instance = saga
+        saga.busy[attempt.word] = attempt
+        if row in kept and attempt.state is not FINISHED:
+            *_, value, at = kept[row]
+            attempt.finish(Outcome(SUCCEEDED, value or "null"), at)
+        found.resumed.append(attempt)
+    found.forgotten += old.values()
+
+
+def _put_suspension(attempt: Attempt, row: HeldRow) -> None:
+    """Put into an attempt what the store has of its suspension."""
+    _, _, _, _, why, count, since, until, error = row
+    reason = Suspension(why)
+    attempt.reason, attempt.since, attempt.until, attempt.has_row = reason, since, until, True
+    if reason in FAILED_BEFORE:
+        attempt.rare.failures, attempt.outcome = count, failure(error or "")
+        return
+    if count:
+        attempt.rare.count = count
+    if reason in PARKED:
+        attempt.outcome = Outcome(OutcomeKind(reason.value), error or "")
+
+
+def _abort_again(found: Recovery, driver: ShardDriver, abort: Abort) -> None:
+    """It was asked, or was to be: it is asked of a saga that is open and not aborted."""
+    if abort.saga.aborted or abort.saga.number not in driver.sagas:
+        abort.done = abort.saga.aborted
+        found.aborted.append(abort)
+    else:
+        driver.abort(abort)

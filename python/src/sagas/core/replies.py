@@ -1,0 +1,261 @@
+"""Reads engine replies into effects."""
+
+from __future__ import annotations
+
+import json
+from collections.abc import Iterator, Sequence
+from typing import TYPE_CHECKING, Any
+
+from sagas.core import protocol
+from sagas.core.attempts import PARKED
+from sagas.core.batch import Opened, Result
+from sagas.core.effects import Abort, Effects, Question
+from sagas.core.model import Attempt, SagaInstance
+from sagas.core.offers import first_offer
+from sagas.core.outcomes import SUCCEEDED, Outcome, stored
+from sagas.core.states import UNDO_FAILED, EnginePhase
+from sagas.definition import serialization
+from sagas.definition.capacity import SHARD_CAPACITY
+
+if TYPE_CHECKING:
+    from sagas.core.shard import ShardDriver
+
+LAST_ATTEMPT = (1 << 31) - 1
+"""No attempt has a greater number."""
+FULL = '{"refused":"full"}'
+LOG_FULL = '{"refused":"log-full"}'
+
+
+class Disagrees(Exception):
+    """The engine does not know what was reported, or has other numbers: the shard is recovered
+    from the store.
+    """
+
+
+class Reading:
+    """Reads the replies to one question: what they say goes into the driver's sagas and into
+    effects.
+    """
+
+    __slots__ = ("_driver", "_effects", "_batch", "_over")
+
+    def __init__(self, driver: ShardDriver, effects: Effects) -> None:
+        self._driver, self._effects, self._batch = driver, effects, effects.batch
+        self._over: dict[int, None] = {}
+
+    def replies(self, asked: Question, replies: Sequence[str]) -> Sequence[int]:
+        """Read the replies to a question.
+
+        Returns:
+            The numbers of the sagas that are over and did not just go well: how they ended is to
+            be asked.
+
+        Raises:
+            Disagrees: The engine knows something else than this program.
+        """
+        if asked.count() != len(replies):
+            raise Disagrees(f"{len(replies)} replies to {asked.count()} requests")
+        left = iter(replies)
+        if asked.aborts:
+            self._aborts(asked.aborts, left)
+        if asked.reports:
+            self._reports(asked.reports, left)
+        if asked.opens:
+            self._opens(asked.opens, left)
+        if asked.claims:
+            self._next(next(left))
+        return [*self._over] if self._over else ()
+
+    # -- tasks
+
+    def _next(self, reply: str) -> None:
+        """What begins now."""
+        driver, begun = self._driver, self._effects.dispatch
+        tasks = protocol.tasks_in(reply)
+        if tasks is not None:  # most replies have no plan
+            driver.hungry = not reply.startswith(protocol.SETTLED)
+            sagas = driver.sagas
+            for number, step, word, count in tasks:
+                saga = sagas[number]
+                attempt = Attempt(saga, step, word, count, fresh=True)
+                saga.busy[attempt.action.word] = attempt
+                begun.append(attempt)
+                if saga.kind.has_external:
+                    self._offer(attempt)
+            return
+        told = serialization.read(reply)
+        driver.hungry = "settled" not in told
+        for task in told["tasks"]:
+            saga, word = driver.sagas[task["saga"]], task["task"]
+            if word == "plan":
+                saga.odd, saga.draining, saga.answer = True, False, task["answer"]
+                self._effects.planned.append(saga)
+                self._phase(saga, task["phase"])
+            else:
+                attempt = Attempt(saga, task["step"], word, task["attempt"], fresh=True)
+                saga.busy[attempt.action.word] = attempt
+                begun.append(attempt)
+                if saga.kind.has_external:
+                    self._offer(attempt)
+
+    def _offer(self, attempt: Attempt) -> None:
+        """Who does it elsewhere may have it as soon as it has begun, if that is at once."""
+        if attempt.is_external and attempt.attempt == 1 and not attempt.instance.draining:
+            row = first_offer(attempt, self._driver.number, self._batch.at)
+            self._batch.more.offers.append(row)
+
+    # -- reports
+
+    def _reports(self, attempts: Sequence[Attempt], replies: Iterator[str]) -> None:
+        rows, first = self._batch.results, self._driver.identity.number * SHARD_CAPACITY
+        for attempt, reply in zip(attempts, replies):
+            saga, outcome = attempt.instance, attempt.outcome
+            told = protocol.event_and_phase(reply)
+            if told is None:  # it is not what is on its way: it is over, or was another's
+                where = f"saga {saga.number}, step {attempt.step}, attempt {attempt.attempt}"
+                raise Disagrees(f"{where}: {reply}")
+            event, phase = told
+            assert outcome
+            attempt.event = event
+            value = outcome.value
+            if saga.kind.payloads.codec and outcome.kind is SUCCEEDED:
+                value = stored(saga.kind.payloads, value)
+            row: Result = (
+                first + saga.number, attempt.step, attempt.kind, attempt.attempt, event, value,
+                attempt.at,
+            )  # fmt: skip
+            rows.append(row)
+            if attempt.has_row or attempt.extras or saga.kind.has_external:
+                self._settle_rows(attempt)
+            if event == "commit":
+                saga.results[attempt.step] = value
+            else:
+                self._otherwise(attempt, outcome, event)
+            self._phase(saga, phase)
+        self._effects.reported = attempts
+
+    def _settle_rows(self, attempt: Attempt) -> None:
+        """What else the store has of an attempt that was reported. Of a wait that is retried it
+        keeps until when, or that its time is over.
+        """
+        batch = self._batch
+        keeps = attempt.event == "missed" and attempt.is_wait and not attempt.instance.draining
+        if attempt.has_row and not keeps:
+            batch.more.freed.append(attempt.row)
+            if attempt.is_wait:
+                attempt.instance.rare.due.pop(attempt.word, None)
+        elif attempt.has_row and attempt.reason in PARKED:
+            batch.more.held.append((*attempt.row, "wait", 0, attempt.since, 0.0, None))
+        if attempt.request is not None:
+            batch.answer(attempt.request, "true")
+        if attempt.is_external:
+            is_done = attempt.outcome is not None and attempt.outcome.kind is SUCCEEDED
+            came = SUCCEEDED.value if is_done else None
+            batch.more.settled.append((attempt.token(), self._driver.number, came))
+
+    def _otherwise(self, attempt: Attempt, outcome: Outcome, event: str) -> None:
+        """It is undone, or has failed, or is retried."""
+        saga = attempt.instance
+        if event == "undone":  # attempts keep the results that they began with
+            results = {step: value for step, value in saga.results.items() if step != attempt.step}
+            saga.results = results
+            return
+        saga.raised(attempt.step, outcome.value, outcome.called)
+        if event in ("fail", "undo_fail"):
+            saga.draining = True
+            self._effects.draining.append(saga)
+        elif outcome.called:
+            saga.missed(attempt.word, attempt.at, json.loads(outcome.value))
+
+    # -- aborts
+
+    def _aborts(self, aborts: Sequence[Abort], replies: Iterator[str]) -> None:
+        for abort, reply in zip(aborts, replies):
+            abort.done = reply.startswith(protocol.EVENT)
+            if abort.done:
+                abort.saga.odd = abort.saga.aborted = abort.saga.draining = True
+            self._batch.answer(abort.command, "true" if abort.done else "false")
+        self._effects.aborted = aborts
+
+    # -- opens
+
+    def _opens(self, sagas: Sequence[SagaInstance], replies: Iterator[str]) -> None:
+        driver, batch, there = self._driver, self._batch, list[SagaInstance]()
+        first = driver.identity.number * SHARD_CAPACITY
+        is_passed = False
+        for saga, reply in zip(sagas, replies):
+            if reply.startswith(protocol.EVENT):
+                number = saga.number = protocol.number_in(reply)
+                driver.sagas[number] = saga
+                driver.opened += 1
+                if saga.start is not None:
+                    batch.more.begun.append((saga.start, saga.id))
+                if saga.guessed:
+                    batch.guessed.append(saga.key)
+                labels, id = saga.options.labels, first + number
+                row: Opened = (
+                    id, saga.key, saga.kind.name, saga.place, saga.text, batch.at,
+                    saga.options.deadline,
+                )  # fmt: skip
+                batch.opened.append(row)
+                if labels:
+                    batch.more.labels += [(id, *label) for label in labels.items()]
+                there.append(saga)
+                continue
+            # those behind one that was passed over have numbers that are not the next ones
+            is_passed = is_passed or reply in (FULL, LOG_FULL)
+            if not is_passed:
+                raise Disagrees(f"saga {driver.opened} was to be opened: {reply}")
+            self._not_opened(saga, reply)
+        self._effects.opened = there
+
+    def _not_opened(self, saga: SagaInstance, reply: str) -> None:
+        """The shard is full, and another one takes the saga; or it fits into none."""
+        driver = self._driver
+        del driver.sent[saga]
+        if reply == LOG_FULL and not driver.opened:  # no shard has more room than this one
+            saga.kind.fits = False
+        if saga.kind.fits and reply not in (FULL, LOG_FULL) and not driver.is_full:
+            driver.opens.append(saga)  # it is asked for again, with the next number
+            return
+        driver.reserved -= 1
+        if saga.kind.fits:
+            driver.is_full = True
+            self._effects.displaced.append(saga)
+        else:
+            self._effects.refused.append(saga)
+
+    # -- ends
+
+    def _phase(self, saga: SagaInstance, phase: str) -> None:
+        """Where a saga stands now: if it is over and all went well, the batch says so; else how
+        it ended is to be asked.
+        """
+        if phase in (EnginePhase.ENDED, EnginePhase.STUCK):
+            if saga.odd:
+                self._over[saga.number] = None
+            else:
+                self._end(saga, phase, saga.kind.all_done)
+
+    def shown(self, number: int, told: dict[str, Any]) -> None:
+        """Read how a saga stands: if it is over, the batch says so."""
+        saga = self._driver.sagas.get(number)
+        if saga and not saga.over and told["phase"] in (EnginePhase.ENDED, EnginePhase.STUCK):
+            end = {word: told.get(word) for word in ("aborted", "answer", "kept", "states")}
+            text = json.dumps(end, separators=(",", ":"), sort_keys=True)
+            is_plan = (told.get("answer") or {}).get("kind") == "plan"
+            recovered = told["phase"] == EnginePhase.ENDED and is_plan
+            undo_failed = recovered and UNDO_FAILED in told["states"]
+            self._end(saga, told["phase"], text, recovered, undo_failed)
+
+    def _end(
+        self, saga: SagaInstance, phase: str, end: str, recovered: bool = False,
+        undo_failed: bool = False,
+    ) -> None:  # fmt: skip
+        saga.phase, saga.end = phase, end
+        batch, id = self._batch, self._driver.identity.number * SHARD_CAPACITY + saga.number
+        batch.ended.append((phase, end, recovered, undo_failed, batch.at, id))
+        if saga.has_due:  # a wait that is retried kept its row for an attempt that never came
+            freed = [(id, step, kind, LAST_ATTEMPT) for step, kind in saga.rare.due]
+            batch.more.freed += freed
+        self._effects.ended.append(saga)

@@ -1,0 +1,335 @@
+"""`SagaResult` and what else callers read of a saga."""
+
+from __future__ import annotations
+
+import dataclasses
+from collections.abc import Callable
+from typing import TYPE_CHECKING, Any, Protocol, TypeVar, overload
+
+from sagas.core.states import state_text
+from sagas.definition import serialization
+
+if TYPE_CHECKING:
+    from sagas.definition.step import Step
+
+R = TypeVar("R")
+MOST_SAID = 120
+ENDED = ("completed", "recovered")
+
+
+class Ended(Protocol):
+    """How a saga ended, in a store or in a test."""
+
+    @property
+    def saga(self) -> str:
+        ...
+
+    @property
+    def key(self) -> str:
+        ...
+
+    @property
+    def phase(self) -> str:
+        ...
+
+    @property
+    def states(self) -> dict[str, str]:
+        ...
+
+    @property
+    def results(self) -> dict[str, Any]:
+        ...
+
+    @property
+    def cost(self) -> int | None:
+        ...
+
+    @property
+    def blocking_steps(self) -> list[str]:
+        ...
+
+    @property
+    def aborted(self) -> bool:
+        ...
+
+    @property
+    def errors(self) -> dict[str, str]:
+        ...
+
+
+def _compensations(steps: list[str]) -> str:
+    """The compensations of these steps, for a line."""
+    one = len(steps) == 1
+    return f"the {'compensation' if one else 'compensations'} of {' and '.join(steps)}"
+
+
+class Answering:
+    """What is asked of either."""
+
+    __slots__ = ()
+
+    @property
+    def ok(self: Ended) -> bool:
+        """Whether every step is committed."""
+        return self.phase in ENDED and all(state == "committed" for state in self.states.values())
+
+    @overload
+    def result_of(self: Ended, step: Step[R]) -> R:
+        ...
+
+    @overload
+    def result_of(self: Ended, step: str) -> Any:
+        ...
+
+    def result_of(self: Ended, step: Step[Any] | str) -> Any:
+        """Return the result of a committed step.
+
+        Args:
+            step: The step, or its name.
+
+        Raises:
+            KeyError: The step is not committed, or does not exist.
+            ResultNotSerializable: The result could not be stored.
+        """
+        name = step if isinstance(step, str) else step.name
+        if name not in self.results:
+            there = name in self.states
+            raise KeyError(
+                f"step {name!r} is not committed: it is {self.states[name]}"
+                if there
+                else f"unknown step {name!r}: the steps are {', '.join(self.states)}"
+            )
+        return serialization.stored(self.results[name], name)
+
+    def __str__(self: Ended) -> str:
+        """A line, and one for each step, with the first line of what that raised."""
+        stands = [step for step, state in self.states.items() if state == "undo_failed"]
+        cost = "" if self.cost is None else f", plan of cost {self.cost}"
+        if stands and self.phase == "recovered":  # what it cost is not known
+            cost = f", but {_compensations(stands)} failed permanently"
+        blocking_steps = (
+            f", because of {' and '.join(self.blocking_steps)}" if self.blocking_steps else ""
+        )
+        said = {
+            step: f": {error.strip().splitlines()[0][:MOST_SAID]}"
+            for step, error in self.errors.items()
+            if error.strip()
+        }
+        head = (
+            f"{self.saga} {self.key}: "
+            f"{self.phase}{' (aborted)' if self.aborted else ''}{cost}{blocking_steps}"
+        )
+        states = {step: state_text(state, is_over=True) for step, state in self.states.items()}
+        wide = max(9, *map(len, states.values()))
+        return "\n".join(
+            [
+                head,
+                *(f"  {state:{wide}} {step}{said.get(step, '')}" for step, state in states.items()),
+            ]
+        )
+
+
+@dataclasses.dataclass(frozen=True, init=False)
+class SagaResult(Answering):
+    """Tell how a saga ended. Made by `Run.wait` and `Store.wait`.
+
+    `str` shows a line for each step.
+
+    Attributes:
+        key: The saga's key.
+        saga: The saga's name.
+        phase: `completed`; `recovered`, if it ended by a plan; `stuck`, if no plan was feasible; or
+            `resolved`, if a person resolved a stuck one.
+        states: By step: `waiting`, `committed`, `failed`, `undone` or `undo_failed` (its
+            compensation failed permanently, and its effect is still there).
+        results: The results of the committed steps.
+        cost: Of the last plan; None if there was none.
+        blocking_steps: If it is stuck, the steps that show why no plan was feasible.
+        kept: The steps that the plan keeps.
+        aborted: Whether it was aborted.
+        note: What the person wrote who resolved it, or None.
+        errors: What the failed and undo_failed steps raised last, by step.
+
+    Example:
+        >>> with sagas.open_sync("orders.db", [order]) as store:
+        ...     end = store.start(order, "order-2", {"amount": 40}).wait(timeout=60)
+        refund 40
+        >>> end.ok, end.phase, end.cost
+        (False, 'recovered', 4)
+        >>> end.errors
+        {'send': 'sagas.Fail: sold out'}
+    """
+
+    key: str
+    saga: str
+    phase: str
+    states: dict[str, str]
+    results: dict[str, Any]
+    cost: int | None
+    blocking_steps: list[str]
+    kept: list[str]
+    aborted: bool
+    note: str | None
+    errors: dict[str, str]
+
+    def __init__(
+        self, key: str, saga: str, phase: str, states: dict[str, str], results: dict[str, Any],
+        cost: int | None, blocking_steps: list[str], kept: list[str], aborted: bool,
+        note: str | None = None, errors: dict[str, str] | None = None,
+    ) -> None:  # fmt: skip
+        # at once: a frozen class's own form takes three times as long, and each saga makes one
+        vars(self).update(
+            key=key, saga=saga, phase=phase, states=states, results=results, cost=cost,
+            blocking_steps=blocking_steps,
+            kept=kept, aborted=aborted, note=note, errors=errors or {},
+        )  # fmt: skip
+
+    @classmethod
+    def later(cls, read: Callable[[], SagaResult]) -> SagaResult:
+        """Make a result that is read at the first access to an attribute.
+
+        Args:
+            read: Returns the result.
+        """
+        end = object.__new__(cls)
+        vars(end)["_read"] = read
+        return end
+
+    def __getattr__(self, name: str) -> Any:
+        """What is not read yet. (Two threads may read it at once: both have the same.)"""
+        mine = vars(self)
+        if (read := mine.get("_read")) is not None:
+            mine.update({**vars(read()), **mine})
+            mine.pop("_read", None)
+        if name not in mine:
+            raise AttributeError(
+                f"{type(self).__name__!r} object has no attribute {name!r}", name=name, obj=self
+            )
+        return mine[name]
+
+    def __getstate__(self) -> dict[str, Any]:
+        """All of it, for a copy and another process."""
+        return {field.name: getattr(self, field.name) for field in dataclasses.fields(self)}
+
+
+@dataclasses.dataclass(frozen=True, slots=True)
+class Summary:
+    """Describe a saga in a list.
+
+    Attributes:
+        id: Its place in the list: `after` of the next page.
+        key: The saga's key.
+        saga: The saga's name.
+        phase: `open`, `completed`, `recovered`, `stuck` or `resolved`.
+        started: Wall time, in seconds since 1970.
+        ended: Wall time, in seconds since 1970, or None.
+        note: What the person wrote who resolved it, or None.
+        undo_failed: Whether it ended by a plan, and a compensation failed permanently.
+        labels: Its labels.
+        deadline: When it is aborted if it has not ended: wall time, in seconds since 1970, or None.
+    """
+
+    id: int
+    key: str
+    saga: str
+    phase: str
+    started: float
+    ended: float | None
+    note: str | None
+    undo_failed: bool = False
+    labels: dict[str, str] = dataclasses.field(default_factory=dict)
+    deadline: float | None = None
+
+
+@dataclasses.dataclass(frozen=True, slots=True)
+class DefinitionCount:
+    """Count the sagas of a definition in a store.
+
+    Attributes:
+        saga: The definition's name.
+        version: The definition's version.
+        open: How many of its sagas are open. If none is, programs can do without the version.
+        total: How many of its sagas the store has.
+    """
+
+    saga: str
+    version: int
+    open: int
+    total: int
+
+
+@dataclasses.dataclass(frozen=True, slots=True)
+class UnknownAttempt:
+    """Describe an attempt whose outcome is unknown.
+
+    Attributes:
+        key: The saga's key.
+        saga: The saga's name.
+        step: The step's name.
+        undo: Whether it is the step's compensation.
+        attempt: The attempt's number, from 1.
+        attempt_id: As `Task.attempt_id`.
+        count: How often the outcome was unknown.
+        since: Wall time of the first unknown outcome, in seconds since 1970.
+        until: When it is repeated, in seconds since 1970; None: a person has to report it.
+        error: What was raised last, or None.
+    """
+
+    key: str
+    saga: str
+    step: str
+    undo: bool
+    attempt: int
+    attempt_id: str
+    count: int
+    since: float
+    until: float | None
+    error: str | None
+
+    @property
+    def asked(self) -> bool:
+        """Whether a person has to report the outcome, by `Store.complete` or `Store.fail`."""
+        return self.until is None
+
+
+@dataclasses.dataclass(frozen=True, slots=True)
+class ActiveAttempt:
+    """Describe an attempt that has begun, in the program that executes its saga.
+
+    Attributes:
+        step: The step's name.
+        undo: Whether it is the step's compensation.
+        attempt: The attempt's number, from 1.
+        waits: For what it waits; empty while its function runs. `concurrency`, `fleet_concurrency`
+            or `rate_limit` of its step; `slot` (of the store's `concurrency`); `backoff`; `worker`
+            (no worker has it yet); `external` (a worker has it); `ordered` (it is in its Celery
+            queue, or a worker has it); `wait` (for its time); `approval`; `unknown`.
+        until: When that ends, in seconds since 1970, or None.
+        progress: The fraction that its function reported last (`Task.progress`), or None.
+        detail: The text that it reported with it, or None.
+    """
+
+    step: str
+    undo: bool
+    attempt: int
+    waits: str
+    until: float | None
+    progress: float | None = None
+    detail: str | None = None
+
+
+@dataclasses.dataclass(frozen=True, slots=True)
+class HistoryEvent:
+    """Describe an event of a saga's log.
+
+    Attributes:
+        event: The event's word, as in the file format of logs.
+        at: When it was committed, in seconds since 1970.
+        step: The step's name, or None.
+        value: The result, or `{"error": ...}`; of `adopt`, the plan.
+    """
+
+    event: str
+    at: float
+    step: str | None
+    value: Any

@@ -1,0 +1,132 @@
+"""`SagaInstance`: the state of an open saga."""
+
+from __future__ import annotations
+
+from typing import TYPE_CHECKING, Any
+
+from sagas.core.suspensions import SagaExtras, tenant_of
+from sagas.definition import start_options
+from sagas.definition.capacity import SHARD_CAPACITY
+from sagas.definition.compiled import Kind, Word
+from sagas.definition.start_options import StartOptions
+
+if TYPE_CHECKING:
+    from sagas.core.model import Attempt
+    from sagas.core.shard import ShardDriver
+
+
+class SagaInstance:
+    """A saga from its start to its end.
+
+    Attributes:
+        key: The caller's name for it.
+        text: Its input, as JSON.
+        kind: Its definition.
+        place: The index of its definition in its shard.
+        number: Its number in its shard; -1 until it has one.
+        results: The results of the steps that stand. A compensation puts another dict here, so
+            that each attempt keeps the one that it began with.
+        busy: The attempts that were claimed and not reported.
+        odd: Whether something failed, was retried or was aborted.
+        draining: Whether what runs ends, and then the saga is planned.
+        answer: The last plan that was adopted.
+        committed: Whether the store has it.
+        options: What its start said; of one that another program started its deadline alone.
+        guessed: Whether it was begun without a look for its key. Until it is committed, the key
+            may be another saga's.
+        start: The pending start of a client that it is of.
+        phase: How it ended, as the store has it; the empty text while it is open.
+        end: The end, as the store has it.
+    """
+
+    __slots__ = (
+        "key", "text", "kind", "place", "number", "shard", "results", "busy", "odd", "aborted",
+        "draining", "answer", "committed", "guessed", "start", "phase", "end", "token", "options",
+        "_extras",
+    )  # fmt: skip
+
+    def __init__(
+        self,
+        key: str,
+        text: str,
+        kind: Kind,
+        place: int,
+        options: StartOptions = start_options.NONE,
+    ) -> None:
+        self.key = key
+        self.text = text
+        self.kind = kind
+        self.place = place
+        self.options = options
+        self.number = -1
+        self.shard: ShardDriver | None = None
+        self.committed = self.guessed = False
+        self.start: int | None = None
+        self.end = ""
+        self.forget()
+
+    def forget(self) -> None:
+        """Make it what it was when it was opened; recovery puts in what the store has."""
+        self.token: str | None = None
+        self.results: dict[int, str] = {}
+        self.busy: dict[Word, Attempt] = {}
+        self.odd = self.aborted = self.draining = False
+        self.answer: dict[str, Any] | None = None
+        self.phase = ""
+        self._extras: SagaExtras | None = None
+
+    @property
+    def rare(self) -> SagaExtras:
+        """What only some sagas have."""
+        if self._extras is None:
+            self._extras = SagaExtras()
+        return self._extras
+
+    @property
+    def tenant(self) -> str | None:
+        """Whose it is, where its definition says that. It is asked for once."""
+        by = self.kind.fair_by
+        if by is None:
+            return None
+        if self.rare.tenant is None:
+            self.rare.tenant = tenant_of(by, self.text, self.kind.name)
+        return self.rare.tenant
+
+    @property
+    def why_draining(self) -> str:
+        """Why what it does is not wanted any more, as functions hear it."""
+        return "aborted" if self.aborted else "failed"
+
+    @property
+    def over(self) -> bool:
+        """Whether its end is known."""
+        return bool(self.phase)
+
+    @property
+    def has_due(self) -> bool:
+        """Whether the store has the time of a wait that is retried."""
+        return self._extras is not None and bool(self._extras.due)
+
+    @property
+    def id(self) -> int:
+        """Its number in the store."""
+        assert self.shard
+        return self.shard.identity.number * SHARD_CAPACITY + self.number
+
+    @property
+    def is_doubtful(self) -> bool:
+        """Whether its key may be another saga's."""
+        return self.guessed and not self.committed
+
+    def missed(self, word: Word, at: float, told: dict[str, Any]) -> None:
+        """Keep when an action failed, and the pause that it wants."""
+        self.rare.missed_at[word] = at
+        self.rare.pauses[word] = told.get("retry_after")
+
+    def raised(self, step: int, value: str, called: bool) -> None:
+        """Keep what an attempt raised; what it raised when it was called goes before what is said
+        of one that was given up.
+        """
+        errors = self.rare.errors
+        if called or step not in errors:
+            errors[step] = value

@@ -1,0 +1,296 @@
+"""Every set of states, its transitions and its words.
+
+`FINISHED` is never left. Where a report is refused, or a commit is lost, recovery makes new
+attempts from the rows of the store.
+
+The texts of the proved program (docs/FORMATS.md) and those of the package differ in a few places;
+`step_state` translates them.
+"""
+
+from __future__ import annotations
+
+import enum
+import json
+import sys
+from collections.abc import Mapping
+from typing import TypeVar
+
+S = TypeVar("S", bound=enum.Enum)
+Table = Mapping[S, frozenset[S]]
+"""The states that may follow each state."""
+
+
+class IllegalTransition(RuntimeError):
+    """A state was followed by one that its table does not allow: a fault of this package."""
+
+
+class Action(enum.StrEnum):
+    """What an attempt does for its step."""
+
+    RUN = "run"
+    COMPENSATE = "undo"
+
+
+class AttemptState(enum.Enum):
+    """Where an attempt stands in this program."""
+
+    CLAIMED = "claimed"
+    """The shard's event log has it as begun; nothing is decided yet."""
+    SUSPENDED = "suspended"
+    """It takes no slot; its `Suspension` says what it waits for."""
+    QUEUED = "queued"
+    """It waits for a slot of the store's concurrency, or has one and waits for its limits."""
+    RUNNING = "running"
+    """Its function is called, or is about to be."""
+    FINISHED = "finished"
+    """Its outcome is known."""
+
+
+class Suspension(enum.StrEnum):
+    """Why an attempt is suspended; the text is stored."""
+
+    BACKOFF = "backoff"
+    UNKNOWN = "unknown"
+    """Nobody knows what its last call did."""
+    RETRY = "retry"
+    """It failed as the last one of its definition, and is called again."""
+    EXHAUSTED = "exhausted"
+    """It failed, its attempts are used up, and a person decides."""
+    CANNOT_DECODE = "cannot_decode"
+    """This program cannot read what the store has for it."""
+    TIMER = "wait"
+    APPROVAL = "approval"
+    EXTERNAL = "external"
+    """An external worker does it, or will."""
+    STEP_LIMIT = "limit"
+    FLEET_LIMIT = "fleet"
+
+
+class OutcomeKind(enum.StrEnum):
+    """What a call came to."""
+
+    SUCCEEDED = "succeeded"
+    FAILED = "failed"
+    """It had no effect, and may be retried."""
+    FAILED_PERMANENTLY = "failed_permanently"
+    """It had no effect, and is not retried."""
+    UNKNOWN = "unknown"
+    """It may have had its effect."""
+    CANNOT_DECODE = "cannot_decode"
+    """It was not called: this program cannot read what the store has for it."""
+    ANSWERED = "answered"
+    """The function of an approval decided it, and nobody is asked."""
+
+
+class StepState(enum.StrEnum):
+    """Where a step of a saga stands."""
+
+    WAITING = "waiting"
+    RUNNING = "running"
+    COMMITTED = "committed"
+    FAILED = "failed"
+    COMPENSATING = "undoing"
+    COMPENSATED = "undone"
+    COMPENSATION_FAILED = "undo_failed"
+    """Its compensation failed for good: what the step did stands."""
+
+
+class SagaPhase(enum.StrEnum):
+    """Where a saga stands, for its callers."""
+
+    OPEN = "open"
+    COMPLETED = "completed"
+    """Each step is done."""
+    RECOVERED = "recovered"
+    """It ended by a plan."""
+    STUCK = "stuck"
+    """No allowed plan is left: a person has to look."""
+    RESOLVED = "resolved"
+    """A person has looked."""
+
+
+class EnginePhase(enum.StrEnum):
+    """Where a saga stands, in the replies of the engine."""
+
+    GOING = "going"
+    DRAINING = "draining"
+    """A step failed, or the saga was aborted: what runs ends, and then it is planned."""
+    PLANNING = "planning"
+    ENDED = "ended"
+    STUCK = "stuck"
+
+    @property
+    def is_over(self) -> bool:
+        """Whether nothing of the saga runs any more."""
+        return self in (EnginePhase.ENDED, EnginePhase.STUCK)
+
+
+class ShardState(enum.Enum):
+    """Where a shard stands in the program that drives it."""
+
+    STALE = "stale"
+    """What this program knows of it is not what the store has."""
+    LOADING = "loading"
+    """It is read from the store."""
+    IDLE = "idle"
+    """It has no engine process."""
+    STARTING = "starting"
+    """Its engine process is started."""
+    ACTIVE = "active"
+    CLOSED = "closed"
+
+
+ATTEMPT_TRANSITIONS: Table[AttemptState] = {
+    AttemptState.CLAIMED: frozenset(
+        {
+            AttemptState.SUSPENDED,
+            AttemptState.QUEUED,
+            AttemptState.RUNNING,
+            AttemptState.FINISHED,
+        }
+    ),
+    AttemptState.SUSPENDED: frozenset(
+        {AttemptState.SUSPENDED, AttemptState.QUEUED, AttemptState.FINISHED}
+    ),
+    AttemptState.QUEUED: frozenset(
+        {AttemptState.SUSPENDED, AttemptState.RUNNING, AttemptState.FINISHED}
+    ),
+    # CLAIMED: the node's lease expired before the call, or its transaction may be committed
+    AttemptState.RUNNING: frozenset(
+        {AttemptState.CLAIMED, AttemptState.SUSPENDED, AttemptState.FINISHED}
+    ),
+    AttemptState.FINISHED: frozenset(),
+}
+STEP_TRANSITIONS: Table[StepState] = {
+    StepState.WAITING: frozenset({StepState.RUNNING}),
+    # WAITING: it failed, and is retried
+    StepState.RUNNING: frozenset({StepState.COMMITTED, StepState.WAITING, StepState.FAILED}),
+    StepState.COMMITTED: frozenset({StepState.COMPENSATING}),
+    # COMMITTED: the compensation failed, and is retried
+    StepState.COMPENSATING: frozenset(
+        {StepState.COMPENSATED, StepState.COMMITTED, StepState.COMPENSATION_FAILED}
+    ),
+    StepState.FAILED: frozenset(),
+    StepState.COMPENSATED: frozenset(),
+    StepState.COMPENSATION_FAILED: frozenset(),
+}
+SAGA_TRANSITIONS: Table[SagaPhase] = {
+    SagaPhase.OPEN: frozenset({SagaPhase.COMPLETED, SagaPhase.RECOVERED, SagaPhase.STUCK}),
+    SagaPhase.COMPLETED: frozenset(),
+    SagaPhase.RECOVERED: frozenset({SagaPhase.RESOLVED}),
+    SagaPhase.STUCK: frozenset({SagaPhase.RESOLVED}),
+    SagaPhase.RESOLVED: frozenset({SagaPhase.RESOLVED}),
+}
+ENGINE_TRANSITIONS: Table[EnginePhase] = {
+    EnginePhase.GOING: frozenset({EnginePhase.DRAINING, EnginePhase.ENDED}),
+    EnginePhase.DRAINING: frozenset({EnginePhase.PLANNING}),
+    # DRAINING: it was aborted meanwhile
+    EnginePhase.PLANNING: frozenset(
+        {EnginePhase.GOING, EnginePhase.DRAINING, EnginePhase.ENDED, EnginePhase.STUCK}
+    ),
+    EnginePhase.ENDED: frozenset(),
+    EnginePhase.STUCK: frozenset(),
+}
+SHARD_TRANSITIONS: Table[ShardState] = {
+    ShardState.STALE: frozenset({ShardState.LOADING, ShardState.CLOSED}),
+    ShardState.LOADING: frozenset({ShardState.ACTIVE, ShardState.STALE, ShardState.CLOSED}),
+    ShardState.IDLE: frozenset({ShardState.STARTING, ShardState.STALE, ShardState.CLOSED}),
+    ShardState.STARTING: frozenset({ShardState.ACTIVE, ShardState.STALE, ShardState.CLOSED}),
+    ShardState.ACTIVE: frozenset({ShardState.IDLE, ShardState.STALE, ShardState.CLOSED}),
+    ShardState.CLOSED: frozenset({ShardState.CLOSED}),
+}
+
+EVENT_STATES: Mapping[str, StepState] = {
+    "start_run": StepState.RUNNING,
+    "commit": StepState.COMMITTED,
+    "missed": StepState.WAITING,
+    "fail": StepState.FAILED,
+    "start_undo": StepState.COMPENSATING,
+    "undone": StepState.COMPENSATED,
+    "undo_missed": StepState.COMMITTED,
+    "undo_fail": StepState.COMPENSATION_FAILED,
+}
+"""The state of a step after each of its events."""
+
+WAITS_FOR: Mapping[str, str] = {
+    Suspension.BACKOFF: "its next attempt",
+    Suspension.UNKNOWN: "its next call, because its outcome is unknown",
+    Suspension.RETRY: "its next attempt",
+    Suspension.EXHAUSTED: "a person, because its attempts are used up",
+    Suspension.CANNOT_DECODE: "a program that can read its stored values",
+    Suspension.TIMER: "its time",
+    Suspension.APPROVAL: "an approval",
+    Suspension.EXTERNAL: "an external worker",
+    Suspension.STEP_LIMIT: "a slot of its concurrency",
+    Suspension.FLEET_LIMIT: "its fleet_concurrency or its rate_limit",
+    "concurrency": "a slot of its concurrency",
+    "fleet_concurrency": "a slot of its fleet_concurrency",
+    "rate_limit": "its rate_limit",
+    "slot": "a slot of the program's concurrency",
+    "worker": "an external worker",
+    "ordered": "a worker of its queue",
+}
+"""For what an attempt waits, by its `Suspension` or by `ActiveAttempt.waits`."""
+
+
+class Check:
+    """Whether each transition is looked up in its table: in Python's development mode, and in the
+    tests of this package.
+    """
+
+    is_on = sys.flags.dev_mode
+
+
+def check(table: Table[S], before: S, after: S) -> None:
+    """Raise `IllegalTransition` where one state does not follow another."""
+    if after not in table[before]:
+        raise IllegalTransition(f"{type(before).__name__}: {before.name} -> {after.name}")
+
+
+UNDO_FAILED = "fixed"
+"""The proved program's word for `StepState.COMPENSATION_FAILED`."""
+
+
+def step_state(text: str) -> StepState:
+    """Return a step's state by the proved program's word for it."""
+    return StepState.COMPENSATION_FAILED if text == UNDO_FAILED else StepState(text)
+
+
+def program_word(state: StepState) -> str:
+    """Return the proved program's word for a step's state."""
+    return UNDO_FAILED if state is StepState.COMPENSATION_FAILED else state.value
+
+
+def undo_failures(end: str) -> list[int]:
+    """Return the steps whose compensations failed for good, of a saga's end as the store has it."""
+    states = json.loads(end)["states"] if UNDO_FAILED in end else ()
+    return [step for step, text in enumerate(states) if text == UNDO_FAILED]
+
+
+def known_state(state: str) -> str:
+    """Return a step's state as the store alone knows it: an attempt that has begun is called, or
+    waits for its turn, a time or a worker.
+    """
+    return "begun" if state == StepState.RUNNING else state
+
+
+def state_text(state: str, is_over: bool = False) -> str:
+    """Return a step's state for a person: of one whose compensation failed for good that it did;
+    of one that a saga that is over never began that it is not run.
+    """
+    if is_over and state == StepState.WAITING:
+        return "not run"
+    return "undo failed" if state == StepState.COMPENSATION_FAILED else known_state(state)
+
+
+def saga_phase(phase: str | None, recovered: bool, note: str | None) -> SagaPhase:
+    """Return a saga's phase by what the store keeps of it: the proved program's word, whether it
+    ended by a plan, and the note of who resolved it.
+    """
+    if phase is None:
+        return SagaPhase.OPEN
+    if note is not None:
+        return SagaPhase.RESOLVED
+    if phase == EnginePhase.STUCK:
+        return SagaPhase.STUCK
+    return SagaPhase.RECOVERED if recovered else SagaPhase.COMPLETED

@@ -1,0 +1,79 @@
+"""Idempotent reports: the same outcome again is accepted, another one conflicts."""
+
+from __future__ import annotations
+
+import json
+from collections.abc import Iterable
+from typing import Any
+
+from sagas.base.errors import ConflictingReport, StepNotWaiting
+from sagas.core.batch import SagaRow
+from sagas.core.outcomes import Outcome
+from sagas.core.states import EnginePhase, OutcomeKind
+from sagas.definition.payloads import PLAIN, Payloads
+
+RESULTS = "SELECT step, action, event, value FROM attempts WHERE id = ? ORDER BY at, number"
+DONE = ("commit", "ok", "undone")
+OVER = {
+    "commit": "it has succeeded",
+    "ok": "it has succeeded",
+    "fail": "it has failed",
+    "undone": "it was undone",
+    "undo_fail": "its compensation has failed",
+}
+"""What the last event of a step, or of its compensation, says where that is over."""
+
+
+def over_by(rows: Iterable[tuple[Any, ...]], place: int, kind: str) -> str | None:
+    """In words how a step, or its compensation, ended, by rows of `RESULTS`. None where it has
+    not."""
+    events = [event for step, action, event, _ in rows if (step, action) == (place, kind)]
+    return OVER.get(events[-1]) if events else None
+
+
+def first_of(rows: Iterable[tuple[Any, ...]], place: int, kind: str) -> Outcome | None:
+    """How a step, or its compensation, ended, by rows of `RESULTS`. None where it has not."""
+    found = None
+    for step, word, outcome, value in rows:
+        if (step, word) != (place, kind):
+            continue
+        if outcome in DONE:
+            found = Outcome(OutcomeKind.SUCCEEDED, value or "null")
+            continue
+        told = json.loads(value or "{}")
+        if told.get("called", True):
+            is_final = told.get("final") or outcome in ("fail", "undo_fail")
+            failed = Outcome(OutcomeKind.FAILED_PERMANENTLY, value or "{}")
+            found = failed if is_final else None
+    return found
+
+
+def check(
+    key: str, step: str, first: Outcome, outcome: Outcome, why: str | None = None,
+    payloads: Payloads = PLAIN,
+) -> None:  # fmt: skip
+    """Raises `ConflictingReport` where this is another answer than the first. What was said is in
+    neither text. `why`: what is to be said of the step, where that is more."""
+    if first.kind is OutcomeKind.SUCCEEDED:
+        values = payloads.decode(outcome.value), payloads.decode(first.value)
+        is_same = outcome.kind is OutcomeKind.SUCCEEDED and values[0] == values[1]
+    else:
+        is_same = outcome.kind is not OutcomeKind.SUCCEEDED and _error(outcome) == _error(first)
+    if not is_same:
+        is_done = first.kind is OutcomeKind.SUCCEEDED
+        told = why or f"it has {'succeeded' if is_done else 'failed'}"
+        told += ". This is a different outcome, and the first one counts"
+        raise ConflictingReport(f"saga {key!r}, step {step!r}: {told}")
+
+
+def _error(outcome: Outcome) -> Any:
+    return json.loads(outcome.value).get("error")
+
+
+def over(row: SagaRow) -> StepNotWaiting:
+    """What is said of a step that never ran, of a saga that is over."""
+    if row.phase == EnginePhase.STUCK and row.note is None:
+        return StepNotWaiting(
+            f"saga {row.key!r} is stuck, and no step of it waits. After the repair, call `resolve`"
+        )
+    return StepNotWaiting(f"saga {row.key!r} has ended")

@@ -1,0 +1,90 @@
+"""What only some attempts and sagas keep: those that wait, fail, or are reported by hand."""
+
+from __future__ import annotations
+
+import dataclasses
+from collections.abc import Callable
+from typing import Any
+
+from sagas.base.logger import logger
+from sagas.core.batch import Wanted
+from sagas.core.states import Suspension
+from sagas.definition import serialization
+from sagas.definition.compiled import Word
+from sagas.definition.control import Control
+
+
+@dataclasses.dataclass(slots=True)
+class Lease:
+    """An external worker has the task until then, in wall time. Each lease of a task has a greater
+    number than those before.
+    """
+
+    number: int
+    worker: str
+    since: float
+    until: float
+
+
+@dataclasses.dataclass(frozen=True, slots=True)
+class SuspensionRow:
+    """A row on its way to the store, which keeps an attempt from going on until it is there."""
+
+    reason: Suspension
+    until: float | None
+    error: str | None = None
+
+
+@dataclasses.dataclass(slots=True)
+class AttemptExtras:
+    """What only an attempt has whose outcome was unknown, or that somebody reports by hand."""
+
+    count: int = 0
+    """How often its outcome was unknown."""
+    failures: int = 0
+    """How often it failed, and was called again or is to be."""
+    pause: float = 0.0
+    """Seconds until it is called again."""
+    gave_way: bool = False
+    """Whether its wait for another saga was given up, so that others get its place."""
+    lease: Lease | None = None
+    """The newest lease of an external worker that this program knows of."""
+    offered: int | None = None
+    """See `Attempt.offered`."""
+    limit_key: str | None = None
+    """The key by which the limits of its step count it, as JSON."""
+    control: Control | None = None
+    """What its function hears and tells, once one of them was asked for."""
+    request: Wanted = None
+    """The operator's command that finished it."""
+
+
+@dataclasses.dataclass(slots=True)
+class SagaExtras:
+    """What only a saga has in which something failed, or waits."""
+
+    missed_at: dict[Word, float] = dataclasses.field(default_factory=dict)
+    """When the last attempt of each action failed that is retried."""
+    pauses: dict[Word, float | None] = dataclasses.field(default_factory=dict)
+    """Seconds that it wants behind that (`RetryAfter`)."""
+    final: set[Word] = dataclasses.field(default_factory=set)
+    """The actions that failed permanently."""
+    errors: dict[int, str] = dataclasses.field(default_factory=dict)
+    """What each step raised last."""
+    due: dict[Word, float] = dataclasses.field(default_factory=dict)
+    """Of waits: until when; 0 once that is over."""
+    tenant: str | None = None
+    """Whose it is, as JSON; None until that is asked."""
+
+
+def tenant_of(by: Callable[[Any], Any], text: str, name: str) -> str:
+    """Whose a saga is, by its definition's function of its input; `null` where that raises."""
+    try:
+        return serialization.write(by(serialization.read(text)), "fair_by")
+    except Exception as error:
+        logger.warning(
+            "saga %r: fair_by raised %s. Such sagas share one tenant",
+            name,
+            type(error).__name__,
+        )
+        return "null"

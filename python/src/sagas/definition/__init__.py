@@ -1,0 +1,1 @@
+"""What users declare, and the values that their functions take and return."""

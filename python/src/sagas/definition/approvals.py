@@ -1,0 +1,98 @@
+"""`Approved` and `Rejected`: answers that an approval function returns itself."""
+
+from __future__ import annotations
+
+import inspect
+import json
+from collections.abc import Callable
+from typing import Any, Generic, TypeVar
+
+from sagas.base.errors import NotSerializable
+from sagas.definition import serialization
+
+R = TypeVar("R")
+
+
+class Approved(Generic[R]):
+    """Return this from an approval's function to approve at once.
+
+    Args:
+        result: The step's result (default: None).
+
+    Attributes:
+        result: The step's result.
+
+    Example:
+        >>> trip = sagas.Saga("trip")
+        >>> @trip.approval
+        ... def review(task):
+        ...     if task.input["amount"] < 100:
+        ...         return sagas.Approved("small")
+        >>> sagas.testing.run(trip, {"amount": 99}).results
+        {'review': 'small'}
+        >>> sagas.testing.run(trip, {"amount": 500}, answers={review: "by Ann"}).results
+        {'review': 'by Ann'}
+    """
+
+    __slots__ = ("result",)
+
+    def __init__(self, result: R | None = None) -> None:
+        self.result = result
+
+    def __repr__(self) -> str:
+        return "<approved>"
+
+
+class Rejected:
+    """Return this from an approval's function to reject at once, permanently.
+
+    Args:
+        why: The reason.
+
+    Attributes:
+        why: The reason.
+
+    Raises:
+        TypeError: The reason is not a text.
+    """
+
+    __slots__ = ("why",)
+
+    def __init__(self, why: str) -> None:
+        if not isinstance(why, str):
+            raise TypeError(f"Rejected({type(why).__name__}): the reason must be a text")
+        self.why = why
+
+    def __repr__(self) -> str:
+        return f"<rejected: {self.why}>"
+
+
+class Answer:
+    """One of both, on its way from the function of an approval. It is no JSON."""
+
+    def __init__(self, said: Approved[Any] | Rejected) -> None:
+        self.said = said
+
+    def written(self) -> str:
+        """As JSON. A result that is no JSON is kept as what could not be stored."""
+        if isinstance(self.said, Rejected):
+            return json.dumps({"rejected": self.said.why})
+        try:
+            return serialization.write({"approved": self.said.result})
+        except NotSerializable as error:
+            return json.dumps({"approved": {serialization.UNSTORABLE: str(error)}})
+
+
+def answering(function: Callable[[Any], Any]) -> Callable[[Any], Any]:
+    """An approval's function, which may say how it ends."""
+    if inspect.iscoroutinefunction(function):
+
+        async def act(task: Any) -> Any:
+            return _answer(await function(task))
+
+        return act
+    return lambda task: _answer(function(task))
+
+
+def _answer(value: Any) -> Any:
+    return Answer(value) if isinstance(value, (Approved, Rejected)) else value

@@ -1,0 +1,138 @@
+"""`Control`: how a running function learns of its cancellation, and reports its progress."""
+
+from __future__ import annotations
+
+import asyncio
+import contextlib
+import threading
+from collections.abc import Generator
+from typing import Any, NamedTuple
+
+from sagas.definition.serialization import clean
+
+MOST_DETAIL = 200
+"""Characters that are kept of what a function says of its progress."""
+
+
+class Progress(NamedTuple):
+    """How far a function says that it is."""
+
+    fraction: float
+    detail: str | None = None
+
+    def __str__(self) -> str:
+        return f"{self.fraction:.0%}{f' {self.detail}' if self.detail else ''}"
+
+
+def checked(fraction: float, detail: str | None) -> Progress:
+    """Return how far somebody says to be.
+
+    Raises:
+        TypeError: That is no number, or no text.
+        ValueError: It is not from 0 to 1.
+    """
+    if isinstance(fraction, bool) or not isinstance(fraction, (int, float)):
+        raise TypeError(f"progress({fraction!r}): must be a number from 0 to 1")
+    if not 0 <= fraction <= 1:
+        raise ValueError(f"progress({fraction!r}): must be a number from 0 to 1")
+    if detail is not None and not isinstance(detail, str):
+        raise TypeError(f"progress(..., {type(detail).__name__}): the detail must be a text")
+    return Progress(float(fraction), None if detail is None else clean(detail[:MOST_DETAIL]))
+
+
+class Cancellation:
+    """Whether what a function does is still wanted: an event for plain and async functions.
+
+    Plain functions call `is_set` and `wait`, async ones `await task.cancelled`.
+
+    Attributes:
+        reason: `aborted` (somebody aborted the saga), `failed` (another step of it failed),
+            `closing` (the store is closed), `lost` (another node has the saga); None while it is
+            not set.
+    """
+
+    def __init__(self) -> None:
+        self.reason: str | None = None
+        self._lock = threading.Lock()
+        self._set = threading.Event()
+        self._waiting: list[tuple[asyncio.AbstractEventLoop, asyncio.Future[None]]] = []
+
+    def is_set(self) -> bool:
+        """Return whether it is cancelled."""
+        return self.reason is not None
+
+    def wait(self, timeout: float | None = None) -> bool:
+        """Wait in a thread until it is cancelled; return whether it is.
+
+        Args:
+            timeout: Seconds to wait at most; None: for ever.
+
+        Raises:
+            RuntimeError: It is called in an event loop, which would stand still.
+        """
+        try:
+            asyncio.get_running_loop()
+        except RuntimeError:
+            return self._set.wait(timeout)
+        raise RuntimeError("task.cancelled.wait() blocks the event loop. Await task.cancelled")
+
+    def __await__(self) -> Generator[Any, None, str]:
+        """Wait until it is cancelled; return the reason."""
+        loop = asyncio.get_running_loop()
+        future = loop.create_future()
+        with self._lock:
+            if self.reason is None:
+                self._waiting.append((loop, future))
+            else:
+                future.set_result(None)
+        yield from future
+        assert self.reason
+        return self.reason
+
+    def set(self, reason: str) -> None:
+        """Set it. Of a later reason only that somebody aborted the saga takes the first's place."""
+        with self._lock:
+            if self.reason is not None:
+                self.reason = reason if reason == "aborted" else self.reason
+                return
+            self.reason, waiting, self._waiting = reason, self._waiting, []
+        self._set.set()
+        for loop, future in waiting:
+            with contextlib.suppress(RuntimeError):  # that loop is closed
+                loop.call_soon_threadsafe(_done, future)
+
+
+def _done(future: asyncio.Future[None]) -> None:
+    if not future.done():
+        future.set_result(None)
+
+
+class Control:
+    """What an attempt and its function tell each other while it runs.
+
+    Attributes:
+        cancelled: Whether it is cancelled.
+        progress: How far it is, as it said last.
+        is_new: Whether that is not written yet.
+        is_stopped: Whether the function itself was cancelled, since the saga was aborted.
+    """
+
+    __slots__ = ("cancelled", "progress", "is_new", "is_stopped")
+
+    def __init__(self) -> None:
+        self.cancelled = Cancellation()
+        self.progress: Progress | None = None
+        self.is_new = self.is_stopped = False
+
+    def __reduce__(self) -> tuple[type[Control], tuple[()]]:
+        """In another process nobody hears of it."""
+        return Control, ()
+
+    def tell(self, fraction: float, detail: str | None = None) -> None:
+        """Keep how far it is. Raises as `checked`."""
+        self.progress, self.is_new = checked(fraction, detail), True
+
+    def news(self) -> Progress | None:
+        """Return how far it is, if that was not asked for since it was told."""
+        told, self.is_new = self.progress if self.is_new else None, False
+        return told

@@ -1,0 +1,42 @@
+"""Labels of sagas: names and values by which sagas are found."""
+
+from __future__ import annotations
+
+from collections.abc import Mapping
+from typing import Any
+
+from sagas.base.errors import InvalidLabel
+from sagas.definition.arguments import shown
+
+Labels = Mapping[str, str]
+NONE: dict[str, str] = {}
+MOST_LABELS, MOST_NAME, MOST_VALUE = 16, 64, 256
+RULE = (
+    f"labels must be up to {MOST_LABELS} texts by name, names of 1 to {MOST_NAME} "
+    f"printable characters without '=', values of 1 to {MOST_VALUE}"
+)
+
+
+def is_text(value: Any, most: int) -> bool:
+    """Whether a value is a printable text of so many characters."""
+    return isinstance(value, str) and 0 < len(value) <= most and value.isprintable()
+
+
+def checked(labels: Any) -> Labels:
+    """Return labels as given to `start` or to a filter; None is none.
+
+    Raises:
+        InvalidLabel: They are not as `RULE` says.
+    """
+    if labels is None:
+        return NONE
+    if not isinstance(labels, Mapping):
+        raise InvalidLabel(f'labels={shown(labels)}: {RULE}, for example {{"customer": "7"}}')
+    if len(labels) > MOST_LABELS:
+        raise InvalidLabel(f"{len(labels)} labels: {RULE}")
+    for name, value in labels.items():
+        if not is_text(name, MOST_NAME) or "=" in name:
+            raise InvalidLabel(f"label name {shown(name)}: {RULE}")
+        if not is_text(value, MOST_VALUE):
+            raise InvalidLabel(f"label {name!r}: {shown(value)}: {RULE}")
+    return dict(sorted(labels.items()))

@@ -1,0 +1,104 @@
+"""How inputs and results are stored: as JSON, or as what a codec makes of it."""
+
+from __future__ import annotations
+
+import base64
+import json
+import re
+from typing import Any, Protocol
+
+from sagas.base.errors import CannotDecode, NotSerializable
+
+ENVELOPE = re.compile(r'\{"\$codec":"([A-Za-z0-9+/]*={0,2})"\}\Z')
+"""A stored value that a codec made. It is JSON, so that programs without the codec can list it."""
+
+
+class Codec(Protocol):
+    """Encode inputs and results before they are stored, for example to encrypt them.
+
+    Made by you, with these two functions. Both are called in the event loop and in threads, so
+    they have to be fast.
+    """
+
+    def encode(self, data: bytes, /) -> bytes:
+        """Return what is stored in place of a value.
+
+        Args:
+            data: The value as JSON, in UTF-8.
+        """
+
+    def decode(self, data: bytes, /) -> bytes:
+        """Return the value of which `encode` made this, also if an older key was used.
+
+        Args:
+            data: What `encode` returned.
+        """
+
+
+class Payloads:
+    """Encodes and decodes the JSON texts of a store. Without a codec they stay as they are; with
+    one, texts of a time without it can still be read.
+    """
+
+    def __init__(self, codec: Codec | None = None) -> None:
+        self.codec = codec
+
+    def encode(self, text: str) -> str:
+        """Return a text as it is stored; one that is encoded already as it is.
+
+        Raises:
+            NotSerializable: The codec failed.
+        """
+        if self.codec is None or ENVELOPE.match(text):
+            return text
+        try:
+            data = base64.b64encode(self.codec.encode(text.encode())).decode()
+        except Exception as error:  # of the codec, which may have the value in its text
+            raise NotSerializable(
+                f"the codec could not encode it: {type(error).__name__}"
+            ) from None
+        return f'{{"$codec":"{data}"}}'
+
+    def decode(self, text: str) -> str:
+        """Return a text as it was before it was stored.
+
+        Raises:
+            CannotDecode: The codec failed: the key is not there, say.
+        """
+        if self.codec is None or not (found := ENVELOPE.match(text)):
+            return text
+        try:
+            return self.codec.decode(base64.b64decode(found[1])).decode()
+        except Exception as error:
+            raise CannotDecode(f"the codec could not decode it: {type(error).__name__}") from None
+
+    def encode_value(self, value: Any) -> Any:
+        """As `encode`, of a value that is a part of another one."""
+        return value if self.codec is None else json.loads(self.encode(json.dumps(value)))
+
+    def decode_value(self, value: Any) -> Any:
+        """As `decode`, of a value that is a part of another one."""
+        return (
+            value
+            if self.codec is None
+            else json.loads(self.decode(json.dumps(value, separators=(",", ":"))))
+        )
+
+
+PLAIN = Payloads()
+
+
+def checked(codec: Any) -> Payloads:
+    """Return how values are stored, by an argument `codec`.
+
+    Raises:
+        TypeError: It is no codec.
+    """
+    if codec is not None:
+        for name in ("encode", "decode"):
+            if not callable(getattr(codec, name, None)):
+                raise TypeError(
+                    f"codec={type(codec).__name__}: must have the functions encode and decode, "
+                    "each from bytes to bytes"
+                )
+    return PLAIN if codec is None else Payloads(codec)

@@ -1,0 +1,393 @@
+"""`Step`, `Backoff` and `NEVER`."""
+
+from __future__ import annotations
+
+import dataclasses
+import datetime
+import enum
+import inspect
+import random
+import types
+from collections.abc import Awaitable, Callable, Iterable
+from typing import TYPE_CHECKING, Any, Generic, Literal, Protocol, TypeVar, Union, overload
+
+from sagas.definition import validation
+from sagas.definition.task import Task
+
+if TYPE_CHECKING:
+    from sagas.definition.saga import Saga
+
+R = TypeVar("R")
+
+
+class _Never(enum.Enum):
+    NEVER = "never"
+
+    def __repr__(self) -> str:
+        return "sagas.NEVER"
+
+
+NEVER: Literal[_Never.NEVER] = _Never.NEVER
+"""The cost of what must not be."""
+
+Cost = Union[int, Literal[_Never.NEVER]]
+"""A whole number from 0 to 1,000,000,000, in whatever unit; or `NEVER`."""
+
+Function = Callable[[Task[Any]], Any]
+Until = Union[
+    datetime.timedelta,
+    datetime.datetime,
+    Callable[[Task[Any]], Union[datetime.timedelta, datetime.datetime]],
+]
+Unknowns = tuple[type[BaseException], ...]
+
+UNKNOWN: Unknowns = (TimeoutError, ConnectionError)
+"""What a function raises by default where nobody knows whether it had its effect."""
+
+OnExhausted = Literal["fail", "ask", "retry"]
+"""What follows the last attempt of a step, or of a compensation."""
+
+Seconds = Union[float, datetime.timedelta]
+"""A time: seconds, or a timedelta."""
+
+MANY_TRIES = 9
+
+
+def seconds(time: Seconds) -> float:
+    """A time in seconds."""
+    return time.total_seconds() if isinstance(time, datetime.timedelta) else time
+
+
+def _rate(rate: Any) -> Any:
+    """So many calls in a time, with the time in seconds."""
+    return (rate[0], seconds(rate[1])) if isinstance(rate, tuple) and len(rate) == 2 else rate
+
+
+@dataclasses.dataclass(frozen=True, slots=True)
+class Backoff:
+    """Set the pauses between attempts: exponential, with a maximum.
+
+    Args:
+        initial: Seconds before the second attempt (default: 1).
+        maximum: The longest pause, in seconds (default: 60).
+        multiplier: By which each pause is longer than the one before (default: 2).
+        jitter: A fraction from 0 to 1: each pause is shorter by up to this part of it, at random,
+            so that sagas that failed together do not retry together (default: 0).
+
+    Example:
+        >>> [sagas.Backoff(initial=5).after(attempt) for attempt in (1, 2, 3, 4, 5)]
+        [5.0, 10.0, 20.0, 40.0, 60.0]
+    """
+
+    initial: float = 1.0
+    maximum: float = 60.0
+    multiplier: float = 2.0
+    jitter: float = 0.0
+
+    def after(self, attempt: int) -> float:
+        """Return the seconds to wait after an attempt.
+
+        Args:
+            attempt: The attempt's number, from 1.
+        """
+        pause = min(self.maximum, self.initial * self.multiplier ** min(attempt - 1, 64))
+        return pause * (1 - self.jitter * random.random()) if self.jitter else pause
+
+
+@dataclasses.dataclass(frozen=True, slots=True)
+class Bounds:
+    """What holds of a step's function over all nodes: so many calls at once, and so many in so
+    many seconds.
+    """
+
+    concurrency: int | None = None
+    rate_limit: tuple[int, float] | None = None
+    is_keyed: bool = False
+    """Whether the concurrency is of each key by itself (`concurrency_by`)."""
+
+
+class RemoteQueue(Protocol):
+    """Where a step's function is called, if not in the program that has the store
+    (`sagas.celery.Queue`).
+    """
+
+    timeout: float
+    """Seconds without a report after which nobody knows, where the step does not say it."""
+
+    def declare(self, step: Step[Any], kind: str, manner: Manner) -> None:
+        """The function is there: `kind` is `run`, or `undo` for the step's compensation."""
+
+    async def check(self, database: Any, steps: Iterable[tuple[Step[Any], str]]) -> None:
+        """Whether reports can come back into this store. Raises `WrongStore` or
+        `DefinitionError`.
+        """
+
+    async def send(self, order: Any) -> None:
+        """Hands an order over. Raises where it could not be."""
+
+
+class Decorator:
+    """What `saga.step(..)`, `saga.wait(..)`, `saga.approval(..)` and `step.compensation(..)`
+    give, until it is put on a function.
+    """
+
+    def __init__(
+        self, saga: Saga, what: str, name: str | None, declare: Callable[[Any], Any]
+    ) -> None:
+        self.where, self.what, self.name, self._declare, self._saga = (
+            validation.caller(3),
+            what,
+            name,
+            declare,
+            saga,
+        )
+        saga.decorators.append(self)
+
+    def __call__(self, function: Callable[[Any], Any]) -> Any:
+        if self in self._saga.decorators:
+            self._saga.decorators.remove(self)
+        return self._declare(function)
+
+
+class Declare(Protocol):
+    """What `saga.step(..)` gives: a decorator that makes a step of a function."""
+
+    @overload
+    def __call__(self, function: Callable[[Any], Awaitable[R]], /) -> Step[R]:
+        ...
+
+    @overload
+    def __call__(self, function: Callable[[Any], R], /) -> Step[R]:
+        ...
+
+
+@dataclasses.dataclass(slots=True)
+class Manner:
+    """How a step's function, or its compensation, is called."""
+
+    function: Function | None = None
+    tries: int = 1
+    timeout: float | None = None
+    backoff: Backoff = Backoff()
+    unknown: Unknowns = UNKNOWN
+    max_unknown: int | datetime.timedelta | None = None
+    external: bool = False
+    """It has no function here: a person or another program says how it ended (`Store.finish`)."""
+    transaction: bool = False
+    """It is a transaction in the store's database, which its result is part of."""
+    asks: bool = False
+    """It is an approval's function: it asks somebody, or says at once how that ends."""
+    implied: bool = False
+    """Nobody declared it: a wait, an approval, or a step with `undo=0` is undone by doing
+    nothing.
+    """
+    queue: RemoteQueue | None = None
+    """Where it is called, if not in the program that has the store."""
+    cancel_on_abort: bool = False
+    """Whether the function is cancelled when its saga is aborted."""
+    on_exhausted: OnExhausted = "fail"
+    """What follows the last attempt."""
+    max_attempts: int | None = None
+    """The number of attempts, where it is not `tries`."""
+
+    @property
+    def is_simple(self) -> bool:
+        """Whether it is an async function that is called here, alone or in a transaction, for as
+        long as it takes.
+        """
+        plain = self.function is not None and self.timeout is None and self.queue is None
+        return plain and inspect.iscoroutinefunction(self.function)
+
+
+def nothing(task: Task[Any]) -> None:
+    """Undoes what had no effect."""
+
+
+class Step(Generic[R]):
+    """Hold a step of a saga, whose function returns `R`.
+
+    Made by `Saga.step`, `Saga.wait` and `Saga.approval`. Call it with a task to call its function
+    in a test.
+
+    Attributes:
+        saga: The `Saga`.
+        name: The step's name.
+        where: File and line of the declaration.
+        kind: `step`, `wait` or `approval`.
+        run: How the function is called.
+        undo: How the compensation is called.
+        concurrency: As given to `Saga.step`.
+        concurrency_by: As given to `Saga.step`.
+        bounds: `fleet_concurrency` and `rate_limit`, as given to `Saga.step`.
+        until: As given to `Saga.wait`.
+        approval_timeout: The `timeout` of `Saga.approval`.
+    """
+
+    def __init__(
+        self,
+        saga: Saga,
+        name: str,
+        where: str,
+        kind: str,
+        needs: tuple[Step[Any] | str, ...],
+        costs: dict[str, Cost | None],
+        run: Manner,
+    ) -> None:
+        self.saga, self.name, self.where, self.kind = saga, name, where, kind
+        self.run, self.undo = run, Manner()
+        self.concurrency: int | None = None
+        self.concurrency_by: Callable[[Any], Any] | None = None
+        self.bounds: Bounds | None = None
+        self.until: Until | None = None
+        self.approval_timeout: datetime.timedelta | None = None
+        self._costs, self._needs = costs, needs
+
+    @property
+    def needs(self) -> list[str]:
+        """The names of the steps that it needs."""
+        return [need if isinstance(need, str) else need.name for need in self._needs]
+
+    @property
+    def has_compensation(self) -> bool:
+        """Whether it can be undone: by a function here, or elsewhere."""
+        return self.undo.function is not None or self.undo.external
+
+    def cost(self, word: str) -> Cost:
+        """Return one of the step's costs, with its default.
+
+        Args:
+            word: `run`, `undo`, `skip` or `keep`.
+        """
+        given = self._costs[word]
+        if given is None:
+            return 0 if self.has_compensation else NEVER
+        return given
+
+    def manner(self, kind: str) -> Manner:
+        """Return how its function or its compensation is called.
+
+        Args:
+            kind: `run`, or `undo` for the compensation.
+        """
+        return self.run if kind == "run" else self.undo
+
+    @overload
+    def compensation(self, function: Callable[[Any], Any], /) -> Callable[[Any], Any]:
+        ...
+
+    @overload
+    def compensation(
+        self,
+        function: None = None,
+        /,
+        *, tries: int = 1, timeout: Seconds | None = None, backoff: Backoff | None = None,
+        unknown: Unknowns | None = None, max_unknown: int | datetime.timedelta | None = None,
+        transaction: bool | None = None, external: bool = False,
+        queue: RemoteQueue | types.EllipsisType | None = ...,
+        on_exhausted: OnExhausted = "ask", max_attempts: int | None = None,
+    ) -> Callable[[Callable[[Any], Any]], Callable[[Any], Any]]:  # fmt: skip
+        ...
+
+    def compensation(
+        self,
+        function: Callable[[Any], Any] | None = None,
+        /,
+        *, tries: int = 1, timeout: Seconds | None = None, backoff: Backoff | None = None,
+        unknown: Unknowns | None = None, max_unknown: int | datetime.timedelta | None = None,
+        transaction: bool | None = None, external: bool = False,
+        queue: RemoteQueue | types.EllipsisType | None = ...,
+        on_exhausted: OnExhausted = "ask", max_attempts: int | None = None,
+    ) -> Any:  # fmt: skip
+        """Declare the function that undoes this step, by `@step.compensation`.
+
+        Its task has the step's result as `task.result`. Like a step's function it may be called
+        again. If its last attempt fails, the saga waits for a person: see `Store.attention`.
+
+        Args:
+            function: The function, if no option is given.
+            tries: Maximum number of attempts, 1 to 9 (default: 1).
+            timeout: Seconds, or a timedelta, after which the outcome is unknown (default: none).
+            backoff: Pauses between attempts (default: the step's).
+            unknown: Exceptions after which the outcome is unknown (default: the step's).
+            max_unknown: As of `Saga.step` (default: repeat without end).
+            transaction: As of `Saga.step` (default: the step's).
+            external: It is done elsewhere: call `step.compensation(external=True)` (default:
+                False).
+            queue: The queue whose workers call it; None: this program (default: the step's).
+            on_exhausted: What follows the last attempt, or `Fail`: `ask` waits for `Store.retry`,
+                `Store.complete` or `Store.fail`. `retry` goes on without end, but asks at a `Fail`.
+                `fail` leaves the effect in place (default: `ask`).
+            max_attempts: As of `Saga.step` (default: `tries`).
+
+        Returns:
+            The function, or a decorator that returns it.
+
+        Raises:
+            DefinitionError: The step has a compensation already or `undo=NEVER`, or an argument is
+                not valid.
+
+        Example:
+            >>> trip = sagas.Saga("trip")
+            >>> @trip.step(keep=9)
+            ... def flight(task):
+            ...     return {"booking": "B-7"}
+            >>> @flight.compensation(tries=5)
+            ... def cancel(task):
+            ...     print("cancel", task.result["booking"], "with", task.idempotency_key[-11:])
+            >>> @trip.step(needs=[flight])
+            ... def hotel(task): ...
+            >>> sagas.testing.run(trip, fail={hotel: 1}).states
+            cancel B-7 with flight-undo
+            {'flight': 'undone', 'hotel': 'failed'}
+        """
+
+        def declare(function: Callable[[Any], Any] | None) -> Callable[[Any], Any] | None:
+            where = validation.place(function) or validation.caller(3)
+            if self.has_compensation and not self.undo.implied:
+                raise validation.of_step(
+                    self,
+                    "has two compensations, but one must undo everything. Call both from one "
+                    "function, or remove one",
+                    where,
+                )
+            if self._costs["undo"] is NEVER:
+                raise validation.of_step(
+                    self,
+                    "has a compensation, but undo=NEVER says that it is never called. Remove one "
+                    "of them",
+                    where,
+                )
+            unknowns = self.run.unknown if unknown is None else unknown
+            inside = function is not None and (
+                self.run.transaction if transaction is None else transaction
+            )
+            self.undo = Manner(
+                function,
+                tries,
+                timeout if timeout is None else seconds(timeout),
+                backoff or self.run.backoff,
+                unknowns,
+                max_unknown,
+                function is None,
+                inside,
+                on_exhausted=on_exhausted,
+                max_attempts=max_attempts,
+            )
+            self.undo.queue = (self.run.queue if queue is ... else queue) if function else None
+            validation.check_manner(self, self.undo, "compensation", where)
+            if self.undo.queue:
+                self.undo.queue.declare(self, "undo", self.undo)
+            return function
+
+        if function is not None or external:
+            return declare(function)
+        return Decorator(self.saga, f"{self.name}.compensation", None, declare)
+
+    def __call__(self, task: Any) -> Any:
+        """Calls the function itself, for tests of it."""
+        if self.run.function is None:
+            raise validation.of_step(self, "has no function in this program")
+        return self.run.function(task)
+
+    def __repr__(self) -> str:
+        return f"<step {self.name} of saga {self.saga.name}>"

@@ -1,0 +1,398 @@
+"""`Task`: what a function is called with."""
+
+from __future__ import annotations
+
+import dataclasses
+import datetime
+from collections.abc import Callable, Mapping
+from typing import TYPE_CHECKING, Any, Generic, Protocol, TypeVar, overload
+
+from sagas.base.errors import CannotDecode, ResultNotSerializable
+from sagas.definition import mismatches, serialization, tokens
+from sagas.definition.context import ELSEWHERE, Context
+from sagas.definition.control import Cancellation, Control, Progress
+from sagas.definition.decoders import Decoder
+
+if TYPE_CHECKING:
+    from sagas.definition.step import Step
+
+I = TypeVar("I")
+R = TypeVar("R")
+
+
+class About(Protocol):
+    """What a task is asked for: looked up only then, since most functions ask for little. Inputs
+    and results are JSON texts.
+
+    `saga_token` begins its tokens. `given`: the results of the steps that it needs, by name;
+    `own`: in a compensation that of its step.
+    """
+
+    @property
+    def saga(self) -> str:
+        ...
+
+    @property
+    def key(self) -> str:
+        ...
+
+    @property
+    def name(self) -> str:
+        ...
+
+    @property
+    def undo(self) -> bool:
+        ...
+
+    @property
+    def attempt(self) -> int:
+        ...
+
+    @property
+    def saga_token(self) -> str:
+        ...
+
+    @property
+    def input(self) -> str:
+        ...
+
+    @property
+    def given(self) -> Mapping[str, str]:
+        ...
+
+    @property
+    def own(self) -> str | None:
+        ...
+
+    @property
+    def hint(self) -> Decoder | None:
+        ...
+
+    @property
+    def decoders(self) -> Mapping[str, Decoder]:
+        ...
+
+    @property
+    def deadline(self) -> float | None:
+        ...
+
+    @property
+    def context(self) -> Context:
+        ...
+
+    @property
+    def control(self) -> Control:
+        ...
+
+
+@dataclasses.dataclass(frozen=True, slots=True)
+class Told:
+    """All of it at once, for a task of which nothing else is here."""
+
+    saga: str
+    key: str
+    name: str
+    undo: bool
+    attempt: int
+    saga_token: str
+    input: str
+    given: Mapping[str, str]
+    own: str | None
+    hint: Decoder | None = None
+    decoders: Mapping[str, Decoder] = dataclasses.field(default_factory=dict)
+    deadline: float | None = None
+    context: Context = dataclasses.field(default_factory=lambda: Context(ELSEWHERE))
+    control: Control = dataclasses.field(default_factory=Control)
+
+
+def whole(about: About) -> Told:
+    """As it is now, whatever becomes of it."""
+    return Told(
+        about.saga, about.key, about.name, about.undo, about.attempt, about.saga_token, about.input,
+        about.given, about.own, about.hint, about.decoders, about.deadline, about.context,
+        about.control,
+    )  # fmt: skip
+
+
+class Task(Generic[I]):
+    """Describe one attempt of a step, or of its compensation, to its function.
+
+    Made by the store for each call. Write `task: Task[Order]` to get the input as an `Order`. A
+    copy for another process has all of it, except the connection.
+
+    Example:
+        >>> hello = sagas.Saga("hello")
+        >>> @hello.step
+        ... def greet(task):
+        ...     return f"{task.saga} {task.key} {task.step} {task.attempt} {task.input['to']}"
+        >>> sagas.testing.run(hello, {"to": "you"}, key="h-1").results
+        {'greet': 'hello h-1 greet 1 you'}
+    """
+
+    __slots__ = ("_about", "_given", "_connection", "_take")
+
+    def __init__(self, about: About) -> None:
+        self._about = about
+        self._given: Mapping[str, str] | None = None
+        self._connection: Any = None
+        self._take: Callable[[], Any] | None = None
+
+    @property
+    def saga(self) -> str:
+        """The saga's name."""
+        return self._about.saga
+
+    @property
+    def key(self) -> str:
+        """The saga's key."""
+        return self._about.key
+
+    @property
+    def step(self) -> str:
+        """The step's name."""
+        return self._about.name
+
+    @property
+    def is_compensation(self) -> bool:
+        """Whether it undoes the step."""
+        return self._about.undo
+
+    @property
+    def attempt(self) -> int:
+        """The attempt's number, from 1."""
+        return self._about.attempt
+
+    @property
+    def deadline(self) -> datetime.datetime | None:
+        """When the saga is aborted if it has not ended, or None. It has a time zone."""
+        at = self._about.deadline
+        return None if at is None else datetime.datetime.fromtimestamp(at, datetime.timezone.utc)
+
+    def __reduce__(self) -> tuple[type[Task[Any]], tuple[Told]]:
+        """A copy, or one for another process, knows all of it, and has no connection and no
+        context; it is never cancelled, and nobody hears of its progress.
+        """
+        return Task, (whole(self._about),)
+
+    @property
+    def _texts(self) -> Mapping[str, str]:
+        """The results that it may ask for: gathered once, since a step may ask for each of many."""
+        if self._given is None:
+            self._given = self._about.given
+        return self._given
+
+    def enter(self, connection: Any) -> None:
+        """Set the connection of a step with `transaction=True`.
+
+        Args:
+            connection: The connection.
+        """
+        self._connection = connection
+
+    def enter_by(self, take: Callable[[], Any]) -> None:
+        """Set what returns that connection when the function asks for it.
+
+        Args:
+            take: Returns the connection.
+        """
+        self._take = take
+
+    def leave(self) -> Any:
+        """Return the connection that the function asked for, and give no more."""
+        self._take = None
+        return self._connection
+
+    @property
+    def connection(self) -> Any:
+        """The psycopg connection of a step with `transaction=True`.
+
+        The step's result commits in its transaction. Do not commit it or roll it back. An async
+        function gets a `psycopg.AsyncConnection`.
+
+        Raises:
+            RuntimeError: The step has no transaction.
+            StoreUnavailable: The server does not answer.
+        """
+        if self._connection is None:
+            if self._take is None:
+                raise RuntimeError(
+                    f"step {self.step!r} has no transaction. Declare it with transaction=True"
+                )
+            self._connection = self._take()
+        return self._connection
+
+    @property
+    def context(self) -> Any:
+        """Return what the store was opened with as `context=`, or what that made.
+
+        Raises:
+            RuntimeError: There is none.
+        """
+        return self._about.context.get()
+
+    @property
+    def cancelled(self) -> Cancellation:
+        """Return an event that is set when the function should stop.
+
+        A function that stops raises `Fail` if it had no effect, and `Unknown` if it may have had
+        one.
+
+        Returns:
+            A `Cancellation`: `is_set()`, `wait(timeout)` in a plain function, `await` in an async
+            one, and `reason`.
+        """
+        return self._about.control.cancelled
+
+    def progress(self, fraction: float, detail: str | None = None) -> None:
+        """Report how far the function is, for people.
+
+        It does not block. The last one is written about once a second.
+
+        Args:
+            fraction: A number from 0 to 1.
+            detail: A text for people, of which 200 characters are kept (default: None).
+
+        Raises:
+            TypeError: The fraction is not a number, or the detail is not a text.
+            ValueError: The fraction is not from 0 to 1.
+        """
+        self._about.control.tell(fraction, detail)
+
+    def news(self) -> Progress | None:
+        """Return what `progress` was told since this was asked last, for a heartbeat."""
+        return self._about.control.news()
+
+    @property
+    def idempotency_key(self) -> str:
+        """The key to hand to services: the same for all attempts, and after a crash.
+
+        It differs between a step and its compensation.
+        """
+        kind = "undo" if self.is_compensation else "run"
+        return tokens.idempotency_key(self._about.saga_token, self.step, kind)
+
+    @property
+    def attempt_id(self) -> str:
+        """The idempotency key and the attempt's number: different for each attempt.
+
+        Use it with a service that remembers a refusal under its key.
+        """
+        return tokens.attempt_id(self.idempotency_key, self.attempt)
+
+    @property
+    def original_idempotency_key(self) -> str:
+        """The idempotency key of the action: in a compensation, of what it undoes."""
+        return tokens.idempotency_key(self._about.saga_token, self.step, "run")
+
+    @property
+    def input(self) -> I:
+        """What the saga was started with: a new object at each access.
+
+        Raises:
+            CannotDecode: The stored input does not fit the type of the hint.
+        """
+        try:
+            given: I = serialization.read(self._about.input, self._about.hint)
+            return given
+        except Exception as error:  # of the type's own code
+            raise self._unread("input", error) from None
+
+    @property
+    def results(self) -> dict[str, Any]:
+        """The results of all steps that this one needs, directly or not, by name.
+
+        A result that could not be stored is `{"unstorable": why}`.
+
+        Raises:
+            CannotDecode: A stored result does not fit its step's type.
+        """
+        return {name: self._kept(name, text) for name, text in self._texts.items()}
+
+    def _kept(self, name: str, text: str) -> Any:
+        """A step's result. Raises `CannotDecode`."""
+        try:
+            return serialization.kept(text, self._about.decoders.get(name))
+        except Exception as error:  # of the type's own code
+            raise self._unread(f"result of {name!r}", error) from None
+
+    def _unread(self, what: str, error: Exception) -> CannotDecode:
+        """Why what is stored cannot be read."""
+        about = self._about
+        whose = "the compensation of step" if about.undo else "step"
+        told = error if isinstance(error, NameError) else mismatches.of(error)
+        text = f"{what}: {told}" if isinstance(told, NameError) else f"{what}{told}"
+        return CannotDecode(f"saga {about.saga!r}, {whose} {about.name!r}: {text}")
+
+    @property
+    def result(self) -> Any:
+        """In a compensation, what the step returned; in an action, None.
+
+        A result that could not be stored is `{"unstorable": why}`.
+
+        Raises:
+            CannotDecode: The stored result does not fit the step's type.
+        """
+        own = self._about.own
+        return None if own is None else self._kept(self.step, own)
+
+    @property
+    def plain(self) -> dict[str, Any]:
+        """`input`, `results` and `result` as JSON values, for a worker elsewhere."""
+        about = self._about
+        result = None if about.own is None else serialization.read(about.own)
+        return {
+            "input": serialization.read(about.input),
+            "results": {name: serialization.read(text) for name, text in self._texts.items()},
+            "result": result,
+        }
+
+    @property
+    def texts(self) -> dict[str, Any]:
+        """All of the task as JSON texts, from which another node makes it again."""
+        about = self._about
+        told = {
+            "saga": about.saga,
+            "key": about.key,
+            "step": about.name,
+            "undo": about.undo,
+            "attempt": about.attempt,
+            "of": about.saga_token,
+        }
+        return told | {"input": about.input, "results": self._texts, "result": about.own}
+
+    @overload
+    def result_of(self, step: Step[R]) -> R:
+        ...
+
+    @overload
+    def result_of(self, step: str) -> Any:
+        ...
+
+    def result_of(self, step: Step[Any] | str) -> Any:
+        """Return the result of a step that this one needs, directly or not.
+
+        Args:
+            step: The step, or its name.
+
+        Raises:
+            KeyError: This step does not need it.
+            ResultNotSerializable: The result could not be stored.
+            CannotDecode: The stored result does not fit the step's type.
+        """
+        name = step if isinstance(step, str) else step.name
+        about = self._about
+        text = self._texts.get(name)
+        if text is None:
+            if about.undo and name == about.name and about.own is not None:
+                text = about.own
+            else:
+                raise KeyError(f"step {about.name!r} does not need {name!r}. Add it to needs=")
+        try:
+            return serialization.returned(text, about.decoders.get(name), name)
+        except ResultNotSerializable:
+            raise
+        except Exception as error:  # of the type's own code
+            raise self._unread(f"result of {name!r}", error) from None
+
+    def __repr__(self) -> str:
+        return f"<task {self.attempt_id} of {self.key!r}>"

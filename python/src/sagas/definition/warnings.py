@@ -1,0 +1,131 @@
+"""Warnings about definitions that are valid but unlikely to be meant."""
+
+from __future__ import annotations
+
+from collections.abc import Iterator
+from typing import TYPE_CHECKING, Any
+
+from sagas.definition import capacity, decoders
+from sagas.definition.validation import MOST_TOLD, check_saga, place
+
+if TYPE_CHECKING:
+    from sagas.definition.saga import Saga
+    from sagas.definition.step import Step
+
+
+def warnings(saga: Saga) -> list[str]:
+    """What is sound and probably not meant, each by file and line."""
+    check_saga(saga)
+    unfit = capacity.unfit(saga)
+    found = [f"{saga.where}: {unfit}"] if unfit else []
+    stays = _stays(saga)
+    return [
+        *found,
+        *_unread(saga),
+        *_short(saga),
+        *_never_called(saga, stays),
+        *_holding(saga, stays),
+    ]
+
+
+def _short(saga: Saga) -> Iterator[str]:
+    """Pauses that are shorter than they are said to be, since nobody said what is the longest."""
+    for step in saga.steps:
+        for what, manner in (("function", step.run), ("compensation", step.undo)):
+            first, most = manner.backoff.initial, manner.backoff.maximum
+            if manner.tries > 1 and first > most:
+                yield (
+                    f"{step.where}: saga {saga.name!r}, step {step.name!r}: the pauses of its "
+                    f"{what} are {most} s, not {first} s, because that is the default maximum. "
+                    f"Set sagas.Backoff(initial={first}, maximum={first})"
+                )
+
+
+def _unread(saga: Saga) -> Iterator[str]:
+    """Type hints that cannot be read, of names that are there for the checker alone."""
+    for step in saga.steps:
+        for function in (step.run.function, step.undo.function):
+            unread = decoders.unread(function) if function else None
+            if unread:
+                where = f"{place(function)}: saga {saga.name!r}, step {step.name!r}"
+                yield (
+                    f"{where}: its type hints cannot be read, so its values stay plain JSON: "
+                    f"{unread}"
+                )
+
+
+def _in_order(saga: Saga) -> Iterator[Step[Any]]:
+    """The steps, each behind those that it needs."""
+    done: set[str] = set()
+    left = list(saga.steps)
+    while left:
+        ready = [step for step in left if all(need in done for need in step.needs)]
+        yield from ready
+        done.update(step.name for step in ready)
+        left = [step for step in left if step.name not in done]
+
+
+def _stays(saga: Saga) -> dict[str, bool]:
+    """Of each step whether it is never undone, once it is done: to keep it is always allowed,
+    and always cheaper.
+    """
+    stays: dict[str, bool] = {}
+    for step in _in_order(saga):
+        undo, keep = step.cost("undo"), step.cost("keep")
+        grounded = all(stays[need] for need in step.needs)
+        stays[step.name] = not isinstance(undo, int) or (
+            grounded and isinstance(keep, int) and undo > keep
+        )
+    return stays
+
+
+def _never_called(saga: Saga, stays: dict[str, bool]) -> Iterator[str]:
+    """Steps that are never undone, though they have a compensation."""
+    for step in _in_order(saga):
+        undo, keep = step.cost("undo"), step.cost("keep")
+        if isinstance(undo, int) and stays[step.name]:
+            yield (
+                f"{step.where}: saga {saga.name!r}, step {step.name!r}: the compensation can "
+                f"never be called, because keeping the step ({keep}) is cheaper than undoing "
+                f"it ({undo}). Set keep= to the cost of leaving its effect in place after a "
+                "failure"
+            )
+
+
+def _holding(saga: Saga, stays: dict[str, bool]) -> Iterator[str]:
+    """Steps without a compensation that keep what they need from being undone, and do not say
+    that this is meant.
+
+    None of the last step of all: once it is done, nothing is left that may fail. And none of
+    what another step that it needs keeps so already.
+    """
+    by_name = {step.name: step for step in saga.steps}
+    below: dict[str, set[str]] = {}
+    fixed: dict[str, set[str]] = {}  # what the steps that it needs keep so
+    for step in _in_order(saga):
+        needs = step.needs
+        below[step.name] = set(needs).union(*(below[need] for need in needs))
+        fixed[step.name] = set[str]().union(
+            *(fixed[need] if by_name[need].has_compensation else below[need] for need in needs)
+        )
+    undone = {
+        step.name
+        for step in saga.steps
+        if step.has_compensation and not step.undo.implied and not stays[step.name]
+    }
+    for step in saga.steps:
+        held = (below[step.name] - fixed[step.name]) & undone
+        if (
+            held
+            and not step.has_compensation
+            and step._costs["undo"] is None
+            and len(below[step.name]) + 1 < len(saga.steps)
+        ):
+            told = [f"{other.name!r}" for other in saga.steps if other.name in held]
+            more = [f"{len(told) - MOST_TOLD} more"] if told[MOST_TOLD:] else []
+            yield (
+                f"{step.where}: saga {saga.name!r}, step {step.name!r} has no compensation, "
+                f"so {' and '.join(told[:MOST_TOLD] + more)}, which it needs, can never be "
+                "undone after it commits. Set undo=0 if there is nothing to undo, or "
+                "undo=NEVER to confirm"
+            )

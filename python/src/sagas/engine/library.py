@@ -1,0 +1,223 @@
+"""`plan`, `check` and `audit` by the C library, or by the program.
+
+Plans, judgements and audits of texts, by the C library in this process; where it is not there, by
+the program.
+
+    verdict = sagas.plan(definition, case)             # Verdict(yes=True,
+    text='{"cost":38,"kept":[0,1],..}')
+    sagas.check(definition, case, verdict.text)        # Verdict(yes=True, text='least 38')
+
+Texts are str, or bytes, of the forms of docs/FORMATS.md. A call keeps nothing, and other threads
+run meanwhile; any number of threads may call.
+"""
+
+from __future__ import annotations
+
+import contextlib
+import ctypes
+import functools
+import os
+import pathlib
+import subprocess
+from collections.abc import Sequence
+from typing import NamedTuple
+
+from sagas.base import program
+from sagas.base.errors import EngineError, SagasError
+
+Text = str | bytes
+Span = tuple[int, int]
+
+OK, REJECTED, INVALID, NO_MEMORY, BUFFER_TOO_SMALL = 0, 1, 3, 4, 5
+FIRST_SIZE = 65536
+
+# Of each call, how many texts it takes before the spans, the buffer and the place of what was used.
+CALLS = {
+    "sagas_check": 3,
+    "sagas_plan": 2,
+    "sagas_audit": 2,
+    "sagas_audit_all": 2,
+    "sagas_draw": 1,
+    "sagas_draw_case": 2,
+    "sagas_draw_answer": 3,
+}
+
+
+class InvalidText(SagasError, ValueError):
+    """Report that a text does not have its format.
+
+    The message is the program's line; the reference of errors has its remedy.
+    """
+
+
+class Verdict(NamedTuple):
+    """Hold an answer: yes or no, and the text that the program prints.
+
+    Attributes:
+        yes: Whether the answer is yes.
+        text: What the program prints, without the last line feed.
+    """
+
+    yes: bool
+    text: str
+
+
+class _Span(ctypes.Structure):
+    _fields_ = [("start", ctypes.c_size_t), ("end", ctypes.c_size_t)]
+
+
+def path() -> pathlib.Path | None:
+    """Where the library is: `$SAGAS_LIBRARY`, else the one that came with the package, else the
+    release of the checkout that this is in.
+    """
+    told = os.environ.get("SAGAS_LIBRARY")
+    places = [pathlib.Path(told)] if told else program.released("libsagas.so")
+    return next((place for place in places if place.is_file()), None)
+
+
+@functools.cache
+def loaded(place: pathlib.Path) -> ctypes.CDLL | None:
+    """The library with the types of its calls, or None where this machine cannot load it."""
+    try:
+        library = ctypes.CDLL(str(place))
+    except OSError:
+        return None
+    for name, count in CALLS.items():
+        function = getattr(library, name)
+        spans = [ctypes.POINTER(_Span), ctypes.c_size_t] if name == "sagas_audit_all" else []
+        function.restype = ctypes.c_uint32
+        function.argtypes = [
+            *[ctypes.c_char_p, ctypes.c_size_t] * count,
+            *spans,
+            ctypes.c_void_p,
+            ctypes.c_size_t,
+            ctypes.POINTER(ctypes.c_size_t),
+        ]
+    return library
+
+
+def call(
+    library: ctypes.CDLL,
+    name: str,
+    texts: Sequence[bytes],
+    spans: Sequence[Span] | None = None,
+    size: int = FIRST_SIZE,
+) -> tuple[int, bytes]:
+    """The status and the text of a call of the library: first with a buffer of so many bytes, then
+    with one as large as its text takes.
+    """
+    words: list[object] = [word for text in texts for word in (text, len(text))]
+    if spans is not None:
+        words += [(_Span * len(spans))(*(_Span(start, end) for start, end in spans)), len(spans)]
+    used = ctypes.c_size_t()
+    while True:
+        buffer = ctypes.create_string_buffer(size) if size else None
+        status = int(getattr(library, name)(*words, buffer, size, ctypes.byref(used)))
+        if status != BUFFER_TOO_SMALL:
+            return status, ctypes.string_at(buffer, used.value) if buffer else b""
+        size = used.value
+
+
+def _by_program(command: str, texts: Sequence[bytes]) -> tuple[int, bytes]:
+    """The same of the program: its status, and what it prints, or with status 3 its line on
+    standard error.
+    """
+    with contextlib.closing(program.Texts(texts)) as given:
+        words = [program.path(), command, *given.paths]
+        done = subprocess.run(
+            words, capture_output=True, pass_fds=given.files, stdin=subprocess.DEVNULL, check=False
+        )
+    if done.returncode not in (OK, REJECTED, INVALID, NO_MEMORY):
+        raise EngineError(
+            f"sagas {command} ended with {done.returncode}: "
+            f"{done.stderr.decode(errors='replace').strip()}"
+        )
+    return done.returncode, done.stderr if done.returncode == INVALID else done.stdout
+
+
+def _asked(command: str, texts: Sequence[Text]) -> Verdict:
+    """What a command answers to texts. `InvalidText` where one is not of its form, `MemoryError`
+    where memory was refused.
+    """
+    given = [text.encode() if isinstance(text, str) else text for text in texts]
+    place = path()
+    library = loaded(place) if place else None
+    if library is None:
+        status, said = _by_program(command, given)
+    elif command == "audit":
+        ends = [sum(map(len, given[1 : count + 1])) for count in range(len(given))]
+        status, said = call(
+            library, "sagas_audit_all", [given[0], b"".join(given[1:])], list(zip(ends, ends[1:]))
+        )
+    else:
+        status, said = call(library, f"sagas_{command}", given)
+    if status == NO_MEMORY:
+        raise MemoryError(f"sagas {command}: the system refused memory")
+    if status == INVALID:
+        raise InvalidText(said.decode(errors="replace").rstrip("\n"))
+    return Verdict(status == OK, said.decode().rstrip("\n"))
+
+
+def plan(definition: Text, case: Text) -> Verdict:
+    """Return a least-cost plan for a saga in the state of a case.
+
+    Nothing is kept, any number of threads may call, and other threads run meanwhile.
+
+    Args:
+        definition: The text of a definition file.
+        case: The JSON of a case: the state of each step.
+
+    Returns:
+        Yes with the plan and its certificate, as JSON; no with the proof that no plan is feasible.
+
+    Raises:
+        InvalidText: A text does not have its format.
+        EngineError: Neither the library nor the program `sagas` can be run here.
+        MemoryError: The system refused memory.
+
+    Example:
+        >>> definition = order.toml()
+        >>> case = '{"states":["committed","failed"]}'
+        >>> answer = sagas.plan(definition, case)
+        >>> sagas.check(definition, case, answer.text)
+        Verdict(yes=True, text='least 4')
+    """
+    return _asked("plan", [definition, case])
+
+
+def check(definition: Text, case: Text, answer: Text) -> Verdict:
+    """Verify a plan, whoever made it.
+
+    Args:
+        definition: The text of a definition file.
+        case: The JSON of a case.
+        answer: The JSON of a plan, as `plan` returns it.
+
+    Returns:
+        Yes with `least N` or `blocked`; no with `no` and the fault.
+
+    Raises:
+        InvalidText: A text does not have its format.
+        EngineError: Neither the library nor the program `sagas` can be run here.
+        MemoryError: The system refused memory.
+    """
+    return _asked("check", [definition, case, answer])
+
+
+def audit(log: Text, definition: Text, *more: Text) -> Verdict:
+    """Verify that every event of a log was allowed.
+
+    Args:
+        log: The text of the log.
+        definition: The text of its first definition.
+        more: The texts of its other definitions, in their order.
+
+    Returns:
+        Yes with the numbers of sagas and events; no with the first event that was not allowed.
+
+    Raises:
+        InvalidText: A text does not have its format.
+        EngineError: Neither the library nor the program `sagas` can be run here.
+        MemoryError: The system refused memory.
+    """
+    return _asked("audit", [log, definition, *more])

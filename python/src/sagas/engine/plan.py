@@ -1,0 +1,191 @@
+"""An adopted plan: its decisions and the costs of both choices."""
+
+from __future__ import annotations
+
+import dataclasses
+import json
+from typing import Any
+
+import tomllib
+
+from sagas.base import program
+from sagas.base.errors import EngineError
+from sagas.core.states import state_text, step_state
+
+Cost = int | None
+"""A cost; None is never."""
+
+
+@dataclasses.dataclass(frozen=True, slots=True)
+class Choice:
+    """Describe what a plan does with a step, and what either choice costs.
+
+    Attributes:
+        step: The step's name.
+        state: The state in which the plan found it.
+        cost_to_keep: Cost if its effect stays; None: this is not allowed.
+        cost_to_drop: Cost if it is undone or skipped; None: this is not allowed.
+        kept: Whether the plan keeps it.
+        needed_by: If dropping it alone were no dearer: the first kept step that needs it; else
+            None.
+    """
+
+    step: str
+    state: str
+    cost_to_keep: Cost
+    cost_to_drop: Cost
+    kept: bool
+    needed_by: str | None = None
+
+    @property
+    def decision(self) -> str:
+        """`stands`, `is run`, `is undone` or `is left out`."""
+        if self.kept:
+            return "is run" if self.state == "waiting" else "stands"
+        return "is undone" if self.state == "committed" else "is left out"
+
+    @property
+    def detail(self) -> str:
+        """The decision, and the step that is the reason for it."""
+        return f"{self.decision}: {self.needed_by} needs it" if self.needed_by else self.decision
+
+
+@dataclasses.dataclass(frozen=True, slots=True)
+class Plan:
+    """Hold the plan of a saga with its certificate. Made by `Store.plan`.
+
+    `str` shows a table of all steps, with both costs and the decision.
+
+    Attributes:
+        saga: The saga's name.
+        key: The saga's key.
+        definition: The definition's text.
+        case: The state of each step that the plan started from, as JSON.
+        answer: The plan with its certificate, as JSON.
+
+    Example:
+        >>> with sagas.open_sync("orders.db", [order]) as store:
+        ...     end = store.start(order, "order-3", {"amount": 40}).wait(timeout=60)
+        ...     plan = store.plan("order-3")
+        refund 40
+        >>> plan.cost, plan.check()
+        (4, 'least 4')
+        >>> print(plan)
+        plan of order order-3: cost 4
+          step    found      cost to keep  cost to drop  decision
+          charge  committed             9             0  is undone
+          send    failed            never             4  is left out
+    """
+
+    saga: str
+    key: str
+    definition: str
+    case: dict[str, Any]
+    answer: dict[str, Any]
+
+    @property
+    def cost(self) -> int | None:
+        """Its cost: no allowed plan costs less. None if no plan is feasible."""
+        cost: int | None = self.answer.get("cost")
+        return cost
+
+    @property
+    def blocking_steps(self) -> list[str]:
+        """If no plan is feasible, the steps that show why; else an empty list."""
+        names = [step["name"] for step in tomllib.loads(self.definition)["step"]]
+        return [names[step] for step in self.answer.get("chain", ())]
+
+    @property
+    def choices(self) -> list[Choice]:
+        """A `Choice` for each step, in the order of the definition."""
+        kept = set(self.answer.get("kept", ()))
+        steps = tomllib.loads(self.definition)["step"]
+        needed = {
+            need: steps[place]["name"]
+            for place in sorted(kept, reverse=True)
+            for need in steps[place].get("needs", ())
+        }
+        return [
+            self._choice(step, step_state(told).value, place in kept, needed.get(step["name"]))
+            for place, (step, told) in enumerate(zip(steps, self.case["states"]))
+        ]
+
+    def _choice(self, step: dict[str, Any], state: str, kept: bool, needed: str | None) -> Choice:
+        run, undo, skip, keep = (
+            _cost(step.get(word, 0)) for word in ("run", "undo", "skip", "keep")
+        )
+        if state == "waiting":
+            stand = None if self.case.get("aborted") else _sum(run, keep)
+        else:
+            stand = keep if state in ("committed", "undo_failed") else None
+        leave = (
+            None if state == "undo_failed" else _sum(undo, skip) if state == "committed" else skip
+        )
+        goes = (
+            state == "committed" and leave is not None and (stand is None or stand >= leave)
+        )  # if nothing needs it
+        return Choice(step["name"], state, stand, leave, kept, needed if kept and goes else None)
+
+    def check(self) -> str:
+        """Verify the plan by `sagas check`, which does not trust the planner.
+
+        Returns:
+            `least N`, or `blocked` if no plan is feasible.
+
+        Raises:
+            EngineError: The plan is wrong, or the program `sagas` cannot be run.
+        """
+        done = program.run(
+            "check", [self.definition, json.dumps(self.case), json.dumps(self.answer)]
+        )
+        if done.returncode != 0:
+            raise EngineError((done.stdout + done.stderr).strip())
+        return done.stdout.strip()
+
+    def draw(self) -> str:
+        """Return the plan as text for Graphviz, for example for `dot -Tsvg`.
+
+        Raises:
+            EngineError: The program `sagas` cannot be run.
+        """
+        return program.draw(self.definition, json.dumps(self.case), json.dumps(self.answer))
+
+    def __str__(self) -> str:
+        choices = self.choices
+        wide = max(4, *(len(choice.step) for choice in choices))
+        states = [state_text(choice.state) for choice in choices]
+        found = max(9, *map(len, states))
+        head = f"plan of {self.saga} {self.key}: "
+        head += (
+            f"cost {self.cost}"
+            if self.cost is not None
+            else f"no plan is feasible, because of {' and '.join(self.blocking_steps)}"
+        )
+        lines = [
+            head,
+            f"  {'step':{wide}}  {'found':{found}}  cost to keep  cost to drop  decision",
+        ]
+        for choice, state in zip(choices, states):
+            decision = choice.detail if self.cost is not None else "stuck"
+            lines.append(
+                f"  {choice.step:{wide}}  {state:{found}}  {_shown(choice.cost_to_keep):>12}  "
+                f"{_shown(choice.cost_to_drop):>12}  {decision}"
+            )
+        return "\n".join(lines)
+
+
+def _cost(told: int | str) -> Cost:
+    return told if isinstance(told, int) else None
+
+
+def certificate_text(one: Plan) -> str:
+    """A plan as `sagas check` reads it from its standard input."""
+    return f"{one.definition}---\n{json.dumps(one.case)}\n---\n{json.dumps(one.answer)}\n"
+
+
+def _sum(a: Cost, b: Cost) -> Cost:
+    return None if a is None or b is None else a + b
+
+
+def _shown(cost: Cost) -> str:
+    return "never" if cost is None else str(cost)

@@ -1,0 +1,263 @@
+"""One engine process: `sagas drive` over pipes."""
+
+from __future__ import annotations
+
+import asyncio
+import contextlib
+import errno
+import fcntl
+import os
+import select
+import subprocess
+import time
+from collections.abc import Sequence
+from typing import NamedTuple, Protocol
+
+from sagas.base.errors import EngineError
+from sagas.base.fork_guard import private
+from sagas.base.program import Texts, memory_file, not_runnable
+from sagas.core import protocol
+
+PIPE = 1 << 20  # bytes
+READ = (
+    1 << 16
+)  # bytes that are read at once: what is larger is mapped, and given back, at each read
+WAIT = 1  # milliseconds
+HUNG = 60.0  # seconds
+AGAIN = 32
+"""Questions after one whose answer was late, until answers are waited for again."""
+AGAIN_LATER = 0.01  # seconds
+NOT_RUNNABLE = (errno.ENOEXEC, errno.EACCES, errno.ENOENT)
+"""What the system says of a program that it cannot run: for another processor, without the right,
+or without its loader."""
+
+
+class Answer(NamedTuple):
+    """What an engine says to a question.
+
+    Attributes:
+        replies: One for each line that it was asked.
+        log_text: The event log's new lines.
+    """
+
+    replies: list[str]
+    log_text: str
+
+
+class Listener(Protocol):
+    """What an engine answers."""
+
+    def answered(self, replies: list[str], log_text: str) -> None:
+        """It has answered."""
+
+    def died(self, engine: EngineProcess, last: str) -> None:
+        """It has ended by itself, with these last words. It is called once."""
+
+
+class EngineProcess:
+    """One process that drives one shard, one question at a time.
+
+    Attributes:
+        asked: How many replies are to come: while there are any, nothing else is asked.
+        dead: Whether it was thrown away, or ended.
+        process: The process.
+        buried: Done once the process that was thrown away is no more.
+    """
+
+    def __init__(
+        self,
+        program: str,
+        definitions: Sequence[str],
+        text: str,
+        listener: Listener,
+    ) -> None:
+        """Start it.
+
+        Args:
+            program: The path of `sagas`.
+            definitions: The shard's definitions.
+            text: Its event log so far, without the header.
+            listener: What it answers.
+
+        Raises:
+            EngineError: It cannot be started.
+        """
+        self._loop = asyncio.get_running_loop()
+        self._listener = listener
+        self.asked = 0
+        self._since = 0.0
+        self._replies: list[str] = []  # that came
+        self._shown: list[str] = []  # lines of the log that came, each with its plus
+        self._part = ""  # of a line that has not come whole
+        self._out = b""
+        self._writing = self.dead = False
+        self.buried: asyncio.Future[None] = self._loop.create_future()
+        self._late = 0  # questions whose answers are not waited for
+        self._start(program, definitions, text)
+
+    def _start(self, program: str, definitions: Sequence[str], text: str) -> None:
+        self._words = -1
+        self._texts: Texts | None = None
+        try:
+            self._words = memory_file("words")
+            self._texts = Texts([*definitions, protocol.HEADER + text] if text else definitions)
+            words = self._texts.paths
+            if text:
+                words = ["--from", words[-1], *words[:-1]]
+            self.process = subprocess.Popen(
+                [program, "drive", "--lines", *words],
+                stdin=subprocess.PIPE,
+                stdout=subprocess.PIPE,
+                stderr=self._words,
+                bufsize=0,
+                pass_fds=self._texts.files,
+                start_new_session=True,
+            )
+            self._texts.given()
+        except OSError as error:
+            self._close_files()
+            if error.errno in NOT_RUNNABLE:
+                raise not_runnable(program, str(error.strerror)) from error
+            raise EngineError(f"{program}: cannot be started: {error.strerror}") from error
+        assert self.process.stdin and self.process.stdout
+        self._to, self._back = self.process.stdin.fileno(), self.process.stdout.fileno()
+        for fd in (self._to, self._back):
+            private.add(fd)
+            os.set_blocking(fd, False)
+            # (a user has so many pages of pipes, and no more; and not each system has it)
+            with contextlib.suppress(AttributeError, OSError):
+                fcntl.fcntl(fd, fcntl.F_SETPIPE_SZ, PIPE)
+        self._loop.add_reader(self._back, self._readable)
+        self._poll = select.poll()
+        self._poll.register(self._back, select.POLLIN)
+
+    def ask(self, requests: Sequence[str]) -> None:
+        """Send a question: its listener is told the answer, unless `wait` gives it."""
+        assert not self.asked
+        self.asked, self._since = len(requests), time.monotonic()
+        self._out += ("\n".join(requests) + "\n").encode()
+        self._write()
+
+    def is_hung(self, now: float) -> bool:
+        """Whether it was asked so long ago that it will hardly answer."""
+        return self.asked > 0 and now - self._since > HUNG
+
+    def wait(self) -> Answer | None:
+        """Wait here for the answer, as long as answers come within `WAIT`: that takes less than a
+        turn of the loop.
+
+        Measured on 2026-11-28, in instructions a saga of three steps over SQLite: 15 % less for
+        one saga at a time, nothing for 16, and 5 % less for 256.
+
+        Returns:
+            The answer; None if the listener is told it later.
+        """
+        if self._late:
+            self._late -= 1
+            return None
+        if self._poll.poll(WAIT):
+            return self._read()
+        self._late = AGAIN
+        return None
+
+    def _write(self) -> None:
+        try:
+            while self._out:
+                self._out = self._out[os.write(self._to, self._out) :]
+        except BlockingIOError:
+            if not self._writing:
+                self._writing = True
+                self._loop.add_writer(self._to, self._write)
+            return
+        except OSError:
+            self._loop.call_soon(self._die)
+            return
+        if self._writing:
+            self._writing = False
+            self._loop.remove_writer(self._to)
+
+    def _readable(self) -> None:
+        answer = self._read()
+        if answer is not None:
+            self._listener.answered(*answer)
+
+    def _read(self) -> Answer | None:
+        """Read what is there; the answer, if it is whole by now."""
+        try:
+            data = os.read(self._back, READ)
+        except BlockingIOError:
+            return None
+        except OSError:
+            data = b""
+        if not data:
+            self._die()
+            return None
+        came = (self._part + data.decode()).split("\n")  # all of ASCII: no character is cut
+        self._part = came.pop()
+        replies, shown = self._replies, self._shown
+        for line in came:
+            if line[:1] == "+":  # a line of the log, shown before the reply that it belongs to
+                shown.append(line)
+            else:
+                replies.append(line)
+        if not self.asked or len(replies) < self.asked:
+            return None
+        self._replies, self._shown, self.asked = [], [], 0
+        text = "\n".join([*shown, ""])[1:].replace("\n+", "\n")
+        return Answer(replies, text.removeprefix(protocol.HEADER))
+
+    def _die(self) -> None:
+        if not self.dead:
+            self.stop()
+            self.process.wait()  # its output ended, so it is about to
+            status = f"ended with status {self.process.returncode}"
+            self._listener.died(self, self._said() or status)
+
+    def _said(self) -> str:
+        """Its last words."""
+        end = os.pread(self._words, 4096, max(0, os.fstat(self._words).st_size - 4096))
+        said = [line for line in end.decode(errors="replace").splitlines() if line.strip()]
+        return said[-1] if said else ""
+
+    def stop(self) -> None:
+        """Throws the process away."""
+        if self.dead:
+            return
+        self.dead = True
+        self._loop.remove_reader(self._back)
+        if self._writing:
+            self._loop.remove_writer(self._to)
+        self.process.kill()
+        assert self.process.stdin and self.process.stdout
+        for pipe in (self.process.stdin, self.process.stdout):
+            private.discard(pipe.fileno())
+            pipe.close()
+        self._loop.call_soon(self._bury)
+
+    def _bury(self) -> None:
+        """Takes its status, once it is there: the loop does not stand still for it."""
+        if self.process.poll() is not None:
+            self._forget()
+            return
+        try:
+            end = os.pidfd_open(self.process.pid)
+        except (AttributeError, OSError):  # the system has none: it is looked at again in a moment
+            self._loop.call_later(AGAIN_LATER, self._bury)
+            return
+        self._loop.add_reader(end, self._ended, end)
+
+    def _ended(self, end: int) -> None:
+        self._loop.remove_reader(end)
+        os.close(end)
+        self.process.wait()
+        self._forget()
+
+    def _close_files(self) -> None:
+        if self._words >= 0:
+            os.close(self._words)
+        if self._texts is not None:
+            self._texts.close()
+
+    def _forget(self) -> None:
+        self._close_files()
+        self.buried.set_result(None)

@@ -1,0 +1,150 @@
+"""Pages of what requires an operator, one kind at a time, and groups of the same cause."""
+
+from __future__ import annotations
+
+import dataclasses
+import json
+import re
+from collections.abc import Iterable
+from typing import Any, Optional
+
+from sagas.core.attention import AttentionReason
+from sagas.inspection.lists import DEFINED, Names, chain_of
+from sagas.inspection.question import Query, Question
+from sagas.storage.filters import Filter
+from sagas.storage.queries import PHASES
+
+Place = Optional[tuple[int, int]]
+"""The last entry of the page before: its saga, and its step, or -1."""
+APPROVAL = "approval"
+KINDS = (*(reason.value for reason in AttentionReason), APPROVAL)
+CAUSE = """(SELECT x.value FROM attempts x WHERE x.id = s.id AND x.event = 'fail'
+  ORDER BY x.at DESC, x.step LIMIT 1)"""
+"""What the step raised that failed last."""
+STUCK = f"""
+SELECT s.id, -1 AS place, s.key, s.saga, f.texts, s.definition_index, '' AS action, s.outcome,
+  {CAUSE}, s.ended, NULL
+FROM sagas s {DEFINED} WHERE {PHASES["stuck"]}
+"""
+UNDO_FAILED = f"""
+SELECT s.id, r.step, s.key, s.saga, f.texts, s.definition_index, 'undo', NULL, r.value, r.at, NULL
+FROM sagas s JOIN attempts r ON r.id = s.id AND r.event = 'undo_fail' {DEFINED}
+WHERE {PHASES["undo_failed"]}
+"""
+HELD = f"""
+SELECT s.id, h.step, s.key, s.saga, f.texts, s.definition_index, h.action, NULL, h.detail, h.since,
+  h.until
+FROM suspensions h JOIN sagas s ON s.id = h.id {DEFINED} WHERE h.reason = """
+BY_KIND = {
+    "stuck": (STUCK, "-1"),
+    "undo_failed": (UNDO_FAILED, "r.step"),
+    "unknown": (f"{HELD} 'unknown' AND h.until IS NULL", "h.step"),
+    "exhausted": (f"{HELD} 'exhausted'", "h.step"),
+    "cannot_decode": (f"{HELD} 'cannot_decode'", "h.step"),
+    APPROVAL: (f"{HELD} 'approval'", "h.step"),
+}
+PHASE_OF = {"stuck": "stuck", "undo_failed": "undo_failed"}
+NOTHING = Filter()
+NUMBERS = re.compile(r"[0-9a-f]{8,}(?:-[0-9a-f]{4,})*|\d+")
+"""What differs between errors of one cause: numbers, and names that are made of them."""
+MOST_GROUPED = 20_000
+
+
+@dataclasses.dataclass(frozen=True, slots=True)
+class Entry:
+    """Something that needs a person. `step` is None of a saga that is stuck: `blocking` has the
+    steps because of which it is. `detail`: what was raised, or what cannot be read."""
+
+    kind: str
+    id: int
+    place: int
+    key: str
+    saga: str
+    step: str | None
+    undo: bool
+    blocking: list[str]
+    detail: str | None
+    since: float
+    until: float | None
+
+    @property
+    def cause(self) -> str:
+        """Its detail without numbers: the same for all of one cause."""
+        of = " and ".join(self.blocking) or self.step or ""
+        return f"{of}: {NUMBERS.sub('…', self.detail)}" if self.detail else of
+
+
+@dataclasses.dataclass(frozen=True, slots=True)
+class Group:
+    """Entries of one definition and one cause, in their order."""
+
+    saga: str
+    cause: str
+    entries: list[Entry]
+
+
+def entries(
+    kind: str,
+    of: Filter = NOTHING,
+    step: str | None = None,
+    *,
+    after: Place = None,
+    newest: bool = False,
+    most: int = 100,
+) -> Question[list[Entry]]:
+    """A page of one of `KINDS`, by the age of the sagas."""
+    text, place = BY_KIND[kind]
+    wheres, words = _among(kind, of)
+    if after is not None:
+        sign = "<" if newest else ">"
+        wheres.append(f"(s.id {sign} ? OR (s.id = ? AND {place} > ?))")
+        words += [after[0], *after]
+    order = f"ORDER BY s.id{' DESC' if newest else ''}{'' if place == '-1' else ', ' + place}"
+    wanted = most if step is None else MOST_GROUPED
+    query = " AND ".join([text, *wheres]) + f" {order} LIMIT ?"
+    names = Names()
+    rows = yield Query(query, (*words, wanted))
+    found = (_entry(kind, names, *row) for row in rows)
+    return [one for one in found if step in (None, one.step)][:most]
+
+
+def _among(kind: str, of: Filter) -> tuple[list[str], list[Any]]:
+    """A condition on the sagas of a filter, and its words."""
+    if of == NOTHING:
+        return [], []
+    where, words = dataclasses.replace(of, phase=PHASE_OF.get(kind, "open")).where()
+    return [f"s.id IN (SELECT s.id FROM sagas s WHERE {where})"], words
+
+
+def _entry(
+    kind: str, names: Names, id: int, place: int, key: str, saga: str, texts: str, index: int,
+    action: str, outcome: str | None, detail: str | None, *times: Any,
+) -> Entry:  # fmt: skip
+    steps = names.of(texts, index)
+    blocking = chain_of(steps, outcome) if kind == AttentionReason.STUCK else []
+    if detail is not None and kind in (AttentionReason.STUCK, AttentionReason.UNDO_FAILED):
+        detail = str((json.loads(detail) or {}).get("error", ""))
+    step = None if place < 0 else steps[place]
+    return Entry(kind, id, place, key, saga, step, action == "undo", blocking, detail, *times)
+
+
+def count(
+    kind: str, of: Filter = NOTHING, step: str | None = None, by_saga: bool = False
+) -> Question[int]:
+    """How many there are of a kind; `by_saga`: of how many sagas."""
+    if step is not None:
+        return len((yield from entries(kind, of, step, most=MOST_GROUPED)))
+    wheres, words = _among(kind, of)
+    text = " AND ".join([BY_KIND[kind][0], *wheres])
+    what = "DISTINCT c.id" if by_saga else "*"
+    rows = yield Query(f"SELECT count({what}) FROM ({text}) c", (*words,))
+    return int(rows[0][0])
+
+
+def groups(some: Iterable[Entry]) -> list[Group]:
+    """Entries by definition and cause: in the order of the first of each."""
+    found: dict[tuple[str, str], Group] = {}
+    for one in some:
+        at = one.saga, one.cause
+        found.setdefault(at, Group(*at, [])).entries.append(one)
+    return list(found.values())

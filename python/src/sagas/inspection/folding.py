@@ -1,0 +1,43 @@
+"""Folds equal parallel steps of a picture into one box with their number."""
+
+from __future__ import annotations
+
+import dataclasses
+from collections.abc import Hashable, Sequence
+
+FEW = 6
+"""So many equal steps are drawn as one."""
+
+
+@dataclasses.dataclass(frozen=True, slots=True)
+class Folded:
+    """A box: the numbers of its steps in the order of the definition, and what it needs, by the
+    places of other boxes."""
+
+    steps: list[int]
+    needs: list[int]
+
+
+def folded(needs: Sequence[Sequence[int]], looks: Sequence[Hashable]) -> list[Folded]:
+    """The boxes of steps, by what each needs and how each looks. Equal are steps that look the
+    same, need the same, and are needed by the same."""
+    needed_by: list[list[int]] = [[] for _ in needs]
+    for step, some in enumerate(needs):
+        for need in some:
+            needed_by[need].append(step)
+    groups: dict[Hashable, list[int]] = {}
+    for step, some in enumerate(needs):
+        at = (frozenset(some), frozenset(needed_by[step]), looks[step])
+        groups.setdefault(at, []).append(step)
+    boxes: dict[int, list[int]] = {}
+    for steps in groups.values():
+        if len(steps) >= FEW:
+            boxes[steps[0]] = steps
+        else:
+            boxes |= {step: [step] for step in steps}
+    ordered = [boxes[first] for first in sorted(boxes)]
+    place = {step: number for number, steps in enumerate(ordered) for step in steps}
+    return [
+        Folded(steps, list(dict.fromkeys(place[need] for need in needs[steps[0]])))
+        for steps in ordered
+    ]

@@ -1,0 +1,363 @@
+"""Questions about many sagas: counts, pages, what waits for an operator."""
+
+from __future__ import annotations
+
+import json
+from collections.abc import Callable, Collection, Iterable, Mapping
+from typing import Any, Optional
+
+import tomllib
+
+from sagas.core import states
+from sagas.core.attention import Attention, AttentionReason
+from sagas.core.batch import SagaRow
+from sagas.core.history import MISSES, end_of, was_called
+from sagas.core.results import DefinitionCount, SagaResult, Summary, UnknownAttempt
+from sagas.definition import arguments
+from sagas.definition import labels as labels_module
+from sagas.definition import tokens, validation
+from sagas.definition.capacity import SHARD_CAPACITY
+from sagas.definition.compiled import Kind, version_of
+from sagas.definition.labels import Labels
+from sagas.inspection.question import Query, Question, Row
+from sagas.inspection.views import Waits
+from sagas.storage import schedules as schedules_module
+from sagas.storage.filters import Filter, among
+from sagas.storage.queries import HELD, LABELS, PHASE, PHASES, RESULTS, SAGA, labels_of
+from sagas.storage.schedules import Schedule
+
+Definitions = Optional[Collection[str]]
+"""The definitions of which sagas are looked at; None: all."""
+Counts = dict[str, dict[str, int]]
+COUNTED = ("open", "completed", "recovered", "stuck", "resolved")
+SUMMARY = (
+    "s.id, s.key, s.saga, s.phase, s.at, s.ended, s.note, s.recovered, s.undo_failed, s.deadline, "
+    f"{LABELS}"
+)
+DEFINED = f"""JOIN shards l ON l.shard = s.id / {SHARD_CAPACITY}
+JOIN definition_sets f ON f.definition_set = l.definition_set"""
+"""Beside a saga `s` its shard, and the texts of its shard's definitions."""
+HELD_BADLY = "((reason = 'unknown' AND until IS NULL) OR reason IN ('exhausted', 'cannot_decode'))"
+"""The rows of attempts that need a person to say something, or another program. An approval is
+asked for, and no trouble."""
+SAME = (
+    "{0}.id = {1}.id AND {0}.step = {1}.step AND {0}.action = {1}.action AND {0}.number = "
+    "{1}.number"
+)
+SUSPENDED = f"""(
+  SELECT u.* FROM suspensions u WHERE NOT (reason IN ('unknown', 'retry') AND EXISTS (
+    SELECT 1 FROM external_attempts e WHERE {SAME.format("e", "u")} AND e.outcome IS NULL))
+  UNION ALL SELECT e.id, e.step, e.action, e.number, 'external',
+    coalesce((SELECT count FROM suspensions u WHERE {SAME.format("u", "e")}), 0), e.since, e.until,
+    e.worker
+  FROM external_attempts e WHERE e.outcome IS NULL AND e.worker IS NOT NULL)"""
+"""What is suspended, and what a worker has; of what is offered again nobody waits for a time."""
+PERSON = f"(reason = 'approval' OR {HELD_BADLY})"
+WAITS = "NOT (reason = 'wait' AND until = 0)"
+"""The row of a wait stays behind its time, so that nobody waits once more."""
+MOST = 100
+
+
+class Names:
+    """The names of steps, by the texts of a shard's definitions and the place of one."""
+
+    def __init__(self) -> None:
+        self._names: dict[tuple[str, int], list[str]] = {}
+
+    def of(self, texts: str, place: int) -> list[str]:
+        """The names of a definition's steps. A text is read once."""
+        if (texts, place) not in self._names:
+            self._names[texts, place] = step_names(json.loads(texts)[place])
+        return self._names[texts, place]
+
+
+def step_names(definition: str) -> list[str]:
+    """The names of a definition's steps."""
+    return [str(step["name"]) for step in tomllib.loads(definition)["step"]]
+
+
+def check_page(phase: str | None, after: int | None, limit: int) -> None:
+    """Raises `ValueError` or `TypeError` where no page is asked for by these words."""
+    if phase is not None and phase not in PHASES:
+        raise ValueError(f"phase={phase!r}: must be one of {', '.join(PHASES)}")
+    if after is not None and not validation.is_count(after):
+        raise TypeError(
+            f"after={after!r}: must be the id of the last saga of the page before: "
+            "list(after=page[-1].id)"
+        )
+    arguments.count("limit", limit)
+
+
+def summary_of(row: Row) -> Summary:
+    """A line of a list, by the columns of `SUMMARY`."""
+    id, key, saga, phase, at, ended, note, recovered, undo_failed, deadline, labels = row
+    phase = states.saga_phase(phase, bool(recovered), note).value
+    told = labels_of(labels)
+    return Summary(id, key, saga, phase, at, ended, note, bool(undo_failed), told, deadline)
+
+
+def counts() -> Question[Counts]:
+    """How many sagas there are, by name and phase."""
+    found: Counts = {}
+    rows = yield Query(f"SELECT saga, {PHASE}, count(*) FROM sagas GROUP BY 1, 2")
+    for saga, phase, count in rows:
+        found.setdefault(saga, dict.fromkeys(COUNTED, 0))[phase] = count
+    return dict(sorted(found.items()))
+
+
+def definitions() -> Question[list[DefinitionCount]]:
+    """How many sagas there are of each version of each definition, by name and version."""
+    texts = dict[str, list[str]]()
+    rows = yield Query("SELECT definition_set, texts FROM definition_sets")
+    for digest, told in rows:
+        texts[digest] = json.loads(told)
+    rows = yield Query(
+        f"""
+        SELECT l.definition_set, s.saga, s.definition_index, count(*),
+          count(CASE WHEN s.phase IS NULL THEN 1 END)
+        FROM sagas s JOIN shards l ON l.shard = s.id / {SHARD_CAPACITY} GROUP BY 1, 2, 3
+        """,
+        is_long=True,
+    )
+    found = dict[tuple[str, int], tuple[int, int]]()
+    for digest, saga, place, total, open in rows:
+        if digest in texts:  # else it was let go meanwhile
+            name = saga, version_of(texts[digest][place])
+            before = found.get(name, (0, 0))
+            found[name] = open + before[0], total + before[1]
+    return [DefinitionCount(*name, *counts) for name, counts in sorted(found.items())]
+
+
+def schedules() -> Question[list[Schedule]]:
+    """The schedules, by name."""
+    rows = yield Query(schedules_module.ALL)
+    return [schedules_module.of_row(row) for row in rows]
+
+
+def count(filter: Filter) -> Question[int]:
+    """How many sagas there are of a filter."""
+    where, words = filter.where()
+    rows = yield Query(f"SELECT count(*) FROM sagas s WHERE {where}", (*words,))
+    return int(rows[0][0])
+
+
+def asked(sagas: Definitions = None) -> Question[dict[str, int]]:
+    """How many things wait for a person: stuck sagas, compensations that failed for good,
+    approvals, and attempts of which nobody knows the outcome or whose stored values cannot be
+    read."""
+    within = ""
+    if sagas is not None:
+        within = f" AND id IN (SELECT id FROM sagas WHERE {among(sagas)})"
+    query = f"SELECT reason, count(*) FROM suspensions WHERE {PERSON}{within} GROUP BY reason"
+    rows = yield Query(query, (*(sagas or ()),))
+    held = {reason: count for reason, count in rows}
+    asks = ("unknown", "exhausted", "cannot_decode", "approval")
+    told = {word: held.get(word, 0) for word in asks}
+    stuck = yield from count(Filter("stuck", sagas=sagas))
+    undo_failed = yield from count(Filter("undo_failed", sagas=sagas))
+    return {"stuck": stuck, "undo_failed": undo_failed, **told}
+
+
+def page(
+    *,
+    phase: str | None = None,
+    saga: str | None = None,
+    labels: Labels = labels_module.NONE,
+    search: str | None = None,
+    before: int | None = None,
+    after: int | None = None,
+    newest: bool | None = None,
+    most: int | None = 50,
+    sagas: Definitions = None,
+    of: Filter | None = None,
+) -> Question[list[Summary]]:
+    """A page of the list, the newest first, or the oldest first: those `before` an id, or `after`
+    one. `newest`: which are first; by default the oldest where `after` is given.
+
+    `most`: None for all; `phase`, `saga`, `labels`, `search`, `sagas`: as of a `Filter`, or `of`.
+    """
+    where, words = (of or Filter(phase, saga, labels, search, sagas)).where()
+    wheres = [where]
+    for id, condition in ((before, "id < ?"), (after, "id > ?")):
+        if id is not None:
+            wheres.append(condition)
+            words.append(id)
+    order = "DESC" if (after is None if newest is None else newest) else "ASC"
+    query = f"SELECT {SUMMARY} FROM sagas s WHERE {' AND '.join(wheres)} ORDER BY id {order}"
+    if most is not None:
+        query += " LIMIT ?"
+        words.append(most)
+    rows = yield Query(query, (*words,))
+    return [summary_of(row) for row in rows]
+
+
+def waits(
+    most: int = MOST,
+    *,
+    person: bool = True,
+    why: str | None = None,
+    key: str | None = None,
+    sagas: Definitions = None,
+    within: Filter | None = None,
+) -> Question[list[Waits]]:
+    """What is held, the oldest first; by default what a person has to say something about. `why`:
+    of this reason alone; `key`: of one saga alone; `within`: of those sagas alone."""
+    wheres, words = [WAITS, among(sagas)], list[Any](sagas or ())
+    if within is not None:
+        condition, more = within.where()
+        wheres.append(f"h.id IN (SELECT id FROM sagas WHERE {condition})")
+        words += more
+    if person:
+        wheres.append(PERSON)
+    for word, condition in ((why, "reason = ?"), (key, "key = ?")):
+        if word is not None:
+            wheres.append(condition)
+            words.append(word)
+    rows = yield Query(
+        f"""
+        SELECT s.key, s.saga, f.texts, s.definition_index, {HELD}
+        FROM {"suspensions" if person else SUSPENDED} h JOIN sagas s ON s.id = h.id {DEFINED}
+        WHERE {' AND '.join(wheres)} ORDER BY h.since LIMIT ?
+        """,
+        (*words, most),
+    )
+    names = Names()
+    return [_waits(names, *row) for row in rows]
+
+
+def _waits(
+    names: Names, key: str, saga: str, texts: str, place: int,
+    id: int, step: int, action: str, number: int, why: str, count: int, *times: Any,
+) -> Waits:  # fmt: skip
+    since, until, detail = times
+    name = names.of(texts, place)[step]
+    told = why, count, since, until, detail
+    return Waits(id, key, saga, name, action == "undo", number, *told)
+
+
+def stuck(most: int = MOST, sagas: Definitions = None) -> Question[list[tuple[Summary, list[str]]]]:
+    """The stuck sagas that nobody has resolved, with the chain of each, the oldest first."""
+    rows = yield Query(
+        f"""
+        SELECT {SUMMARY}, f.texts, s.definition_index, s.outcome FROM sagas s {DEFINED}
+        WHERE {PHASES["stuck"]} AND {among(sagas)} ORDER BY s.id LIMIT ?
+        """,
+        (*(sagas or ()), most),
+    )
+    names = Names()
+    return [
+        (summary_of((*columns,)), chain_of(names.of(texts, place), end))
+        for *columns, texts, place, end in rows
+    ]
+
+
+def chain_of(names: list[str], end: str | None) -> list[str]:
+    """The steps because of which a saga is stuck, by what is kept of its end."""
+    answer = (json.loads(end).get("answer") if end else None) or {}
+    return [names[step] for step in answer.get("chain", ())]
+
+
+def stuck_results(kind_of: Callable[[str], Kind], most: int) -> Question[list[SagaResult]]:
+    """As `stuck`, with all that is kept of the end of each."""
+    rows = yield Query(
+        f"""
+        SELECT {SAGA}, texts FROM sagas s {DEFINED}
+        WHERE {PHASES["stuck"]} ORDER BY s.id LIMIT ?
+        """,
+        (most,),
+    )
+    found = []
+    for *columns, texts in rows:
+        row = SagaRow(*columns)
+        attempts = yield Query(RESULTS, (row.id,))
+        found.append(end_of(kind_of(json.loads(texts)[row.place]), row, attempts))
+    return found
+
+
+def unknown(most: int) -> Question[list[UnknownAttempt]]:
+    """The attempts of which nobody knows what they did; those that a person has to say first."""
+    rows = yield Query(
+        f"""
+        SELECT s.key, s.saga, f.texts, s.definition_index, l.name, {HELD}
+        FROM suspensions h JOIN sagas s ON s.id = h.id {DEFINED}
+        WHERE h.reason = 'unknown' ORDER BY h.until IS NOT NULL, h.since LIMIT ?
+        """,
+        (most,),
+    )
+    names, found = Names(), []
+    for key_of, saga, texts, place, log, id, step, action, number, _, *told in rows:
+        name = names.of(texts, place)[step]
+        key = tokens.idempotency_key(tokens.saga_token(log, id % SHARD_CAPACITY), name, action)
+        token = tokens.attempt_id(key, number)
+        found.append(UnknownAttempt(key_of, saga, name, action == "undo", number, token, *told))
+    return found
+
+
+def attention(most: int = MOST) -> Question[list[Attention]]:
+    """What needs a person, the oldest first."""
+    stuck_sagas = f"""
+        SELECT s.key, s.saga, f.texts, s.definition_index, 'stuck', NULL, NULL, s.outcome, s.ended
+        FROM sagas s {DEFINED} WHERE {PHASES["stuck"]} ORDER BY s.id LIMIT ?
+        """
+    attempts = f"""
+        SELECT s.key, s.saga, f.texts, s.definition_index,
+          h.reason, h.step, h.action, h.detail, h.since
+        FROM suspensions h JOIN sagas s ON s.id = h.id {DEFINED}
+        WHERE {HELD_BADLY} ORDER BY h.since LIMIT ?
+        """
+    raised = f"""
+        SELECT s.key, r.step, r.event, r.value FROM attempts r JOIN sagas s ON s.id = r.id
+        WHERE r.event IN {MISSES} AND r.id IN (
+          SELECT s.id FROM sagas s WHERE {PHASES["stuck"]} ORDER BY s.id LIMIT ?)
+        ORDER BY r.at, r.number
+        """
+    rows = yield Query(stuck_sagas, (most,))
+    errors = {
+        (key, step): (event.startswith("undo"), value.get("error", ""))
+        for key, step, event, text in (yield Query(raised, (most,)))
+        if was_called(event, value := json.loads(text or "null") or {})
+    }
+    rows = rows + (yield undone_query(most))
+    rows = rows + (yield Query(attempts, (most,)))
+    return _entries(rows, most, errors)
+
+
+def undone(most: int = MOST, sagas: Definitions = None) -> Question[list[Attention]]:
+    """The compensations that failed for good of sagas that have ended and that nobody has
+    resolved, the oldest first."""
+    rows = yield undone_query(most, sagas)
+    return _entries(rows, most)
+
+
+def undone_query(most: int, sagas: Definitions = None) -> Query:
+    """Asks for compensations that failed for good."""
+    return Query(
+        f"""
+        SELECT s.key, s.saga, f.texts, s.definition_index,
+          'undo_failed', r.step, 'undo', r.value, r.at
+        FROM sagas s JOIN attempts r ON r.id = s.id AND r.event = 'undo_fail' {DEFINED}
+        WHERE {PHASES["undo_failed"]} AND {among(sagas)} ORDER BY s.id, r.step LIMIT ?
+        """,
+        (*(sagas or ()), most),
+    )
+
+
+def _entries(
+    rows: Iterable[Row], most: int, errors: Mapping[tuple[str, int], tuple[bool, str]] = {}
+) -> list[Attention]:
+    """`errors`: by the key of a stuck saga and a step, what that raised last, and whether its
+    compensation did."""
+    names, found = Names(), []
+    for key, saga, texts, place, word, step, action, told, since in rows:
+        why, steps = AttentionReason(word), names.of(texts, place)
+        name, detail, undo = None if step is None else steps[step], told, action == "undo"
+        if why is AttentionReason.STUCK:
+            chain = chain_of(steps, told)
+            name = chain[-1] if chain else None
+            undo, error = errors.get((key, steps.index(name)), (False, "")) if name else (False, "")
+            because = f"because of {' and '.join(chain)}" if chain else ""
+            detail = ": ".join(filter(None, [because, error])) or None
+        elif why is AttentionReason.UNDO_FAILED and told is not None:
+            detail = str(json.loads(told).get("error", ""))
+        found.append(Attention(key, saga, why, name, undo, detail, since))
+    return sorted(found, key=lambda one: one.since)[:most]

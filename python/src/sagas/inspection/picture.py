@@ -1,0 +1,384 @@
+"""Pictures of a saga: its graph and its timeline, as SVG.
+
+A saga as a picture: its steps with their states, what a plan keeps and why, and what it costs;
+and when each attempt ran.
+"""
+
+from __future__ import annotations
+
+import time
+from html import escape
+from typing import NamedTuple
+
+from sagas.core.history import Stretch
+from sagas.core.outcomes import CANNOT_DECODE
+from sagas.core.states import WAITS_FOR
+from sagas.engine.plan import Choice
+from sagas.inspection import wording
+from sagas.inspection.activity import state_of
+from sagas.inspection.folding import folded
+from sagas.inspection.layout import GAP_X, HEIGHT, WIDTH, Placed, Point, place
+from sagas.inspection.views import SagaView, Waits
+
+MARGIN = 6
+ICONS = {
+    "waiting": '<circle r="5"/>',
+    "running": '<circle r="5"/><circle class="full" r="2.4"/>',
+    "committed": '<path d="M-5 0.5 L-1.6 4 L5 -4"/>',
+    "failed": '<path d="M-4 -4 L4 4 M4 -4 L-4 4"/>',
+    "undoing": '<path d="M-4.5 -1 A4.8 4.8 0 1 1 -2.5 4 M-5 -5 L-4.6 -0.8 L-0.6 -1.6"/>',
+    "undone": (
+        '<path d="M4.5 4 L4.5 1 A2.6 2.6 0 0 0 2 -1.8 L-4.5 -1.8 M-1.4 -5 L-4.8 -1.8 L-1.4 1.4"/>'
+    ),
+    "undo_failed": (
+        '<rect x="-4" y="-0.5" width="8" height="5.5" rx="1"/>'
+        '<path d="M-2.4 -0.5 V-2.4 A2.4 2.4 0 0 1 2.4 -2.4 V-0.5"/>'
+    ),
+}
+STYLE = """
+svg{font:13px system-ui,-apple-system,"Segoe UI",Roboto,"Helvetica Neue",Arial,sans-serif;
+color-scheme:light dark;
+--card:#fff;--line:#9aa4b2;--text:#16202c;--soft:#55606e;--grey:#6b7685;--blue:#1f5fbf;
+--green:#157347;--red:#b42318;--amber:#8a5300;--violet:#6541b0}
+@media (prefers-color-scheme:dark){svg{--card:#1b222b;--line:#5d6876;--text:#e8edf3;--soft:#a9b4c1;
+--grey:#98a3b1;--blue:#7fb2ff;--green:#5fce94;--red:#ff8f84;--amber:#f0b95a;--violet:#b99cf5}}
+.box{fill:var(--card);stroke:var(--tone);stroke-width:1.5}.bar{fill:var(--tone)}
+.name{fill:var(--text);font-weight:600}.long{font-size:11.5px}
+.state{fill:var(--tone);font-weight:600;font-size:12px}
+.why{fill:var(--soft);font-size:11.5px}.need{fill:none;stroke:var(--line);stroke-width:1.5}
+.icon{fill:none;stroke:var(--tone);stroke-width:2;stroke-linecap:round;stroke-linejoin:round}
+.icon .full{fill:var(--tone);stroke:none}.left .box{stroke-dasharray:5 4}.arrow{fill:var(--line)}
+.waiting{--tone:var(--grey)}.running,.undoing{--tone:var(--blue)}.committed{--tone:var(--green)}
+.failed{--tone:var(--red)}.undone{--tone:var(--violet)}.undo_failed{--tone:var(--amber)}
+.person{--tone:var(--amber)}
+"""
+
+
+class Told(NamedTuple):
+    """What a step's box says: its state in words, and why; its colour and its icon. `left`: it
+    is not run.
+    """
+
+    state: str
+    why: str
+    left: bool
+    tone: str
+    icon: str
+
+
+def cut(text: str, most: int) -> str:
+    return text if len(text) <= most else text[: most - 1] + "…"
+
+
+def named(text: str, most: int) -> str:
+    """A name, without its middle where it is longer: names often differ in their ends."""
+    return (
+        text
+        if len(text) <= most
+        else f"{text[: most // 2]}…{text[len(text) - (most - most // 2 - 1) :]}"
+    )
+
+
+def told_of(view: SagaView) -> list[Told]:
+    """What the boxes say, by step."""
+    choices = (
+        {choice.step: choice for choice in view.plan.choices}
+        if view.plan and view.plan.cost is not None
+        else {}
+    )
+    chain = set(view.plan.blocking_steps) if view.plan and view.plan.cost is None else set()
+    held = {one.step: one for one in view.held}
+    found = []
+    for step in view.steps:
+        waits, choice = held.get(step.name), choices.get(step.name)
+        over = view.phase != "open"
+        why = (
+            waiting(waits)
+            if waits
+            else "why it is stuck"
+            if step.name in chain
+            else decided(choice, over)
+            if choice
+            else tried(step.attempts, step.state)
+        )
+        left = step.state == "waiting" and (over or bool(choice and not choice.kept))
+        state = (
+            "not run"
+            if left
+            else "to do"
+            if step.state == "waiting"
+            else wording.STATES[state_of(view, step)]
+        )
+        tone = icon = step.state
+        if waits and waits.asks:
+            state, tone = ASKED.get(waits.why, "waits"), "person"
+        elif waits and waits.why == "worker":
+            state, icon, why = (
+                "waits for a worker",
+                "waiting",
+                why or (tried(step.attempts, "") if step.state == "running" else ""),
+            )
+        elif waits and waits.why not in ("external", "ordered"):
+            state, icon = "waits", "waiting"
+        found.append(Told(state, why, left, tone, icon))
+    return found
+
+
+ASKED = {"approval": "to approve", "unknown": "unknown"}
+"""The state of a step that waits for a person's word."""
+TURNS = {
+    "ordered": "in its queue",
+    "unknown": "unknown; retried soon",
+    "approval": "waits for a decision",
+    "exhausted": "attempts used up",
+    CANNOT_DECODE: "stored value unreadable",
+}
+"""What some attempts wait for, in a few words."""
+SLOTS = ("concurrency", "fleet_concurrency", "rate_limit", "slot")
+"""What others wait for, as `WAITS_FOR` says it."""
+
+
+def waiting(held: Waits) -> str:
+    """What a held attempt waits for, in a few words."""
+    if held.why == "external":
+        return f"at {held.said}" if held.said else "claimed by a worker"
+    if held.why == "worker":
+        return held.said or ""
+    if held.asks and held.why == "unknown":
+        return "outcome unknown: report it"
+    if held.why in ("backoff", "retry"):
+        return f"retried at {wording.clock(held.until)[11:]}"
+    if held.why in SLOTS:
+        return f"for {WAITS_FOR[held.why]}"
+    return TURNS.get(held.why) or f"until {wording.clock(held.until)}"
+
+
+def decided(choice: Choice, over: bool) -> str:
+    """What the plan decided of a step, and what that costs."""
+    cost = choice.cost_to_keep if choice.kept else choice.cost_to_drop
+    text = "" if not cost else f" for {cost:,}"
+    return {
+        "stands": f"kept{text}",
+        "is run": f"to be run{text}",
+        "is undone": f"given back{text}",
+        "is left out": f"left out{text}",
+    }[choice.decision]
+
+
+def tried(attempts: int, state: str) -> str:
+    return f"attempt {attempts}" if attempts > 1 or state == "running" else ""
+
+
+def line(points: list[Point]) -> str:
+    """The path of a need, from a step to the one that needs it: level where it enters and leaves
+    a layer.
+    """
+    found = []
+    for place, ((x, y), (to, below)) in enumerate(zip(points, points[1:])):
+        start = x + WIDTH
+        if place:
+            found.append(f"H{start:.0f}")
+        else:
+            found.append(f"M{start:.0f} {y:.1f}")
+        end = to - (8 if place == len(points) - 2 else 0)
+        middle = (start + end) / 2 if to - start <= GAP_X + 1 else start + GAP_X / 2
+        found.append(f"C{middle:.0f} {y:.1f} {middle:.0f} {below:.1f} {end:.0f} {below:.1f}")
+    return " ".join(found)
+
+
+def boxes(names: list[str], tolds: list[Told], placed: Placed) -> list[str]:
+    """The steps."""
+    found = []
+    for step, told, (x, y) in zip(names, tolds, placed.corners):
+        spoken = escape(f"{step}: {told.state}{', ' + told.why if told.why else ''}")
+        left, is_long = " left" if told.left else "", len(step) > 20
+        name = escape(named(step, 22 if is_long else 20))
+        found.append(
+            f'<g class="step {told.tone}{left}" transform="translate({x:.0f} {y:.1f})">'
+            f"<title>{spoken}</title>"
+            f'<rect class="box" width="{WIDTH}" height="{HEIGHT}" rx="9"/>'
+            f'<rect class="bar" x="0" y="12" width="4" height="{HEIGHT - 24}" rx="2"/>'
+            f'<text class="name{" long" if is_long else ""}" x="15" y="24">{name}</text>'
+            f'<g class="icon" transform="translate(21 41) scale(.95)">{ICONS[told.icon]}</g>'
+            f'<text class="state" x="33" y="45">{escape(told.state)}</text>'
+            f'<text class="why" x="15" y="62">{escape(cut(told.why, 26))}</text></g>'
+        )
+    return found
+
+
+def titled(names: list[str]) -> str:
+    """The name of a box; of several steps their number and the first."""
+    return names[0] if len(names) == 1 else f"{len(names)} × {names[0]} …"
+
+
+def spoken(view: SagaView, tolds: list[Told]) -> str:
+    """The picture in words."""
+    steps = "; ".join(
+        f"{step.name} {told.state}{' (' + told.why + ')' if told.why else ''}"
+        for step, told in zip(view.steps, tolds)
+    )
+    return f"{view.saga} {view.key}, {view.phase}: {steps}"
+
+
+def svg(view: SagaView, style: str = "") -> str:
+    """The picture; without a style it is for the page, whose style sheet has the same classes."""
+    tolds = told_of(view)
+    steps = [(step.name, step.needs) for step in view.steps]
+    return drawn(steps, tolds, spoken(view, tolds), style)
+
+
+def drawn(
+    steps: list[tuple[str, list[str]]], tolds: list[Told], words: str, style: str = ""
+) -> str:
+    """Steps with their needs, what is told of each, and the picture in words."""
+    number = {name: place for place, (name, _) in enumerate(steps)}
+    some = folded([[number[need] for need in needs] for _, needs in steps], tolds)
+    placed = place([one.needs for one in some])
+    names = [titled([steps[step][0] for step in one.steps]) for one in some]
+    needs = [
+        f'<path class="need" marker-end="url(#to)" d="{line(points)}"/>'
+        for points in placed.lines.values()
+    ]
+    wide, high = placed.width + 2 * MARGIN, placed.height + 2 * MARGIN
+    head = (
+        f'<svg xmlns="http://www.w3.org/2000/svg" class="picture" role="img" width="{wide:.0f}" '
+        f'height="{high:.0f}" viewBox="{-MARGIN} {-MARGIN} {wide:.0f} {high:.0f}"'
+    )
+    arrow = (
+        '<defs><marker id="to" viewBox="0 0 8 8" refX="1" refY="4" markerWidth="7" '
+        'markerHeight="7" orient="auto"><path class="arrow" d="M0 0 L8 4 L0 8 z"/></marker></defs>'
+    )
+    inside = f"<style>{style}</style>" if style else ""
+    label = escape(cut(words, 2000))
+    shown = [tolds[one.steps[0]] for one in some]
+    parts = [inside, arrow, *needs, *boxes(names, shown, placed)]
+    return f'{head} aria-label="{label}">{"".join(parts)}</svg>'
+
+
+def document(view: SagaView) -> str:
+    """The picture as a file of its own."""
+    return svg(view, STYLE)
+
+
+# -- when what ran
+
+NAMES, LONG, ROW, TOP = 170, 900, 26, 24
+
+
+def ticks(first: float, last: float) -> list[float]:
+    """Some round moments between two."""
+    span = max(last - first, 1e-6)
+    for step in (
+        0.01,
+        0.02,
+        0.05,
+        0.1,
+        0.2,
+        0.5,
+        1,
+        2,
+        5,
+        10,
+        15,
+        30,
+        60,
+        120,
+        300,
+        600,
+        900,
+        1800,
+        3600,
+        7200,
+        14400,
+        43200,
+        86400,
+        172800,
+        604800,
+        2592000,
+        31536000,
+    ):
+        if span / step <= 6:
+            break
+    return [count * step for count in range(int(span / step) + 1)]
+
+
+def timeline(view: SagaView) -> str:
+    """A bar for each attempt, over the time since the saga was started."""
+    rows = [
+        step.name for step in view.steps if any(one.step == step.name for one in view.stretches)
+    ]
+    if not rows:
+        return ""
+    now = time.time()
+    first = min(view.started, min(one.began for one in view.stretches))
+    last = max([one.ended or now for one in view.stretches] + [view.ended or first, first + 0.001])
+    scale = LONG / (last - first)
+    high = TOP + ROW * len(rows) + 6
+    marks = "".join(
+        f'<line class="tick" x1="{NAMES + at * scale:.1f}" x2="{NAMES + at * scale:.1f}" '
+        f'y1="{TOP - 4}" y2="{high - 4}"/>'
+        f'<text class="at" x="{NAMES + at * scale:.1f}" y="14">{wording.span(at)}</text>'
+        for at in ticks(first, last)
+    )
+    names = "".join(
+        f'<text class="row" x="0" y="{TOP + ROW * row + 16}">{escape(named(name, 20))}</text>'
+        for row, name in enumerate(rows)
+    )
+    bars = "".join(
+        bar(
+            one,
+            does(view, one),
+            NAMES + (one.began - first) * scale,
+            ((one.ended or now) - one.began) * scale,
+            TOP + ROW * rows.index(one.step),
+        )
+        for one in view.stretches
+    )
+    label = (
+        f"when the attempts ran: {len(view.stretches)} bars over {wording.span(last - first)}; the "
+        "table of events has the same in words"
+    )
+    wide = NAMES + LONG + 30
+    return (
+        f'<svg class="timeline" role="img" aria-label="{label}" width="{wide}" height="{high}" '
+        f'viewBox="0 0 {wide} {high}">{marks}{names}{bars}</svg>'
+    )
+
+
+DOES = {
+    "running": "runs",
+    "worker": "waits for a worker",
+    "person": "waits for a person",
+    "waiting": "waits",
+    "begun": "has begun",
+}
+
+
+def does(view: SagaView, one: Stretch) -> str:
+    """What an attempt does that is not over."""
+    held = next(
+        (held for held in view.held if (held.step, held.undo) == (one.step, one.undo)), None
+    )
+    if held is None or held.why in ("external", "ordered"):
+        return "running" if (one.step, one.undo) in view.running else "begun"
+    return "person" if held.asks else "worker" if held.why == "worker" else "waiting"
+
+
+def bar(one: Stretch, now: str, x: float, wide: float, y: float) -> str:
+    """An attempt; `now`: what it does where it is not over."""
+    what = "compensation" if one.undo else "action"
+    said = wording.EVENTS[one.outcome] if one.outcome else DOES[now]
+    now = {"begun": "running", "worker": "waiting"}.get(now, now)
+    took = "" if one.ended is None else f" after {wording.span(one.ended - one.began)}"
+    tone = {
+        "commit": "committed",
+        "undone": "undone",
+        "fail": "failed",
+        "undo_fail": "undo_failed",
+        None: now,
+    }.get(one.outcome, "missed")
+    return (
+        f'<g class="run {tone}">'
+        f"<title>{escape(one.step)}, {what}, attempt {one.attempt}: {said}{took}</title>"
+        f'<rect x="{x:.1f}" y="{y + 4}" width="{max(wide, 4):.1f}" height="{ROW - 10}" rx="4"/></g>'
+    )

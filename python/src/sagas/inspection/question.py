@@ -1,0 +1,77 @@
+"""A question as a generator of statements, independent of how it is executed.
+
+A question is a generator: it yields the queries that it needs, is sent their rows, and returns its
+answer. So one question serves a program that waits in a thread and one that runs an event loop,
+over either database.
+"""
+
+from __future__ import annotations
+
+import dataclasses
+from collections.abc import Awaitable, Callable, Generator
+from typing import Any, TypeVar
+
+from sagas.storage.interface import Reader
+
+T = TypeVar("T")
+Row = tuple[Any, ...]
+
+
+@dataclasses.dataclass(frozen=True, slots=True)
+class Query:
+    """A query that SQLite and PostgreSQL both understand, with `?` for each word.
+
+    `is_long`: it may give many megabytes, so that nothing waits in an event loop for a file."""
+
+    text: str
+    words: tuple[Any, ...] = ()
+    is_long: bool = False
+
+
+Question = Generator[Query, list[Row], T]
+
+
+class StoreReader:
+    """Answers questions over a connection that only reads. One thread at a time may use it."""
+
+    def __init__(self, reader: Reader) -> None:
+        self._reader = reader
+
+    def ask(self, question: Question[T]) -> T:
+        """Return the answer to a question.
+
+        Raises:
+            StoreUnavailable: The database does not answer.
+        """
+        try:
+            query = next(question)
+            while True:
+                query = question.send(self._reader.rows(query.text, *query.words))
+        except StopIteration as end:
+            answer: T = end.value
+            return answer
+
+    def close(self) -> None:
+        """End the connection."""
+        self._reader.close()
+
+
+Read = Callable[..., Awaitable[list[Row]]]
+
+
+class AsyncStoreReader:
+    """Answers questions in an event loop. `read_long` is for queries of many megabytes."""
+
+    def __init__(self, read: Read, read_long: Read) -> None:
+        self._read, self._read_long = read, read_long
+
+    async def ask(self, question: Question[T]) -> T:
+        """Return the answer to a question. Raises as `StoreReader.ask`."""
+        try:
+            query = next(question)
+            while True:
+                read = self._read_long if query.is_long else self._read
+                query = question.send(await read(query.text, *query.words))
+        except StopIteration as end:
+            answer: T = end.value
+            return answer

@@ -1,0 +1,123 @@
+"""Phases, states and times in words."""
+
+from __future__ import annotations
+
+import datetime
+import json
+from typing import Any
+
+STATES = {
+    "waiting": "waiting",
+    "begun": "begun",
+    "running": "running",
+    "committed": "done",
+    "failed": "failed",
+    "undoing": "being undone",
+    "undone": "undone",
+    "undo_failed": "undo failed",
+}
+PHASES = {
+    "open": "Open",
+    "completed": "Completed",
+    "recovered": "Recovered",
+    "undo_failed": "Undo failed",
+    "stuck": "Stuck",
+    "resolved": "Resolved",
+}
+EVENTS = {
+    "open": "started",
+    "start_run": "begins",
+    "commit": "is done",
+    "missed": "failed, will be retried",
+    "fail": "failed permanently",
+    "start_undo": "is being undone",
+    "undone": "is undone",
+    "undo_missed": "compensation failed, will be retried",
+    "undo_fail": "compensation failed permanently",
+    "start_plan": "planning begins",
+    "drop_plan": "plan dropped",
+    "adopt": "plan adopted",
+    "abort": "aborted",
+}
+TONES = {
+    "commit": "good",
+    "fail": "ill",
+    "undo_fail": "ill",
+    "missed": "warn",
+    "undo_missed": "warn",
+    "undone": "undo",
+    "abort": "warn",
+    "adopt": "plan",
+}
+ACTS = {
+    "abort": "aborted the saga",
+    "complete": "reported that a step succeeded",
+    "fail": "reported that a step failed",
+    "retry": "retried a step",
+    "resolve": "marked it as resolved",
+}
+
+
+def clock(at: float | None) -> str:
+    """A moment of wall time, in UTC, as the command has it."""
+    return "" if at is None else moment(at).strftime("%Y-%m-%d %H:%M:%SZ")
+
+
+def iso(at: float | None) -> str:
+    """The same for programs."""
+    return (
+        ""
+        if at is None
+        else moment(at).strftime("%Y-%m-%dT%H:%M:%S.") + f"{int(at * 1000) % 1000:03}Z"
+    )
+
+
+def moment(at: float) -> datetime.datetime:
+    return datetime.datetime.fromtimestamp(min(max(at, 0.0), 253e9), datetime.timezone.utc)
+
+
+def span(seconds: float) -> str:
+    """How long something took."""
+    seconds = max(0.0, seconds)
+    if seconds < 1:
+        return f"{seconds * 1000:.0f} ms"
+    if seconds < 60:
+        return f"{seconds:.1f} s".replace(".0 s", " s")
+    parts = [(86400, "d"), (3600, "h"), (60, "min"), (1, "s")]
+    for place, (length, word) in enumerate(parts[:-1]):
+        if seconds >= length:
+            count, rest = divmod(seconds, length)
+            smaller, name = parts[place + 1]
+            more = int(rest // smaller)
+            return f"{count:.0f} {word}" + (f" {more} {name}" if more else "")
+    return f"{seconds:.0f} s"
+
+
+def ago(seconds: float) -> str:
+    """How long ago, in one unit."""
+    for length, word in ((86400, "d"), (3600, "h"), (60, "min")):
+        if seconds >= length:
+            return f"{int(seconds // length)} {word} ago"
+    return f"{int(max(0.0, seconds))} s ago"
+
+
+def pretty(value: Any, most: int = 20_000) -> str:
+    """A value as JSON over several lines."""
+    text = json.dumps(value, indent=2, ensure_ascii=False)
+    return text if len(text) <= most else text[:most] + "\n… (shortened; see the saga's log)"
+
+
+def one_line(value: Any) -> str:
+    """Return a value in one line: a text as it is, others as JSON."""
+    if value is None:
+        return ""
+    text = value if isinstance(value, str) else json.dumps(value, ensure_ascii=False)
+    return " ".join(text.split())
+
+
+def short(value: Any, most: int = 90) -> str:
+    """A value in one line."""
+    if isinstance(value, dict) and isinstance(value.get("error"), str):
+        value = value["error"]
+    text = one_line(value)
+    return text if len(text) <= most else text[: most - 1] + "…"

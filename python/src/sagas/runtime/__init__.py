@@ -1,0 +1,1 @@
+"""The event-loop side of a store: shards, functions, commits, background work."""

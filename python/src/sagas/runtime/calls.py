@@ -1,0 +1,315 @@
+"""The functions that run now."""
+
+from __future__ import annotations
+
+import asyncio
+import functools
+import inspect
+import os
+import time
+from collections.abc import Callable, Sequence
+from concurrent.futures import Executor as Threads
+from typing import Any, Protocol
+
+from sagas.base.errors import CannotDecode, Lost
+from sagas.base.events import Teller
+from sagas.base.fork_guard import private
+from sagas.base.logger import logger
+from sagas.core import outcomes
+from sagas.core.limits import Slots
+from sagas.core.model import QUEUED, RUNNING, Attempt, SagaInstance, finish_all, start_all
+from sagas.core.outcomes import Outcome
+from sagas.definition import awaitables
+from sagas.definition.step import Manner
+from sagas.runtime import invocation
+from sagas.runtime.current_step import CALLED
+from sagas.runtime.dispatcher import Dispatcher, Turns
+from sagas.runtime.fleet_limits import Fleet, Gate
+from sagas.storage.interface import Database
+
+QUIET = 1.0
+"""Seconds that closing may wait before it says for what."""
+FORKED = 70
+"""The exit status of a child that a function forked, and that came back here."""
+
+
+class Ends(Protocol):
+    """What is told how a function ended."""
+
+    closing: bool
+
+    def ended(self, attempt: Attempt, outcome: Outcome, at_once: bool) -> None:
+        """Its function is over."""
+
+    def succeeded(self, attempts: Sequence[Attempt]) -> None:
+        """As `ended`, of many that are finished already."""
+
+    def enter(self, attempt: Attempt) -> None:
+        """It is to be called again: it is known to have done nothing, by no fault of its own."""
+
+    def lost(self, attempt: Attempt, fault: Lost) -> None:
+        """Nobody knows whether its transaction was committed."""
+
+    def tell(self, attempt: Attempt, name: str, detail: str | None = None) -> None:
+        """Tell an event of it."""
+
+
+Remote = Callable[[Manner, Attempt], Any]
+"""What orders an attempt of a queue's worker, and gives its outcome, or None."""
+
+
+class Calls:
+    """Calls functions, each within a slot.
+
+    Attributes:
+        running: The attempts that have a slot, each with the task that calls its function.
+    """
+
+    def __init__(
+        self, ends: Ends, store: Database, slots: Slots, fleet: Fleet, threads: Threads,
+        remote: Remote, teller: Teller, clock: Callable[[], float], turns: Turns,
+    ) -> None:  # fmt: skip
+        self._ends, self._store, self._slots, self._fleet = ends, store, slots, fleet
+        self._threads, self._remote, self._teller, self._clock = threads, remote, teller, clock
+        self._forks = private.forks
+        self.running: dict[Attempt, asyncio.Task[None] | None] = {}
+        self._alone = Dispatcher(self, turns, self.running)
+        self._inside = Dispatcher(self, turns, self.running, store.inside)
+        self._holders: set[tuple[str, str, str]] = set()  # told that they held the loop
+
+    def coming(self) -> int:
+        """How many functions are about to be called, which may end at once."""
+        return self._alone.waiting + self._inside.waiting
+
+    async def settled(self) -> None:
+        """Wait until all simple functions are called that are to be."""
+        await self._alone.settled()
+        await self._inside.settled()
+
+    # -- call
+
+    def start(self, attempt: Attempt) -> None:
+        """Call its function; it has a slot."""
+        if attempt.action.simple:
+            self.start_simple([attempt])
+            return
+        gate = self._fleet.gate(attempt)
+        self.running[attempt] = None
+        if gate is None:
+            attempt.start()
+            work = self._call(attempt)
+        else:
+            work = self._pass(attempt, gate)
+        self.running[attempt] = self._alone.start(work)
+
+    def start_simple(self, attempts: Sequence[Attempt]) -> None:
+        """Call simple functions; each has a slot."""
+        self.running.update(dict.fromkeys(attempts))
+        start_all(attempts)
+        inside = [attempt for attempt in attempts if attempt.action.inside]
+        if len(inside) < len(attempts):
+            alone = [attempt for attempt in attempts if not attempt.action.inside]
+            self._alone.call(alone)
+        if inside:
+            self._inside.call(inside)
+
+    async def _pass(self, attempt: Attempt, gate: Gate) -> None:
+        """It is called if it gets a place of its step; else it waits without that and a slot."""
+        granted = await gate.ask(attempt)
+        if granted and attempt.state is QUEUED and not self._ends.closing:
+            attempt.start()
+            await self._call(attempt)
+            return
+        del self.running[attempt]
+        self._leave(attempt)
+        if attempt.state is QUEUED and not self._ends.closing:
+            gate.hold(attempt, first=True)
+
+    async def _call(self, attempt: Attempt) -> None:
+        if not self.begins(attempt):
+            return
+        fault, outcome, began = None, None, time.monotonic()
+        CALLED.set(attempt)
+        try:
+            outcome = await self._outcome(attempt, attempt.manner)
+        except Lost as error:
+            fault = error
+        self._ended(attempt, began, outcome, fault, at_once=False)
+
+    async def _outcome(self, attempt: Attempt, manner: Manner) -> Outcome | None:
+        """Call what is not simple: in a thread, in its time, in a transaction, or elsewhere."""
+        if manner.queue:
+            outcome: Outcome | None = await self._remote(manner, attempt)
+            return outcome
+        inside = self._store.inside if manner.transaction else None
+        call = inside.call if inside else invocation.call_alone
+        late = functools.partial(self._ends.tell, attempt, "step_overdue")
+        try:
+            task = attempt.task()
+        except CannotDecode as error:  # by the store's codec
+            return outcomes.raised(error, manner)
+        return await call(attempt, manner, task, self._threads, late)
+
+    async def end(self, timeout: float | None) -> set[asyncio.Task[None]]:
+        """Wait for the functions that run; return the tasks of those that are not over in time.
+
+        For which ones it waits is logged, after a while.
+        """
+        running = {job for job in self.running.values() if job}
+        if not running:
+            return set()
+        quiet = QUIET if timeout is None else min(timeout, QUIET)
+        _, late = await asyncio.wait(running, timeout=quiet)
+        if late and (timeout is None or timeout > QUIET):
+            at = self.running.items()
+            names = sorted(f"{one.name} of {one.key!r}" for one, job in at if job in late)
+            logger.warning(
+                "closing waits for %d running functions%s: %s",
+                len(names),
+                f", for at most {timeout:g} s" if timeout else "",
+                ", ".join(names[:8]),
+            )
+            _, late = await asyncio.wait(late, timeout=None if timeout is None else timeout - QUIET)
+        return late
+
+    # -- what the dispatchers ask and tell
+
+    def begins(self, attempt: Attempt) -> bool:
+        """Whether it is called now: it was not forgotten meanwhile, and its shard is this
+        program's.
+        """
+        if private.forks != self._forks:  # a function forked, and its child came back here
+            os._exit(FORKED)
+        if attempt.state is RUNNING and self._store.holds():
+            if self._teller.listens:
+                self._ends.tell(attempt, "step_started")
+            return True
+        if attempt.state is RUNNING:  # its shard may be another's: it is looked at, then begins
+            attempt.claim()
+        del self.running[attempt]
+        self._leave(attempt)
+        return False
+
+    def ended(self, attempt: Attempt, began: float, outcome: Outcome | None) -> None:
+        """A simple one was called, and waited, or did not end well."""
+        fault = attempt.record.lost() if attempt.record else None
+        self._ended(attempt, began, outcome, fault, at_once=True)
+
+    def done(self, attempts: list[Attempt]) -> None:
+        """Simple ones were called, and each has succeeded: as `ended`, of all at once."""
+        self._check_fork()
+        for attempt in attempts:
+            del self.running[attempt]
+        self._slots.left(len(attempts))
+        self._ends.succeeded(finish_all(attempts, self._clock()))
+
+    def held_loop(self, attempt: Attempt, seconds: float) -> None:
+        """A function held up everything else: that is told once of each."""
+        word = attempt.saga, attempt.name, attempt.kind
+        if word not in self._holders:
+            self._holders.add(word)
+            whose = "the compensation of step" if attempt.undo else "step"
+            logger.warning(
+                "saga %r: %s %r blocked the event loop for %.1f s. Make it a plain function "
+                "(def), which runs in a thread",
+                word[0],
+                whose,
+                attempt.name,
+                seconds,
+            )
+
+    # -- end
+
+    def _ended(
+        self, attempt: Attempt, began: float, outcome: Outcome | None, fault: Lost | None,
+        at_once: bool,
+    ) -> None:  # fmt: skip
+        record, attempt.record = attempt.record, None
+        attempt.recorded = record is not None and record.done
+        if not self._over(attempt, began):
+            return
+        if fault is not None:
+            self._ends.lost(attempt, fault)
+        elif record is not None and record.again:
+            attempt.claim()
+            self._ends.enter(attempt)
+        elif outcome is None and attempt.extras and attempt.extras.control:
+            if attempt.extras.control.is_stopped:
+                attempt.extras.control.is_stopped = False
+                told = outcomes.unknown("cancelled, since the saga was aborted")
+                self._ends.ended(attempt, told, at_once)
+        elif outcome is not None:
+            self._ends.ended(attempt, outcome, at_once)
+
+    def _over(self, attempt: Attempt, began: float) -> bool:
+        """Whether anything comes of a function that is over: it was not forgotten meanwhile."""
+        self._check_fork()
+        attempt.took = time.monotonic() - began
+        del self.running[attempt]
+        self._leave(attempt)
+        return attempt.state is RUNNING
+
+    def _leave(self, attempt: Attempt) -> None:
+        """Slot and place are for the next."""
+        self._slots.leave(attempt)
+        if gate := self._fleet.gate(attempt):
+            gate.leave(attempt)
+
+    def _check_fork(self) -> None:
+        if private.forks != self._forks:  # a function forked, and its child came back here
+            os._exit(FORKED)
+
+    # -- cancellation and progress
+
+    def cancel(self, instance: SagaInstance) -> None:
+        """Tell the functions of a saga that what they do may not be wanted any more. Those that
+        asked for it are cancelled where the saga was aborted.
+        """
+        if not instance.draining:  # it was planned meanwhile
+            return
+        for attempt in instance.busy.values():
+            if attempt.undo or attempt.state is not RUNNING or attempt not in self.running:
+                continue
+            control, job = attempt.control, self.running[attempt]
+            was_aborted = control.cancelled.reason == "aborted"
+            control.cancelled.set(instance.why_draining)
+            if instance.aborted and not was_aborted and attempt.manner.cancel_on_abort and job:
+                control.is_stopped = job.cancel()
+
+    def close(self) -> None:
+        """Tell all functions that the store is about to be closed."""
+        for attempt in self.running:
+            attempt.control.cancelled.set("closing")
+
+    def news(self) -> list[Attempt]:
+        """Return the attempts whose functions told of progress since this was asked."""
+        found = []
+        for attempt in self.running:
+            control = attempt.extras.control if attempt.extras else None
+            if control and attempt.state is RUNNING and control.news():
+                found.append(attempt)
+        return found
+
+    def forget(self, attempt: Attempt) -> None:
+        """Its shard does not have it: its function is stopped, unless it is one in a thread.
+
+        Its slot is its own until its function is over.
+        """
+        job = self.running.get(attempt)
+        if attempt in self.running:
+            attempt.control.cancelled.set("lost")
+        else:
+            self._slots.cancel(attempt)
+        if job is None or self._is_in_thread(attempt):
+            return
+        state = inspect.getcoroutinestate(job.get_coro())  # type: ignore[arg-type]
+        if state == inspect.CORO_CREATED:  # it never runs a line
+            del self.running[attempt]
+            self._leave(attempt)
+        job.cancel()
+
+    def _is_in_thread(self, attempt: Attempt) -> bool:
+        """Whether its function is a plain one, which is called here."""
+        function = attempt.manner.function
+        is_here = attempt.manner.queue is None and function is not None
+        return is_here and not awaitables.is_async(function)

@@ -1,0 +1,132 @@
+"""Takes the starts that clients wrote."""
+
+from __future__ import annotations
+
+import asyncio
+from collections.abc import Callable, Coroutine
+from typing import Protocol
+
+from sagas.base.errors import SagasError, StoreUnavailable
+from sagas.base.logger import logger
+from sagas.core.batch import Batch, Start
+from sagas.core.model import SagaInstance
+from sagas.definition.compiled import Shelf
+from sagas.definition.start_options import StartOptions
+from sagas.runtime.commit_queue import CommitQueue
+from sagas.runtime.instances import Instances
+from sagas.runtime.relocation import conflict
+from sagas.storage.interface import Database
+
+MANY = 64
+"""Starts that are taken at once: other nodes take theirs meanwhile."""
+AGAIN = 1.0
+"""Seconds after which starts that failed are taken again."""
+
+
+class Doubt:
+    """Whether starts of clients that are this node's may not be under way: nobody else takes
+    them.
+    """
+
+    def __init__(self, loop: asyncio.AbstractEventLoop, look: Callable[[], None]) -> None:
+        self._loop, self._look = loop, look
+        self._is_set = False
+
+    def doubt(self, looks: bool = True) -> None:
+        """Some may not be. `looks`: they are looked for in a while."""
+        self._is_set = True
+        if looks:
+            self._loop.call_later(AGAIN, self._look)
+
+    def settle(self) -> bool:
+        """Return whether some may not be; they are looked for now."""
+        was_set, self._is_set = self._is_set, False
+        return was_set
+
+
+class Host(Protocol):
+    """The open store around them."""
+
+    closed: SagasError | None
+
+    def spawn(self, work: Coroutine[None, None, None]) -> object:
+        """Do it in the background."""
+
+
+class Starts:
+    """Takes starts when there may be some, one lot behind the other."""
+
+    def __init__(
+        self,
+        host: Host,
+        store: Database,
+        definitions: Shelf,
+        sagas: Instances,
+        commits: CommitQueue,
+        doubt: Doubt,
+        clock: Callable[[], float],
+        place: Callable[[SagaInstance], None],
+    ) -> None:
+        self._host, self._store, self._definitions, self._sagas = host, store, definitions, sagas
+        self._commits, self._doubt, self._clock, self._place = commits, doubt, clock, place
+        self._is_taking = self._again = False
+
+    def look(self) -> None:
+        """There may be some."""
+        self._again = True
+        if not self._is_taking:
+            self._is_taking = True
+            self._host.spawn(self._take())
+
+    async def _take(self) -> None:
+        try:
+            while self._again and not self._host.closed:
+                self._again = False
+                rows = await self._store.starts(MANY, self._under_way())
+                opening = (self._open(row) for row in rows)
+                faults = await asyncio.gather(*opening, return_exceptions=True)
+                for fault in faults:
+                    if fault is not None:
+                        raise fault
+                self._again = self._again or len(rows) == MANY
+        except Exception as error:
+            logger.info("starts of clients could not be read: %s. Retrying", error)
+            self._doubt.doubt(not self._host.closed)
+            if not isinstance(error, StoreUnavailable):
+                raise
+        finally:
+            self._is_taking = False
+
+    def _under_way(self) -> list[int] | None:
+        """Where some of this node's may not be under way, those that are: all others are given
+        again.
+        """
+        if not self._doubt.settle():
+            return None
+        return [saga.start for saga in self._sagas.by_key.values() if saga.start is not None]
+
+    async def _open(self, row: Start) -> None:
+        id, key, saga, version, text, labels, deadline = row
+        by_key = self._sagas.by_key
+        if key in by_key and by_key[key].start == id:
+            return
+        there = await self._store.find(key)
+        if self._host.closed:
+            return
+        if key in by_key and not (there and there.id >= 0):
+            # begun here too, and not in the store yet: should that fail, this start counts
+            self._doubt.doubt()
+            return
+        kind = self._definitions.by_name[saga, version]
+        if there and there.id >= 0:
+            batch = Batch(-1, self._clock())
+            is_same = conflict(key, kind, text, there.saga, there.input) is None
+            batch.more.begun.append((id, there.id if is_same else None))
+            self._commits.put_alone(batch)
+            return
+        if not kind.fits:  # it waits, as one of a saga that no node has
+            return
+        place = self._definitions.place(kind)
+        instance = self._sagas.add(key, text, kind, place, StartOptions(labels, deadline))
+        instance.start = id
+        self._place(instance)

@@ -1,0 +1,168 @@
+"""Carries out the effects of shards."""
+
+from __future__ import annotations
+
+from collections.abc import Sequence
+from typing import Protocol
+
+from sagas.base.errors import SagasError
+from sagas.base.events import Teller
+from sagas.core.effects import Abort, Effects
+from sagas.core.model import Attempt, SagaInstance
+from sagas.core.recovery import Recovery
+from sagas.core.states import saga_phase, undo_failures
+from sagas.runtime.executor import Executor
+from sagas.runtime.instances import Instances
+from sagas.runtime.relocation import conflict
+
+
+class Home(Protocol):
+    """The shards of the program."""
+
+    def place(self, saga: SagaInstance) -> None:
+        """Open it in another shard."""
+
+    def refuse(self, saga: SagaInstance, error: SagasError) -> None:
+        """It is not begun."""
+
+    def withdraw(self, saga: SagaInstance) -> None:
+        """Do not open it in any shard."""
+
+    def leave(self, saga: SagaInstance, error: SagasError | None) -> None:
+        """It is not driven here: who waits looks into the store; who started it hears why it is
+        not that saga.
+        """
+
+    def doubt(self) -> None:
+        """Starts of clients that are this node's may not be under way."""
+
+
+class Offers(Protocol):
+    """What is offered to external workers."""
+
+    def offered(self, attempt: Attempt) -> None:
+        """Its row is in the store."""
+
+    def look(self) -> None:
+        """What was reported may be taken now."""
+
+
+class EffectHandler:
+    """Does what effects say: at once, and once their batch is durable."""
+
+    def __init__(
+        self, executor: Executor, sagas: Instances, teller: Teller, home: Home, offers: Offers
+    ) -> None:
+        self._executor, self._slots, self._sagas = executor, executor.slots, sagas
+        self._teller, self._home, self._offers = teller, home, offers
+
+    def at_once(self, effects: Effects) -> None:
+        """Do what does not wait for the commit."""
+        if effects.unclaimed:
+            self._slots.release(effects.unclaimed)
+        for saga in effects.draining:
+            self._executor.drain(saga)
+        for saga in effects.displaced:
+            self._home.place(saga)
+        for saga in effects.refused:
+            self._home.refuse(saga, saga.kind.too_large())
+
+    def lost(self, effects: Effects) -> None:
+        """The batch is not durable: nothing of it begins."""
+        self._slots.release(len(effects.dispatch))
+
+    def committed(self, effects: Effects) -> None:
+        """Do what waits for the commit."""
+        if effects.reported:
+            self._executor.reported(effects.reported)
+        for attempt in effects.suspended:
+            self._executor.stored(attempt)
+        for attempt in effects.offered:
+            self._offers.offered(attempt)
+        for abort in effects.aborted:
+            self._aborted(abort)
+        if effects.opened:
+            self._opened(effects.opened)
+        for saga in effects.planned:
+            self._executor.planned(saga)
+        if effects.ended:
+            self._ended(effects.ended)
+        if effects.dispatch:
+            self._slots.release(len(effects.dispatch))
+            self._executor.begin_all(effects.dispatch)
+
+    # -- of a shard that was recovered
+
+    def found(self, found: Recovery) -> None:
+        """Do what was found of its sagas."""
+        for before, saga in found.replaced:
+            kind = saga.kind
+            if error := conflict(saga.key, before.kind, before.text, kind.name, saga.text):
+                self._sagas.starts.tell(before, error)
+                self._sagas.ends.tell(before, error)
+            self._home.withdraw(before)
+            self._sagas.replace(before, saga)
+        for saga in found.restored:
+            self._sagas.by_key[saga.key] = saga
+            self._sagas.tell_started(saga)
+        for saga in found.gone:
+            self._home.leave(saga, None)
+            if saga.start is not None:
+                self._home.doubt()
+        for attempt in found.forgotten:
+            self._executor.forget(attempt)
+        for abort in found.aborted:
+            self._sagas.answer_abort(abort)
+
+    def resume(self, found: Recovery) -> None:
+        """Go on with its attempts."""
+        for attempt in found.resumed:
+            self._executor.resume(attempt)
+        for saga in found.draining:
+            self._executor.drain(saga)
+        self._offers.look()
+
+    # -- told
+
+    def _aborted(self, abort: Abort) -> None:
+        saga = abort.saga
+        if abort.done:
+            self._executor.drain(saga)
+            self._teller.tell("saga_aborted", key=saga.key, saga=saga.kind.name)
+        self._sagas.answer_abort(abort)
+
+    def _opened(self, sagas: Sequence[SagaInstance]) -> None:
+        tells = self._teller.wants("saga_started")
+        for saga in sagas:
+            self._sagas.tell_started(saga)
+            if tells:
+                self._teller.tell("saga_started", key=saga.key, saga=saga.kind.name)
+
+    def _ended(self, sagas: Sequence[SagaInstance]) -> None:
+        tells = self._teller.wants("saga_ended")
+        for saga in sagas:
+            self._sagas.tell_ended(saga)
+            if tells or saga.phase != "ended":
+                self._tell_end(saga)
+            if saga.odd and saga.phase == "ended" and (steps := undo_failures(saga.end)):
+                self._tell_undo_failed(saga, steps)
+
+    def _tell_end(self, saga: SagaInstance) -> None:
+        """How a saga ended: its phase; of a stuck one because of which steps."""
+        chain = (saga.answer or {}).get("chain", ()) if saga.phase == "stuck" else ()
+        names = " and ".join(saga.kind.names[step] for step in chain)
+        detail = f"because of {names}" if names else None
+        if saga.phase != "stuck":
+            recovered = (saga.answer or {}).get("kind") == "plan"
+            detail = saga_phase(saga.phase, recovered, None).value
+        self._teller.tell(f"saga_{saga.phase}", key=saga.key, saga=saga.kind.name, detail=detail)
+
+    def _tell_undo_failed(self, saga: SagaInstance, steps: Sequence[int]) -> None:
+        """A saga ended, and what steps of it did stands against its plan."""
+        stands = [saga.kind.names[step] for step in steps]
+        told = (
+            "the compensation failed permanently. Repair the effect, then mark the saga "
+            "as resolved"
+        )
+        detail = f"{' and '.join(stands)}: {told}"
+        self._teller.tell("saga_undo_failed", key=saga.key, saga=saga.kind.name, detail=detail)

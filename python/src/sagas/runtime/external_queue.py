@@ -1,0 +1,356 @@
+"""Attempts for external workers: offers, claims and leases.
+
+All of it is in the table `external_attempts` (storage/external.py). A task is claimed with a lease
+that nobody else can guess (lease_signature.py), by any node of the database.
+"""
+
+from __future__ import annotations
+
+import asyncio
+import contextlib
+import dataclasses
+import json
+from collections.abc import Sequence
+from typing import TYPE_CHECKING, Any
+
+from sagas.base.errors import LeaseLost, StoreUnavailable
+from sagas.core.lease_signature import Signer
+from sagas.core.model import Attempt
+from sagas.core.offers import task_name
+from sagas.core.suspensions import Lease
+from sagas.definition.capacity import SHARD_CAPACITY
+from sagas.definition.compiled import Kind
+from sagas.definition.control import Progress
+from sagas.definition.task import Task, Told
+from sagas.runtime.external_reports import ExternalReports
+from sagas.runtime.retries import until_answered
+from sagas.storage.external import Claim
+
+if TYPE_CHECKING:
+    from sagas.runtime.coordinator import Coordinator
+
+Word = tuple[str, str, str]
+"""A saga's name, a step's, and `run` or `undo`."""
+AGAIN = 2.0
+"""Seconds after which what the store did not answer is asked again."""
+LOOK = 0.5
+"""Seconds between two looks for what waits for a worker, or was reported: a word of another
+program may be lost."""
+LOOK_AT_FILE = 0.02
+"""Seconds between two looks at a file: a worker of a queue writes there, and its commit makes no
+event here."""
+OF_SAGA = (
+    "SELECT s.key, s.input, s.definition_index, s.deadline, h.texts FROM sagas s "
+    f"JOIN shards l ON l.shard = s.id / {SHARD_CAPACITY} "
+    "JOIN definition_sets h USING (definition_set) WHERE s.id = ?"
+)
+RESULTS = "SELECT step, value FROM attempts WHERE id = ? AND action = 'run' AND event = 'commit'"
+
+
+@dataclasses.dataclass(frozen=True, slots=True)
+class LeasedTask:
+    """Hold a task that a worker has claimed.
+
+    Attributes:
+        attempt_id: The id of the attempt, under which it is reported.
+        lease: The lease under which it is reported.
+        until: When the lease ends, in seconds since 1970.
+        task: What the step's function is called with.
+    """
+
+    attempt_id: str
+    lease: str
+    until: float
+    task: Task[Any]
+
+
+@dataclasses.dataclass(frozen=True, slots=True)
+class Queue:
+    """Count the tasks of one step that are for workers.
+
+    Attributes:
+        saga: The saga's name.
+        step: The step's name.
+        undo: Whether the step's compensation is meant.
+        ready: How many tasks no worker has.
+        oldest: Since when the oldest of them waits, in seconds since 1970, or None.
+        claimed: How many tasks workers have.
+    """
+
+    saga: str
+    step: str
+    undo: bool
+    ready: int
+    oldest: float | None
+    claimed: int
+
+
+def _set(future: asyncio.Future[None]) -> None:
+    if not future.done():
+        future.set_result(None)
+
+
+class ExternalQueue(ExternalReports):
+    """`leased`: whether this program serves workers; else the tasks that it offers are another
+    node's to serve, or are told by `Store.finish`.
+    """
+
+    def __init__(self, owner: Coordinator) -> None:
+        super().__init__(owner)
+        self.leased = False
+        self.takeovers = 0
+        self._limited: set[str] = set()
+        self._waiting: dict[str, dict[asyncio.Future[None], None]] = {}
+        self._offering: set[Attempt] = set()
+        self._dispatched: dict[Attempt, asyncio.Future[None]] = {}
+        self._timer: asyncio.TimerHandle | None = None
+        self._pause, self._wakes = LOOK, 0.0
+
+    async def open(self) -> None:
+        """Reads the secret by which leases are signed. Raises `StoreUnavailable`."""
+        for saga in self.owner.shelf.sagas.values():
+            for step in saga.steps:
+                if step.concurrency is not None:
+                    self._limited.add(task_name(saga.name, step.name, "run"))
+                for manner in (step.run, step.undo):
+                    self._has_any |= manner.external or manner.queue is not None
+                    if manner.queue is not None and not self.owner.store.shared:
+                        self._pause = LOOK_AT_FILE
+        self._table.begin(self.owner.commits.kept, self.owner.clock)
+        if self.leased:
+            self._signer = Signer(await self.owner.store.secret())
+        self._look_later()
+
+    def close(self) -> None:
+        """Nobody takes anything any more."""
+        if self._timer:
+            self._timer.cancel()
+        for waiting in list(self._waiting.values()):
+            for future in list(waiting):
+                _set(future)
+
+    # -- what is offered
+
+    def offer(self, attempt: Attempt) -> None:
+        """It waits for a worker, or for the one that has it."""
+        if self.owner.closed or attempt.pending:
+            return
+        if attempt.offered is not None:
+            attempt.rare.offered = None
+            self.offered(attempt)
+            return
+        self._offering.add(attempt)
+        self._put(attempt)
+
+    def _put(self, attempt: Attempt) -> None:
+        shard = attempt.instance.shard
+        if shard and (runner := self.owner.runner(shard)):
+            runner.keep(shard.offered(attempt, self.owner.clock()))
+
+    def offered(self, attempt: Attempt) -> None:
+        """Its row is in the store."""
+        self._offering.discard(attempt)
+        if committed := self._dispatched.get(attempt):
+            _set(committed)
+            return
+        if attempt.instance.draining:
+            self.owner.executor.drain(attempt.instance)
+        self.wake(task_name(attempt.saga, attempt.name, attempt.kind))
+
+    def withdraw(self, attempt: Attempt) -> None:
+        """Its saga is being undone: it is taken back, unless a worker has it."""
+        if attempt not in self._offering:
+            self.owner.spawn(self._withdraw(attempt))
+
+    async def _withdraw(self, attempt: Attempt) -> None:
+        if await until_answered(lambda: self._table.withdraw(attempt.token())):
+            self.owner.executor.withdrawn(attempt)
+
+    def gone(self, attempt: Attempt) -> None:
+        """Its outcome is known, or it is not this program's any more."""
+        self._offering.discard(attempt)
+
+    async def dispatch(self, attempt: Attempt) -> int:
+        """Its row is in the store, with the lease for a message; where it has been reported
+        already, that is told."""
+        number, attempt.rare.offered = attempt.offered, None
+        committed = self._dispatched[attempt] = self.owner.loop.create_future()
+        try:
+            while number is None:
+                self._put(attempt)
+                await asyncio.wait([committed], timeout=AGAIN)
+                number = await self._dispatched_under(attempt, committed.done())
+        finally:
+            del self._dispatched[attempt]
+        return number
+
+    async def _dispatched_under(self, attempt: Attempt, is_committed: bool) -> int | None:
+        """The lease of its row; None where that is not known to be in the store."""
+        with contextlib.suppress(StoreUnavailable):
+            row = await self._table.find(attempt.token())
+            if row is not None and row.outcome is not None:
+                self.look()
+                return row.lease or 0
+            if row is not None and is_committed:
+                return row.lease
+        return None
+
+    # -- claims
+
+    def wake(self, task: str, count: int = 1) -> None:
+        """There may be so many tasks of a step for who waits here."""
+        for future in self._waiting.get(task, ()):
+            if count <= 0:
+                break
+            if not future.done():
+                _set(future)
+                count -= 1
+
+    def offered_elsewhere(self) -> None:
+        """Another node has offered something."""
+        for task in self._waiting:
+            self.wake(task)
+
+    async def claim(
+        self,
+        words: Sequence[Word],
+        most: int,
+        wait: float,
+        seconds: float,
+        worker: str,
+        holder: str,
+    ) -> list[LeasedTask]:
+        """As `Store.take`."""
+        deadline, tasks = self.owner.loop.time() + wait, [
+            *dict.fromkeys((task_name(*word) for word in words))
+        ]
+        while True:
+            self._raise_if_closed()
+            claims = await self._claimed(tasks, most, seconds, worker)
+            if claims:
+                for task in tasks:  # there may be more than were taken
+                    self.wake(task)
+                return [await self._leased(claim, worker, holder) for claim in claims]
+            left = deadline - self.owner.loop.time()
+            if left <= 0:
+                return []
+            await self._come(tasks, left)
+
+    async def _claimed(
+        self, tasks: Sequence[str], most: int, seconds: float, worker: str
+    ) -> list[Claim]:
+        """Claims; what nobody hears of any more is given back."""
+        limited = [task for task in tasks if task in self._limited]
+        work = self._table.claim(tasks, limited, most, seconds, worker)
+        claiming = self.owner.loop.create_task(work)
+        try:
+            found: list[Claim] = await asyncio.shield(claiming)
+        except asyncio.CancelledError:
+            claiming.add_done_callback(self._unwanted)
+            raise
+        self.takeovers += sum(claim.is_takeover for claim in found)
+        return found
+
+    def _unwanted(self, claiming: asyncio.Task[list[Claim]]) -> None:
+        if not claiming.cancelled() and not claiming.exception() and not self.owner.closed:
+            for claim in claiming.result():
+                self.owner.spawn(self._give_back(claim))
+
+    async def _give_back(self, claim: Claim) -> None:
+        with contextlib.suppress(StoreUnavailable):  # then it runs out
+            await self._table.heartbeat(claim.attempt, claim.lease, 0.0)
+            self.offered_elsewhere()
+
+    async def _come(self, tasks: Sequence[str], seconds: float) -> None:
+        """Waits until there may be something."""
+        future: asyncio.Future[None] = self.owner.loop.create_future()
+        timer = self.owner.loop.call_later(seconds, _set, future)
+        for task in tasks:
+            self._waiting.setdefault(task, {})[future] = None
+        try:
+            await future
+        finally:
+            timer.cancel()
+            for task in tasks:
+                waiting = self._waiting.get(task, {})
+                waiting.pop(future, None)
+                if not waiting:
+                    self._waiting.pop(task, None)
+
+    async def _leased(self, claim: Claim, worker: str, holder: str) -> LeasedTask:
+        now, attempt = self.owner.clock(), self.find(claim.attempt)
+        if attempt is None:
+            task = await self._task(claim)
+        else:
+            attempt.rare.lease = Lease(claim.lease, worker, now, now + claim.seconds)
+            attempt.fresh = False
+            task = attempt.task()
+        self.owner.teller.tell(
+            "step_started", key=task.key, saga=task.saga, step=task.step, undo=task.is_compensation,
+            attempt=task.attempt,
+        )  # fmt: skip
+        lease = self._signer.issue(claim.attempt, claim.lease, holder)
+        return LeasedTask(claim.attempt, lease, now + claim.seconds, task)
+
+    async def _task(self, claim: Claim) -> Task[Any]:
+        """What a worker is handed of an attempt that another node drives."""
+        read, undo = self.owner.store.read, claim.action == "undo"
+        ((key, text, place, deadline, texts),) = await read(OF_SAGA, claim.id)
+        kind: Kind = self.owner.shelf.kind(json.loads(texts)[place])
+        decode, text = kind.payloads.decode, kind.payloads.decode(text)
+        values: dict[int, str] = {
+            step: decode(value or "null") for step, value in await read(RESULTS, claim.id)
+        }
+        token, _, number = claim.attempt.rpartition("-")
+        name = kind.names[claim.step]
+        hint = (kind.undo_inputs if undo else kind.inputs)[claim.step]
+        told = Told(
+            kind.name, key, name, undo, int(number), token.removesuffix(f"-{name}-{claim.action}"),
+            text, {kind.names[step]: values.get(step) or "null" for step in kind.below[claim.step]},
+            values.get(claim.step) if undo else None, hint, kind.decoders, deadline,
+            kind.actions[claim.action][claim.step].context,
+        )  # fmt: skip
+        return Task(told)
+
+    async def heartbeat(
+        self, token: str, lease: str, holder: str, seconds: float, told: Progress | None
+    ) -> float:
+        """Keep a worker's lease, and how far it is."""
+        number = self._signer.number(token, lease, holder)
+        self._raise_if_closed()
+        holds = await self._table.heartbeat(token, number, seconds)
+        if holds is None:
+            if await self._table.find(token) is None:
+                await self.outcome_of(token)
+            raise LeaseLost(f"lease {number} of {token} is not the newest, or has ended")
+        until = self.owner.clock() + holds
+        if told is not None:
+            await self._table.advance(token, *told, self.owner.clock())
+        attempt = self.find(token)
+        if attempt is not None and attempt.lease and attempt.lease.number == number:
+            attempt.lease.until = until
+        return until
+
+    async def queues(self) -> list[Queue]:
+        """The tasks that wait or are leased, at any node, by step."""
+        found = []
+        for task, ready, oldest, claimed in await self._table.waiting():
+            saga, step, action = task.split("/")
+            found.append(Queue(saga, step, action == "undo", ready, oldest, claimed))
+        return found
+
+    # -- looks
+
+    def _look_later(self) -> None:
+        loop = self.owner.loop
+        self._timer = loop.call_later(min(LOOK, self._pause), self._look_later)
+        self.look()
+        if self._waiting and not self.owner.closed and loop.time() >= self._wakes:
+            self._wakes = loop.time() + LOOK
+            self.owner.spawn(self._wake_all())
+
+    async def _wake_all(self) -> None:
+        """Leases may have run out, or others' words been lost."""
+        with contextlib.suppress(StoreUnavailable):
+            for task, ready, _, _ in await self._table.waiting():
+                self.wake(task, ready)

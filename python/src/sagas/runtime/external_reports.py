@@ -1,0 +1,211 @@
+"""Reports of external workers, taken into their shards.
+
+*Done* counts under any lease of the attempt, since it is the same effect; *failed* and *unknown*
+only under the newest. A report is kept in the table `external_attempts`; then the node that drives
+the shard of the attempt reports it there, and settles the row in the same commit.
+"""
+
+from __future__ import annotations
+
+import asyncio
+import contextlib
+import json
+import secrets
+from collections.abc import Iterator
+from typing import TYPE_CHECKING
+
+from sagas.base.errors import (
+    ConflictingReport,
+    LeaseLost,
+    NoSuchTask,
+    OwnerUnavailable,
+    SagasError,
+    StoreUnavailable,
+)
+from sagas.core.exhaustion import RETRIED
+from sagas.core.lease_signature import Signer
+from sagas.core.model import FINISHED, SUSPENDED, Attempt
+from sagas.core.outcomes import FAILED, PERMANENT, SUCCEEDED, UNKNOWN, Outcome
+from sagas.core.states import OutcomeKind, Suspension
+from sagas.definition import tokens
+from sagas.definition.capacity import SHARD_CAPACITY
+from sagas.runtime.retries import until_answered
+from sagas.storage.external import Report, Row
+
+if TYPE_CHECKING:
+    from sagas.runtime.coordinator import Coordinator
+
+GOOD = ("commit", "undone")
+KNOWN = (SUCCEEDED, FAILED, PERMANENT)
+"""The outcomes of a report that says what the attempt did."""
+OF_TOKEN = f"""
+SELECT l.shard, s.id, s.phase, s.definition_index, h.texts
+FROM shards l JOIN definition_sets h USING (definition_set)
+JOIN sagas s ON s.id = l.shard * {SHARD_CAPACITY} + ? WHERE l.name = ?
+"""
+EVENT = "SELECT event, value FROM attempts WHERE id = ? AND step = ? AND action = ? AND number = ?"
+
+
+class ExternalReports:
+    """Takes reports, also those that other nodes or workers have left in the table."""
+
+    def __init__(self, owner: Coordinator) -> None:
+        self.owner = owner
+        self._table = owner.store.external
+        self._signer = Signer(secrets.token_bytes(32))
+        self._has_any = self._is_looking = self._looks_again = False
+        self._reports: dict[str, asyncio.Future[Outcome]] = {}
+
+    def _raise_if_closed(self) -> None:
+        if self.owner.closed:
+            raise self.owner.closed
+
+    @contextlib.contextmanager
+    def reports(self, attempt: Attempt) -> Iterator[asyncio.Future[Outcome]]:
+        """What is reported of one whose message is out."""
+        token = attempt.token()
+        future = self._reports[token] = self.owner.loop.create_future()
+        try:
+            yield future
+        finally:
+            if self._reports.get(token) is future:
+                del self._reports[token]
+
+    def find(self, token: str) -> Attempt | None:
+        """The attempt with this id, if it is under way here."""
+        told = tokens.parse(token)
+        if not told:
+            raise NoSuchTask(f"{token!r} is not the attempt id of a task")
+        name, number, step, kind, count = told
+        shard = self.owner.shards.named(name)
+        saga = shard.sagas.get(number) if shard else None
+        if shard is None or saga is None or step not in saga.kind.names:
+            return None
+        word = (saga.kind.names.index(step), kind)
+        finished = (one for one in shard.unkept() if one.instance is saga and one.word == word)
+        under = [saga.busy.get(word), *finished]
+        return next((one for one in under if one is not None and one.attempt == count), None)
+
+    async def report(self, token: str, lease: str, holder: str, outcome: Outcome) -> bool:
+        """As `Store.report`.
+
+        The lease is judged before anything is looked up, so that who has none learns nothing about
+        the task."""
+        number = self._signer.number(token, lease, holder)
+        self._raise_if_closed()
+        shard = await self._table.report(token, number, str(outcome.kind), outcome.value)
+        if shard is None:
+            return await self._repeated(token, number, outcome)
+        if shard in self.owner.shards.runners:
+            await self._apply(Report(token, str(outcome.kind), outcome.value))
+        else:
+            await self._table.tell()
+        return True
+
+    async def _apply(self, report: Report) -> None:
+        """Reports it into its shard here, where it can be now, and waits until it is there."""
+        attempt = self.find(report.attempt)
+        if attempt is None or not self._deliver(report):
+            return
+        if attempt.state is FINISHED:
+            with contextlib.suppress(SagasError):  # it is kept, and is looked at again
+                await self.owner.executor.kept.wait(attempt)
+
+    def _deliver(self, report: Report) -> bool:
+        """Whether what was reported of an attempt that is under way here could be said of it
+        now."""
+        attempt = self.find(report.attempt)
+        outcome = Outcome(OutcomeKind(report.outcome), report.value)
+        if attempt is None or attempt.pending:
+            return False
+        if (waiting := self._reports.get(report.attempt)) is not None:
+            if not waiting.done():
+                waiting.set_result(outcome)
+            return True
+        is_known = attempt.reason in RETRIED
+        if attempt.state is not SUSPENDED or not (is_known or is_out(attempt)):
+            return False
+        if outcome.kind is SUCCEEDED or not is_known:
+            self.owner.executor.ended(attempt, outcome)
+        elif outcome.kind is not UNKNOWN and attempt.reason is Suspension.UNKNOWN:
+            self.owner.executor.ended(attempt, outcome)
+        return True
+
+    def look(self) -> None:
+        """Something may have been reported."""
+        self._looks_again = True
+        if not self._is_looking and not self.owner.closed and self._has_any:
+            self._is_looking = True
+            self.owner.spawn(self._look())
+
+    async def _look(self) -> None:
+        try:
+            while self._looks_again and not self.owner.closed:
+                self._looks_again = False
+                for report in await self._table.reported([*self.owner.shards.runners]):
+                    self._deliver(report)
+        except StoreUnavailable:
+            pass  # the next look finds it
+        finally:
+            self._is_looking = False
+
+    async def find_done(self, token: str) -> Outcome | None:
+        """A worker's *done* of an attempt; asks until the store answers."""
+        row = await until_answered(lambda: self._table.find(token))
+        is_done = row is not None and row.outcome == SUCCEEDED
+        return Outcome(SUCCEEDED, row.value or "null") if row and is_done else None
+
+    async def _repeated(self, token: str, number: int, outcome: Outcome) -> bool:
+        """False where it was reported so before; else raises why it does not count."""
+        row = await self._table.find(token)
+        if row is None or row.outcome == "settled":
+            return await self._settled(token, outcome)
+        said = f"lease {number} of {token}"
+        if row.reported == number and row.value == outcome.value and row.outcome not in KNOWN:
+            return False
+        if row.outcome in KNOWN:
+            if (row.outcome, row.value) != (outcome.kind, outcome.value):
+                raise ConflictingReport(f"{token} was reported before, with another outcome")
+            await self._apply(Report(token, str(outcome.kind), outcome.value))
+            return False
+        _raise_lost(row, token, number, said, outcome)
+        return False
+
+    async def _settled(self, token: str, outcome: Outcome) -> bool:
+        event, value = await self.outcome_of(token)
+        is_same = (event in GOOD) == (outcome.kind is SUCCEEDED) and value == outcome.value
+        if is_same and outcome.kind is not UNKNOWN:
+            return False
+        raise ConflictingReport(f"{token} was reported before, with another outcome ({event})")
+
+    async def outcome_of(self, token: str) -> tuple[str, str | None]:
+        """The event that a reported task came to, and its value. Raises `NoSuchTask`,
+        `OwnerUnavailable`."""
+        told, read = tokens.parse(token), self.owner.store.read
+        rows = await read(OF_TOKEN, told.number, told.shard) if told else []
+        for _, id, phase, place, texts in rows:
+            assert told
+            names = self.owner.shelf.kind(json.loads(texts)[place]).names
+            step = names.index(told.step) if told.step in names else -1
+            for event, value in await read(EVENT, id, step, told.kind, told.attempt):
+                return event, value and self.owner.shelf.payloads.decode(value)
+            if phase is None and await self._table.find(token):
+                raise OwnerUnavailable(f"{token!r}: its outcome is being stored. Report it again")
+        raise NoSuchTask(f"no task that has started has the attempt id {token!r}")
+
+
+def is_out(attempt: Attempt) -> bool:
+    """Whether it waits for a worker, or for the one that has it."""
+    return attempt.state is SUSPENDED and attempt.reason is Suspension.EXTERNAL
+
+
+def _raise_lost(row: Row, token: str, number: int, said: str, outcome: Outcome) -> None:
+    """Why a report of an attempt that is not over does not count."""
+    if row.outcome == "person" and outcome.kind is SUCCEEDED:
+        raise LeaseLost(
+            f"{token}: its outcome is unknown, and a person must report it. Tell an "
+            "operator what you know"
+        )
+    if row.reported == row.lease == number:
+        raise ConflictingReport(f"{said} was reported as unknown before")
+    raise LeaseLost(f"{said} is not the newest, so its report {outcome.kind} is rejected")

@@ -1,0 +1,171 @@
+"""Calls one function: in the loop or in a thread, with its timeout."""
+
+from __future__ import annotations
+
+import asyncio
+import contextvars
+import inspect
+import os
+import sys
+import threading
+from collections.abc import Awaitable, Callable
+from concurrent.futures import Executor
+from typing import Any
+
+from sagas.base.errors import CannotDecode, Fail
+from sagas.core import outcomes
+from sagas.core.outcomes import Outcome, Unawaited
+from sagas.definition import awaitables
+from sagas.definition.approvals import answering
+from sagas.definition.step import Manner
+from sagas.definition.task import Task
+from sagas.runtime import current_step
+
+MOST_FRAMES = 12
+"""Calls of a thread that are named: the innermost and the outermost."""
+
+
+async def ended(work: Awaitable[Any], task: Task[Any]) -> Outcome:
+    """Return the outcome of what a function gave to be awaited, and of what comes of that."""
+    while True:
+        try:
+            return outcomes.succeeded(await work, task)
+        except Unawaited as forgot:
+            work = forgot.value
+
+
+async def call(
+    manner: Manner,
+    task: Task[Any],
+    executor: Executor | None,
+    late: Callable[[str], object] | None = None,
+    function: Callable[[Task[Any]], Any] | None = None,
+) -> Outcome | None:
+    """Call a function: an async one here, a plain one in a thread.
+
+    What it returns is awaited here, if it can be: a coroutine, say.
+
+    Args:
+        manner: How it is called.
+        task: What it is handed.
+        executor: The threads; None for the loop's own.
+        late: Called when a thread takes longer than its time, with where it is. It is waited for
+            all the same, since it cannot be stopped.
+        function: One in place of the manner's.
+
+    Returns:
+        What it came to. None: it was cancelled from outside, and nobody knows what it did.
+    """
+    function = function or manner.function
+    assert function
+    if manner.asks:
+        function = answering(function)
+    try:
+        if not awaitables.is_async(function):
+            return await _in_thread(function, manner, task, executor, late)
+        if manner.timeout is not None:
+            return await _in_time(function(task), manner.timeout, task, manner)
+        return await ended(function(task), task)
+    except BaseException as error:
+        return interrupted(error, manner)
+
+
+def interrupted(error: BaseException, manner: Manner) -> Outcome | None:
+    """As `outcomes.raised`; None if it was cancelled from outside, and nobody knows what it did."""
+    if isinstance(error, asyncio.CancelledError):
+        current = asyncio.current_task()
+        if current and current.cancelling():
+            return None
+    return outcomes.raised(error, manner)
+
+
+async def call_alone(
+    about: object,
+    manner: Manner,
+    task: Task[Any],
+    executor: Executor | None,
+    late: Callable[[str], object] | None,
+) -> Outcome | None:
+    """As `call`, of a function that is in no transaction of the store."""
+    return await call(manner, task, executor, late)
+
+
+async def _in_time(work: Awaitable[Any], left: float, task: Task[Any], manner: Manner) -> Outcome:
+    """Await what a function gave in what is left of its time."""
+    scope = asyncio.timeout(left)
+    try:
+        async with scope:
+            return await ended(work, task)
+    except TimeoutError as error:
+        return (
+            outcomes.unknown(f"took longer than {manner.timeout} s")
+            if scope.expired()
+            else outcomes.raised(error, manner)
+        )
+
+
+def place_of(thread: int | None) -> str:
+    """Where a thread is, the innermost call first, out to the step's function."""
+    frame, found = sys._current_frames().get(thread or 0), list[str]()
+    while frame is not None and frame.f_code.co_filename != __file__:
+        code = frame.f_code
+        found.append(f"{code.co_filename}:{frame.f_lineno} in {code.co_qualname}")
+        frame = frame.f_back
+    if len(found) > MOST_FRAMES:
+        found[MOST_FRAMES // 2 : -MOST_FRAMES // 2] = [".."]
+    return " < ".join(found) or "it waits for a thread"
+
+
+def _guarded(
+    function: Callable[[Task[Any]], Any], task: Task[Any], threads: list[int]
+) -> tuple[Any, BaseException | None]:
+    pid = os.getpid()
+    threads.append(threading.get_ident())
+    try:
+        with current_step.in_thread():
+            return function(task), None
+    except BaseException as error:  # a future would not take each of them
+        return None, error
+    finally:
+        if (
+            os.getpid() != pid
+        ):  # it forked, and its child came back here: that has no store and no loop
+            os._exit(70)
+
+
+async def _in_thread(
+    function: Callable[[Task[Any]], Any],
+    manner: Manner,
+    task: Task[Any],
+    executor: Executor | None,
+    late: Callable[[str], object] | None,
+) -> Outcome:
+    loop = asyncio.get_running_loop()
+    overdue, threads = False, list[int]()
+
+    def over() -> None:
+        nonlocal overdue
+        overdue = True
+        if late:
+            late(place_of(threads[0] if threads else None))
+
+    timer = loop.call_later(manner.timeout, over) if manner.timeout is not None else None
+    try:
+        context = contextvars.copy_context()
+        value, error = await loop.run_in_executor(
+            executor, lambda: context.run(_guarded, function, task, threads)
+        )
+    finally:
+        if timer:
+            timer.cancel()
+    if error is None and timer and inspect.isawaitable(value):
+        return await _in_time(value, timer.when() - loop.time(), task, manner)
+    if error is None:
+        return outcomes.succeeded(
+            await awaitables.whole(value) if inspect.isawaitable(value) else value, task
+        )
+    if overdue and not isinstance(error, (Fail, CannotDecode)):
+        return outcomes.unknown(
+            f"took longer than {manner.timeout} s, then raised {type(error).__name__}: {error}"
+        )
+    return outcomes.raised(error, manner)

@@ -1,0 +1,79 @@
+"""Enters the context of a store as it opens, and leaves it as it closes."""
+
+from __future__ import annotations
+
+import asyncio
+import contextlib
+import sys
+from typing import Any
+
+from sagas.base.logger import logger
+from sagas.definition import context
+from sagas.definition.context import Context, Manager
+
+
+class Lifespan:
+    """What a context is from the opening of a store to its end.
+
+    One task enters and leaves the context manager, since task groups and time limits inside it
+    ask for that; a store may be closed by another task than it was opened by.
+    """
+
+    def __init__(self, given: Any, shared: Context) -> None:
+        self._given, self._shared = given, shared
+        self._job: asyncio.Task[None] | None = None
+        self._is_over = asyncio.Event()
+
+    async def enter(self) -> None:
+        """Enter it. Raises what the factory, or its context manager, raises."""
+        if not context.is_factory(self._given):
+            if self._given is not None:
+                self._shared.put(self._given)
+            return
+        ready = asyncio.get_running_loop().create_future()
+        job = asyncio.create_task(self._hold(ready))
+        try:
+            await asyncio.wait([job, ready], return_when=asyncio.FIRST_COMPLETED)
+        except asyncio.CancelledError:
+            job.cancel()
+            raise
+        if ready.done():
+            self._job = job
+        else:
+            job.result()
+
+    async def leave(self) -> None:
+        """Leave it. Raises what its context manager raises."""
+        job, self._job = self._job, None
+        if job:
+            self._is_over.set()
+            await job
+
+    async def _hold(self, ready: asyncio.Future[None]) -> None:
+        async with _entered(context.made(self._given)) as value:
+            self._shared.put(value)
+            ready.set_result(None)
+            try:
+                await self._is_over.wait()
+            except asyncio.CancelledError:
+                logger.error("the context ended by itself, and functions that use it may fail")
+                raise
+
+
+def _entered(manager: Manager) -> contextlib.AbstractAsyncContextManager[Any]:
+    if isinstance(manager, contextlib.AbstractAsyncContextManager):
+        return manager
+    return _in_threads(manager)
+
+
+@contextlib.asynccontextmanager
+async def _in_threads(manager: contextlib.AbstractContextManager[Any]) -> Any:
+    """A plain one may block, as plain functions do."""
+    value = await asyncio.to_thread(manager.__enter__)
+    try:
+        yield value
+    except BaseException:
+        if not await asyncio.to_thread(manager.__exit__, *sys.exc_info()):
+            raise
+    else:
+        await asyncio.to_thread(manager.__exit__, None, None, None)

@@ -1,0 +1,144 @@
+"""Sagas and shards that move between nodes."""
+
+from __future__ import annotations
+
+import asyncio
+from collections.abc import Callable, Coroutine
+from typing import TYPE_CHECKING, Protocol
+
+from sagas.base.errors import KeyConflict, Moved, SagasError
+from sagas.core.batch import Batch, Loaded, SagaRow
+from sagas.core.model import SagaInstance
+from sagas.core.shard import ShardDriver
+from sagas.definition import input_equality, mismatches
+from sagas.definition.payloads import PLAIN, Payloads
+from sagas.runtime.commit_queue import CommitQueue
+from sagas.runtime.executor import Executor
+from sagas.runtime.instances import Instances
+from sagas.runtime.retries import until_answered
+from sagas.storage.interface import Database
+
+if TYPE_CHECKING:
+    from sagas.definition.compiled import Kind
+    from sagas.definition.saga import Saga
+
+
+def conflict(
+    key: str, kind: Kind | Saga, text: str, name: str, there: str, payloads: Payloads | None = None
+) -> KeyConflict | None:
+    """Return what a start meets where its key has a saga; None if it is the same.
+
+    Args:
+        key: The key.
+        kind: The saga of the start.
+        text: Its input.
+        name: The saga that the key has.
+        there: The input of that one.
+        payloads: How inputs are stored; as of the kind, if none is given.
+    """
+    saga = kind.name
+    if name != saga:
+        return KeyConflict(f"key {key!r} belongs to a saga {name!r}, not {saga!r}. Use another key")
+    if there != text:
+        own: Payloads = getattr(kind, "payloads", PLAIN)
+        stored = payloads or own
+        text, there = stored.decode(text), stored.decode(there)
+    if there != text and (differ := input_equality.differences(kind, there, text)):
+        told = mismatches.told(differ)
+        return KeyConflict(
+            f"key {key!r} belongs to a saga with another input, which differs at {told}. "
+            "Use another key"
+        )
+    return None
+
+
+class Home(Protocol):
+    """The shards of the program."""
+
+    def place(self, saga: SagaInstance) -> None:
+        """Open it in a shard."""
+
+
+class Relocation:
+    """Lets sagas go that this program does not drive, and opens others in another shard."""
+
+    def __init__(
+        self,
+        store: Database,
+        sagas: Instances,
+        executor: Executor,
+        commits: CommitQueue,
+        clock: Callable[[], float],
+        spawn: Callable[[Coroutine[None, None, None]], object],
+        home: Home,
+    ) -> None:
+        self._store, self._sagas, self._executor, self._commits = store, sagas, executor, commits
+        self._clock, self._spawn, self._home = clock, spawn, home
+
+    def leave(self, saga: SagaInstance, error: SagasError | None) -> None:
+        """It is not driven here: who waits looks into the store; who started it hears why it is
+        not that saga.
+        """
+        self._sagas.leave(saga, error, Moved("this node does not execute the saga"))
+        for attempt in saga.busy.values():
+            self._executor.changes.tell(attempt)
+
+    def found(self, saga: SagaInstance, row: SagaRow) -> None:
+        """Another shard has the key: that is the saga, or a conflict."""
+        error = conflict(saga.key, saga.kind, saga.text, row.saga, row.input)
+        if saga.start is not None:
+            batch = Batch(-1, self._clock())
+            batch.more.begun.append((saga.start, None if error else row.id))
+            self._commits.put_alone(batch)
+        self.leave(saga, error)
+
+    async def find_elsewhere(self, driver: ShardDriver, rows: Loaded) -> None:
+        """Of the sagas that were asked to be opened in a shard, take out those whose keys are
+        other sagas': of another shard, or over in this one.
+        """
+        there = {key for _, key, *_ in rows.open}
+        asked = [one for one in driver.sent if not one.committed and one.key not in there]
+        others = await asyncio.gather(*(self._store.find(saga.key) for saga in asked))
+        for saga, other in zip(asked, others):
+            if other is not None and (other.id >= 0 or saga.guessed):
+                driver.sent.pop(saga, None)
+                saga.number, saga.shard = -1, None
+                self.found(saga, other)
+
+    def let_go(self, driver: ShardDriver) -> None:
+        """A shard is another node's: what was begun here is stopped, and who waits looks there."""
+        moved = Moved("the saga moved to another node")
+        sagas, opens = list(driver.sagas.values()), [*driver.sent, *driver.opens]
+        attempts = dict.fromkeys(driver.unkept())
+        attempts |= {attempt: None for saga in sagas for attempt in saga.busy.values()}
+        for attempt in attempts:
+            self._executor.kept.tell(attempt, moved)
+            self._executor.forget(attempt)
+        for saga in sagas:
+            if saga.committed:
+                self.leave(saga, None)
+        driver.close_opens()
+        for saga in opens:
+            if not saga.committed:
+                saga.number, saga.shard = -1, None
+                self._spawn(self._move(saga))
+
+    def tell_closed(self, driver: ShardDriver, error: SagasError) -> None:
+        """The store is closed: who waits for a step of a shard hears so."""
+        for attempt in driver.unkept():
+            self._executor.kept.tell(attempt, error)
+        for saga in driver.sagas.values():
+            for attempt in saga.busy.values():
+                self._executor.changes.tell(attempt)
+
+    async def _move(self, saga: SagaInstance) -> None:
+        """It was to be opened in a shard that is lost: it is there already, or another one takes
+        it.
+        """
+        row = await until_answered(lambda: self._store.find(saga.key))
+        if self._sagas.by_key.get(saga.key) is not saga:
+            return
+        if row is not None and (row.id >= 0 or saga.start is None):
+            self.found(saga, row)
+        else:
+            self._home.place(saga)

@@ -1,0 +1,118 @@
+"""Steps on workers of a queue: the message out, the report back.
+
+Steps whose functions workers of a queue call: an attempt goes out as a message, and its report
+comes back through the store.
+"""
+
+from __future__ import annotations
+
+import asyncio
+from collections.abc import Iterable
+from typing import TYPE_CHECKING, Any
+
+from sagas.base.errors import SagasError
+from sagas.core import outcomes
+from sagas.core.dispatch import Order, Position
+from sagas.core.outcomes import Outcome
+
+if TYPE_CHECKING:
+    from sagas.core.model import Attempt
+    from sagas.definition.saga import Saga
+    from sagas.definition.step import Manner, RemoteQueue, Step
+    from sagas.runtime.executor_host import External
+    from sagas.storage.interface import Database
+
+MOST_CARRIED = 64 << 10
+"""Bytes of input and results that an order carries; what is more is fetched from the store by
+who has the order.
+"""
+FIRST_PAUSE, MOST_PAUSE = 0.05, 2.0  # seconds between two tries to send
+
+
+class Unsent(SagasError):
+    """The order could not be handed over, or nobody knows whether it was: it is sent again."""
+
+
+def order_of(attempt: Attempt, lease: int) -> Order:
+    """The attempt's order, with no more than `MOST_CARRIED` bytes of texts."""
+    live, kind = attempt.instance, attempt.instance.kind
+    assert live.shard
+    left = MOST_CARRIED
+
+    def carried(text: str) -> bool:
+        nonlocal left
+        fits = len(text) <= left
+        left -= len(text) if fits else 0
+        return fits
+
+    input = live.text if carried(live.text) else None
+    own: str | Position | None = None
+    if attempt.kind == "undo":
+        text = live.results.get(attempt.step, "null")
+        own = text if carried(text) else Position(attempt.step)
+    results: dict[str, str | Position] = {}
+    for step in kind.below[attempt.step]:
+        text = live.results.get(step, "null")
+        results[kind.names[step]] = text if carried(text) else Position(step)
+    return Order(
+        kind.name,
+        kind.version,
+        live.key,
+        live.shard.name,
+        live.number,
+        attempt.name,
+        attempt.kind,
+        attempt.attempt,
+        lease,
+        input,
+        results,
+        own,
+        live.options.deadline,
+    )
+
+
+async def check(database: Database, sagas: Iterable[Saga]) -> None:
+    """Looks whether reports can come, where a step is called by a queue's workers. Raises
+    `WrongStore`, `DefinitionError`.
+    """
+    queues: dict[int, tuple[RemoteQueue, list[tuple[Step[Any], str]]]] = {}
+    for saga in sagas:
+        for step in saga.steps:
+            for kind in ("run", "undo"):
+                queue = step.manner(kind).queue
+                if queue is not None:
+                    queues.setdefault(id(queue), (queue, []))[1].append((step, kind))
+    for queue, steps in queues.values():
+        await queue.check(database, steps)
+
+
+async def call(external: External, manner: Manner, attempt: Attempt) -> Outcome | None:
+    """Sends it and waits for its report. None: it was cancelled here, and nobody knows what
+    became of it.
+    """
+    where = manner.queue
+    assert where
+    timeout = manner.timeout if manner.timeout is not None else where.timeout
+    try:
+        with external.reports(attempt) as report:
+            async with asyncio.timeout(timeout):
+                lease = await external.dispatch(attempt)
+                if not report.done():
+                    await _send(where, order_of(attempt, lease))
+                return await report
+    except asyncio.CancelledError:
+        return None
+    except TimeoutError:
+        return outcomes.unknown(f"no report within {timeout:g} s from {where!r}")
+
+
+async def _send(where: RemoteQueue, order: Order) -> None:
+    """Sends it, again and again while that does not go: the caller has the time."""
+    pause = FIRST_PAUSE
+    while True:
+        try:
+            await where.send(order)
+            return
+        except Unsent:
+            await asyncio.sleep(pause)
+            pause = min(MOST_PAUSE, 2 * pause)

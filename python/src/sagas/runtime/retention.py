@@ -1,0 +1,154 @@
+"""Deletes ended sagas after their retention.
+
+Ended sagas are let go after their time, with their log: a closed log whose sagas ended before is
+deleted as a whole, exported before where that is wished.
+
+Only a log whose audit said yes goes; a saga that is stuck, or of which a compensation failed for
+good, counts as ended once a person has resolved it. A key is free when its saga is gone. Each
+log is a transaction of its own, on a connection of its own, and is followed by a pause as long
+as it took: who starts a saga waits for one log at most in a file, and for none in PostgreSQL,
+where other rows are touched.
+"""
+
+from __future__ import annotations
+
+import asyncio
+import dataclasses
+import os
+import pathlib
+import threading
+import time
+from collections.abc import Callable
+from typing import TYPE_CHECKING
+
+from sagas.base.errors import SagasError
+from sagas.base.logger import logger
+from sagas.base.wording import number
+from sagas.definition.capacity import SHARD_CAPACITY
+from sagas.storage import admin, archive
+from sagas.storage.admin import Source
+from sagas.storage.sqlite.schema import UNDO_FAILED
+
+if TYPE_CHECKING:
+    from sagas.runtime.coordinator import Coordinator
+
+MOST = 100_000
+"""Sagas that one run lets go."""
+HOUR, SOON = (
+    3600.0,
+    60.0,
+)  # seconds between two runs: where nothing more was to do, and where there was
+
+WITHIN = f"s.id >= l.shard * {SHARD_CAPACITY} AND s.id < (l.shard + 1) * {SHARD_CAPACITY}"
+NEXT = f"""
+SELECT l.shard, l.name, (SELECT count(*) FROM sagas s WHERE {WITHIN}) FROM shards l
+WHERE l.closed = 1 AND l.shard > ? AND NOT EXISTS (
+  SELECT 1 FROM sagas s WHERE {WITHIN} AND (s.phase IS NULL OR s.ended >= ?
+    OR (s.note IS NULL AND (s.phase = 'stuck' OR ({UNDO_FAILED})))))
+ORDER BY l.shard LIMIT 1
+"""
+OF_SAGAS = (
+    "DELETE FROM operator_commands WHERE key IN (SELECT key FROM sagas WHERE id >= ? AND id < ?)",
+    "DELETE FROM labels WHERE id >= ? AND id < ?",
+    "DELETE FROM attempts WHERE id >= ? AND id < ?",
+    "DELETE FROM suspensions WHERE id >= ? AND id < ?",
+    "DELETE FROM progress WHERE id >= ? AND id < ?",
+    "DELETE FROM external_attempts WHERE id >= ? AND id < ?",
+    "DELETE FROM sagas WHERE id >= ? AND id < ?",
+)
+OF_LOG = ("DELETE FROM event_log WHERE shard = ?",)
+
+
+@dataclasses.dataclass
+class Gone:
+    """What a run let go: the names of the logs, and how many sagas they had. `more`: there is
+    more, for another run; `other`: that is at work now.
+    """
+
+    logs: list[str] = dataclasses.field(default_factory=list)
+    sagas: int = 0
+    more: bool = False
+    other: bool = False
+
+
+def prune(
+    name: str,
+    keep: float,
+    export: str | os.PathLike[str] | None = None,
+    *,
+    most: int = MOST,
+    clock: Callable[[], float] = time.time,
+    stop: threading.Event | None = None,
+) -> Gone:
+    """Lets the sagas of a store go that ended more than `keep` seconds ago, `most` of them, in
+    order of their logs. For a thread.
+
+    The time is the earlier one of `clock` and of the store's own: a clock that is put forward
+    lets nothing go. With `export` each log is written there and synced, before it is deleted
+    (archives.py). `stop` ends it behind the log that it is at. Raises `Trouble`,
+    `StoreUnavailable`, `OSError` of the export; what went before is gone, and the log that it was
+    at is whole.
+    """
+    gone, at, stop = Gone(), -1, stop or threading.Event()
+    with admin.writing(name) as link:
+        if not link.alone():
+            gone.other = True
+            return gone
+        before = min(clock(), link.now()) - keep
+        while not stop.is_set() and (found := link.ask(NEXT, at, before)):
+            ((at, log, sagas),) = found
+            if gone.sagas + sagas > most:
+                gone.more = True
+                break
+            if export is not None:
+                archive.write(link, at, pathlib.Path(export))
+            began = time.monotonic()
+            if _delete(link, at):
+                gone.logs.append(log)
+                gone.sagas += sagas
+            stop.wait(time.monotonic() - began)
+        if gone.logs:
+            link.drop_definitions()
+    return gone
+
+
+def _delete(link: Source, log: int) -> bool:
+    """A log with all that is of it. False: another program did."""
+    with link.transaction():
+        if not link.changed("DELETE FROM shards WHERE shard = ? AND closed = 1", log):
+            return False
+        for text in OF_SAGAS:
+            link.changed(text, log * SHARD_CAPACITY, (log + 1) * SHARD_CAPACITY)
+        for text in OF_LOG:
+            link.changed(text, log)
+    return True
+
+
+async def keep(
+    owner: Coordinator, name: str, seconds: float, export: str | os.PathLike[str] | None
+) -> None:
+    """Lets go what is over, at the opening and then each hour, or more often where less than a
+    day is kept; until it is cancelled.
+    """
+    while True:
+        stop = threading.Event()
+        work = asyncio.ensure_future(
+            asyncio.to_thread(prune, name, seconds, export, clock=owner.clock, stop=stop)
+        )
+        try:
+            gone = await asyncio.shield(work)
+            if gone.logs:
+                owner.teller.tell(
+                    "shards_pruned",
+                    detail=f"{number(len(gone.logs), 'shard')}, {number(gone.sagas, 'saga')}",
+                )
+            pause = SOON if gone.more else HOUR
+        except asyncio.CancelledError:  # the store is closed behind the log that this is at
+            stop.set()
+            await asyncio.wait([work])
+            work.exception()  # a fault now is nobody's: the next opening goes on
+            raise
+        except (SagasError, admin.Trouble, OSError) as error:
+            logger.warning("%s: ended sagas could not be deleted: %s", owner.store.path, error)
+            pause = HOUR
+        await asyncio.sleep(min(pause, max(1.0, seconds / 24)))

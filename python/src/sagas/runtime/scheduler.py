@@ -1,0 +1,91 @@
+"""Starts the sagas of schedules when their times come."""
+
+from __future__ import annotations
+
+import asyncio
+from collections.abc import Awaitable, Callable
+from typing import TYPE_CHECKING
+
+from sagas.base.errors import Closed, SagasError, TemporaryError
+from sagas.base.logger import logger
+from sagas.definition import timing
+from sagas.storage import schedules
+from sagas.storage.schedules import Schedule
+
+if TYPE_CHECKING:
+    from sagas.runtime.coordinator import Coordinator
+
+MOST_PAUSE = 5.0
+"""Seconds until schedules are looked at by themselves: another node may have changed one."""
+AGAIN = 1.0
+"""Seconds until what the store could not do is tried again."""
+MOST = 100
+"""Sagas of one schedule that are started in a turn."""
+
+StartSaga = Callable[[Schedule, str], Awaitable[object]]
+"""Starts the saga of a schedule under a key."""
+Advance = Callable[[Schedule, float, "float | None", "str | None"], Awaitable[object]]
+"""Says which time is the next one, which was the last, and why that could not be started."""
+
+
+class Scheduler:
+    """Starts what is due, of definitions that this program has. Other nodes do the same at the
+    same time: a time's saga is one by its key, and the first who advances the schedule counts.
+    """
+
+    def __init__(self, owner: Coordinator, start: StartSaga, advance: Advance) -> None:
+        self._owner, self._start, self._advance = owner, start, advance
+        self._news = asyncio.Event()
+
+    def look(self) -> None:
+        """Something may have changed."""
+        self._news.set()
+
+    async def run(self) -> None:
+        """Start what is due, until it is cancelled."""
+        while True:
+            self._news.clear()
+            try:
+                pause = await self._turn()
+            except Closed:
+                return
+            except SagasError as error:
+                logger.info("schedules are looked at again: %s", error)
+                pause = AGAIN
+            try:
+                async with asyncio.timeout(pause):
+                    await self._news.wait()
+            except TimeoutError:
+                pass
+
+    async def _turn(self) -> float:
+        """Start what is due; return how many seconds there is nothing to do."""
+        owner = self._owner
+        pause = MOST_PAUSE
+        for one in map(schedules.of_row, await owner.store.read(schedules.DUE)):
+            now = owner.clock()
+            if (one.saga, one.version) not in owner.shelf.by_name:
+                continue
+            if one.next_at > now:
+                pause = min(pause, one.next_at - now)
+                break  # the others come later
+            pause = min(pause, await self._fire(one, now))
+        return max(pause, 0.0)
+
+    async def _fire(self, one: Schedule, now: float) -> float:
+        times, next_at = one.timing.due(one.next_at, now, MOST)
+        error = None
+        for at in times:
+            key = timing.key_of(one.name, at)
+            try:
+                await self._start(one, key)
+                error = None
+            except TemporaryError:  # the same times are due again
+                raise
+            except (SagasError, TypeError, ValueError) as fault:
+                error = f"{type(fault).__name__}: {fault}"
+                self._owner.teller.tell("schedule_failed", key=key, saga=one.saga, detail=error)
+        if not times:
+            self._owner.teller.tell("schedule_missed", saga=one.saga, detail=one.name)
+        await self._advance(one, next_at, times[-1] if times else None, error)
+        return next_at - self._owner.clock()

@@ -1,0 +1,400 @@
+"""Runs one shard: driver, engine process, commits."""
+
+from __future__ import annotations
+
+import time
+
+from sagas.base.errors import SagasError
+from sagas.base.logger import logger
+from sagas.core import recovery
+from sagas.core.batch import Loaded
+from sagas.core.effects import Abort, Effects
+from sagas.core.model import Attempt
+from sagas.core.replies import Disagrees
+from sagas.core.shard import MOST_REPORTS, ShardDriver
+from sagas.core.states import ShardState
+from sagas.core.suspensions import SuspensionRow
+from sagas.engine.process import EngineProcess
+from sagas.runtime import decode_check
+from sagas.runtime.shard_parts import Parts, Shards, named
+
+FEW = 64  # requests whose answer comes soon
+TURN = 0.1  # seconds for which a shard keeps its engine while others wait for one
+FIRST_PAUSE, MOST_PAUSE = 0.02, 2.0  # seconds until a shard is loaded again
+STALE, LOADING, IDLE = ShardState.STALE, ShardState.LOADING, ShardState.IDLE
+STARTING, ACTIVE, CLOSED = ShardState.STARTING, ShardState.ACTIVE, ShardState.CLOSED
+
+
+class ShardRunner:
+    """Drives one shard.
+
+    Attributes:
+        driver: What it knows, and decides.
+        engine: Its engine process, if it has one.
+        fault: Why it could not be taken up, or written.
+        has_unread: Whether something that is stored of its open sagas cannot be read by this
+            program.
+        used: When its engine was asked last, by the monotonic clock.
+    """
+
+    def __init__(self, driver: ShardDriver, parts: Parts, shards: Shards) -> None:
+        self.driver = driver
+        self.engine: EngineProcess | None = None
+        self.fault: BaseException | None = None
+        self.has_unread = False
+        self.used = 0.0
+        self._parts, self._shards = parts, shards
+        self._slots, self._engines, self._commits = parts.slots, parts.engines, parts.commits
+        self._effects, self._clock, self._loop = parts.effects, parts.clock, parts.loop
+        self._woke = self._pause = 0.0
+        self._is_scheduled = self._is_coming = False
+        self._rows: Loaded | None = None  # that it is recovered from
+
+    # -- what it is told
+
+    def report(self, attempt: Attempt, at_once: bool = False) -> None:
+        """Report an attempt that is finished. `at_once`: nothing else of its shard is in the
+        middle of something.
+        """
+        self.driver.report(attempt)
+        self.poke(at_once)
+
+    def suspend(self, attempt: Attempt, row: SuspensionRow) -> None:
+        """Keep why an attempt waits."""
+        self.keep(self.driver.suspended(attempt, row, self._clock()))
+
+    def abort(self, abort: Abort) -> None:
+        """Ask to abort a saga."""
+        self.driver.abort(abort)
+        self.poke()
+
+    # -- a turn
+
+    def poke(self, at_once: bool = False) -> None:
+        """Send what is due, with what else comes meanwhile. `at_once`: send it now, if no function
+        runs that might bring more, or if there is a lot.
+        """
+        if self.driver.state is ACTIVE:
+            assert self.engine
+            if self.engine.asked:  # when it has answered, it is asked what is due
+                return
+            running = self._slots.running
+            if at_once and (not running or len(self.driver.reports) >= MOST_REPORTS):
+                self._turn(waits=not running)
+            elif not self._is_scheduled:
+                self._is_scheduled = True
+                self._loop.call_soon(self._turn)
+        elif self.driver.state is IDLE:
+            self._engines.want(self)
+
+    def _turn(self, waits: bool = False) -> None:
+        """Ask what is due. `waits`: nothing else goes on here that could be done until the answer
+        comes.
+        """
+        self._is_scheduled = False
+        engine = self.engine
+        if self.driver.state is not ACTIVE or engine is None or engine.asked:
+            return
+        if self._engines.wanted and time.monotonic() - self._woke > TURN:
+            self._loop.call_soon(self.give_up_engine)
+            if not self.driver.unwritten:
+                return
+        self._shards.fill(self)
+        if self.driver.state is not ACTIVE or engine.asked:  # another shard took its engine
+            return
+        lines = self._requests()
+        if not lines:
+            if self._engines.wanted:
+                self._offer()
+            return
+        self.used = time.monotonic()
+        engine.ask(lines)
+        if waits and len(lines) <= FEW and (answer := engine.wait()):
+            self.answered(*answer)
+
+    def _requests(self) -> list[str]:
+        is_closing, driver = self._shards.is_closing, self.driver
+        lines = driver.requests(0 if is_closing else self._slots.free())
+        if driver.asked and driver.asked.claims:
+            self._slots.reserve(driver.asked.claims)
+        elif driver.hungry and not is_closing:
+            self._slots.starve(self)
+        return lines
+
+    def answered(self, replies: list[str], log_text: str) -> None:
+        """Its engine has answered."""
+        if self._rows is not None:
+            self._recover(self._rows, replies)
+            return
+        try:
+            found = self.driver.replies(replies, log_text, self._clock())
+        except Disagrees as error:
+            logger.warning("shard %s: %s. Recovering", self.driver.name, error)
+            self.fail(None)
+        except Exception as error:
+            logger.exception("shard %s: a reply was not understood", self.driver.name)
+            self.fail(error)
+        else:
+            if isinstance(found, Effects):
+                self._read(found)
+            else:
+                assert self.engine
+                self.engine.ask(found)
+
+    def _read(self, effects: Effects) -> None:
+        """What is due is asked before the commit of what was answered: a commit may be made here,
+        and meanwhile the engine decides.
+        """
+        self.driver.writes(effects)  # so it keeps its engine until then
+        try:
+            self._effects.at_once(effects)
+            if self._is_due():
+                self._turn()
+        finally:
+            self._commit(effects, at_once=True)
+        if self._engines.wanted:
+            self._offer()
+
+    # -- to the store, and from there
+
+    def keep(self, effects: Effects) -> None:
+        """Make effects durable that no answer came to."""
+        self.driver.writes(effects)
+        self._commit(effects, at_once=False)
+
+    def _commit(self, effects: Effects, at_once: bool) -> None:
+        if effects.is_written:
+            self._commits.put(effects, self, at_once)
+        else:
+            self.driver.committed(effects)
+            self._effects.committed(effects)
+
+    def committed(self, effects: Effects) -> None:
+        """The batch is durable."""
+        self.driver.committed(effects)
+        self._pause = 0.0
+        self._effects.committed(effects)
+        self._settle()
+
+    def failed(self, effects: Effects, fault: BaseException | None) -> None:
+        """The batch is not durable, as far as is known: then what the engine knows beyond the
+        store is thrown away.
+        """
+        was_known = self.driver.is_known
+        unanswered = self.driver.failed(effects)
+        self._effects.lost(effects)
+        self._fail(fault, was_known, unanswered)
+        self._settle()
+
+    def broken(self, error: Exception) -> None:
+        """What follows a commit raised this."""
+        self.fail(error)
+
+    def _settle(self) -> None:
+        """Nothing of it may be on its way to the store any more."""
+        if not self.driver.unwritten:
+            if self.driver.state is STALE:
+                self._load_soon()
+            if self._engines.wanted:
+                self._offer()
+            self._shards.changed(self)
+
+    # -- its engine
+
+    def _is_due(self) -> bool:
+        may_claim = not (self in self._slots.starved or self._shards.is_closing)
+        return self.driver.is_due(may_claim)
+
+    def asked(self) -> int:
+        """How much its engine is about to answer."""
+        if self.driver.state is not ACTIVE:
+            return 0
+        return len(self.driver.reports) + (self.engine.asked if self.engine else 0)
+
+    def owes(self) -> bool:
+        """Whether something is on its way to the store, and the store takes it."""
+        driver = self.driver
+        has_more = driver.reports or driver.reporting or driver.opens or driver.sent
+        return bool(driver.unwritten or (has_more and not self.fault and not self._pause))
+
+    def rests(self) -> bool:
+        """Whether its engine may go: nothing is on its way, and all that it knows is in the
+        store.
+        """
+        engine = self.engine
+        if self.driver.state is not ACTIVE or self.driver.unwritten or not engine or engine.asked:
+            return False
+        return not self._is_due() or time.monotonic() - self._woke > TURN
+
+    def is_idle(self, now: float, idle: float) -> bool:
+        """Whether its engine was not used for so many seconds, and is not needed."""
+        is_unused = self.driver.state is ACTIVE and now - self.used > idle
+        return is_unused and self.rests() and not self._is_due()
+
+    def _offer(self) -> None:
+        """Others may have its engine, if they wait for one and it rests."""
+        if self.rests():
+            self._loop.call_soon(self.give_up_engine)
+
+    def give_up_engine(self) -> None:
+        """Another one may have its engine, if it rests."""
+        if self.rests():
+            self.sleep()
+            self._engines.gone(self)
+
+    def sleep(self) -> None:
+        """Let its engine go."""
+        self._stop_engine()
+        self.driver.to(IDLE)
+        if self._is_due():
+            self._loop.call_soon(self.poke)
+
+    def granted(self) -> None:
+        """It may have an engine."""
+        if self.driver.state is STALE:
+            self.driver.to(LOADING)
+            self._parts.spawn(self._load())
+        elif self.driver.state is IDLE:
+            self.driver.to(STARTING)
+            self._parts.spawn(self._start())
+        else:
+            self._engines.gone(self)
+
+    async def _start(self) -> None:
+        """Start an engine on the shard, as far as nobody else has written it meanwhile."""
+        driver = self.driver
+        try:
+            taken = await self._parts.store.take_up(driver.number, driver.epoch)
+            if driver.state is not STARTING:
+                return
+            if taken is None:  # it may be another node's: that is looked at as after a failure
+                self.fail(None)
+                return
+            text, driver.events = taken
+            self.engine = self._engine_on(text)
+        except Exception as error:
+            self.fail(named(error, self.driver.name))
+            return
+        driver.to(ACTIVE)
+        self.used = self._woke = time.monotonic()
+        self.poke()
+
+    def _engine_on(self, log_text: str) -> EngineProcess:
+        return EngineProcess(self._parts.program, self.driver.identity.texts, log_text, self)
+
+    def _stop_engine(self) -> None:
+        if self.engine:
+            self.engine.stop()
+
+    def died(self, engine: EngineProcess, last: str) -> None:
+        """Its engine ended by itself."""
+        if engine is not self.engine:
+            return
+        if self.driver.state is ACTIVE:
+            detail = f"shard {self.driver.name}: {last}"
+            self._parts.teller.tell("engine_died", detail=detail)
+            self.fail(None)
+        else:  # while the shard was taken up
+            self.engine = self._rows = None
+            self._trouble(SagasError(f"shard {self.driver.name}: sagas drive: {last}"))
+
+    # -- what goes wrong, and the way back
+
+    def fail(self, fault: BaseException | None) -> None:
+        """What is in the store is all that is known; it is loaded again, after a pause that
+        grows.
+        """
+        self._fail(fault, self.driver.is_known, self.driver.fail())
+
+    def _fail(self, fault: BaseException | None, was_known: bool, unanswered: int) -> None:
+        self._slots.release(unanswered)
+        if not was_known:
+            self.fault = self.fault or fault
+            return
+        self.fault = fault
+        self._loop.call_soon(self._shards.changed, self)
+        self._recover_soon()
+
+    def _recover_soon(self) -> None:
+        """What the engine knows beyond the store is thrown away with it."""
+        self._stop_engine()
+        self.engine = self._rows = None
+        self._engines.gone(self)
+        if not self.driver.unwritten:
+            self._load_soon()
+
+    def _load_soon(self) -> None:
+        """Load it, once nothing of it is on its way to the store."""
+        if self._is_coming:
+            return
+        self._is_coming = True
+        pause, self._pause = self._pause, min(MOST_PAUSE, max(FIRST_PAUSE, 2 * self._pause))
+        if pause:
+            self._loop.call_later(pause, self._want)
+        else:
+            self._want()
+
+    def _want(self) -> None:
+        self._is_coming = False
+        if self.driver.state is STALE and not self.driver.unwritten:
+            self._engines.want(self)
+
+    async def _load(self) -> None:
+        """Read the shard from the store, and start an engine on it."""
+        driver = self.driver
+        try:
+            rows = await self._parts.store.load(driver.number, driver.epoch, driver.born)
+            if driver.state is not LOADING:
+                return
+            if rows is None or await decode_check.is_left(self, rows, self._parts.store):
+                self._shards.lose(self)
+                return
+            if driver.state is not LOADING:
+                return
+            driver.loaded(rows)
+            await self._shards.find_elsewhere(driver, rows)
+            if driver.state is not LOADING:
+                return
+            self._shards.reopen(driver, rows, self.fault)
+            self.engine = self._engine_on(rows.text)
+        except Exception as error:
+            if driver.state is LOADING:
+                self._shards.reopen(driver, None, fault := named(error, driver.name))
+                self._trouble(fault)
+            return
+        self._rows = rows
+        self.engine.ask(recovery.requests(rows))
+
+    def _recover(self, rows: Loaded, replies: list[str]) -> None:
+        """Make its driver what the store has, and go on with what was begun."""
+        self._rows, driver, store = None, self.driver, self._parts.store
+        known = self._parts.sagas.by_key
+        try:
+            found = recovery.recover(rows, replies, self._clock(), driver, known, store.shared)
+            self._effects.found(found)
+        except Exception as error:
+            logger.exception("shard %s: the store's data was not understood", driver.name)
+            told = f"shard {driver.name}: the store's data was not understood: {error}"
+            self._trouble(SagasError(told))
+            return
+        self.fault = None
+        self.used = self._woke = time.monotonic()
+        self.keep(found.effects)
+        self._effects.resume(found)
+        self._shards.ready(self)
+        self.poke()
+
+    def stop(self) -> None:
+        """End its engine; it is not used again."""
+        self.driver.to(CLOSED)
+        self._stop_engine()
+        self._slots.release(self.driver.unask())
+        self._engines.gone(self)
+        self._slots.sate(self)
+
+    def _trouble(self, fault: SagasError) -> None:
+        """It could not be taken up: that is tried again."""
+        self.fault = fault
+        self._shards.trouble(self, fault)
+        self.driver.to(STALE)
+        self._recover_soon()

@@ -1,0 +1,355 @@
+"""Shapes of what the API answers, as the OpenAPI document has them."""
+
+from __future__ import annotations
+
+from sagas.server import problems
+from sagas.server.auth import DEFINITION
+from sagas.server.shapes import (
+    Anything,
+    Choice,
+    Field,
+    Flag,
+    Mapped,
+    Nullable,
+    Number,
+    Record,
+    Several,
+    Shape,
+    Text,
+)
+
+PHASES = "open", "completed", "recovered", "stuck", "resolved"
+STATES = (
+    "waiting",
+    "begun",
+    "running",
+    "committed",
+    "failed",
+    "undoing",
+    "undone",
+    "undo_failed",
+)
+KINDS = "stuck", "undo_failed", "unknown", "exhausted", "cannot_decode", "approval"
+"""What needs a person."""
+NAME = Text(most=32, pattern=DEFINITION.pattern)
+COUNT = Number(least=0, whole=True)
+SECONDS = Number()
+COST = Nullable(COUNT)
+MAYBE = Nullable(Text())
+
+
+def time(name: str, told: str, nullable: bool = False) -> dict[str, Field]:
+    """A time in seconds, and beside it as text."""
+    seconds: Shape = Nullable(SECONDS) if nullable else SECONDS
+    text: Shape = Nullable(Text(form="date-time")) if nullable else Text(form="date-time")
+    return {
+        name: Field(seconds, f"{told}, in seconds since 1970"),
+        f"{name}_at": Field(text, f"{told}, as RFC 3339"),
+    }
+
+
+DEADLINE = time("deadline", "when the saga is aborted if it has not ended", nullable=True)
+PROBLEM = Record(
+    "Problem",
+    {
+        "type": Field(
+            Choice(tuple(problems.PREFIX + name for name in problems.PROBLEMS)),
+            "the name of the problem, which never changes",
+        ),
+        "title": Field(Text(), "what kind of problem it is, for people"),
+        "status": Field(Number(400, 599, whole=True), "the status of the answer"),
+        "detail": Field(Text(), "what happened, and what to do, for people"),
+        "field": Field(Text(), "the parameter or the place in the body", default=None),
+    },
+    "Problem details (RFC 9457).",
+    {
+        "type": "urn:sagas:problem:KeyConflict",
+        "title": "The key has another saga or input",
+        "status": 409,
+        "detail": "the key 'order-1' has another input: take another key",
+    },
+)
+STARTED = Record(
+    "Started",
+    {
+        "key": Field(Text()),
+        "definition": Field(NAME),
+        "version": Field(COUNT, "the version of the definition"),
+        "new": Field(Flag(), "false: the key had this very saga already"),
+    },
+    example={"key": "order-1", "definition": "trip", "version": 1, "new": True},
+)
+SUMMARY = Record(
+    "SagaSummary",
+    {
+        "key": Field(Text()),
+        "definition": Field(NAME),
+        "phase": Field(Choice(PHASES)),
+        **time("started", "when it was started"),
+        **time("ended", "when it ended, or got stuck", nullable=True),
+        **DEADLINE,
+        "undo_failed": Field(Flag(), "a compensation failed for good"),
+        "labels": Field(Mapped(Text())),
+        "note": Field(MAYBE, "of whoever resolved it"),
+    },
+)
+PAGE = Record(
+    "SagaPage",
+    {
+        "sagas": Field(Several(SUMMARY)),
+        "next": Field(MAYBE, "`after` of the next page; null: there is none"),
+    },
+)
+PLANNED = Record(
+    "PlannedStep",
+    {
+        "step": Field(NAME),
+        "found": Field(Choice(STATES), "the state that the plan found"),
+        "cost_to_keep": Field(COST, "null: never"),
+        "cost_to_drop": Field(COST, "null: never"),
+        "decision": Field(
+            Choice(("stands", "is run", "is undone", "is left out", "stuck")), "what is done"
+        ),
+    },
+)
+PLAN = Record(
+    "Plan",
+    {
+        "cost": Field(COST, "null: no plan is feasible"),
+        "blocking_steps": Field(Several(NAME), "the steps that make every plan infeasible"),
+        "steps": Field(Several(PLANNED)),
+    },
+)
+WAITING = Record(
+    "Waiting",
+    {
+        "step": Field(NAME),
+        "undo": Field(Flag(), "its compensation is meant"),
+        "attempt": Field(COUNT),
+        "why": Field(Text(), "what it waits for"),
+        **time("since", "since when"),
+        **time("until", "until when", nullable=True),
+        "said": Field(MAYBE, "what was raised last, or the name of the worker"),
+        "person": Field(Flag(), "a person has to report something"),
+    },
+)
+PROGRESS = Record(
+    "Progress",
+    {
+        "step": Field(NAME),
+        "fraction": Field(Number(least=0, most=1), "how far its function is"),
+        "detail": Field(MAYBE, "what the function says, for people"),
+    },
+)
+SAGA = Record(
+    "Saga",
+    {
+        "key": Field(Text()),
+        "definition": Field(NAME),
+        "phase": Field(Choice(PHASES)),
+        "over": Field(Flag(), "it is not open"),
+        **time("started", "when it was started"),
+        **time("ended", "when it ended, or got stuck", nullable=True),
+        **DEADLINE,
+        "aborted": Field(Flag()),
+        "note": Field(MAYBE, "of whoever resolved it"),
+        "labels": Field(Mapped(Text())),
+        "input": Field(Anything()),
+        "states": Field(Mapped(Choice(STATES)), "of each step"),
+        "results": Field(Mapped(Anything()), "of the steps that are in effect"),
+        "errors": Field(Mapped(Text()), "what failed steps raised last"),
+        "plan": Field(Nullable(PLAN), "the last plan; null: nothing has failed"),
+        "waits": Field(Several(WAITING), "the attempts that wait"),
+        "progress": Field(Several(PROGRESS), "of functions that run, as they reported it last"),
+    },
+)
+EVENT = Record(
+    "SagaEvent",
+    {
+        "event": Field(Text(), "`note`: what a person did"),
+        **time("at", "when"),
+        "step": Field(MAYBE),
+        "value": Field(Anything(), "what came of it"),
+    },
+)
+HISTORY = Record("History", {"events": Field(Several(EVENT))})
+CERTIFICATE = Record(
+    "Certificate",
+    {
+        "definition": Field(Text(), "in TOML"),
+        "case": Field(Mapped(Anything()), "the states that the plan found"),
+        "answer": Field(Mapped(Anything()), "the plan with its certificate"),
+    },
+    "What `sagas check` needs to verify a plan.",
+)
+WHAT_IF = Record(
+    "WhatIf",
+    {
+        "cost": Field(COST, "null: no plan is feasible, so the saga would be stuck"),
+        "plan": Field(PLAN),
+        "certificate": Field(CERTIFICATE),
+        "assumed": Field(Mapped(Choice(("committed", "failed", "undone", "undo_failed"))),
+                         "how steps that are under way were taken to end"),
+    },
+    "What would be done. Nothing is changed.",
+)  # fmt: skip
+ABORTED = Record(
+    "Aborted", {"key": Field(Text()), "aborted": Field(Flag(), "false: it is over, or was aborted")}
+)
+RESOLVED = Record("Resolved", {"key": Field(Text()), "resolved": Field(Flag())})
+DECIDED = Record(
+    "Decided", {"key": Field(Text()), "step": Field(NAME), "kept": Field(Flag(), "it is stored")}
+)
+TASK = Record(
+    "Task",
+    {
+        "name": Field(Text(), "as it was asked for: `trip/car`, or `trip/car/undo`"),
+        "attempt_id": Field(Text(), "the task's name, for heartbeats and the report"),
+        "lease": Field(Text(), "the right to report it, for heartbeats and the report"),
+        "seconds": Field(Number(least=0), "for how long the lease holds from now"),
+        **time("until", "when the lease expires"),
+        **DEADLINE,
+        "definition": Field(NAME),
+        "key": Field(Text(), "of the saga"),
+        "step": Field(NAME),
+        "undo": Field(Flag(), "its compensation is meant"),
+        "attempt": Field(COUNT, "1 for the first"),
+        "idempotency_key": Field(Text(), "for other services: the same for all attempts"),
+        "original_idempotency_key": Field(MAYBE, "in a compensation: the key of its step"),
+        "input": Field(Anything(), "of the saga"),
+        "results": Field(Mapped(Anything()), "of the steps that this one needs"),
+        "result": Field(Anything(), "in a compensation: the result to undo"),
+    },
+)
+CLAIMED = Record(
+    "Claimed",
+    {
+        "tasks": Field(Several(TASK)),
+        "heartbeat_seconds": Field(Number(least=0), "how often to send heartbeats"),
+        "repeat_statuses": Field(
+            Several(Number(400, 599, whole=True)), "repeat a request that is answered with these"
+        ),
+        "unknown_steps": Field(Several(Text()), "those that no definition has"),
+    },
+)
+HELD = Record("HeartbeatAnswer", time("until", "when the lease expires now"))
+REPORTED = Record(
+    "Reported",
+    {
+        "kept": Field(Flag(), "it is stored"),
+        "repeated": Field(Flag(), "the same report was stored before"),
+        "next": Field(Nullable(CLAIMED), "what was claimed with the report"),
+    },
+)
+QUEUE = Record(
+    "Queue",
+    {
+        "definition": Field(NAME),
+        "step": Field(NAME),
+        "undo": Field(Flag()),
+        "ready": Field(COUNT, "tasks that wait for a worker"),
+        "claimed": Field(COUNT, "tasks that workers have"),
+        **time("oldest", "since when the oldest one waits", nullable=True),
+    },
+)
+QUEUES = Record("Queues", {"queues": Field(Several(QUEUE))})
+STEP = Record(
+    "StepDefinition",
+    {
+        "name": Field(NAME),
+        "kind": Field(Choice(("worker", "approval", "wait", "function")), "who does it"),
+        "needs": Field(Several(NAME)),
+        **{word: Field(COST, "null: never") for word in ("run", "undo", "skip", "keep")},
+        "tries": Field(COUNT),
+        "undo_tries": Field(COUNT),
+    },
+)
+DEFINED = Record(
+    "Definition",
+    {
+        "name": Field(NAME),
+        "version": Field(COUNT),
+        "steps": Field(Several(STEP)),
+        "sagas": Field(Mapped(COUNT), "how many sagas there are in each phase, of all versions"),
+    },
+)
+DEFINITIONS = Record("Definitions", {"definitions": Field(Several(DEFINED))})
+ASKED = Record(
+    "AttentionEntry",
+    {
+        "kind": Field(Choice(KINDS)),
+        "key": Field(Text()),
+        "definition": Field(NAME),
+        "step": Field(Nullable(NAME), "null: the whole saga"),
+        "undo": Field(Flag(), "its compensation is meant"),
+        "detail": Field(MAYBE, "what was raised, or what cannot be read"),
+        "waits_for": Field(Text(), "what it waits for, for people"),
+        "calls": Field(
+            Several(Choice(("resolve", "retry", "complete", "fail", "abort"))),
+            "the calls that apply",
+        ),
+        **time("since", "since when"),
+        **time("until", "until when it may be decided", nullable=True),
+    },
+)
+ATTENTION = Record(
+    "Attention",
+    {
+        "counts": Field(Mapped(COUNT), "of each kind, without the other filters"),
+        "entries": Field(Several(ASKED)),
+        "next": Field(MAYBE, "`after` of the next page; null: there is none"),
+    },
+)
+REFUSED_KEY = Record("RefusedKey", {"key": Field(Text()), "problem": Field(PROBLEM)})
+BULK = Record(
+    "BulkAnswer",
+    {
+        "count": Field(COUNT, "how many the filter selects"),
+        "dry_run": Field(Flag(), "nothing was changed"),
+        "keys": Field(Several(Text()), "the first of them"),
+        "done": Field(COUNT, "how many were changed"),
+        "refused": Field(Several(REFUSED_KEY), "those that were refused, and why"),
+        "left": Field(COUNT, "how many are left for a further call"),
+    },
+)
+SCHEDULE = Record(
+    "Schedule",
+    {
+        "name": Field(Text(), "the keys of its sagas begin with it"),
+        "definition": Field(NAME),
+        "version": Field(COUNT),
+        "input": Field(Anything(), "of its sagas"),
+        "labels": Field(Mapped(Text()), "of its sagas"),
+        "cron": Field(MAYBE, "the expression; null: `every` counts"),
+        "every": Field(Nullable(SECONDS), "seconds between two times"),
+        "timezone": Field(Text(), "of the expression"),
+        "catch_up": Field(Choice(("last", "all", "skip")), "what becomes of missed times"),
+        "paused": Field(Flag(), "it starts nothing"),
+        "error": Field(MAYBE, "why its last saga could not be started"),
+        **time("next", "the next time", nullable=True),
+        **time("last", "the last time", nullable=True),
+    },
+)
+SCHEDULES = Record("Schedules", {"schedules": Field(Several(SCHEDULE))})
+SCHEDULE_CHANGED = Record(
+    "ScheduleChanged",
+    {"name": Field(Text()), "done": Field(Choice(("paused", "resumed", "removed")))},
+)
+DELIVERY = Record(
+    "Delivery",
+    {
+        "id": Field(Text(), "the header `webhook-id`: the same for all attempts"),
+        "webhook": Field(Text(), "its name"),
+        "type": Field(Text()),
+        "key": Field(Text(), "of the saga"),
+        **time("at", "when it happened"),
+        "state": Field(Choice(("pending", "delivered", "failed"))),
+        "attempts": Field(COUNT),
+        "status": Field(Nullable(COUNT), "of the last answer"),
+        "error": Field(MAYBE, "why there was no answer"),
+        **time("due", "when the next attempt is due", nullable=True),
+    },
+)
+DELIVERIES = Record("Deliveries", {"deliveries": Field(Several(DELIVERY))})
+HEALTH = Record("Health", {"alive": Field(Flag())})
+READY = Record("Ready", {"ready": Field(Flag()), "reason": Field(MAYBE)})

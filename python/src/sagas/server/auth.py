@@ -1,0 +1,337 @@
+"""Tokens with roles, and sessions of the dashboard."""
+
+from __future__ import annotations
+
+import dataclasses
+import datetime
+import enum
+import hashlib
+import hmac
+import os
+import pathlib
+import re
+import secrets
+import time
+from collections import OrderedDict
+from collections.abc import Callable, Collection, Iterable
+from typing import Any
+
+import tomllib
+
+MOST_SESSIONS = 1000
+LOOK = 1.0  # seconds between two looks at the token file
+KEYS = ("name", "roles", "sha256", "definitions", "steps", "expires")
+NAME = r"[a-z][a-z0-9_-]{0,31}"
+DEFINITION = re.compile(NAME)
+STEP = re.compile(rf"({NAME})/({NAME})(/undo)?")
+"""A definition's step, or its compensation: as workers ask for it."""
+
+
+class May(enum.Enum):
+    """What a token may be good for. A route asks for one of these."""
+
+    LOOK = "look at sagas"
+    START = "start and abort sagas"
+    APPROVE = "say how a step ended"
+    WORK = "do tasks"
+    MEASURE = "read the figures"
+    OPERATE = "resolve sagas, and say how any step ended"
+
+
+ROLES = {
+    "caller": frozenset({May.LOOK, May.START}),
+    "approver": frozenset({May.LOOK, May.APPROVE}),
+    "worker": frozenset({May.WORK}),
+    "operator": frozenset(May),
+    "metrics": frozenset({May.MEASURE}),
+}
+"""What each role may."""
+
+
+class TokenFault(Exception):
+    """The token file cannot be read. The text says where and why."""
+
+
+@dataclasses.dataclass(frozen=True, slots=True)
+class Limits:
+    """What a token is kept to. None: it is not.
+
+    `definitions`: the sagas that it sees; `steps`: those of workers that it takes tasks of;
+    `expires`: when it ends."""
+
+    definitions: frozenset[str] | None = None
+    steps: frozenset[str] | None = None
+    expires: datetime.datetime | None = None
+
+
+@dataclasses.dataclass(frozen=True, slots=True)
+class Who:
+    """Somebody with a token. An operator may do what callers, approvers and workers may, and read
+    the metrics."""
+
+    name: str
+    roles: frozenset[str]
+    digest: str = ""
+    limits: Limits = Limits()
+
+    def may(self, what: May) -> bool:
+        return any(what in ROLES[role] for role in self.roles)
+
+    @property
+    def definitions(self) -> frozenset[str] | None:
+        """The definitions that it sees; None: all."""
+        return self.limits.definitions
+
+    def sees(self, definition: str | None) -> bool:
+        """Whether sagas of this definition are its to see; what is of none is for those who see
+        all."""
+        return self.definitions is None or definition in self.definitions
+
+    def does(self, step: str) -> bool:
+        """Whether tasks of a step, `saga/step` or `saga/step/undo`, are its to take."""
+        return self.sees(step.partition("/")[0]) and (
+            self.limits.steps is None or step in self.limits.steps
+        )
+
+    @property
+    def is_over(self) -> bool:
+        """Whether its token has expired."""
+        return (
+            self.limits.expires is not None
+            and datetime.datetime.now(datetime.timezone.utc) >= self.limits.expires
+        )
+
+
+LOCAL = Who("local", frozenset(ROLES))
+"""Whoever comes over the loopback where there are no tokens."""
+
+
+NOBODY = Who("nobody", frozenset())
+"""Whoever asks for what needs no token: may do nothing else."""
+
+
+def digest_of(token: str) -> str:
+    return hashlib.sha256(token.encode(errors="replace")).hexdigest()
+
+
+def read(path: pathlib.Path) -> dict[str, Who]:
+    """The token file: tables `[[token]]`, each with `name`, `roles`, and `sha256`, the token's
+    digest. Raises `TokenFault`."""
+    try:
+        told = tomllib.loads(path.read_text(encoding="utf-8"))
+    except (OSError, UnicodeDecodeError, tomllib.TOMLDecodeError) as error:
+        raise TokenFault(f"{path}: cannot be read: {error}") from error
+    entries = told.get("token", [])
+    if set(told) - {"token"} or not isinstance(entries, list):
+        raise TokenFault(f"{path}: only [[token]] tables are allowed")
+    found: dict[str, Who] = {}
+    for place, entry in enumerate(entries, 1):
+        try:
+            who = _read_one(entry)
+        except ValueError as error:
+            raise TokenFault(f"{path}: token {place}: {error}") from None
+        found[who.digest] = who
+    return found
+
+
+def _read_one(entry: Any) -> Who:
+    """The owner of a token. Raises `ValueError`."""
+    unknown = sorted(set(entry) - set(KEYS)) if isinstance(entry, dict) else ["?"]
+    if unknown:  # a limit that is misspelt would be none
+        raise ValueError(f"unknown key {unknown[0]!r}; the keys are {', '.join(KEYS)}")
+    name, roles, digest = entry.get("name"), entry.get("roles"), entry.get("sha256")
+    if not (isinstance(name, str) and 0 < len(name) <= 64 and name.isprintable()):
+        raise ValueError("name must be a text of 1 to 64 printable characters")
+    if not (
+        isinstance(roles, list)
+        and roles
+        and all(isinstance(role, str) and role in ROLES for role in roles)
+    ):
+        raise ValueError(f"roles must be a list of one or more of {', '.join(ROLES)}")
+    if not (
+        isinstance(digest, str) and len(digest) == 64 and set(digest) <= set("0123456789abcdef")
+    ):
+        raise ValueError(
+            "sha256 must be a digest of 64 hexadecimal digits, as `sagas token` writes it"
+        )
+    limits = limits_of(roles, entry.get("definitions"), entry.get("steps"), entry.get("expires"))
+    return Who(name, frozenset(roles), digest, limits)
+
+
+def limits_of(roles: Collection[str], definitions: Any, steps: Any, expires: Any) -> Limits:
+    """What a token of these roles is kept to. Raises `ValueError`."""
+    names = _listed("definitions", definitions, DEFINITION, "names of definitions")
+    words = _listed("steps", steps, STEP, "DEFINITION/STEP or DEFINITION/STEP/undo")
+    found = Limits(names, words, _moment(expires))
+    if found.steps is not None and not {"worker", "operator"} & set(roles):
+        raise ValueError("steps requires the role worker or operator")
+    if found.definitions is not None and "metrics" in roles:
+        raise ValueError(
+            "definitions cannot restrict a token with the role metrics, "
+            "because metrics cover all definitions"
+        )
+    return found
+
+
+def _listed(word: str, given: Any, form: re.Pattern[str], what: str) -> frozenset[str] | None:
+    if given is None:
+        return None
+    if not (
+        isinstance(given, list)
+        and given
+        and all(isinstance(one, str) and form.fullmatch(one) for one in given)
+    ):
+        raise ValueError(f"{word} must be a list of one or more {what}")
+    return frozenset(given)
+
+
+def _moment(given: Any) -> datetime.datetime | None:
+    """A moment with its offset, by a TOML time or a text."""
+    if given is None:
+        return None
+    try:
+        moment = datetime.datetime.fromisoformat(given) if isinstance(given, str) else given
+    except ValueError:
+        moment = None
+    if not isinstance(moment, datetime.datetime) or moment.tzinfo is None:
+        raise ValueError("expires must be a time with an offset, for example 2027-01-01T00:00:00Z")
+    return moment
+
+
+def make(path: pathlib.Path, name: str, roles: list[str], limits: Limits = Limits()) -> str:
+    """Makes a token, and puts its digest into the file, which nobody else may read. Gives the
+    token, which is kept nowhere.
+    """
+    token = f"sagas_{secrets.token_urlsafe(32)}"
+    if path.exists():
+        read(path)
+    quoted = name.replace("\\", "\\\\").replace('"', '\\"')
+    lines = [
+        "[[token]]",
+        f'name = "{quoted}"',
+        f"roles = {_list_of(roles)}",
+        f'sha256 = "{digest_of(token)}"',
+    ]
+    for word, some in (("definitions", limits.definitions), ("steps", limits.steps)):
+        lines += [f"{word} = {_list_of(sorted(some))}"] if some is not None else []
+    lines += [f"expires = {limits.expires.isoformat()}"] if limits.expires else []
+    fd = os.open(path, os.O_WRONLY | os.O_CREAT | os.O_APPEND, 0o600)
+    with os.fdopen(fd, "w", encoding="utf-8") as file:
+        file.write("\n".join(lines) + "\n\n")
+    return token
+
+
+def _list_of(words: Iterable[str]) -> str:
+    return "[" + ", ".join(f'"{word}"' for word in words) + "]"
+
+
+class Tokens:
+    """The tokens of a file, which is read again when it changes; a file that cannot be read any
+    more leaves those that were there.
+    """
+
+    def __init__(self, path: pathlib.Path, complain: Callable[[str], None]) -> None:
+        self.path, self._complain = path, complain
+        self._looked, self._stamp = 0.0, self._stamp_now()
+        self._there = read(path)
+
+    def _stamp_now(self) -> tuple[int, int, int]:
+        try:
+            told = self.path.stat()
+        except OSError:
+            return 0, 0, 0
+        return told.st_mtime_ns, told.st_size, told.st_ino
+
+    def find(self, token: str) -> Who | None:
+        """Whose token it is. It is looked up by its digest, so that no time tells of a part of
+        it.
+        """
+        return self.of(digest_of(token))
+
+    def of(self, digest: str) -> Who | None:
+        """Whose token has this digest; None where it has expired."""
+        who = self._of(digest)
+        return None if who is None or who.is_over else who
+
+    def has_expired(self, token: str) -> bool:
+        """Whether it was a right one."""
+        who = self._of(digest_of(token))
+        return who is not None and who.is_over
+
+    def _of(self, digest: str) -> Who | None:
+        now = time.monotonic()
+        if now - self._looked > LOOK:
+            self._looked = now
+            stamp = self._stamp_now()
+            if stamp != self._stamp:
+                self._again(stamp)
+        return self._there.get(digest)
+
+    def _again(self, stamp: tuple[int, int, int]) -> None:
+        try:
+            self._there = read(self.path)
+        except TokenFault as fault:
+            self._complain(f"{fault}; the previous tokens stay valid until it is fixed")
+        self._stamp = stamp
+
+
+@dataclasses.dataclass(slots=True)
+class Session:
+    """Somebody at the page. `csrf` goes with each form."""
+
+    who: Who
+    csrf: str
+    until: float
+
+    def sent(self, csrf: str) -> bool:
+        """Whether a form is this session's own."""
+        return hmac.compare_digest(self.csrf.encode(), csrf.encode(errors="replace"))
+
+
+class Sessions:
+    """The sessions of the page, in memory: a restart ends them. The oldest gives way."""
+
+    def __init__(self, seconds: float) -> None:
+        self.seconds = seconds
+        self._there: OrderedDict[str, Session] = OrderedDict()
+
+    def begin(self, who: Who) -> tuple[str, Session]:
+        """A new session; gives the cookie's value."""
+        name = secrets.token_urlsafe(32)
+        session = self._there[digest_of(name)] = Session(
+            who, secrets.token_urlsafe(32), time.monotonic() + self.seconds
+        )
+        while len(self._there) > MOST_SESSIONS:
+            self._there.popitem(last=False)
+        return name, session
+
+    def find(self, name: str) -> Session | None:
+        """The session of a cookie."""
+        session = self._there.get(digest_of(name))
+        if session and session.until < time.monotonic():
+            self.end(name)
+            return None
+        return session
+
+    def end(self, name: str) -> None:
+        self._there.pop(digest_of(name), None)
+
+
+class Rates:
+    """How many requests each may still make: a bucket that fills at a rate, up to two seconds'
+    worth.
+    """
+
+    def __init__(self, rate: float, most: int = 10_000) -> None:
+        self.rate, self.most = rate, most
+        self._there: OrderedDict[str, tuple[float, float]] = OrderedDict()
+
+    def take(self, name: str) -> bool:
+        """Whether one more request is within the rate."""
+        now = time.monotonic()
+        left, at = self._there.pop(name, (2 * self.rate, now))
+        left = min(2 * self.rate, left + (now - at) * self.rate)
+        self._there[name] = (left - 1 if left >= 1 else left), now
+        if len(self._there) > self.most:
+            self._there.popitem(last=False)
+        return left >= 1

@@ -1,0 +1,149 @@
+"""Sessions and forms of the dashboard."""
+
+from __future__ import annotations
+
+import contextlib
+from typing import Any
+from urllib.parse import parse_qsl, urlencode
+
+from starlette.requests import Request
+from starlette.responses import HTMLResponse, RedirectResponse, Response
+
+from sagas.server import problems, renderer
+from sagas.server.access import OWNER, WHO, limited, service_of
+from sagas.server.auth import LOCAL, May, Session, Who
+from sagas.server.problems import Problem
+
+COOKIE = "sagas_session"
+
+
+def session_of(request: Request) -> Session | None:
+    """The session of an operator, with what its token says now; None where there is none."""
+    session = still_of(request)
+    if session is not None:
+        request.scope[WHO], request.scope[OWNER] = session.who.name, session.who
+        limited(request, session.who)
+    return session
+
+
+def still_of(request: Request) -> Session | None:
+    """As `session_of`, without a count of it."""
+    service = service_of(request)
+    session = service.sessions.find(request.cookies.get(COOKIE, ""))
+    if session is None:
+        return None
+    who = LOCAL if service.tokens is None else service.tokens.of(session.who.digest)
+    if who is None or not who.may(May.OPERATE):
+        return None  # its token is not in the file any more, or has expired
+    session.who = who
+    return session
+
+
+def looker(request: Request) -> Who:
+    """Who looks at a page that is not `closed`."""
+    who: Who = (
+        request.scope.get(OWNER, LOCAL)
+        if service_of(request).tokens is None
+        else request.scope[OWNER]
+    )
+    return who
+
+
+def begin(request: Request, response: Response, who: Who) -> Session:
+    """A new session, and its cookie."""
+    name, session = service_of(request).sessions.begin(who)
+    response.set_cookie(
+        COOKIE,
+        name,
+        path="/ui",
+        httponly=True,
+        samesite="lax",
+        secure=request.url.scheme == "https",
+        max_age=int(service_of(request).settings.session_time),
+    )
+    return session
+
+
+def page(
+    request: Request, template: str, session: Session | None, status: int = 200, **told: Any
+) -> HTMLResponse:
+    """A page of this template."""
+    known: dict[str, Any] = {"here": "", "tokens": service_of(request).tokens is not None}
+    return HTMLResponse(
+        renderer.sent(renderer.render(template, {**known, "session": session, **told})), status
+    )
+
+
+def login_first(request: Request) -> Response:
+    """To the login, and back."""
+    where = request.url.path + (f"?{request.url.query}" if request.url.query else "")
+    return RedirectResponse(f"/ui/login?{urlencode({'next': where})}", 303)
+
+
+def shows(request: Request, template: str, status: int = 200, **told: Any) -> Response:
+    """The page for whoever is logged in; over the loopback without tokens everybody is."""
+    session = session_of(request)
+    if session is not None:
+        return page(request, template, session, status, **told)
+    if service_of(request).tokens is not None:
+        return login_first(request)
+    response = Response()
+    session = begin(request, response, LOCAL)
+    shown_page = page(request, template, session, status, **told)
+    shown_page.headers["set-cookie"] = response.headers["set-cookie"]
+    return shown_page
+
+
+def closed(request: Request) -> Response | None:
+    """What somebody gets who has to log in first."""
+    if service_of(request).tokens is None or session_of(request) is not None:
+        return None
+    return login_first(request)
+
+
+async def form_of(request: Request) -> dict[str, str]:
+    """The words of a form. Raises `Problem`."""
+    return dict(await fields_of(request, 20))
+
+
+async def fields_of(request: Request, most: int) -> list[tuple[str, str]]:
+    """The fields of a form in their order, of which some may be there again. Raises `Problem`."""
+    kind = request.headers.get("content-type", "").partition(";")[0].strip()
+    if kind != "application/x-www-form-urlencoded":
+        raise Problem("UnsupportedMediaType", "a form is application/x-www-form-urlencoded")
+    try:
+        text = (await request.body()).decode("utf-8")
+        return parse_qsl(text, keep_blank_values=True, max_num_fields=most)
+    except ValueError:
+        raise Problem("MalformedRequest", "the form cannot be read") from None
+
+
+async def sent(request: Request) -> tuple[Session, dict[str, str]]:
+    """The session of a form, and its words. Raises as `sent_fields`."""
+    session, fields = await sent_fields(request, 20)
+    return session, dict(fields)
+
+
+async def sent_fields(request: Request, most: int) -> tuple[Session, list[tuple[str, str]]]:
+    """The session of a form, and its fields. Raises `Problem` where the form is not the session's
+    own: without a session before it is read."""
+    session = session_of(request)
+    fields = await fields_of(request, most) if session else []
+    if session is None or not session.sent(dict(fields).get("csrf", "")):
+        raise Problem(
+            "ExpiredForm",
+            "this form is not of your session any more: go back, load the page again, and send it "
+            "once more",
+        )
+    return session, fields
+
+
+def refused(request: Request, problem: Problem) -> Response:
+    """A page that says why a request was not carried out."""
+    session = None
+    with contextlib.suppress(Problem):
+        session = session_of(request)
+    told = {"title": problem.kind.title, "text": f"{problem}.", "back": "/ui"}
+    answer = page(request, "fault.html", session, problem.kind.status, **told)
+    answer.headers.update(problems.HEADERS.get(problem.kind.status, {}) | problem.headers)
+    return answer

@@ -1,0 +1,311 @@
+"""Definitions from a folder: `NAME.toml` and `NAME.service.toml`.
+
+Sagas from a folder of definitions: `NAME.toml` (docs/FORMATS.md), and beside it, where wanted,
+`NAME.service.toml`.
+
+The second says of steps what a definition has no words for:
+
+    [step.review]
+    kind = "approval"        # a person says how it ends; "wait": its time has to come; "work"
+    (where nothing is said): a worker does it
+    timeout = 86400          # of an approval: seconds after which it has failed
+    until = 3600             # of a wait: seconds from when its needs are done
+    backoff = { initial = 1, maximum = 60, multiplier = 2, jitter = 0.1 }  # between tries
+    max_unknown = 5         # after so many unknown outcomes a person has to say
+    concurrency = 4          # so many workers have it at once, at most
+    on_exhausted = "ask"     # after the last attempt: fail (the default), ask or retry
+    undo_on_exhausted = "ask"  # the same of its compensation, by default ask
+    max_attempts = 20        # of the step, where 9 are too few
+"""
+
+from __future__ import annotations
+
+import datetime
+import pathlib
+import re
+from collections.abc import Callable
+from typing import Any
+
+import tomllib
+
+from sagas.base.errors import DefinitionError
+from sagas.definition.compiled import version_of
+from sagas.definition.saga import Saga
+from sagas.definition.step import NEVER, Backoff, Cost, Step, nothing
+from sagas.definition.validation import MOST_WITHIN
+from sagas.server.toml_lines import Lines
+
+SERVICE = ".service.toml"
+Json = dict[str, Any]
+BACKOFF = {"initial", "maximum", "multiplier", "jitter"}
+STEP = {"name", "needs", "run", "undo", "skip", "keep", "tries", "undo_tries"}
+KEYS = {
+    "work": {
+        "kind",
+        "backoff",
+        "max_unknown",
+        "concurrency",
+        "on_exhausted",
+        "undo_on_exhausted",
+        "max_attempts",
+    },
+    "approval": {"kind", "timeout"},
+    "wait": {"kind", "until"},
+}
+
+
+class Fault(Exception):
+    """Something is wrong with a definition, at this path of its text; or, where `beside`, of the
+    file beside it."""
+
+    def __init__(self, text: str, *path: str | int, beside: bool = False) -> None:
+        super().__init__(text)
+        self.path, self.beside = path, beside
+
+
+class File:
+    """One of the two files of a definition, parsed, and the lines of what stands in it."""
+
+    def __init__(self, path: pathlib.Path) -> None:
+        self.path = path
+        try:
+            self.text = path.read_text(encoding="utf-8")
+        except (OSError, UnicodeDecodeError) as error:
+            raise DefinitionError(f"{path}: cannot be read: {error}") from error
+        self.told = self._parsed()
+        self._lines = Lines(self.text)
+
+    def _parsed(self) -> Json:
+        try:
+            return tomllib.loads(self.text)
+        except tomllib.TOMLDecodeError as error:
+            text, _, place = str(error).partition(" (at ")
+            line = re.match(r"line (\d+)", place)
+            number = (
+                int(line[1]) if line else self.text.count("\n") + (not self.text.endswith("\n"))
+            )
+            raise DefinitionError(f"{self.path}:{max(1, number)}: invalid TOML: {text}") from error
+
+    def at(self, *path: str | int) -> str:
+        """File and line of what has this path."""
+        return f"{self.path}:{self._lines.of(*path)}"
+
+
+def read(folder: pathlib.Path) -> list[Saga]:
+    """The sagas of a folder, by file name. Raises `DefinitionError`, which names file and line."""
+    if not folder.is_dir():
+        if folder.exists():
+            raise DefinitionError(f"{folder} is a file; pass the directory that contains it")
+        raise DefinitionError(f"directory {folder} does not exist")
+    paths = sorted(path for path in folder.glob("*.toml") if not path.name.endswith(SERVICE))
+    if not paths:
+        raise DefinitionError(f"directory {folder} has no definition NAME.toml")
+    found: dict[tuple[str, int], Saga] = {}
+    for path in paths:
+        saga = read_one(path)
+        other = found.setdefault((saga.name, saga.version), saga)
+        if other is not saga:
+            where = other.where.rpartition(":")[0]
+            remedy = f"use another name, or `# version {saga.version + 1}` as the first line"
+            raise DefinitionError(
+                f"{saga.where}: saga {saga.name!r} is already defined at {where}; {remedy}"
+            )
+    return [*found.values()]
+
+
+def read_one(path: pathlib.Path) -> Saga:
+    """The saga of a file. Raises `DefinitionError`."""
+    file = File(path)
+    place = path.with_name(path.name.removesuffix(".toml") + SERVICE)
+    beside = File(place) if place.exists() else None
+    try:
+        return _built(file, beside)
+    except Fault as fault:
+        where = beside if fault.beside and beside else file
+        raise DefinitionError(f"{where.at(*fault.path)}: {fault}") from None
+
+
+def _manners(beside: File) -> dict[str, Json]:
+    """What the second file says, by step. Raises `Fault`."""
+    told = beside.told
+    steps = told.get("step", {})
+    strange = set(told) - {"step"}
+    if strange or not isinstance(steps, dict):
+        raise Fault(
+            "only [step.NAME] tables are allowed", *sorted(strange or {"step"})[:1], beside=True
+        )
+    for name, words in steps.items():
+        _check_manner(name, words)
+    return steps
+
+
+def _check_manner(name: str, words: Any) -> None:
+    def fault(text: str, *key: str) -> Fault:
+        return Fault(f"step {name!r}: {text}", "step", name, *key, beside=True)
+
+    kind = words.get("kind", "work") if isinstance(words, dict) else None
+    if not isinstance(kind, str) or kind not in KEYS:
+        raise fault(f"kind must be one of {', '.join(KEYS)}", "kind")
+    for word in sorted(set(words) - KEYS[kind]):
+        raise fault(
+            f"{kind} has no key {word!r}; its keys are {', '.join(sorted(KEYS[kind]))}", word
+        )
+    for word in ("timeout", "until", "max_unknown"):
+        if word in words and not (is_number(words[word]) and 0 <= words[word] <= MOST_WITHIN):
+            raise fault(f"{word} must be a number from 0 to {MOST_WITHIN:,.0f}", word)
+    backoff = words.get("backoff", {})
+    if (
+        not isinstance(backoff, dict)
+        or set(backoff) - BACKOFF
+        or not all(map(is_number, backoff.values()))
+    ):
+        raise fault(
+            f"backoff must have only the keys {', '.join(sorted(BACKOFF))}, each with a number",
+            "backoff",
+        )
+    if kind == "wait" and "until" not in words:
+        raise fault("kind 'wait' requires the key until")
+
+
+def is_number(value: Any) -> bool:
+    return isinstance(value, (int, float)) and not isinstance(value, bool)
+
+
+def _built(file: File, beside: File | None) -> Saga:
+    """The saga of these files. Raises `Fault`, `DefinitionError`."""
+    told, manners = file.told, _manners(beside) if beside else {}
+    _check_keys(told)
+    try:
+        saga = Saga(told["name"], version=version_of(file.text))
+    except DefinitionError as error:
+        raise DefinitionError(f"{file.at('name')}: {_said(error)}") from None
+    saga.where = file.at("name")
+    for place, step in enumerate(told.get("step", [])):
+        _add(saga, file, beside, place, step, manners.get(step["name"], {}))
+    for name in manners:
+        if all(step.name != name for step in saga.steps):
+            raise Fault(f"no step is named {name!r}", "step", name, beside=True)
+    saga.check()
+    if _plain(told) != _plain(tomllib.loads(saga.toml())):
+        raise Fault("this service does not support the definition", "name")
+    return saga
+
+
+def _check_keys(told: Json) -> None:
+    """Raises `Fault` where a definition has other keys than there are."""
+    strange = sorted(set(told) - {"format", "name", "step"})
+    if told.get("format") not in (1, 2) or strange:
+        raise Fault(
+            "invalid definition: a definition has the keys format (1 or 2), name and step",
+            *(strange or ["format"])[:1],
+        )
+    if "name" not in told:
+        raise Fault("invalid definition: it has no name")
+    steps = told.get("step", [])
+    if not isinstance(steps, list) or not all(isinstance(step, dict) for step in steps):
+        raise Fault("invalid definition: each step is a table [[step]]", "step")
+    for place, step in enumerate(steps):
+        for word in sorted(set(step) - STEP):
+            known = ", ".join(sorted(STEP))
+            raise Fault(
+                f"invalid definition: step {step.get('name', place + 1)!r} has no key {word!r}; "
+                f"its keys are {known}",
+                "step",
+                place,
+                word,
+            )
+        if not isinstance(step.get("name"), str):
+            raise Fault(f"invalid definition: step {place + 1} has no name", "step", place, "name")
+
+
+def _add(saga: Saga, file: File, beside: File | None, place: int, step: Json, manner: Json) -> None:
+    """One more step. Raises `Fault`, or `DefinitionError` with the line of the step, or of its key
+    that is named."""
+    kind = manner.get("kind", "work")
+    for word in sorted({"approval": {"run", "keep"}, "wait": {"run"}}.get(kind, set()) & set(step)):
+        raise Fault(
+            f"step {step['name']!r}: an approval cannot have run or keep, a wait cannot have run",
+            "step",
+            place,
+            word,
+        )
+    build: dict[str, Callable[[Saga, Json, Json], None]] = {
+        "work": _work,
+        "approval": _approval,
+        "wait": _wait,
+    }
+    try:
+        build[kind](saga, step, manner)
+    except DefinitionError as error:
+        text = _said(error)
+        named = re.search(r": (\w+)[=(]", text)
+        key = named[1].lower() if named else "name"
+        if key in manner and beside:
+            raise DefinitionError(f"{beside.at('step', step['name'], key)}: {text}") from None
+        raise DefinitionError(f"{file.at('step', place, key)}: {text}") from None
+    saga.steps[-1].where = file.at("step", place)
+
+
+def _said(error: DefinitionError) -> str:
+    """What is wrong, without the line of this module by which it was met."""
+    return "saga " + str(error).partition(": saga ")[2]
+
+
+def _cost_of(step: Json, word: str) -> Cost:
+    value = step.get(word, 0)
+    return NEVER if value == "never" else value
+
+
+def _work(saga: Saga, step: Json, manner: Json) -> None:
+    backoff = Backoff(**manner.get("backoff", {}))
+    made: Step[Any] = saga.step(
+        external=True, name=step["name"], needs=step.get("needs", ()), run=_cost_of(step, "run"),
+        undo=_cost_of(step, "undo"), skip=_cost_of(step, "skip"),
+        keep=_cost_of(step, "keep"), tries=step.get("tries", 1), backoff=backoff,
+        concurrency=manner.get("concurrency"), on_exhausted=manner.get("on_exhausted", "fail"),
+        max_attempts=manner.get("max_attempts"),
+    )  # fmt: skip
+    if made._costs["undo"] is not NEVER:
+        exhausted = manner.get("undo_on_exhausted", "ask")
+        tries = step.get("undo_tries", 1)
+        made.compensation(external=True, tries=tries, backoff=backoff, on_exhausted=exhausted)
+    made.run.max_unknown = made.undo.max_unknown = manner.get("max_unknown")
+
+
+def _approval(saga: Saga, step: Json, manner: Json) -> None:
+    timeout = datetime.timedelta(seconds=manner["timeout"]) if "timeout" in manner else None
+    saga.approval(
+        name=step["name"],
+        needs=step.get("needs", ()),
+        undo=_cost_of(step, "undo"),
+        skip=_cost_of(step, "skip"),
+        timeout=timeout,
+        tries=step.get("tries", 1),
+    )(nothing)
+
+
+def _wait(saga: Saga, step: Json, manner: Json) -> None:
+    saga.wait(
+        name=step["name"], needs=step.get("needs", ()),
+        until=datetime.timedelta(seconds=manner["until"]), undo=_cost_of(step, "undo"),
+        skip=_cost_of(step, "skip"), keep=_cost_of(step, "keep"), tries=step.get("tries", 1),
+    )(nothing)  # fmt: skip
+
+
+def _plain(told: Json) -> list[Any]:
+    """A definition without its spelling."""
+    found: list[Any] = [told["name"]]
+    for step in told.get("step", ()):
+        costs = [step.get(word, 0) for word in ("run", "undo", "skip", "keep")]
+        undo_tries = step.get("undo_tries", 1) if costs[1] != "never" else 1
+        found.append(
+            [
+                step["name"],
+                [*step.get("needs", ())],
+                *costs,
+                step.get("tries", 1),
+                undo_tries,
+                sorted(set(step) - {"undo_tries", "tries", "needs", "run", "undo", "skip", "keep"}),
+            ]
+        )
+    return found

@@ -1,0 +1,30 @@
+"""Durations of the latest attempts, by step, as this service saw them."""
+
+from __future__ import annotations
+
+import math
+from collections import OrderedDict, deque
+
+KEPT, MOST_STEPS = 500, 5000
+Step = tuple[str, str, bool]
+"""A saga's name, a step's, and whether its compensation is meant."""
+
+
+class Durations:
+    """The latest of each step."""
+
+    def __init__(self) -> None:
+        self._there: OrderedDict[Step, deque[float]] = OrderedDict()
+
+    def add(self, step: Step, seconds: float) -> None:
+        """An attempt is over."""
+        if step not in self._there and len(self._there) >= MOST_STEPS:
+            self._there.popitem(last=False)
+        self._there.setdefault(step, deque(maxlen=KEPT)).append(seconds)
+
+    def of(self, step: Step) -> tuple[int, float, float] | None:
+        """How many there are, their median and their 95th percentile; None: there are none."""
+        some = sorted(self._there.get(step, ()))
+        if not some:
+            return None
+        return len(some), some[(len(some) - 1) // 2], some[math.ceil(0.95 * len(some)) - 1]

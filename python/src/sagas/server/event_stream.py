@@ -1,0 +1,152 @@
+"""Server-sent events, with a bounded queue for each listener."""
+
+from __future__ import annotations
+
+import asyncio
+import contextlib
+import dataclasses
+import json
+import secrets
+import time
+from collections import deque
+from collections.abc import AsyncIterator, Callable
+
+from sagas.base.events import Event
+
+KEPT = 2000
+MOST_WAITING = 1000
+QUIET = 15.0  # seconds after which a comment shows that the stream is open
+CHECK = 2.0  # seconds between two looks whether its token still counts
+
+
+@dataclasses.dataclass(eq=False, slots=True)
+class Listener:
+    """One stream, of sagas that its maker `sees`. It is `lost` where it did not read what it was
+    sent."""
+
+    key: str | None
+    saga: str | None
+    sees: Callable[[str | None], bool]
+    queue: deque[tuple[int, str]] = dataclasses.field(default_factory=deque)
+    awake: asyncio.Event = dataclasses.field(default_factory=asyncio.Event)
+    lost: bool = False
+
+    def wants(self, event: Event) -> bool:
+        asked = (self.key is None or event.key == self.key) and (
+            self.saga is None or event.saga == self.saga
+        )
+        return asked and self.sees(event.saga)
+
+
+class Hub:
+    """Numbers events from the program's start on; a stream that was interrupted goes on behind
+    the last one that it saw, if that is still kept.
+    """
+
+    def __init__(self) -> None:
+        self.boot = secrets.token_hex(4)
+        self.count = 0
+        self.closed = False
+        self._kept: deque[tuple[int, Event]] = deque(maxlen=KEPT)
+        self._listeners: dict[Listener, None] = {}
+
+    @property
+    def listeners(self) -> int:
+        return len(self._listeners)
+
+    @property
+    def now(self) -> str:
+        """The id of the last event: a stream that goes on behind it has all that happens from
+        now on.
+        """
+        return f"{self.boot}-{self.count}"
+
+    def publish(self, event: Event) -> None:
+        """Sends it to whoever wants it."""
+        self.count += 1
+        self._kept.append((self.count, event))
+        text: str | None = None
+        for listener in list(self._listeners):
+            if not listener.wants(event):
+                continue
+            text = text or written(event)
+            if len(listener.queue) >= MOST_WAITING:
+                listener.lost = True
+                self._listeners.pop(listener, None)
+            else:
+                listener.queue.append((self.count, text))
+            listener.awake.set()
+
+    def missed(self) -> None:
+        """Events of other services may be lost: each listener is told, and its stream ends."""
+        self._kept.clear()
+        for listener in list(self._listeners):
+            listener.lost = True
+            self._listeners.pop(listener, None)
+            listener.awake.set()
+
+    def close(self) -> None:
+        """Ends all streams."""
+        self.closed = True
+        for listener in self._listeners:
+            listener.awake.set()
+
+    def behind(self, last: str | None) -> tuple[list[tuple[int, Event]], bool]:
+        """The events behind an id, and whether some of them are not kept any more."""
+        if last is None:
+            return [], False
+        boot, _, number = last.partition("-")
+        if (
+            boot != self.boot
+            or not number.isdigit()
+            or len(number) > 15
+            or int(number) > self.count
+        ):
+            return [], True
+        first = self._kept[0][0] if self._kept else self.count + 1
+        return [(count, event) for count, event in self._kept if count > int(number)], int(
+            number
+        ) + 1 < first
+
+    async def stream(
+        self, listener: Listener, last: str | None, still: Callable[[], bool]
+    ) -> AsyncIterator[str]:
+        """Server-sent events. One named `missed` says that some were lost: look at the sagas
+        themselves. It ends once it is not `still` to be."""
+        self._listeners[listener] = None
+        told = time.monotonic()
+        try:
+            events, missed = self.behind(last)
+            yield (
+                "retry: 2000\nid: "
+                f"{self.boot}-{self.count if missed or last is None else last.partition('-')[2]}\n"
+            )
+            yield "event: missed\ndata: {}\n\n" if missed else ": open\n\n"
+            for count, event in events:
+                if listener.wants(event):
+                    yield f"id: {self.boot}-{count}\n{written(event)}"
+            while not self.closed:
+                while listener.queue and still():
+                    count, text = listener.queue.popleft()
+                    yield f"id: {self.boot}-{count}\n{text}"
+                    told = time.monotonic()
+                if listener.lost:
+                    yield "event: missed\ndata: {}\n\n"
+                    return
+                listener.awake.clear()
+                with contextlib.suppress(TimeoutError):
+                    async with asyncio.timeout(CHECK):
+                        await listener.awake.wait()
+                if not still():
+                    return
+                if time.monotonic() >= told + QUIET:
+                    yield ": \n\n"
+                    told = time.monotonic()
+        finally:
+            self._listeners.pop(listener, None)
+
+
+def written(event: Event) -> str:
+    """An event as a stream has it, without its id."""
+    told = {name: value for name, value in dataclasses.asdict(event).items() if value is not None}
+    return f"event: {event.name}\ndata: {json.dumps(told)}\n\n"

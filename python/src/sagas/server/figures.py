@@ -1,0 +1,91 @@
+"""Cached counts of sagas by name and phase, and of what needs an operator."""
+
+from __future__ import annotations
+
+import asyncio
+import dataclasses
+import functools
+import time
+from collections.abc import Awaitable, Callable
+
+from sagas.inspection import lists
+from sagas.inspection.question import Question
+from sagas.server.event_stream import Hub
+
+Definitions = frozenset[str] | None
+"""The definitions of which sagas are counted; None: all."""
+Counts = tuple[dict[str, dict[str, int]], dict[str, int]]
+"""How many sagas there are by name and phase, and what waits for a person."""
+MOST_KEPT = 100
+"""Lists of definitions of which the figures are kept."""
+
+
+@dataclasses.dataclass(frozen=True, slots=True)
+class Counted:
+    """Figures, until when they hold (of `time.monotonic`), and how many events the hub had had
+    before them.
+    """
+
+    found: Counts
+    until: float
+    seen: int
+
+
+class Figures:
+    """The figures by definitions. They are counted again at most each second, and less often where
+    that takes long.
+    """
+
+    def __init__(self, hub: Hub, ask: Callable[[Question[Counts]], Awaitable[Counts]]) -> None:
+        self._hub, self._ask = hub, ask
+        self._kept: dict[Definitions, Counted] = {}
+        self._counting: dict[Definitions, asyncio.Task[Counted]] = {}
+
+    async def of(self, some: Definitions) -> Counts:
+        """The figures of the sagas of these definitions."""
+        counted = self._kept.get(some)
+        if counted is None or time.monotonic() > counted.until:
+            counting = self._counting.get(some)
+            if counting is None:
+                counting = asyncio.get_running_loop().create_task(self._count(some))
+                self._counting[some] = counting
+                counting.add_done_callback(functools.partial(self._counted, some))
+            counted = await asyncio.shield(counting)
+        return counted.found
+
+    async def _count(self, some: Definitions) -> Counted:
+        began, seen = time.monotonic(), self._hub.count
+
+        def question() -> Question[Counts]:
+            counts = yield from lists.counts()
+            by_name = {name: of for name, of in counts.items() if some is None or name in some}
+            return by_name, (yield from lists.asked(some))
+
+        found = await self._ask(question())
+        now = time.monotonic()
+        if len(self._kept) >= MOST_KEPT:
+            self._kept.clear()
+        counted = Counted(found, now + max(1.0, 20 * (now - began)), seen)
+        self._kept[some] = counted
+        return counted
+
+    def _counted(self, some: Definitions, task: asyncio.Task[Counted]) -> None:
+        self._counting.pop(some, None)
+
+    def lag(self, some: Definitions) -> float | None:
+        """Seconds until these figures are counted anew, where something has happened since they
+        were counted; else None.
+        """
+        counted = self._kept.get(some)
+        if counted is None or counted.seen == self._hub.count:
+            return None
+        return max(0.0, counted.until - time.monotonic())
+
+    def forget(self) -> None:
+        """Somebody changed something by hand, and looks at once."""
+        self._kept.clear()
+
+    async def rest(self) -> None:
+        """Waits until nothing is counted."""
+        if self._counting:
+            await asyncio.wait([*self._counting.values()])

@@ -1,0 +1,71 @@
+"""Log lines as JSON or text."""
+
+from __future__ import annotations
+
+import json
+import logging
+import time
+from typing import Any, TextIO
+
+
+class Lines(logging.Formatter):
+    """A JSON object a line: time, level, logger, message, and the fields that this package
+    tells.
+    """
+
+    def format(self, record: logging.LogRecord) -> str:
+        at = time.strftime("%Y-%m-%dT%H:%M:%S", time.gmtime(record.created))
+        told = {
+            "at": f"{at}.{int(record.msecs):03}Z",
+            "level": record.levelname.lower(),
+            "logger": record.name,
+            "message": record.getMessage(),
+        }
+        fields = getattr(record, "sagas", None)
+        if isinstance(fields, dict):
+            told |= {
+                name: value for name, value in fields.items() if name not in told and name != "at"
+            }
+        if record.exc_info:
+            told["trace"] = self.formatException(record.exc_info)
+        return json.dumps(told, default=str)
+
+
+def escaped(text: str) -> str:
+    """A text in one line: what is not printable, as a control character of a path, by its
+    number."""
+    return (
+        text
+        if text.isprintable()
+        else "".join(one if one.isprintable() else ascii(one)[1:-1] for one in text)
+    )
+
+
+class Text(logging.Formatter):
+    """A line for people; its time is in UTC. No message makes a line of its own, and the lines of a
+    traceback are set in."""
+
+    converter = time.gmtime
+    default_msec_format = "%s.%03dZ"
+
+    def formatMessage(self, record: logging.LogRecord) -> str:
+        record.message = escaped(record.message)
+        return super().formatMessage(record)
+
+    def formatException(self, *words: Any) -> str:
+        return "\n".join(
+            f"    {escaped(line)}" for line in super().formatException(*words).split("\n")
+        )
+
+
+def begin(form: str, level: str, stream: TextIO) -> None:
+    """Sends all that is logged to a stream."""
+    handler = logging.StreamHandler(stream)
+    handler.setFormatter(
+        Lines() if form == "json" else Text("%(asctime)s %(levelname)s %(name)s: %(message)s")
+    )
+    root = logging.getLogger()
+    root.handlers[:] = [handler]
+    root.setLevel(level.upper())
+    logging.getLogger("asyncio").setLevel(logging.WARNING)
+    logging.getLogger("uvicorn").setLevel(logging.ERROR)  # it warns of each request that is no HTTP

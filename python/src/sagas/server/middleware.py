@@ -1,0 +1,300 @@
+"""Limits and headers of every request: path, size, time, origin.
+
+What each request passes: its path, its size and its time, where it comes from, and the headers
+that every answer has.
+"""
+
+from __future__ import annotations
+
+import asyncio
+import functools
+import logging
+import re
+import time
+from collections.abc import Awaitable, Callable, MutableMapping
+from typing import TYPE_CHECKING, Any
+from urllib.parse import unquote_to_bytes, urlsplit
+
+from sagas.server import problems
+from sagas.server.connections import Connection, Connections
+from sagas.server.problems import Problem
+from sagas.server.settings import Network, is_address, is_among, is_loopback
+
+if TYPE_CHECKING:
+    from sagas.server.service import Service
+
+Scope = MutableMapping[str, Any]
+Message = MutableMapping[str, Any]
+Receive = Callable[[], Awaitable[Message]]
+Send = Callable[[Message], Awaitable[None]]
+App = Callable[[Scope, Receive, Send], Awaitable[None]]
+
+SLASH = "\ue02f"
+"""Stands for a slash within a part of a path; it is not printable, so that no key has it."""
+SERVICE = "sagas.service"
+"""In a scope: the `Service`."""
+GONE = "sagas.gone"
+"""In a scope: a future that is done once the client is gone."""
+CONTENT = (
+    "default-src 'none'; style-src 'self'; script-src 'self'; img-src 'self'; connect-src 'self'; "
+    "form-action 'self'; frame-ancestors 'none'; base-uri 'none'"
+)
+HEADERS = [
+    (b"content-security-policy", CONTENT.encode()),
+    (b"x-content-type-options", b"nosniff"),
+    (
+        b"referrer-policy",
+        b"same-origin",
+    ),  # with none, a browser would send its own forms without an origin
+    (b"x-frame-options", b"DENY"),
+    (b"cross-origin-opener-policy", b"same-origin"),
+    (b"cross-origin-resource-policy", b"same-origin"),
+    (b"cache-control", b"no-store"),
+]
+"""Where an answer has no other of the name."""
+logger = logging.getLogger("sagas.http")
+
+
+TOKEN = re.compile(rb"[!#$%&'*+.^_`|~0-9A-Za-z-]+")
+"""What a header's name may be."""
+ONCE = (b"host", b"content-length", b"transfer-encoding", b"authorization")
+"""Headers of which a request has one at most: of two, whoever stands before this service may have
+read the other."""
+LOGIN = "/ui/login"
+MOST_LOGIN = 4096
+"""Bytes of the one form that needs no session."""
+
+
+class Refusal(Exception):
+    """The body is too long or too slow, and that is answered: whatever the application says of
+    it is not.
+    """
+
+
+def check_headers(scope: Scope) -> None:
+    """Raises `ValueError` where somebody else may read the request's head otherwise."""
+    names = [name.lower() for name, _ in scope["headers"]]
+    if not all(TOKEN.fullmatch(name) for name in names) or any(
+        names.count(name) > 1 for name in ONCE
+    ):
+        raise ValueError("headers")
+    if b"content-length" in names and b"transfer-encoding" in names:
+        raise ValueError("two lengths")
+    if b"host" not in names and scope.get("http_version") == "1.1":
+        raise ValueError("no host")
+
+
+def forwarded(scope: Scope, trusted: tuple[Network, ...]) -> None:
+    """Where a trusted proxy hands the request on: its client is the last one that is no such proxy,
+    and its scheme as the proxy says."""
+    client = scope.get("client")
+    if not client or not is_among(client[0], trusted):
+        return
+    told = [
+        value.decode("latin-1") for name, value in scope["headers"] if name == b"x-forwarded-for"
+    ]
+    for host in reversed([one.strip() for one in ",".join(told).split(",")]):
+        if not is_address(host):
+            break
+        scope["client"] = host, 0
+        if not is_among(host, trusted):
+            break
+    scheme = headers(scope).get(b"x-forwarded-proto", "").strip().lower()
+    if scheme in ("http", "https"):
+        scope["scheme"] = scheme
+
+
+def headers(scope: Scope) -> dict[bytes, str]:
+    """The headers' values; of one that is there more than once, the first."""
+    return {name: value.decode("latin-1") for name, value in reversed(scope["headers"])}
+
+
+@functools.lru_cache(16)  # few: a header may be long
+def names_loopback(host: str) -> bool:
+    """Whether a header `Host` names this machine's loopback. Raises `ValueError`."""
+    return is_loopback(urlsplit(f"//{host}").hostname or "")
+
+
+def parted(raw: bytes) -> str | None:
+    """A path whose parts are decoded each by itself; None where one is no UTF-8."""
+    try:
+        if b"%" not in raw:
+            return raw.decode("utf-8")
+        parts = [unquote_to_bytes(part).decode("utf-8") for part in raw.split(b"/")]
+    except UnicodeDecodeError:
+        return None
+    return "/".join(part.replace("/", SLASH) for part in parts)
+
+
+class Guard:
+    """The outermost of the application."""
+
+    def __init__(self, app: App, service: Service, connections: Connections | None) -> None:
+        self.app, self.service, self.settings = app, service, service.settings
+        self._connections = connections
+
+    async def __call__(self, scope: Scope, receive: Receive, send: Send) -> None:
+        if scope["type"] != "http":
+            await self.app(scope, receive, send)
+            return
+        scope[SERVICE] = self.service
+        connection = self._connections.of(scope.get("client")) if self._connections else None
+        if connection and connection.transport.is_closing():  # what followed its head was no HTTP
+            connection.leave()
+        scope[GONE] = connection.gone if connection else asyncio.get_running_loop().create_future()
+        await Passage(self, scope, receive, send, connection).run()
+
+    def refusal(self, scope: Scope) -> Problem | None:
+        """Why a request is not even looked at. Raises `ValueError` where its head cannot be
+        read."""
+        check_headers(scope)
+        forwarded(scope, self.settings.trusted_proxies)
+        path = parted(scope.get("raw_path") or scope["path"].encode())
+        if path is None:
+            return Problem("MalformedRequest", "a part of the path is no UTF-8")
+        scope["path"] = path
+        told = headers(scope)
+        host = told.get(b"host", "")
+        if self.settings.tokens is None and not names_loopback(host):
+            return Problem(
+                "UnknownHost", "without a token file only the loopback's own names are answered to"
+            )
+        if scope["method"] not in ("GET", "HEAD", "OPTIONS"):
+            origin, site = told.get(b"origin"), told.get(b"sec-fetch-site")
+            if site in ("cross-site", "same-site") or (
+                origin is not None and urlsplit(origin).netloc != host
+            ):
+                return Problem("CrossOrigin", "another page's request changes nothing here")
+        length, most = told.get(b"content-length"), self.most(scope)
+        if length is not None and (not length.isdigit() or len(length) > 12 or int(length) > most):
+            return too_large(most)
+        return None
+
+    def most(self, scope: Scope) -> int:
+        """Bytes that the body may have."""
+        return (
+            min(MOST_LOGIN, self.settings.most_body)
+            if scope["path"] == LOGIN
+            else self.settings.most_body
+        )
+
+
+def too_large(most: int) -> Problem:
+    """A body has more bytes than it may have."""
+    return Problem("BodyTooLarge", f"a body has at most {most} bytes")
+
+
+def has_body(scope: Scope) -> bool:
+    """Whether a body may follow the head."""
+    told = headers(scope)
+    return told.get(b"content-length", "0") != "0" or b"transfer-encoding" in told
+
+
+class Passage:
+    """One request on its way."""
+
+    def __init__(
+        self, guard: Guard, scope: Scope, receive: Receive, send: Send, by: Connection | None
+    ) -> None:
+        self.guard, self.settings, self.scope = guard, guard.settings, scope
+        self._receive, self._send, self._connection = receive, send, by
+        self._size, self._refused = 0, False
+        self._whole = self._is_read = not has_body(scope)
+        self.status, self.began = 0, time.monotonic()
+        self._until = asyncio.get_running_loop().time() + self.settings.body_time
+
+    async def run(self) -> None:
+        if self._connection:
+            self._connection.starts(self._whole)
+        refusal = self._refusal()
+        try:
+            if refusal:
+                await self._refuse(refusal)
+            else:
+                await self._through()
+            if self.scope[GONE].done() and not self.status:
+                await self._lost()
+        finally:
+            if self._connection:
+                self._connection.ends()
+            self.guard.service.request(self.scope, self.status, time.monotonic() - self.began)
+
+    async def _lost(self) -> None:
+        """Until the connection is lost: before, uvicorn takes the end of a request without an
+        answer for a fault, and answers itself."""
+        while (await self._receive())["type"] != "http.disconnect":
+            pass
+
+    def _refusal(self) -> Problem | None:
+        try:
+            return self.guard.refusal(self.scope)
+        except ValueError:
+            return Problem(
+                "MalformedRequest", "a header of the request cannot be read, or is there twice"
+            )
+
+    async def _through(self) -> None:
+        try:
+            await self.guard.app(self.scope, self.receive, self.send)
+        except Exception:
+            if self._refused:
+                return
+            logger.exception("a request failed", extra={"sagas": {"path": self.scope["path"]}})
+            if not self.status:
+                await self._refuse(
+                    Problem("InternalError", "this is a fault of the service; its log says more")
+                )
+
+    async def receive(self) -> Message:
+        """The next part of the body, all of it in one time and within its size; then that the
+        client is gone."""
+        if self._is_read:
+            return await self._receive()
+        message = await self._in_time()
+        if message["type"] == "http.request":
+            self._size += len(message.get("body", b""))
+            self._is_read = not message.get("more_body", False)
+            if self._size > (most := self.guard.most(self.scope)):
+                await self._refuse(too_large(most))
+                raise Refusal
+            if self._is_read and self._connection:
+                self._connection.is_whole()
+        return message
+
+    async def _in_time(self) -> Message:
+        """The next part of a body that is still to come: however many there are, they have one time
+        together."""
+        try:
+            async with asyncio.timeout_at(self._until):
+                return await self._receive()
+        except TimeoutError:
+            await self._refuse(Problem("RequestTimeout", "the body did not come in time"))
+            raise Refusal from None
+
+    async def send(self, message: Message) -> None:
+        """Sends what the application answers."""
+        if not self._refused and not self.scope[GONE].done():
+            await self._say(message)
+
+    async def _say(self, message: Message) -> None:
+        """Sends, with the headers that every answer has."""
+        if message["type"] == "http.response.start":
+            self.status = message["status"]
+            there = {name.lower() for name, _ in message["headers"]}
+            message["headers"] = [
+                *message["headers"],
+                *(pair for pair in HEADERS if pair[0] not in there),
+            ]
+            if self.guard.service.is_stopping and b"connection" not in there:
+                message["headers"].append((b"connection", b"close"))
+        await self._send(message)
+
+    async def _refuse(self, problem: Problem) -> None:
+        if self.status or self.scope[GONE].done():
+            return
+        answer = problems.response(problem)
+        answer.headers["connection"] = "close"
+        self._refused = True
+        head = {"status": answer.status_code, "headers": answer.raw_headers}
+        await self._say({"type": "http.response.start", **head})
+        await self._say({"type": "http.response.body", "body": answer.body})

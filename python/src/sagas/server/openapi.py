@@ -1,0 +1,214 @@
+"""The OpenAPI document of the API, made of its operations.
+
+`python3 -m sagas.server.openapi` prints it; the repository has it as `openapi.json` beside this
+module, and the service serves that file.
+"""
+
+from __future__ import annotations
+
+import functools
+import hashlib
+import json
+import pathlib
+import re
+from collections.abc import Iterable
+from typing import Any
+
+from starlette.responses import Response
+
+from sagas.server import answers
+from sagas.server.auth import ROLES, May
+from sagas.server.operations import Answer, Call, Operation, Routes
+from sagas.server.problems import MEDIA_TYPE, PREFIX, PROBLEMS
+from sagas.server.responses import has_tag
+from sagas.server.shapes import Record, records
+
+PATH = pathlib.Path(__file__).resolve().parent / "openapi.json"
+TITLE, VERSION = "sagas", "1"
+TAGS = {
+    "sagas": "Start sagas, wait for them, and decide approvals.",
+    "workers": "Claim tasks and report them.",
+    "operators": "What needs a person, deeds on many sagas, health and metrics.",
+    "definitions": "The definitions that the service has.",
+}
+ALWAYS = ("MalformedRequest", "NotFound", "TooManyRequests", "InternalError")
+"""Problems that any call may have."""
+WITH_TOKEN = ("Unauthorized", "Forbidden", "Closed", "StoreUnavailable")
+WITH_BODY = (
+    "InvalidJson",
+    "RequestTimeout",
+    "BodyTooLarge",
+    "UnsupportedMediaType",
+    "InvalidRequest",
+    "CrossOrigin",
+)
+routes = Routes("definitions")
+
+
+@routes.get(
+    "/openapi.json",
+    "getOpenApi",
+    answers={200: Answer("The document.", media_type="application/json")},
+)
+async def openapi(call: Call) -> Response:
+    """Get this document."""
+    text, tag = _file()
+    if has_tag(call.request.headers.get("if-none-match", ""), tag):
+        return Response(status_code=304, headers={"etag": tag})
+    headers = {"etag": tag, "cache-control": "no-cache"}
+    return Response(text, media_type="application/json", headers=headers)
+
+
+@functools.cache
+def _file() -> tuple[bytes, str]:
+    text = PATH.read_bytes()
+    return text, f'"{hashlib.sha256(text).hexdigest()[:32]}"'
+
+
+def problems_of(operation: Operation) -> dict[int, list[str]]:
+    """The problems of an operation by their statuses."""
+    names = [*ALWAYS, *operation.problems]
+    names += WITH_TOKEN if operation.may else ()
+    names += WITH_BODY if operation.body else ("InvalidRequest",) if operation.query else ()
+    found: dict[int, list[str]] = {}
+    for name in sorted(set(names)):
+        found.setdefault(PROBLEMS[name].status, []).append(name)
+    return dict(sorted(found.items()))
+
+
+def answer_of(answer: Answer) -> dict[str, Any]:
+    """An answer as the document has it."""
+    told: dict[str, Any] = {"description": answer.told}
+    if answer.headers:
+        told["headers"] = {
+            name: {"description": text, "schema": {"type": "string"}}
+            for name, text in answer.headers.items()
+        }
+    content: dict[str, Any] = {"schema": answer.shape.schema() if answer.shape else {}}
+    if answer.media_type not in ("application/json", "image/svg+xml"):
+        content = {"schema": {"type": "string"}}
+    if answer.example is not None:
+        content["examples"] = {"example": {"value": answer.example}}
+    told["content"] = {answer.media_type: content}
+    return told
+
+
+def title_of(names: list[str]) -> str:
+    """The name of an answer with one of some problems."""
+    return ".".join(names)
+
+
+def problem_of(status: int, names: list[str]) -> dict[str, Any]:
+    """The problems of one status."""
+    first = names[0]
+    example = {
+        "type": PREFIX + first,
+        "title": PROBLEMS[first].title,
+        "status": status,
+        "detail": "what happened, and what to do",
+    }
+    return {
+        "description": "; ".join(f"`{name}`: {PROBLEMS[name].title}" for name in names),
+        "content": {
+            MEDIA_TYPE: {
+                "schema": answers.PROBLEM.schema(),
+                "examples": {first: {"value": example}},
+            }
+        },
+    }
+
+
+def parameters_of(operation: Operation) -> list[dict[str, Any]]:
+    """The parameters of an operation, those of its path first."""
+    found: list[dict[str, Any]] = [
+        {"name": name, "in": "path", "required": True, "schema": {"type": "string"},
+         "example": {"key": "order-1", "step": "car"}.get(name, "a1-car-run-1")}
+        for name in re.findall(r"{(\w+)}", operation.path)
+    ]  # fmt: skip
+    for name, field in operation.query.items():
+        schema = dict(field.schema())
+        told = {"name": name, "in": "query", "description": schema.pop("description", "")}
+        found.append({**told, "required": field.is_required, "schema": schema})
+    return found
+
+
+def operation_of(operation: Operation) -> dict[str, Any]:
+    """An operation as the document has it."""
+    summary, more = operation.told
+    told: dict[str, Any] = {"operationId": operation.name, "tags": [operation.tag]}
+    told["summary"] = summary
+    if more:
+        told["description"] = more
+    if operation.may:
+        roles = [role for role, may in ROLES.items() if operation.may in may]
+        told["x-roles"] = roles
+        told["security"] = [{"token": []}]
+    else:
+        told["security"] = []
+    if parameters := parameters_of(operation):
+        told["parameters"] = parameters
+    if operation.body:
+        content: dict[str, Any] = {"schema": operation.body.schema()}
+        if operation.body.example is not None:
+            content["examples"] = {"example": {"value": operation.body.example}}
+        told["requestBody"] = {
+            "required": not operation.body.is_optional,
+            "content": {"application/json": content},
+        }
+    found = {str(status): answer_of(one) for status, one in operation.answers.items()}
+    for status, names in problems_of(operation).items():
+        found.setdefault(str(status), {"$ref": f"#/components/responses/{title_of(names)}"})
+    if any(answer.headers.get("ETag") for answer in operation.answers.values()):
+        found["304"] = {"description": "Nothing has changed since `If-None-Match`."}
+    told["responses"] = dict(sorted(found.items()))
+    return told
+
+
+def document(operations: Iterable[Operation]) -> dict[str, Any]:
+    """The document."""
+    paths: dict[str, Any] = {}
+    found: dict[str, Record] = {answers.PROBLEM.name: answers.PROBLEM}
+    shared: dict[str, Any] = {}
+    for one in operations:
+        paths.setdefault(one.path, {})[one.method.lower()] = operation_of(one)
+        for shape in [one.body, *(answer.shape for answer in one.answers.values())]:
+            found |= records(shape) if shape else {}
+        for status, names in problems_of(one).items():
+            shared[title_of(names)] = problem_of(status, names)
+    return {
+        "openapi": "3.1.0",
+        "info": {
+            "title": TITLE,
+            "version": VERSION,
+            "summary": "Start sagas, claim tasks, and see what needs a person.",
+            "description": "Times are seconds since 1970, and RFC 3339 in the field beside.",
+            "license": {"name": "Apache-2.0", "identifier": "Apache-2.0"},
+        },
+        "jsonSchemaDialect": "https://json-schema.org/draft/2020-12/schema",
+        "servers": [{"url": "/"}],
+        "tags": [{"name": name, "description": told} for name, told in TAGS.items()],
+        "security": [{"token": []}],
+        "paths": dict(sorted(paths.items())),
+        "components": {
+            "schemas": {name: one.whole() for name, one in sorted(found.items())},
+            "responses": dict(sorted(shared.items())),
+            "securitySchemes": {
+                "token": {
+                    "type": "http",
+                    "scheme": "bearer",
+                    "description": "`sagas token` makes one. Without a token file there is none.",
+                }
+            },
+        },
+    }
+
+
+def text() -> str:
+    """The file's text."""
+    from sagas.server.app import operations
+
+    return json.dumps(document(operations()), indent=1, ensure_ascii=False) + "\n"
+
+
+if __name__ == "__main__":
+    print(text(), end="")

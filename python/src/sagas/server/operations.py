@@ -1,0 +1,275 @@
+"""Operations of the API: what each takes and answers, and how a request becomes a call."""
+
+from __future__ import annotations
+
+import dataclasses
+import json
+import logging
+from collections.abc import Awaitable, Callable, Mapping
+from typing import Any
+
+from starlette.requests import Request
+from starlette.responses import Response
+from starlette.routing import Route
+
+from sagas.base.errors import SagasError
+from sagas.definition.validation import meant
+from sagas.server import problems
+from sagas.server.access import admit, service_of, unslashed
+from sagas.server.auth import NOBODY, May, Who
+from sagas.server.middleware import Receive, Scope, Send
+from sagas.server.problems import Problem
+from sagas.server.service import Service
+from sagas.server.shapes import (
+    MOST_SHOWN,
+    REQUIRED,
+    Field,
+    Invalid,
+    Record,
+    Several,
+    Shape,
+    Text,
+    read_fields,
+)
+
+logger = logging.getLogger("sagas.server")
+
+
+@dataclasses.dataclass(frozen=True, slots=True)
+class Call:
+    """A request that was let in and read: who makes it, and the values of its parts."""
+
+    request: Request
+    who: Who
+    path: Mapping[str, Any]
+    query: Mapping[str, Any]
+    body: Any
+
+    @property
+    def service(self) -> Service:
+        """The service that is asked."""
+        return service_of(self.request)
+
+    @property
+    def key(self) -> str:
+        """The key of the saga that the path names."""
+        key: str = self.path["key"]
+        return key
+
+
+Handler = Callable[[Call], Awaitable[Response]]
+Refuse = Callable[[Request, Problem], Response]
+
+
+@dataclasses.dataclass(frozen=True)
+class Answer:
+    """An answer of an operation: JSON of a shape, or another media type."""
+
+    told: str
+    shape: Shape | None = None
+    media_type: str = "application/json"
+    example: Any = None
+    headers: Mapping[str, str] = dataclasses.field(default_factory=dict)
+
+
+@dataclasses.dataclass(frozen=True)
+class Operation:
+    """One method of one path.
+
+    `problems`: the names of those that are its own, beside those that any operation has. `may`:
+    what the token has to allow; None: it needs none."""
+
+    method: str
+    path: str
+    name: str
+    tag: str
+    handler: Handler
+    may: May | None = None
+    parts: Mapping[str, Shape] = dataclasses.field(default_factory=dict)
+    query: Mapping[str, Field] = dataclasses.field(default_factory=dict)
+    body: Record | None = None
+    answers: Mapping[int, Answer] = dataclasses.field(default_factory=dict)
+    problems: tuple[str, ...] = ()
+    streams: bool = False
+
+    @property
+    def told(self) -> tuple[str, str]:
+        """Its summary and its description."""
+        summary, _, more = (self.handler.__doc__ or "").partition("\n\n")
+        return " ".join(summary.split()).rstrip("."), " ".join(more.split())
+
+    async def call(self, request: Request, who: Who, is_open: bool) -> Call:
+        """What a request asks. Raises `Problem`."""
+        path = {name: unslashed(text) for name, text in request.path_params.items()}
+        try:
+            for name, shape in self.parts.items():
+                path[name] = shape.of_text(path[name], name)
+        except Invalid:
+            raise not_found() from None
+        query = read_query(self.query, request, is_open)
+        body = None if self.body is None else await read_body(self.body, request)
+        return Call(request, who, path, query, body)
+
+
+KEY = Text(most=512, least=1)
+
+
+def not_found() -> Problem:
+    """There is no such path."""
+    return Problem("NotFound", "there is no such path: /openapi.json lists all")
+
+
+def read_query(fields: Mapping[str, Field], request: Request, is_open: bool) -> dict[str, Any]:
+    """The parameters of a query. `is_open`: of a page, which passes over others. Raises
+    `Problem`."""
+    found = {name: field.default for name, field in fields.items()}
+    seen: set[str] = set()
+    try:
+        for name, text in request.query_params.multi_items():
+            shape = fields[name].shape if name in fields else None
+            if isinstance(shape, Several):
+                some = [*(found[name] or ()), shape.of.of_text(text, name)]
+                found[name] = shape.read(some, name)
+            elif name in fields and name not in seen and (text or not is_open):
+                found[name] = fields[name].shape.of_text(text, name)
+            elif name in seen:
+                raise Invalid(name, "it is there twice")
+            elif name not in fields and not is_open:
+                shown = name[:MOST_SHOWN]
+                raise Invalid(shown, f"there is no such parameter{meant(shown, [*fields])}")
+            seen.add(name)
+        for name, value in found.items():
+            if value is REQUIRED:
+                raise Invalid(name, "it is missing")
+    except Invalid as error:
+        raise invalid(error) from None
+    return found
+
+
+async def read_body(shape: Record, request: Request) -> dict[str, Any]:
+    """The body as its shape has it. Raises `Problem`."""
+    sent = request.headers.get("content-type", "").partition(";")[0].strip().lower()
+    is_empty = shape.is_optional and not sent
+    if not is_empty and sent != "application/json" and not sent.endswith("+json"):
+        shown = repr(sent[:MOST_SHOWN]) if sent else "without a Content-Type"
+        raise Problem(
+            "UnsupportedMediaType",
+            f"the body was sent as {shown}: send it with Content-Type: application/json",
+            headers={"Accept": "application/json"},
+        )
+    text = await request.body()
+    if is_empty and not text:
+        return read_fields(shape.fields, {}, "")
+    try:
+        value = json.loads(text, parse_constant=_no_constant)
+    except (ValueError, RecursionError) as error:
+        where = f" at line {error.lineno}" if isinstance(error, json.JSONDecodeError) else ""
+        raise Problem("InvalidJson", f"the body is not JSON{where}: send an object") from None
+    try:
+        return shape.read(value, "")
+    except Invalid as error:
+        raise invalid(error) from None
+
+
+def _no_constant(text: str) -> None:
+    raise ValueError(text)
+
+
+def invalid(error: Invalid) -> Problem:
+    """A part of the request that does not fit its shape."""
+    return Problem("InvalidRequest", f"{error.field or 'the body'}: {error}", error.field or None)
+
+
+class Resource:
+    """The operations of one path. An ASGI application.
+
+    `refuse`: how a problem is answered; `is_page`: whether it is the dashboard's."""
+
+    def __init__(self, path: str, is_page: bool, refuse: Refuse) -> None:
+        self.path, self._is_page, self._refuse = path, is_page, refuse
+        self.operations: dict[str, Operation] = {}
+
+    @property
+    def allowed(self) -> str:
+        """The header `Allow`."""
+        names = {*self.operations} | ({"HEAD"} if "GET" in self.operations else set())
+        return ", ".join(sorted(names))
+
+    async def __call__(self, scope: Scope, receive: Receive, send: Send) -> None:
+        request = Request(scope, receive)
+        answer = await self._answer(request)
+        if scope["method"] == "HEAD":
+            answer = headers_of(answer)
+        await answer(scope, receive, send)
+
+    async def _answer(self, request: Request) -> Response:
+        try:
+            return await self._carried_out(request)
+        except Problem as problem:
+            return self._refuse(request, problem)
+        except SagasError as error:
+            return self._refuse(request, problems.of(error))
+
+    async def _carried_out(self, request: Request) -> Response:
+        """The answer. Whoever may not is refused before a byte of the body is read. Raises
+        `Problem`, and errors of the package."""
+        method = request.method
+        operation = self.operations.get("GET" if method == "HEAD" else method)
+        if operation is None:
+            raise Problem(
+                "MethodNotAllowed", f"this path has {self.allowed}", headers={"Allow": self.allowed}
+            )
+        who = NOBODY if operation.may is None else admit(request, operation.may)
+        call = await operation.call(request, who, self._is_page)
+        if method == "HEAD" and operation.streams:
+            return Response(media_type="text/event-stream")
+        return await operation.handler(call)
+
+
+def headers_of(answer: Response) -> Response:
+    """An answer without its body."""
+    head = Response(status_code=answer.status_code)
+    head.raw_headers = answer.raw_headers
+    return head
+
+
+class Routes:
+    """Operations with a common beginning of their paths, declared by decorators."""
+
+    def __init__(self, tag: str, prefix: str = "", is_page: bool = False) -> None:
+        self.tag, self.prefix, self.is_page = tag, prefix, is_page
+        self.operations: list[Operation] = []
+
+    def get(self, path: str, name: str = "", **words: Any) -> Callable[[Handler], Handler]:
+        """Declare what `GET` does."""
+        return self._declare("GET", path, name, words)
+
+    def post(self, path: str, name: str = "", **words: Any) -> Callable[[Handler], Handler]:
+        """Declare what `POST` does."""
+        return self._declare("POST", path, name, words)
+
+    def delete(self, path: str, name: str = "", **words: Any) -> Callable[[Handler], Handler]:
+        """Declare what `DELETE` does."""
+        return self._declare("DELETE", path, name, words)
+
+    def _declare(
+        self, method: str, path: str, name: str, words: dict[str, Any]
+    ) -> Callable[[Handler], Handler]:
+        def declare(handler: Handler) -> Handler:
+            self.operations.append(
+                Operation(method, self.prefix + path, name, self.tag, handler, **words)
+            )
+            return handler
+
+        return declare
+
+
+def resources(some: list[Routes], refuse: Refuse, refuse_page: Refuse) -> list[Route]:
+    """The routes of a router: one for each path."""
+    found: dict[str, Resource] = {}
+    for routes in some:
+        for one in routes.operations:
+            shown = refuse_page if routes.is_page else refuse
+            resource = found.setdefault(one.path, Resource(one.path, routes.is_page, shown))
+            resource.operations[one.method] = one
+    return [Route(path, resource) for path, resource in found.items()]

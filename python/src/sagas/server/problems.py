@@ -1,0 +1,121 @@
+"""Errors of the service as problem details (RFC 9457)."""
+
+from __future__ import annotations
+
+import dataclasses
+from typing import Any
+
+from sagas.base.errors import SagasError
+from sagas.server.responses import Json
+
+PREFIX = "urn:sagas:problem:"
+"""Before the name of a problem: its `type`, which never changes."""
+MEDIA_TYPE = "application/problem+json"
+MOST_DETAIL = 1000
+
+
+@dataclasses.dataclass(frozen=True, slots=True)
+class Kind:
+    """A problem's status, its title, and whether the same request is worth repeating."""
+
+    status: int
+    title: str
+    repeat: bool = False
+
+
+PROBLEMS = {
+    "MalformedRequest": Kind(400, "The request cannot be read"),
+    "InvalidJson": Kind(400, "The body is not JSON"),
+    "Unauthorized": Kind(401, "The token is missing, unknown or expired"),
+    "Forbidden": Kind(403, "The token does not allow this"),
+    "CrossOrigin": Kind(403, "A page of another site sent the request"),
+    "UnknownHost": Kind(403, "Without a token file only the loopback is answered"),
+    "InvalidLease": Kind(403, "The lease was not issued to this worker for this task"),
+    "ExpiredForm": Kind(403, "The form is not of this session"),
+    "NoSession": Kind(403, "There is no session of the dashboard"),
+    "NotFound": Kind(404, "The path does not exist"),
+    "NoSuchSaga": Kind(404, "No saga has this key"),
+    "NoSuchTask": Kind(404, "No task has this attempt id"),
+    "NoSuchSchedule": Kind(404, "No schedule has this name"),
+    "NoSuchDefinition": Kind(404, "The service has no such definition"),
+    "NoPlan": Kind(404, "The saga has no plan"),
+    "MethodNotAllowed": Kind(405, "The path does not have this method"),
+    "RequestTimeout": Kind(408, "The body did not arrive in time", repeat=True),
+    "KeyConflict": Kind(409, "The key has another saga or input"),
+    "StepNotWaiting": Kind(409, "Nobody has to report this"),
+    "ConflictingReport": Kind(409, "Another outcome was reported first"),
+    "LeaseLost": Kind(409, "The lease is not the newest"),
+    "SagaOver": Kind(409, "The saga is over"),
+    "CountChanged": Kind(409, "The filter selects another number of sagas"),
+    "BodyTooLarge": Kind(413, "The body exceeds the limit"),
+    "UnsupportedMediaType": Kind(415, "The body has another media type"),
+    "InvalidRequest": Kind(422, "The request does not fit the schema"),
+    "InvalidKey": Kind(422, "The key cannot be stored"),
+    "InvalidLabel": Kind(422, "A label is not valid"),
+    "InvalidInput": Kind(422, "The input does not fit the first steps"),
+    "NotSerializable": Kind(422, "A value cannot be stored as JSON"),
+    "TooLarge": Kind(422, "The saga does not fit into a shard"),
+    "TooManyRequests": Kind(429, "Too many requests", repeat=True),
+    "InternalError": Kind(500, "The service has a fault", repeat=True),
+    "TooManyStreams": Kind(503, "There are too many event streams", repeat=True),
+    "Stopping": Kind(503, "The service is about to stop", repeat=True),
+    "Closed": Kind(503, "The store is closed", repeat=True),
+    "RightsChanged": Kind(503, "The rights of the token changed meanwhile", repeat=True),
+    "OwnerUnavailable": Kind(503, "The node that drives the saga does not answer", repeat=True),
+    "StoreUnavailable": Kind(503, "The store cannot be read or written", repeat=True),
+}
+"""By their names. Those of the package's exceptions are theirs."""
+RENAMED = {"DefinitionError": "NoSuchDefinition"}
+REPEAT = sorted({kind.status for kind in PROBLEMS.values() if kind.repeat} | {502, 504})
+"""Statuses of requests that are worth repeating; two of them are of proxies alone."""
+HEADERS = {
+    401: {"WWW-Authenticate": "Bearer"},
+    429: {"Retry-After": "1"},
+    503: {"Retry-After": "1"},
+}
+
+
+class Problem(Exception):
+    """The request is not carried out: one of `PROBLEMS`, and what to do.
+
+    Attributes:
+        name: One of `PROBLEMS`.
+        field: The parameter, or the place in the body, that is not valid.
+        headers: Headers of the answer.
+    """
+
+    def __init__(
+        self, name: str, text: str, field: str | None = None, headers: dict[str, str] | None = None
+    ) -> None:
+        super().__init__(text)
+        self.name, self.field, self.headers = name, field, headers or {}
+
+    @property
+    def kind(self) -> Kind:
+        """Its status and title."""
+        return PROBLEMS[self.name]
+
+
+def of(error: SagasError) -> Problem:
+    """An error of the package: by its own name, or the nearest that there is."""
+    names = (RENAMED.get(kind.__name__, kind.__name__) for kind in type(error).__mro__)
+    name = next((name for name in names if name in PROBLEMS), "InternalError")
+    return Problem(name, str(error))
+
+
+def body(problem: Problem) -> dict[str, Any]:
+    """What is answered of a problem."""
+    told: dict[str, Any] = {
+        "type": PREFIX + problem.name,
+        "title": problem.kind.title,
+        "status": problem.kind.status,
+        "detail": str(problem)[:MOST_DETAIL],
+    }
+    return told if problem.field is None else {**told, "field": problem.field}
+
+
+def response(problem: Problem) -> Json:
+    """The answer. Where the service cannot now, it says when to ask again."""
+    status = problem.kind.status
+    headers = {**HEADERS.get(status, {}), **problem.headers}
+    return Json(body(problem), status, headers, media_type=MEDIA_TYPE)

@@ -1,0 +1,75 @@
+"""Templates and static files.
+
+The templates and the files of the page. Whatever a template is told is escaped, but for pictures,
+which escape by themselves.
+"""
+
+from __future__ import annotations
+
+import hashlib
+import pathlib
+import time
+from typing import Any
+from urllib.parse import quote
+
+from jinja2 import Environment, FileSystemLoader
+
+from sagas.inspection import wording
+
+HERE = pathlib.Path(__file__).resolve().parent
+KINDS = {
+    ".css": "text/css; charset=utf-8",
+    ".js": "text/javascript; charset=utf-8",
+    ".svg": "image/svg+xml",
+}
+
+
+def _environment() -> Environment:
+    found = Environment(
+        loader=FileSystemLoader(HERE / "templates"),
+        autoescape=True,
+        trim_blocks=True,
+        lstrip_blocks=True,
+    )
+    found.filters.update(
+        ago=lambda at: wording.ago(time.time() - at),
+        iso=wording.iso,
+        clock=wording.clock,
+        precise=lambda at: wording.iso(at).replace("T", " ").removesuffix("Z"),
+        span=wording.span,
+        short=wording.short,
+        pretty=wording.pretty,
+        phase=lambda phase: wording.PHASES[phase],
+        event=lambda event: wording.EVENTS.get(event, event),
+        tone=lambda event: wording.TONES.get(event, ""),
+        act=lambda what: wording.ACTS.get(what, what),
+        cost=lambda cost: "never" if cost is None else f"{cost:,}",
+        count=lambda number: f"{number:,}",
+        path=lambda key: quote(key, safe=""),
+    )
+    return found
+
+
+def _static() -> dict[str, tuple[str, bytes, str]]:
+    found = {}
+    for path in (HERE / "static").iterdir():
+        data = path.read_bytes()
+        found[path.name] = KINDS[path.suffix], data, f'"{hashlib.sha256(data).hexdigest()[:16]}"'
+    return found
+
+
+ENVIRONMENT = _environment()
+STATIC = _static()
+"""Kind, bytes and tag of each file, by name."""
+
+
+def render(template: str, told: dict[str, Any]) -> str:
+    """A page."""
+    return ENVIRONMENT.get_template(template).render(told)
+
+
+def sent(text: str) -> bytes:
+    """A page or a picture as it is sent; JSON may hold halves of pairs of characters, which are
+    shown by their numbers.
+    """
+    return text.encode("utf-8", "backslashreplace")

@@ -1,0 +1,50 @@
+"""JSON answers, entity tags and times."""
+
+from __future__ import annotations
+
+import datetime
+import hashlib
+import json
+from typing import Any
+
+from starlette.requests import Request
+from starlette.responses import Response
+
+
+class Json(Response):
+    """A line of JSON in plain ASCII, so that no text of a store can break it."""
+
+    media_type = "application/json"
+
+    def render(self, content: Any) -> bytes:
+        return json.dumps(content, allow_nan=False, separators=(",", ":")).encode() + b"\n"
+
+
+def tagged(request: Request, content: Any) -> Response:
+    """JSON with an entity tag; 304 where the client has it already."""
+    answer = Json(content)
+    tag = f'"{hashlib.sha256(bytes(answer.body)).hexdigest()[:32]}"'
+    headers = {"etag": tag, "cache-control": "private, no-cache"}
+    if has_tag(request.headers.get("if-none-match", ""), tag):
+        return Response(status_code=304, headers=headers)
+    answer.headers.update(headers)
+    return answer
+
+
+def has_tag(told: str, tag: str) -> bool:
+    """Whether a header `If-None-Match` names a tag; weak or not is one for a GET."""
+    return any(one.strip().removeprefix("W/") in (tag, "*") for one in told.split(","))
+
+
+def text_of(at: float) -> str:
+    """A time as RFC 3339 has it, in UTC and with milliseconds."""
+    found = datetime.datetime.fromtimestamp(at, datetime.timezone.utc)
+    return found.isoformat(timespec="milliseconds").replace("+00:00", "Z")
+
+
+def times(**some: float | None) -> dict[str, Any]:
+    """Each time in seconds since 1970, and beside it as text: `started` and `started_at`."""
+    told: dict[str, Any] = {}
+    for name, at in some.items():
+        told[name], told[f"{name}_at"] = at, None if at is None else text_of(at)
+    return told

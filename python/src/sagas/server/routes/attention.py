@@ -1,0 +1,81 @@
+"""Routes of what requires an operator."""
+
+from __future__ import annotations
+
+from starlette.responses import Response
+
+from sagas.inspection import attention_pages
+from sagas.inspection.attention_pages import Entry, Place
+from sagas.inspection.question import Question
+from sagas.server import answers, json_views
+from sagas.server.auth import May
+from sagas.server.operations import Answer, Call, Routes
+from sagas.server.responses import Json
+from sagas.server.routes import filters
+from sagas.server.shapes import Choice, Field, Text
+from sagas.storage.filters import Filter
+
+routes = Routes("operators", "/v1")
+KINDS = attention_pages.KINDS
+KIND = "|".join(KINDS)
+
+
+def place_of(cursor: str | None) -> tuple[str | None, Place]:
+    """The kind and the place in a cursor."""
+    if cursor is None:
+        return None, None
+    kind, id, step = cursor.split(".")
+    return kind, (min(int(id), 2**62), int(step))
+
+
+def pages(
+    kinds: list[str], of: Filter, step: str | None, after: Place, newest: bool, limit: int
+) -> Question[list[Entry]]:
+    """A page over several kinds, one behind the other."""
+    found: list[Entry] = []
+    for kind in kinds:
+        left = limit - len(found)
+        more = yield from attention_pages.entries(
+            kind, of, step, after=after, newest=newest, most=left
+        )
+        found, after = found + more, None
+        if len(found) >= limit:
+            break
+    return found
+
+
+@routes.get(
+    "/attention", "listAttention", may=May.LOOK,
+    query=filters.SAGAS | filters.MORE | {
+        "kind": Field(Choice(KINDS), "of this kind", default=None),
+        "step": Field(Text(most=32), "of this step", default=None),
+        "order": Field(Choice(("oldest", "newest")), "which are first, of each kind",
+            default="oldest"),
+        "after": Field(Text(most=60, pattern=rf"({KIND})\.[0-9]{{1,20}}\.-?[0-9]{{1,4}}"),
+            "`next` of the page before", default=None),
+        "limit": filters.LIMIT,
+    },
+    answers={200: Answer("A page.", answers.ATTENTION)},
+)  # fmt: skip
+async def listed(call: Call) -> Response:
+    """List what needs a person.
+
+    Stuck sagas, compensations that failed for good, attempts of which nobody knows the outcome or
+    whose stored values cannot be read, and approvals: one kind behind the other."""
+    query = call.query
+    kind, after = place_of(query["after"])
+    kinds = [query["kind"]] if query["kind"] else list(KINDS)
+    left = kinds[kinds.index(kind) :] if kind in kinds else kinds
+    of, limit = filters.of(call.who, query), query["limit"]
+    found = await call.service.look(
+        pages(left, of, query["step"], after, query["order"] == "newest", limit)
+    )
+    _, counts = await call.service.figures.of(call.who.definitions)
+    last = found[-1] if len(found) == limit else None
+    return Json(
+        {
+            "counts": counts,
+            "entries": [json_views.entry(one) for one in found],
+            "next": last and f"{last.kind}.{last.id}.{last.place}",
+        }
+    )

@@ -1,0 +1,55 @@
+"""Routes of definitions."""
+
+from __future__ import annotations
+
+from typing import Any
+
+from starlette.responses import Response
+
+from sagas.definition.saga import Saga
+from sagas.definition.step import NEVER, Step
+from sagas.inspection.lists import COUNTED
+from sagas.server import answers
+from sagas.server.auth import May
+from sagas.server.operations import Answer, Call, Routes
+from sagas.server.responses import Json
+
+routes = Routes("definitions", "/v1")
+KINDS = {"approval": "approval", "wait": "wait"}
+COSTS = ("run", "undo", "skip", "keep")
+
+
+def told_of(saga: Saga, counts: dict[str, int]) -> dict[str, Any]:
+    """A definition with its steps."""
+    steps = [step_of(step) for step in saga.steps]
+    return {"name": saga.name, "version": saga.version, "steps": steps, "sagas": counts}
+
+
+def step_of(step: Step[Any]) -> dict[str, Any]:
+    """A step with its costs."""
+    costs = {word: step.cost(word) for word in COSTS}
+    kind = KINDS.get(step.kind) or ("worker" if step.run.external else "function")
+    return {
+        "name": step.name,
+        "kind": kind,
+        "needs": step.needs,
+        **{word: None if cost == NEVER else cost for word, cost in costs.items()},
+        "tries": step.run.tries,
+        "undo_tries": step.undo.tries,
+    }
+
+
+@routes.get(
+    "/definitions", "listDefinitions", may=May.LOOK,
+    answers={200: Answer("Each version of each definition.", answers.DEFINITIONS)},
+)  # fmt: skip
+async def listed(call: Call) -> Response:
+    """List definitions.
+
+    Those that the token may see, with their steps and how many sagas there are."""
+    counts, _ = await call.service.figures.of(call.who.definitions)
+    none = dict.fromkeys(COUNTED, 0)
+    some = [saga for saga in call.service.settings.sagas if call.who.sees(saga.name)]
+    some.sort(key=lambda saga: (saga.name, saga.version))
+    found = [told_of(saga, counts.get(saga.name, none)) for saga in some]
+    return Json({"definitions": found})

@@ -1,0 +1,73 @@
+"""Parameters that select sagas."""
+
+from __future__ import annotations
+
+import datetime
+from collections.abc import Iterable, Mapping
+from typing import Any
+
+from sagas.definition.labels import checked
+from sagas.server.access import check_definition
+from sagas.server.auth import Who
+from sagas.server.shapes import Field, Invalid, Mapped, Number, Schema, Several, Shape, Text
+from sagas.storage.filters import Filter
+
+LIMIT = Field(Number(1, 1000, whole=True), "how many at most", default=100)
+CURSOR = Text(most=20, pattern="[0-9]+")
+
+
+class Moment(Shape):
+    """A time: RFC 3339, or seconds since 1970."""
+
+    def read(self, value: Any, field: str) -> float:
+        if isinstance(value, (int, float)) and not isinstance(value, bool):
+            return Number(0, 1e11).read(value, field)
+        try:
+            found = datetime.datetime.fromisoformat(str(value))
+        except ValueError:
+            raise Invalid(field, "it is a time, as 2027-01-31T12:00:00Z") from None
+        if found.tzinfo is None:
+            raise Invalid(field, "it has an offset, as 2027-01-31T12:00:00Z")
+        return found.timestamp()
+
+    def of_text(self, text: str, field: str) -> float:
+        try:
+            return self.read(float(text), field)
+        except ValueError:
+            return self.read(text.replace(" ", "+"), field)  # a + that was not escaped
+
+    def schema(self) -> Schema:
+        return {"oneOf": [{"type": "string", "format": "date-time"}, {"type": "number"}]}
+
+
+LABEL = Text(most=400, pattern="[^=]+=.*")
+MORE = {"label": Field(Several(LABEL, most=16), "with this label, as `customer=7`", default=None)}
+"""Of a query; a body has `labels` as an object."""
+LABELS = {"labels": Field(Mapped(Text()), "with these labels", default=None)}
+SAGAS: dict[str, Field] = {
+    "definition": Field(Text(most=64), "of this definition", default=None),
+    "search": Field(Text(most=512), "whose key contains this", default=None),
+    "started_after": Field(Moment(), "started then or later", default=None),
+    "started_before": Field(Moment(), "started earlier", default=None),
+    "error": Field(Text(most=512), "of which an attempt raised what contains this", default=None),
+}
+
+
+def of(who: Who, told: Mapping[str, Any], phase: str | None = None) -> Filter:
+    """The filter, of sagas that are theirs to see. Raises `Problem`."""
+    check_definition(who, told["definition"])
+    words = {name: told[name] for name in ("search", "started_after", "started_before", "error")}
+    labels = checked(told.get("labels") or labels_of(told.get("label") or ()))
+    return Filter(
+        phase=phase, saga=told["definition"], labels=labels, sagas=who.definitions, **words
+    )
+
+
+def labels_of(told: Iterable[str]) -> dict[str, str]:
+    """Labels as a query has them, each `name=value`."""
+    return dict(one.partition("=")[::2] for one in told)
+
+
+def id_of(cursor: str | None) -> int | None:
+    """The id in a cursor; one that is too large is behind all."""
+    return None if cursor is None else min(int(cursor), 2**62)

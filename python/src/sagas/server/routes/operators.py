@@ -1,0 +1,83 @@
+"""Routes of operators: metrics, health, resolve, queues."""
+
+from __future__ import annotations
+
+from starlette.responses import Response
+
+from sagas.server import answers, json_views
+from sagas.server.auth import May
+from sagas.server.metrics import TYPE
+from sagas.server.operations import Answer, Call, Routes
+from sagas.server.problems import Problem
+from sagas.server.responses import Json
+from sagas.server.shapes import Field, Record, Text
+
+routes = Routes("operators")
+NOTE = Field(Text(most=2000, least=1, strip=True), "what was done; stored with who and when")
+RESOLVE = Record("ResolveRequest", {"note": NOTE}, example={"note": "bought one by hand"})
+
+
+@routes.get("/health/live", "isLive", answers={200: Answer("It lives.", answers.HEALTH)})
+async def live(call: Call) -> Response:
+    """Whether it lives.
+
+    200 as long as its loop turns: a supervisor restarts it where this is not answered."""
+    return Json({"alive": True})
+
+
+@routes.get(
+    "/health/ready", "isReady",
+    answers={200: Answer("It takes requests.", answers.READY),
+             503: Answer("It takes none, with the reason.", answers.READY)},
+)  # fmt: skip
+async def ready(call: Call) -> Response:
+    """Whether it takes requests.
+
+    503 where the store cannot be written, or it is about to stop: a proxy asks another one."""
+    reason = call.service.ready()
+    return Json({"ready": reason is None, "reason": reason}, 200 if reason is None else 503)
+
+
+@routes.get(
+    "/metrics", "getMetrics", may=May.MEASURE,
+    answers={200: Answer("Prometheus's text format.", media_type="text/plain")},
+)  # fmt: skip
+async def metrics(call: Call) -> Response:
+    """Get figures for Prometheus.
+
+    Of all definitions: a token that is kept to some has none."""
+    if call.who.definitions is not None:
+        raise Problem(
+            "Forbidden",
+            f"{call.who.name} is kept to some definitions, and figures are of all: "
+            "take a token of the role metrics",
+        )
+    return Response(await call.service.metrics.text(), media_type=TYPE)
+
+
+@routes.post(
+    "/v1/sagas/{key}/resolve", "resolveSaga", may=May.OPERATE, body=RESOLVE,
+    answers={200: Answer("It is resolved.", answers.RESOLVED)},
+    problems=("NoSuchSaga", "StepNotWaiting"),
+)  # fmt: skip
+async def resolve(call: Call) -> Response:
+    """Mark a saga as resolved.
+
+    One that is stuck, or of which a compensation failed for good."""
+    await call.service.check_sees(call.who, call.key)
+    await call.service.store.resolve(call.key, call.body["note"], by=call.who.name)
+    call.service.figures.forget()
+    return Json({"key": call.key, "resolved": True})
+
+
+@routes.get(
+    "/v1/queues", "listQueues", may=May.WORK,
+    answers={200: Answer("By step, over all nodes.", answers.QUEUES)},
+)  # fmt: skip
+async def queues(call: Call) -> Response:
+    """List what waits for workers.
+
+    How many tasks are ready, since when the oldest, and how many are taken; of the steps that the
+    token may claim."""
+    found = await call.service.queues(call.who)
+    return Json({"queues": [json_views.queue(one) for one in found]})

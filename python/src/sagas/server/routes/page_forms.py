@@ -1,0 +1,272 @@
+"""Forms of the dashboard by which operators act on sagas.
+
+The forms of the dashboard by which a person does something to a saga. Each deed is asked again,
+and written down.
+"""
+
+from __future__ import annotations
+
+import contextlib
+import functools
+import json
+from typing import Any
+
+from starlette.requests import Request
+from starlette.responses import RedirectResponse, Response
+
+from sagas.base.errors import NoSuchSaga, SagasError
+from sagas.inspection import what_if
+from sagas.server.access import service_of
+from sagas.server.auth import Who
+from sagas.server.dashboard_session import closed, looker, sent, shows
+from sagas.server.operations import Call, Routes
+from sagas.server.routes import schedules
+from sagas.server.routes.pages import address_of
+from sagas.server.routes.sagas import kept_of
+from sagas.server.shapes import Choice, Field, Flag
+
+routes = Routes("pages", is_page=True)
+OUTCOME = Choice(("done", "failed", "retry"))
+UNDO = {"undo": Field(Flag(), default=False)}
+ABORT = {
+    "title": "Abort this saga?", "verb": "Abort it", "danger": True, "note_title": "Why (a note)",
+    "text": (
+        "No step of it begins any more. What is done is undone or kept, whichever costs least by "
+        "its definition's costs. This cannot be taken back."
+    ),
+}  # fmt: skip
+FAULTS = {
+    "json": "The result is not valid JSON. Write a text in quotation marks, or choose “a text”.",
+    "number": "The result is no number.",
+    "yes": "The result is yes or no.",
+}
+RESOLVE = {
+    "title": "Mark it as resolved?", "verb": "Mark as resolved",
+    "note_title": "What was done about it (a note)", "note_needed": True,
+    "text": (
+        "Nothing runs by this: it says that a person has set right what the saga could not, and "
+        "takes it off the list."
+    ),
+}  # fmt: skip
+
+
+def asked(
+    request: Request, key: str, words: dict[str, Any], status: int = 200, **more: Any
+) -> Response:
+    """Asks once more."""
+    return shows(
+        request,
+        "confirm.html",
+        status,
+        here="sagas",
+        key=key,
+        base=address_of(key),
+        **words,
+        **more,
+    )
+
+
+async def is_approval(request: Request, key: str, step: str, undo: bool) -> bool:
+    """Whether a step waits to be approved."""
+    with contextlib.suppress(NoSuchSaga):
+        view = await kept_of(service_of(request), looker(request), key)
+        return any((one.step, one.undo, one.why) == (step, undo, "approval") for one in view.held)
+    return False
+
+
+def step_words(step: str, outcome: str, undo: bool, approval: bool) -> dict[str, Any]:
+    """The question for a step's end."""
+    which = f"undoing {step}" if undo else step
+    if outcome == "retry":
+        return {
+            "title": f"Attempt {which} again?", "verb": "Attempt it again",
+            "note_title": "What was set right (a note)",
+            "text": "It is called at once, with the same idempotency key.",
+        }  # fmt: skip
+    if approval and outcome == "done":
+        return {
+            "title": f"Approve {step}?", "verb": "Approve", "note_title": "A note",
+            "asks_result": True,
+            "text": "The saga goes on. Steps that need this one are handed its result.",
+        }  # fmt: skip
+    if approval:
+        return {
+            "title": f"Refuse {step}?", "verb": "Refuse", "danger": True, "note_title": "A note",
+            "asks_why": True,
+            "text": (
+                "The step has failed for good, and the saga is planned anew: what costs least is "
+                "undone. This cannot be taken back."
+            ),
+        }  # fmt: skip
+    if outcome == "done":
+        return {
+            "title": f"Say that {which} is done?", "verb": "It is done", "note_title": "A note",
+            "asks_result": not undo,
+            "text": (
+                "The saga goes on with it. Say so only where its effect is there: it is taken as "
+                "true."
+            ),
+        }  # fmt: skip
+    return {
+        "title": f"Say that {which} had no effect?", "verb": "It had no effect", "danger": True,
+        "note_title": "A note", "asks_why": True,
+        "text": (
+            "The step has failed for good, and the saga is planned anew. Say so only where its "
+            "effect is not there: nothing will undo one that is."
+        ),
+    }  # fmt: skip
+
+
+@routes.get("/ui/sagas/{key}/abort")
+async def abort_page(call: Call) -> Response:
+    if answer := closed(call.request):
+        return answer
+    effect = await effect_of(call)
+    return asked(call.request, call.key, ABORT, effect=effect)
+
+
+async def effect_of(call: Call) -> str | None:
+    """What an abort would do now, in words."""
+    with contextlib.suppress(NoSuchSaga):
+        await call.service.check_sees(looker(call.request), call.key)
+        view = await call.service.saga(call.key)
+        if view is not None and view.phase == "open":
+            plan = functools.partial(what_if.of, view, abort=True)
+            return what_if.words(await call.service.in_thread(plan))
+    return None
+
+
+@routes.post("/ui/sagas/{key}/abort")
+async def abort(call: Call) -> Response:
+    request, key = call.request, call.key
+    session, form = await sent(request)
+    try:
+        service = service_of(request)
+        await service.check_sees(session.who, key)
+        await service.in_time(
+            service.store.abort(key, by=session.who.name, note=form.get("note") or None)
+        )
+    except SagasError as error:
+        return asked(request, key, ABORT, 409, fault=str(error), note=form.get("note"))
+    return back(request, key)
+
+
+@routes.get("/ui/sagas/{key}/resolve")
+async def resolve_page(call: Call) -> Response:
+    return closed(call.request) or asked(call.request, call.key, RESOLVE)
+
+
+@routes.post("/ui/sagas/{key}/resolve")
+async def resolve(call: Call) -> Response:
+    request, key = call.request, call.key
+    session, form = await sent(request)
+    note = form.get("note", "").strip()[:2000]
+    if not note:
+        return asked(request, key, RESOLVE, 422, fault="Say what was done about it.")
+    try:
+        await service_of(request).check_sees(session.who, key)
+        await service_of(request).store.resolve(key, note, by=session.who.name)
+    except SagasError as error:
+        return asked(request, key, RESOLVE, 409, fault=str(error), note=note)
+    return back(request, key)
+
+
+@routes.get("/ui/sagas/{key}/steps/{step}/{outcome}", parts={"outcome": OUTCOME}, query=UNDO)
+async def step_page(call: Call) -> Response:
+    request, key, name = call.request, call.key, call.path["step"]
+    outcome, undo = call.path["outcome"], call.query["undo"]
+    if answer := closed(request):
+        return answer
+    question = step_words(name, outcome, undo, await is_approval(request, key, name, undo))
+    return asked(request, key, question, given=await given_of(request, key))
+
+
+async def given_of(request: Request, key: str) -> list[tuple[str, Any]]:
+    """What whoever decides has to see: the saga's input, and its results."""
+    with contextlib.suppress(NoSuchSaga):
+        view = await kept_of(service_of(request), looker(request), key)
+        return [("Input", view.input), ("Results in effect", view.results)]
+    return []
+
+
+def result_of(form: dict[str, str]) -> Any:
+    """The result that a form has, by its type. Raises `ValueError`."""
+    text, kind = form.get("result", ""), form.get("type", "json")
+    if kind == "text":
+        return text
+    if kind == "number":
+        found = json.loads(text)
+        if isinstance(found, bool) or not isinstance(found, (int, float)):
+            raise ValueError(text)
+        return found
+    if kind == "yes":
+        return {"yes": True, "true": True, "no": False, "false": False}[text.strip().lower()]
+    return json.loads(text or "null")
+
+
+@routes.post("/ui/sagas/{key}/steps/{step}/{outcome}", parts={"outcome": OUTCOME}, query=UNDO)
+async def step_said(call: Call) -> Response:
+    request, key, name = call.request, call.key, call.path["step"]
+    outcome, undo = call.path["outcome"], call.query["undo"]
+    session, form = await sent(request)
+    note = form.get("note") or None
+    question = step_words(name, outcome, undo, await is_approval(request, key, name, undo))
+    again: dict[str, Any] = {
+        "type": form.get("type"),
+        "note": note,
+        "result": form.get("result"),
+        "failed": form.get("failed"),
+    }
+    failed = None if outcome != "failed" else form.get("failed", "").strip()[:2000]
+    if failed == "":
+        return asked(request, key, question, 422, fault="Say why.", **again)
+    try:
+        result = result_of(form)
+    except (ValueError, KeyError, RecursionError):
+        fault = FAULTS.get(form.get("type", ""), FAULTS["json"])
+        again["given"] = await given_of(request, key)
+        return asked(request, key, question, 422, fault=fault, **again)
+    try:
+        service = service_of(request)
+        await service.check_sees(session.who, key)
+        words: dict[str, Any] = {"undo": undo, "by": session.who.name, "note": note}
+        if outcome == "retry":
+            await service.in_time(service.store.retry(key, name, **words))
+        elif failed is None:
+            await service.in_time(service.store.complete(key, name, result, **words))
+        else:
+            await service.in_time(service.store.fail(key, name, failed, **words))
+    except SagasError as error:
+        return asked(request, key, question, 409, fault=str(error), **again)
+    return back(request, key)
+
+
+@routes.get("/ui/schedules")
+async def schedules_page(call: Call) -> Response:
+    """The schedules, by name."""
+    return closed(call.request) or await shown_schedules(call.request, looker(call.request))
+
+
+async def shown_schedules(
+    request: Request, who: Who, status: int = 200, fault: str | None = None
+) -> Response:
+    found = await schedules.seen(service_of(request), who)
+    words = {"schedules": found, "fault": fault}
+    return shows(request, "schedules.html", status, here="schedules", **words)
+
+
+@routes.post("/ui/schedules/{name}/{change}", parts={"change": Choice((*schedules.DONE,))})
+async def schedule_changed(call: Call) -> Response:
+    session, _ = await sent(call.request)
+    name, what = call.path["name"], call.path["change"]
+    try:
+        await schedules.change(service_of(call.request), session.who, name, what)
+    except SagasError as error:
+        return await shown_schedules(call.request, session.who, 409, str(error))
+    return RedirectResponse("/ui/schedules", 303)
+
+
+def back(request: Request, key: str) -> Response:
+    """To the saga, with the figures counted anew."""
+    service_of(request).figures.forget()
+    return RedirectResponse(address_of(key), 303)

@@ -1,0 +1,336 @@
+"""Pages of the dashboard."""
+
+from __future__ import annotations
+
+import contextlib
+import datetime
+import functools
+import logging
+import time
+from typing import Any
+from urllib.parse import quote, urlencode
+
+from starlette.requests import Request
+from starlette.responses import RedirectResponse, Response
+
+from sagas.base.errors import NoSuchSaga, SagasError
+from sagas.definition.labels import checked
+from sagas.engine.plan import certificate_text
+from sagas.inspection import lists, picture
+from sagas.inspection import wording as words
+from sagas.inspection.lists import COUNTED
+from sagas.inspection.views import SagaView, StepView
+from sagas.runtime.external_queue import Queue
+from sagas.server import json_views, renderer
+from sagas.server.access import address, service_of
+from sagas.server.auth import May, Who
+from sagas.server.dashboard_session import (
+    COOKIE,
+    begin,
+    closed,
+    form_of,
+    looker,
+    page,
+    sent,
+    session_of,
+    shows,
+    still_of,
+)
+from sagas.server.event_stream import Listener
+from sagas.server.operations import Call, Routes
+from sagas.server.problems import Problem
+from sagas.server.routes.filters import CURSOR
+from sagas.server.routes.sagas import kept_of, stream
+from sagas.server.shapes import Field, Text
+from sagas.storage.filters import Filter
+
+routes = Routes("pages", is_page=True)
+logger = logging.getLogger("sagas.server")
+LISTED = 50
+MOST_EVENTS = 500
+MOST_DRAWN = 1024  # steps
+LATELY = 300.0  # seconds since a worker asked; one that is at a long task asks for none
+
+
+@routes.get("/")
+async def top(call: Call) -> Response:
+    return RedirectResponse("/ui", 303)
+
+
+@routes.get("/favicon.ico")
+async def icon(call: Call) -> Response:
+    return file(call.request, "icon.svg")
+
+
+@routes.get("/ui/static/{name}")
+async def static(call: Call) -> Response:
+    """The style sheet, the script and the icon."""
+    return file(call.request, call.path["name"])
+
+
+def file(request: Request, name: str) -> Response:
+    """One of them."""
+    found = renderer.STATIC.get(name)
+    if found is None:
+        raise Problem("NotFound", "there is no such file")
+    kind, data, tag = found
+    headers = {
+        "etag": tag,
+        "cache-control": "max-age=300",
+        "content-security-policy": "default-src 'none'; style-src 'unsafe-inline'",
+    }
+    if request.headers.get("if-none-match") == tag:
+        return Response(status_code=304, headers=headers)
+    return Response(data, media_type=kind, headers=headers)
+
+
+@routes.get("/ui/login", query={"next": Field(Text(), default="/ui")})
+async def login_page(call: Call) -> Response:
+    if call.service.tokens is None:
+        return RedirectResponse("/ui", 303)
+    return page(call.request, "login.html", None, next=call.query["next"], fault=None)
+
+
+@routes.post("/ui/login")
+async def login(call: Call) -> Response:
+    """Begins a session with an operator's token."""
+    request = call.request
+    service, form = service_of(request), await form_of(request)
+    if service.tokens is None:
+        return RedirectResponse("/ui", 303)
+    who = service.tokens.find(form.get("token", "").strip())
+    wanted = form.get("next", "/ui")
+    if who is None or not who.may(May.OPERATE):
+        fault = (
+            "This is no operator's token."
+            if service.refusals.take(address(request))
+            else "Too many wrong tokens from this address; wait a while."
+        )
+        return page(request, "login.html", None, 403, next=wanted, fault=fault)
+    response = RedirectResponse(
+        wanted if wanted.startswith("/ui") and "\\" not in wanted else "/ui", 303
+    )
+    begin(request, response, who)
+    logger.info("%s has logged in", who.name)
+    return response
+
+
+@routes.post("/ui/logout")
+async def logout(call: Call) -> Response:
+    request = call.request
+    await sent(request)
+    service_of(request).sessions.end(request.cookies.get(COOKIE, ""))
+    response = RedirectResponse("/ui/login", 303)
+    response.delete_cookie(COOKIE, path="/ui")
+    return response
+
+
+# -- what there is
+
+
+def work_of(queues: list[Queue]) -> dict[str, Any]:
+    """What waits for workers, in all."""
+    now, ready = time.time(), [queue for queue in queues if queue.ready]
+    oldest = max((now - queue.oldest for queue in ready if queue.oldest), default=0.0)
+    claimed = sum(queue.claimed for queue in queues)
+    return {"ready": sum(queue.ready for queue in ready), "claimed": claimed, "oldest": oldest}
+
+
+TEXT = Field(Text(most=512), default=None)
+FILTERED = ("phase", "search", "definition", "label", "error", "since", "until")
+LIST = {name: TEXT for name in FILTERED} | {
+    name: Field(CURSOR, default=None) for name in ("before", "after")
+}
+
+
+@routes.get("/ui/sagas", query=LIST)
+async def listed(call: Call) -> Response:
+    """A page of the list, newest first."""
+    request = call.request
+    if answer := closed(request):
+        return answer
+    service, who = service_of(request), looker(request)
+    since, before, after = service.hub.now, call.query["before"], call.query["after"]
+    given = {name: call.query[name] for name in FILTERED}
+    given["phase"] = given["phase"] if given["phase"] in words.PHASES else None
+    phase, fault = given["phase"], None
+    counts, needing = await service.figures.of(who.definitions)
+    asked: dict[str, Any] = {"before": before and int(before), "after": after and int(after)}
+    try:
+        of = filter_of(given, who)
+    except (ValueError, SagasError) as error:
+        fault, of = f"{error}.", Filter(phase, sagas=())
+    found = await service.look(lists.page(most=LISTED + 1, of=of, **asked))
+    more, found = len(found) > LISTED, found[:LISTED]
+    if after is not None:
+        found.reverse()
+    newer = found[0].id if found and (more if after is not None else before is not None) else None
+    older = found[-1].id if found and (more or after is not None) else None
+
+    def url(**change: Any) -> str:
+        words = {
+            word: value for word, value in {**given, **change}.items() if value not in (None, "")
+        }
+        return f"/ui/sagas?{urlencode(words)}" if words else "/ui/sagas"
+
+    total = {name: sum(of[name] for of in counts.values()) for name in COUNTED}
+    shown_of = {**total, "undo_failed": needing["undo_failed"]}
+    tabs = [
+        (None, "All", sum(total.values())),
+        *(
+            (name, words.PHASES[name], shown_of[name])
+            for name in ("open", "stuck", "completed", "recovered", "undo_failed", "resolved")
+        ),
+    ]
+    is_first = before is None and after is None
+    return shows(
+        request, "list.html", here="sagas", tabs=tabs, given=given, fault=fault, counts=counts,
+        sagas=found, newer=newer, older=older, url=url, since=since,
+        live="/ui/events" if is_first else None,
+    )  # fmt: skip
+
+
+def filter_of(given: dict[str, Any], who: Who) -> Filter:
+    """The filter of the list. Raises `ValueError`, `InvalidLabel`."""
+    label = (given["label"] or "").partition("=")
+    if given["label"] and not label[1]:
+        raise ValueError("a label is NAME=VALUE, as customer=7")
+    days: list[float | None] = []
+    for name, more in (("since", 0), ("until", 1)):
+        day = given[name] and datetime.datetime.fromisoformat(f"{given[name]}T00:00:00+00:00")
+        days.append(day.timestamp() + more * 86400 if day else None)
+    return Filter(
+        phase=given["phase"],
+        saga=given["definition"],
+        labels=checked({label[0]: label[2]} if label[1] else None),
+        search=given["search"],
+        sagas=who.definitions,
+        started_after=days[0],
+        started_before=days[1],
+        error=given["error"],
+    )
+
+
+@routes.get("/ui/sagas/{key}")
+async def saga(call: Call) -> Response:
+    """A saga with all that is kept of it."""
+    request, key = call.request, call.key
+    if answer := closed(request):
+        return answer
+    service = service_of(request)
+    since, view = service.hub.now, None
+    with contextlib.suppress(NoSuchSaga):
+        await service.check_sees(looker(request), key)
+        view = await service.saga(key)
+    if view is None:
+        return shows(
+            request,
+            "fault.html",
+            404,
+            title="There is no such saga",
+            text=f"No saga has the key {key}.",
+            back="/ui/sagas",
+        )
+    told = await service.in_thread(functools.partial(told_of, view))
+    return shows(request, "saga.html", since=since, **told)
+
+
+def told_of(view: SagaView) -> dict[str, Any]:
+    """What the template of a saga asks for."""
+    drawn = len(view.steps) <= MOST_DRAWN
+    return {
+        "here": "sagas",
+        "live": f"/ui/events?{urlencode({'key': view.key})}" if view.phase == "open" else None,
+        "saga": view,
+        "base": address_of(view.key),
+        "asks": [one for one in view.held if one.asks],
+        "helds": {one.step: one for one in view.held},
+        "choices": {choice.step: choice for choice in view.plan.choices} if view.plan else {},
+        "failures": failures_of(view),
+        "tolds": picture.told_of(view),
+        "picture": picture.svg(view) if drawn else "",
+        "timeline": picture.timeline(view) if drawn else "",
+        "undo_failed": [step for step in view.steps if step.state == "undo_failed"],
+        "icons": picture.ICONS,
+        "done": sum(step.state in ("committed", "undo_failed") for step in view.steps),
+        "events": view.events[:MOST_EVENTS],
+        "cut_events": len(view.events) > MOST_EVENTS,
+    }
+
+
+def failures_of(view: SagaView) -> list[StepView]:
+    """The steps of the chain that have failed, and said why."""
+    chain = view.plan.blocking_steps if view.plan else []
+    return [
+        step
+        for step in view.steps
+        if step.name in chain and step.state == "failed" and step.said is not None
+    ]
+
+
+def address_of(key: str) -> str:
+    return f"/ui/sagas/{quote(key, safe='')}"
+
+
+@routes.get("/ui/sagas/{key}/certificate")
+async def certificate(call: Call) -> Response:
+    """The plan's certificate, as `sagas check` reads it."""
+    if answer := closed(call.request):
+        return answer
+    view = await kept_of(call.service, looker(call.request), call.key)
+    if view.plan is None:
+        raise NoSuchSaga(f"saga {view.key!r} has no plan")
+    return Response(certificate_text(view.plan), media_type="text/plain; charset=utf-8")
+
+
+@routes.get("/ui/workers")
+async def workers(call: Call) -> Response:
+    """What waits for workers, and who they are."""
+    request = call.request
+    if answer := closed(request):
+        return answer
+    service, who = service_of(request), looker(request)
+    since = service.hub.now
+    claimed = await service.look(
+        lists.waits(100, person=False, why="external", sagas=who.definitions)
+    )
+    now, seen = time.time(), (await service.seen(who))[:200]
+    queues = []
+    for queue in await service.queues(who):
+        word = f"{queue.saga}/{queue.step}" + ("/undo" if queue.undo else "")
+        able = [one for one in seen if word in one.steps]
+        queues.append((queue, [one.name for one in able if now - one.at < LATELY], able[:1]))
+    known = service.words()
+    strange = {one.name: [step for step in one.steps if step not in known] for one in seen}
+    return shows(
+        request,
+        "workers.html",
+        here="workers",
+        live="/ui/events",
+        since=since,
+        queues=queues,
+        workers=seen,
+        strange=strange,
+        claimed=claimed,
+        now=now,
+    )
+
+
+@routes.get(
+    "/ui/events", streams=True, query={"key": TEXT, "since": Field(Text(most=40), default=None)}
+)
+async def events(call: Call) -> Response:
+    """The stream that keeps a page new, from the moment on at which the page was asked for
+    (`since`).
+    """
+    request, key, since = call.request, call.query["key"], call.query["since"]
+    session = session_of(request)
+    if session is None:
+        raise Problem("NoSession", "log in first")
+    who = session.who
+
+    def still() -> bool:
+        now = still_of(request)
+        return now is not None and now.who == who
+
+    return stream(request, who, Listener(key, None, who.sees), since, still, dashboard=True)

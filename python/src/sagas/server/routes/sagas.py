@@ -1,0 +1,397 @@
+"""Routes of callers and approvers.
+
+For callers and approvers: start sagas, see how they stand, wait for them, abort them, and say how
+an approval ended.
+"""
+
+from __future__ import annotations
+
+import asyncio
+import contextlib
+from collections.abc import Callable
+from typing import Any, Optional
+from urllib.parse import quote
+
+from starlette.requests import Request
+from starlette.responses import PlainTextResponse, Response
+
+from sagas.base.errors import NoSuchSaga
+from sagas.engine.plan import certificate_text
+from sagas.inspection import lists
+from sagas.inspection import picture as picture_module
+from sagas.inspection import what_if as what_if_module
+from sagas.inspection.views import SagaView
+from sagas.server import answers, json_views, renderer
+from sagas.server.access import check_definition, check_still, is_still, maker, service_of
+from sagas.server.auth import May, Who
+from sagas.server.event_stream import CHECK, Listener
+from sagas.server.middleware import GONE
+from sagas.server.operations import Answer, Call, Routes
+from sagas.server.problems import Problem
+from sagas.server.responses import Json, tagged
+from sagas.server.routes import filters
+from sagas.server.routes.filters import CURSOR, LIMIT
+from sagas.server.shapes import (
+    Anything,
+    Choice,
+    Field,
+    Flag,
+    Mapped,
+    Nullable,
+    Number,
+    Record,
+    Text,
+)
+from sagas.server.stream_limits import Stream
+
+routes = Routes("sagas", "/v1")
+LONGEST = 60.0  # seconds that a wait may take
+KEY = Text(most=512, least=1)
+LABELS = Mapped(Text(most=256))
+VERSION = Nullable(Number(1, 1_000_000_000, whole=True))
+DEADLINE = Nullable(Number(0.0, 100 * 365.25 * 86_400))
+NOTE = Field(Nullable(Text(most=2000)), "why; it is stored with who and when", default=None)
+UNDO = Field(Flag(), "its compensation is meant", default=False)
+ERROR = Field(Text(most=4000), "why, for people", example="too expensive")
+START = Record(
+    "StartRequest",
+    {
+        "definition": Field(Text(most=64), "its name"),
+        "key": Field(KEY, "the name of the saga: the same key with the same input is one saga"),
+        "input": Field(Anything(), "what its steps are handed", default=None),
+        "labels": Field(LABELS, "texts by name, by which lists find it", default=None),
+        "version": Field(VERSION, "by default the newest", default=None),
+        "deadline": Field(
+            DEADLINE, "seconds until it is aborted; by default as its definition says", default=None
+        ),
+    },
+    example={"definition": "trip", "key": "order-1", "input": {"to": "Rome"}},
+)
+COMPLETE = Record(
+    "CompleteRequest",
+    {"result": Field(Anything(), "null where there is none"), "undo": UNDO, "note": NOTE},
+    example={"result": {"by": "Ada"}, "note": "within the limit"},
+)
+FAIL = Record(
+    "FailRequest",
+    {"error": ERROR, "undo": UNDO, "note": NOTE},
+    example={"error": "too expensive"},
+)
+RETRY = Record("RetryRequest", {"undo": UNDO, "note": NOTE}, example={"note": "it is open"})
+WHY = Record("AbortRequest", {"note": NOTE}, example={"note": "the customer has left"})
+SUPPOSE = Record(
+    "WhatIfRequest",
+    {
+        "abort": Field(Flag(), "the saga is aborted now", default=False),
+        "fail": Field(Nullable(Text(most=32)), "this step fails now", default=None),
+    },
+    "One of both.",
+    {"abort": True},
+)
+SAGA = Answer("The saga.", answers.SAGA, headers={"ETag": "changes with the saga"})
+DECIDED = {200: Answer("It is stored.", answers.DECIDED)}
+
+
+async def view_of(call: Call, key: str | None = None) -> SagaView:
+    """A saga with all that is kept of it, and what is known of what has begun. Raises
+    `NoSuchSaga`.
+    """
+    await call.service.check_sees(call.who, key or call.key)
+    return there(await call.service.saga(key or call.key), key or call.key)
+
+
+async def kept_of(service: Any, who: Who, key: str) -> SagaView:
+    """As `view_of`, with what is kept alone."""
+    await service.check_sees(who, key)
+    return there(await service.kept(key), key)
+
+
+def there(view: SagaView | None, key: str) -> SagaView:
+    """Raises `NoSuchSaga` where there is none."""
+    if view is None:
+        raise NoSuchSaga(f"no saga has the key {key!r}")
+    return view
+
+
+@routes.post(
+    "/sagas", "startSaga", may=May.START, body=START,
+    answers={
+        201: Answer("It was started.", answers.STARTED, headers={"Location": "where it is"}),
+        200: Answer("The key has this very saga already.", answers.STARTED),
+    },
+    problems=(
+        "NoSuchDefinition", "KeyConflict", "InvalidKey", "InvalidLabel", "InvalidInput",
+        "NotSerializable", "TooLarge", "OwnerUnavailable",
+    ),
+)  # fmt: skip
+async def start(call: Call) -> Response:
+    """Start a saga.
+
+    What is answered is stored, so repeat the request until it is answered."""
+    key, name = call.body["key"], call.body["definition"]
+    if key in (".", ".."):
+        raise Problem("InvalidKey", f"the key {key!r} has no address: take another key", "key")
+    check_definition(call.who, name)
+    saga = call.service.saga_named(call.who, name, call.body["version"])
+    words = [call.body[word] for word in ("input", "labels", "deadline")]
+    run = await call.service.start(call.who, saga, key, *words)
+    told = {"key": key, "definition": saga.name, "version": saga.version, "new": run.new}
+    return Json(told, 201 if run.new else 200, {"Location": f"/v1/sagas/{quote(key, safe='')}"})
+
+
+@routes.get(
+    "/sagas", "listSagas", may=May.LOOK,
+    query=filters.SAGAS | filters.MORE | {
+        "phase": Field(Choice((*answers.PHASES, "undo_failed")),
+            "`undo_failed`: recovered ones of which a compensation failed for good", default=None),
+        "after": Field(CURSOR, "`next` of the page before", default=None),
+        "limit": LIMIT,
+    },
+    answers={200: Answer("A page.", answers.PAGE)},
+)  # fmt: skip
+async def listed(call: Call) -> Response:
+    """List sagas, newest first.
+
+    A page, of the definitions that the token may see."""
+    query = call.query
+    limit, before = query["limit"], filters.id_of(query["after"])
+    page = lists.page(before=before, most=limit, of=filters.of(call.who, query, query["phase"]))
+    found = await call.service.look(page)
+    more = str(found[-1].id) if len(found) == limit else None
+    return Json({"sagas": [json_views.summary(one) for one in found], "next": more})
+
+
+@routes.get("/sagas/{key}", "getSaga", may=May.LOOK, answers={200: SAGA}, problems=("NoSuchSaga",))
+async def get(call: Call) -> Response:
+    """Get a saga.
+
+    A step is `running` where it is called now or a worker has it, and `begun` where it waits for
+    something, or the service does not know. With `If-None-Match` the answer is 304 where nothing
+    has changed."""
+    return tagged(call.request, json_views.saga(await view_of(call)))
+
+
+@routes.get(
+    "/sagas/{key}/wait", "waitForSaga", may=May.LOOK,
+    query={"seconds": Field(Number(0.0, LONGEST), "how long at most", default=30.0)},
+    answers={200: SAGA}, problems=("NoSuchSaga", "Unauthorized", "RightsChanged"),
+)  # fmt: skip
+async def wait(call: Call) -> Response:
+    """Wait until a saga is over.
+
+    Answers as `getSaga`, once it is over or the time has passed; `over` says which."""
+    await call.service.check_sees(call.who, call.key)
+    ending = asyncio.ensure_future(call.service.store.over(call.key))
+    if await first(call.request, call.who, ending, call.query["seconds"]):
+        ending.result()  # raises, where there is no such saga
+    return tagged(call.request, json_views.saga(await view_of(call)))
+
+
+async def first(request: Request, who: Who, work: "asyncio.Future[Any]", seconds: float) -> bool:
+    """Waits for a piece of work, but no longer than the client, its token and the service are
+    there. Whether it is done; else it is cancelled, to its end. Raises `Problem` where the token
+    has ended."""
+    others, loop = (request.scope[GONE], service_of(request).stopping), asyncio.get_running_loop()
+    slice = seconds if service_of(request).tokens is None else min(seconds, CHECK)
+    until = loop.time() + seconds
+    try:
+        while not (done := await waited(work, others, min(slice, until - loop.time()))):
+            check_still(request, who)
+            if loop.time() >= until:
+                return False
+        return work in done
+    finally:
+        if not work.done():
+            work.cancel()
+            with contextlib.suppress(asyncio.CancelledError, Exception):
+                await work
+
+
+async def waited(
+    work: "asyncio.Future[Any]", others: tuple["asyncio.Future[None]", ...], seconds: float,
+) -> "set[asyncio.Future[Any]]":  # fmt: skip
+    """Those that are done, once one of them is, or the time has passed."""
+    some: set[asyncio.Future[Any]] = {work, *others}
+    first = asyncio.FIRST_COMPLETED
+    done, _ = await asyncio.wait(some, timeout=max(0.0, seconds), return_when=first)
+    return set(done)
+
+
+@routes.post(
+    "/sagas/{key}/abort", "abortSaga", may=May.START, body=WHY,
+    answers={200: Answer("Whether it was aborted now.", answers.ABORTED)},
+    problems=("NoSuchSaga", "OwnerUnavailable"),
+)  # fmt: skip
+async def abort(call: Call) -> Response:
+    """Abort a saga.
+
+    No further step of it starts, and what costs least is undone."""
+    service, note = call.service, call.body["note"]
+    await service.check_sees(call.who, call.key)
+    done = await service.in_time(service.store.abort(call.key, by=call.who.name, note=note))
+    return Json({"key": call.key, "aborted": done})
+
+
+@routes.post(
+    "/sagas/{key}/what-if", "whatIf", may=May.LOOK, body=SUPPOSE,
+    answers={200: Answer("The plan, which nobody goes by.", answers.WHAT_IF)},
+    problems=("NoSuchSaga", "SagaOver"),
+)  # fmt: skip
+async def what_if(call: Call) -> Response:
+    """Compute what an abort, or a failure of a step, would cost now.
+
+    Nothing is changed. Steps that are under way are taken to succeed; `assumed` names them."""
+    suppose, step = call.body, call.body["fail"]
+    if suppose["abort"] == (step is not None):
+        raise Problem("InvalidRequest", 'give one of {"abort": true} and {"fail": STEP}', "abort")
+    view = await view_of(call)
+    if view.phase != "open":
+        raise Problem("SagaOver", f"saga {call.key!r} is {view.phase}: nothing of it is to be done")
+    try:
+        found = await call.service.in_thread(
+            lambda: what_if_module.of(view, abort=suppose["abort"], failed=step)
+        )
+    except ValueError as error:
+        raise Problem("InvalidRequest", f"fail: {error}", "fail") from None
+    return Json(json_views.what_if(found))
+
+
+@routes.get(
+    "/sagas/{key}/log", "getHistory", may=May.LOOK, problems=("NoSuchSaga",),
+    answers={200: Answer("Its events, in their order.", answers.HISTORY)},
+)  # fmt: skip
+async def log(call: Call) -> Response:
+    """Get the history of a saga.
+
+    Each event with its time and what came of it, and what people did."""
+    view = await kept_of(call.service, call.who, call.key)
+    return Json({"events": json_views.log(view)})
+
+
+@routes.get(
+    "/sagas/{key}/picture.svg", "getPicture", may=May.LOOK, problems=("NoSuchSaga",),
+    answers={200: Answer("A picture.", media_type="image/svg+xml")},
+)  # fmt: skip
+async def picture(call: Call) -> Response:
+    """Get a saga as a picture.
+
+    Its steps with their states, and what the plan keeps and why."""
+    text = picture_module.document(await view_of(call))
+    return Response(
+        renderer.sent(text),
+        media_type="image/svg+xml",
+        headers={"Content-Security-Policy": "default-src 'none'; style-src 'unsafe-inline'"},
+    )
+
+
+@routes.get(
+    "/sagas/{key}/certificate", "getCertificate", may=May.LOOK, problems=("NoSuchSaga", "NoPlan"),
+    query={"form": Field(Choice(("json", "text")), "of the answer", default="json")},
+    answers={200: Answer("Definition, case and answer; with `form=text` as plain text.",
+        answers.CERTIFICATE)},
+)  # fmt: skip
+async def certificate(call: Call) -> Response:
+    """Get what `sagas check` needs to verify the plan.
+
+    As text it is for the standard input of `sagas check`."""
+    view = await kept_of(call.service, call.who, call.key)
+    if view.plan is None:
+        raise Problem("NoPlan", f"saga {view.key!r} has no plan: nothing of it has failed")
+    if call.query["form"] == "text":
+        return PlainTextResponse(certificate_text(view.plan))
+    return Json(json_views.certificate(view.plan))
+
+
+async def check_reports(call: Call, key: str, step: str, undo: bool) -> None:
+    """Raises `Problem` where somebody may not say how this step ended."""
+    who = call.who
+    await call.service.check_sees(who, key)
+    if not who.may(May.OPERATE) and (undo or not await call.service.is_approval(key, step)):
+        raise Problem(
+            "Forbidden",
+            f"{who.name} is an approver, and {step[:64]!r} is no approval: "
+            "an operator says how any other step ended",
+        )
+
+
+async def decided(call: Call, outcome: str, value: Any) -> Response:
+    """Says how a step ended."""
+    step, body, store = call.path["step"], call.body, call.service.store
+    await check_reports(call, call.key, step, body["undo"])
+    words = {"undo": body["undo"], "by": call.who.name, "note": body["note"]}
+    deeds: dict[str, Any] = {"complete": store.complete, "fail": store.fail, "retry": store.retry}
+    value = () if outcome == "retry" else (value,)
+    await call.service.in_time(deeds[outcome](call.key, step, *value, **words))
+    return Json({"key": call.key, "step": step, "kept": True})
+
+
+@routes.post(
+    "/sagas/{key}/steps/{step}/complete", "completeStep", may=May.APPROVE, body=COMPLETE,
+    answers=DECIDED,
+    problems=("NoSuchSaga", "StepNotWaiting", "ConflictingReport", "OwnerUnavailable"),
+)  # fmt: skip
+async def complete(call: Call) -> Response:
+    """Report that a step is done.
+
+    An approval; for operators also a step with an unknown outcome, or one that nobody takes."""
+    return await decided(call, "complete", call.body["result"])
+
+
+@routes.post(
+    "/sagas/{key}/steps/{step}/fail", "failStep", may=May.APPROVE, body=FAIL, answers=DECIDED,
+    problems=("NoSuchSaga", "StepNotWaiting", "ConflictingReport", "OwnerUnavailable"),
+)  # fmt: skip
+async def fail(call: Call) -> Response:
+    """Report that a step has failed for good.
+
+    As `completeStep`: an approval is refused."""
+    return await decided(call, "fail", call.body["error"])
+
+
+@routes.post(
+    "/sagas/{key}/steps/{step}/retry", "retryStep", may=May.OPERATE, body=RETRY, answers=DECIDED,
+    problems=("NoSuchSaga", "StepNotWaiting", "OwnerUnavailable"),
+)  # fmt: skip
+async def retry(call: Call) -> Response:
+    """Attempt a step again.
+
+    Of a step, or a compensation, whose attempts are used up, or whose outcome is unknown. The same
+    attempt is made at once, with its idempotency key."""
+    return await decided(call, "retry", None)
+
+
+@routes.get(
+    "/events", "followEvents", may=May.LOOK, streams=True, problems=("TooManyStreams",),
+    query={
+        "key": Field(Text(most=512), "of one saga", default=None),
+        "definition": Field(Text(most=64), "of one definition", default=None),
+    },
+    answers={200: Answer("Server-sent events.", media_type="text/event-stream")},
+)  # fmt: skip
+async def events(call: Call) -> Response:
+    """Follow what happens, as server-sent events.
+
+    From now on, or behind the header `Last-Event-ID`, of the definitions that the token may see.
+    An event `missed` says that some are no longer stored: look at the sagas themselves."""
+    check_definition(call.who, call.query["definition"])
+    listener = Listener(call.query["key"], call.query["definition"], call.who.sees)
+    return stream(call.request, call.who, listener, None, lambda: is_still(call.request, call.who))
+
+
+def stream(
+    request: Request,
+    who: Who,
+    listener: Listener,
+    since: Optional[str],
+    still: Callable[[], bool],
+    dashboard: bool = False,
+) -> Response:  # fmt: skip
+    """The stream of the hub, behind the id `since` where the client names none, as long as it is
+    `still` to be.
+
+    Raises `Problem` where there are too many."""
+    service, name = service_of(request), maker(request, who)
+    if full := service.streams.full(name, dashboard):
+        raise Problem("TooManyStreams", full)
+    last = request.headers.get("last-event-id") or since
+    return Stream(service.hub.stream(listener, last, still), service.streams.take(name, dashboard))

@@ -1,0 +1,78 @@
+"""Routes of schedules."""
+
+from __future__ import annotations
+
+import logging
+from collections.abc import Awaitable, Callable
+
+from starlette.responses import Response
+
+from sagas.base.errors import NoSuchSchedule
+from sagas.inspection import lists
+from sagas.server import answers, json_views
+from sagas.server.auth import May, Who
+from sagas.server.operations import Answer, Call, Handler, Routes
+from sagas.server.responses import Json
+from sagas.server.service import Service
+from sagas.server.shapes import Text
+from sagas.storage.schedules import Schedule
+
+logger = logging.getLogger("sagas.server")
+routes = Routes("operators", "/v1/schedules")
+NAME = Text(most=128, least=1)
+DONE = {"pause": "paused", "resume": "resumed", "remove": "removed"}
+
+
+async def seen(service: Service, who: Who) -> list[Schedule]:
+    """The schedules of definitions that are theirs to see."""
+    return [one for one in await service.look(lists.schedules()) if who.sees(one.saga)]
+
+
+async def change(service: Service, who: Who, name: str, what: str) -> None:
+    """Pause, resume or remove one. Raises `NoSuchSchedule`, also of one that is not theirs to
+    see."""
+    if name not in {one.name for one in await seen(service, who)}:
+        raise NoSuchSchedule(f"no schedule has the name {name!r}")
+    store = service.store
+    changes: dict[str, Callable[[str], Awaitable[None]]] = {
+        "pause": store.pause_schedule,
+        "resume": store.resume_schedule,
+        "remove": store.remove_schedule,
+    }
+    await changes[what](name)
+    logger.info("%s has %s the schedule %r", who.name, DONE[what], name)
+
+
+@routes.get(
+    "", "listSchedules", may=May.LOOK,
+    answers={200: Answer("By name.", answers.SCHEDULES)},
+)  # fmt: skip
+async def listed(call: Call) -> Response:
+    """List schedules.
+
+    Of the definitions that the token may see, with their last and next times."""
+    found = await seen(call.service, call.who)
+    return Json({"schedules": [json_views.schedule(one) for one in found]})
+
+
+def declare(what: str, told: str) -> Handler:
+    """The route of a change."""
+
+    async def handler(call: Call) -> Response:
+        await change(call.service, call.who, call.path["name"], what)
+        return Json({"name": call.path["name"], "done": DONE[what]})
+
+    handler.__doc__ = told
+    path, method = f"/{{name}}/{what}", routes.post
+    if what == "remove":
+        path, method = "/{name}", routes.delete
+    return method(
+        path, f"{what}Schedule", may=May.OPERATE, parts={"name": NAME},
+        answers={200: Answer("It is done.", answers.SCHEDULE_CHANGED)},
+        problems=("NoSuchSchedule",),
+    )(handler)  # fmt: skip
+
+
+pause = declare("pause", "Pause a schedule.\n\nIt starts no more sagas until it is resumed.")
+resume = declare("resume", "Resume a schedule.\n\nIt continues with its next time.")
+remove = declare("remove", "Remove a schedule.\n\nSagas that have started stay.")

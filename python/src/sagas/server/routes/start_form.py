@@ -1,0 +1,64 @@
+"""The form that starts a saga."""
+
+from __future__ import annotations
+
+import json
+
+from starlette.requests import Request
+from starlette.responses import RedirectResponse, Response
+
+from sagas.base.errors import SagasError
+from sagas.server.access import check_definition, service_of
+from sagas.server.dashboard_session import closed, looker, sent, shows
+from sagas.server.operations import Call, Routes
+from sagas.server.routes.pages import address_of
+from sagas.server.shapes import Field, Text
+
+routes = Routes("pages", is_page=True)
+
+
+def asked(
+    request: Request, form: dict[str, str], fault: str | None = None, status: int = 200
+) -> Response:
+    """The form, with what was said in it, and why it was not taken."""
+    names = service_of(request).names(looker(request))
+    return shows(request, "start.html", status, here="sagas", names=names, form=form, fault=fault)
+
+
+@routes.get("/ui/start", query={"definition": Field(Text(most=64), default="")})
+async def start_page(call: Call) -> Response:
+    return closed(call.request) or asked(call.request, {"definition": call.query["definition"]})
+
+
+@routes.post("/ui/start")
+async def start(call: Call) -> Response:
+    """Starts it, and goes to it; so too where the key has this very saga already."""
+    request = call.request
+    session, form = await sent(request)
+    service, key = service_of(request), form.get("key", "").strip()
+    if not 0 < len(key) <= 512 or key in (".", ".."):
+        return asked(
+            request,
+            form,
+            "Give it a key of at most 512 characters: its name as long as it is kept, an order's "
+            "number say.",
+            422,
+        )
+    try:
+        given = json.loads(form.get("input") or "null")
+    except (ValueError, RecursionError) as error:
+        return asked(
+            request,
+            form,
+            f"The input is not valid JSON: {error}. Write a text in quotation marks.",
+            422,
+        )
+    definition = form.get("definition", "")
+    check_definition(session.who, definition)
+    try:
+        saga = service.saga_named(session.who, definition, None)
+        await service.in_time(service.start(session.who, saga, key, given))
+    except SagasError as error:
+        return asked(request, form, str(error), 409)
+    service.figures.forget()
+    return RedirectResponse(address_of(key), 303)

@@ -1,0 +1,211 @@
+"""Routes of workers: claim, heartbeat, report."""
+
+from __future__ import annotations
+
+import asyncio
+import re
+from typing import Any
+
+from starlette.responses import Response
+
+from sagas.runtime.external_queue import LeasedTask, Word
+from sagas.server import answers, json_views, problems
+from sagas.server.access import check_steps
+from sagas.server.auth import May
+from sagas.server.operations import Answer, Call, Routes
+from sagas.server.problems import Problem
+from sagas.server.responses import Json, times
+from sagas.server.routes.sagas import first
+from sagas.server.shapes import Anything, Field, Flag, Nullable, Number, Record, Several, Text
+
+routes = Routes("workers", "/v1/tasks")
+WORD = re.compile(r"([a-z][a-z0-9_-]{0,31})/([a-z][a-z0-9_-]{0,31})(/undo)?\Z")
+LONGEST_LEASE = 3600.0
+HEARTBEATS = 3
+"""How many heartbeats fit into a lease, so that two of them may be lost."""
+CLAIM = {
+    "steps": Field(Several(Text(most=80), least=1, most=1000), "`trip/car`, or `trip/car/undo`"),
+    "limit": Field(Number(1, 100, whole=True), "how many tasks at most", default=1),
+    "wait": Field(Number(0.0, 30.0), "seconds to wait while there is none", default=30.0),
+    "lease": Field(
+        Number(0.5, LONGEST_LEASE), "seconds until a task may be another worker's", default=30.0
+    ),
+    "worker": Field(Text(most=64), "a name, for people", default=""),
+}
+CLAIM_REQUEST = Record(
+    "ClaimRequest", CLAIM, example={"steps": ["trip/car", "trip/car/undo"], "wait": 20, "lease": 30}
+)
+NEXT = Record(
+    "NextClaim",
+    CLAIM | {"wait": Field(Number(0.0, 30.0), "seconds to wait while there is none", default=0.0)},
+    "What is claimed with a report, so that a task costs one request.",
+)
+LEASE = {"lease": Field(Text(most=100), "as the task has it", example="1.c0ffee")}
+MORE = {"next": Field(Nullable(NEXT), "what is claimed with the report", default=None)}
+EXAMPLE = {"lease": "1.c0ffee"}
+HEARTBEAT = Record(
+    "HeartbeatRequest",
+    LEASE | {"seconds": Field(
+        Number(0.5, LONGEST_LEASE), "for how long the lease holds from now", default=30.0
+    ),
+    "progress": Field(Nullable(Number(0.0, 1.0)), "how far the worker is", default=None),
+    "detail": Field(Nullable(Text(most=200)), "a text with it, for people", default=None)},
+    example=EXAMPLE,
+)  # fmt: skip
+COMPLETE = Record(
+    "CompleteTaskRequest",
+    LEASE | {"result": Field(Anything(), "what the step gives", default=None)} | MORE,
+    "The step had its effect, or the compensation is done.",
+    EXAMPLE | {"result": {"id": 7}},
+)
+FAIL = Record(
+    "FailTaskRequest",
+    LEASE
+    | {
+        "error": Field(Text(most=4000), "why, for people"),
+        "final": Field(Flag(), "no further attempt will help", default=False),
+    }
+    | MORE,
+    "There was no effect.",
+    EXAMPLE | {"error": "the hotel is full"},
+)
+UNKNOWN = Record(
+    "UnknownTaskRequest",
+    LEASE | {"error": Field(Text(most=4000), "why, for people", default="")} | MORE,
+    "Nobody knows whether there was an effect.",
+    EXAMPLE | {"error": "the line went dead"},
+)
+CLAIMED_EXAMPLE = {
+    "tasks": [],
+    "heartbeat_seconds": 10.0,
+    "repeat_statuses": problems.REPEAT,
+    "unknown_steps": [],
+}
+REPORTED = {200: Answer("It is stored.", answers.REPORTED)}
+OWN = ("NoSuchTask", "InvalidLease", "LeaseLost", "OwnerUnavailable")
+
+
+def words_of(steps: list[str], place: str = "steps") -> list[Word]:
+    """The steps that are asked for. Raises `Problem`."""
+    found: list[Word] = []
+    for number, step in enumerate(steps):
+        told = WORD.match(step)
+        if told is None:
+            where = f"{place}.{number}"
+            raise Problem(
+                "InvalidRequest",
+                f"{where}: {step[:80]!r}: a step is saga/step, or saga/step/undo",
+                where,
+            )
+        found.append((told[1], told[2], "undo" if told[3] else "run"))
+    return found
+
+
+async def claimed(call: Call, body: dict[str, Any]) -> dict[str, Any]:
+    """Claims, as long as the client is there; none where the service is about to stop."""
+    service, who, steps = call.service, call.who, body["steps"]
+    found: list[LeasedTask] = []
+    if not service.is_stopping:
+        name = f"{who.name}/{body['worker']}" if body["worker"] else who.name
+        service.saw(name, steps)
+        work = service.store.workers.claim(
+            words_of(steps),
+            limit=body["limit"],
+            wait=body["wait"],
+            lease=body["lease"],
+            worker=name,
+            holder=who.name,
+        )
+        taking = asyncio.ensure_future(work)
+        if await first(call.request, who, taking, body["wait"] + 25.0):
+            found = taking.result()
+    now = service.store.now()
+    return {
+        "tasks": [json_views.task(one, now) for one in found],
+        "heartbeat_seconds": round(body["lease"] / HEARTBEATS, 3),
+        "repeat_statuses": problems.REPEAT,
+        "unknown_steps": sorted(set(steps) - service.words()),
+    }
+
+
+@routes.post(
+    "/claim", "claimTasks", may=May.WORK, body=CLAIM_REQUEST,
+    answers={200: Answer("The tasks.", answers.CLAIMED, example=CLAIMED_EXAMPLE)},
+    problems=("Stopping", "RightsChanged"),
+)  # fmt: skip
+async def claim(call: Call) -> Response:
+    """Claim tasks.
+
+    Those that have waited longest; none where no task came in time. The leases are stored before
+    they are answered. A token that may not claim one of the steps gets 403."""
+    words_of(call.body["steps"])
+    check_steps(call.who, call.body["steps"])
+    if call.service.is_stopping:
+        raise Problem("Stopping", "the service is about to stop: ask again in a while")
+    return Json(await claimed(call, call.body))
+
+
+@routes.post(
+    "/{attempt_id}/heartbeat", "heartbeat", may=May.WORK, body=HEARTBEAT, problems=OWN,
+    answers={200: Answer("The lease holds.", answers.HELD)},
+)  # fmt: skip
+async def heartbeat(call: Call) -> Response:
+    """Keep a lease.
+
+    409 `LeaseLost` where another worker has the task, or its outcome was reported: stop. 403
+    `InvalidLease` where this worker was not given the lease."""
+    body = call.body
+    until = await call.service.store.workers.heartbeat(
+        call.path["attempt_id"], body["lease"], body["seconds"], holder=call.who.name,
+        progress=body["progress"], detail=body["detail"],
+    )  # fmt: skip
+    return Json(times(until=until))
+
+
+async def _report(call: Call, **outcome: Any) -> Response:
+    """Keeps the report, and then claims what is wanted next."""
+    body, more = call.body, call.body["next"]
+    if more is not None:
+        words_of(more["steps"], "next.steps")  # refused before anything is kept
+        check_steps(call.who, more["steps"])
+    kept = await call.service.store.workers.report(
+        call.path["attempt_id"], body["lease"], holder=call.who.name, **outcome
+    )
+    told = None if more is None else await claimed(call, more)
+    return Json({"kept": True, "repeated": not kept, "next": told})
+
+
+@routes.post(
+    "/{attempt_id}/complete", "completeTask", may=May.WORK, body=COMPLETE, answers=REPORTED,
+    problems=(*OWN, "ConflictingReport", "NotSerializable"),
+)  # fmt: skip
+async def complete(call: Call) -> Response:
+    """Report that a task is done.
+
+    It counts under any lease that this worker was given for the task. The same report again is
+    one. 409 `ConflictingReport` where another came first, and `LeaseLost` where a person has to say
+    how it ended."""
+    return await _report(call, result=call.body["result"])
+
+
+@routes.post(
+    "/{attempt_id}/fail", "failTask", may=May.WORK, body=FAIL, answers=REPORTED,
+    problems=(*OWN, "ConflictingReport"),
+)  # fmt: skip
+async def fail(call: Call) -> Response:
+    """Report that a task had no effect.
+
+    It counts under the newest lease alone; else 409 `LeaseLost`."""
+    return await _report(call, error=call.body["error"], final=call.body["final"])
+
+
+@routes.post(
+    "/{attempt_id}/unknown", "unknownTask", may=May.WORK, body=UNKNOWN, answers=REPORTED,
+    problems=(*OWN, "ConflictingReport"),
+)  # fmt: skip
+async def unknown(call: Call) -> Response:
+    """Report that nobody knows.
+
+    It counts under the newest lease alone; else 409 `LeaseLost`. The same task comes again after
+    its back-off, or a person has to say."""
+    return await _report(call, unknown=call.body["error"] or "the worker does not know")

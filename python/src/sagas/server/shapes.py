@@ -1,0 +1,300 @@
+"""Shapes of JSON: they read what requests have, and describe themselves as JSON Schema."""
+
+from __future__ import annotations
+
+import abc
+import dataclasses
+import math
+import re
+from collections.abc import Mapping
+from typing import Any
+
+from sagas.definition.validation import meant
+
+Schema = dict[str, Any]
+MOST_SHOWN = 80
+
+
+class Invalid(ValueError):
+    """A value is not of its shape. `field` is its place: `next.steps.0`."""
+
+    def __init__(self, field: str, text: str) -> None:
+        super().__init__(text)
+        self.field = field
+
+
+class Shape(abc.ABC):
+    """What a value has to be."""
+
+    @abc.abstractmethod
+    def read(self, value: Any, field: str) -> Any:
+        """The value. Raises `Invalid`."""
+
+    @abc.abstractmethod
+    def schema(self) -> Schema:
+        """The shape as JSON Schema."""
+
+    def of_text(self, text: str, field: str) -> Any:
+        """The value of a parameter of a query, or of a path. Raises `Invalid`."""
+        return self.read(text, field)
+
+
+@dataclasses.dataclass(frozen=True)
+class Anything(Shape):
+    """Any JSON."""
+
+    def read(self, value: Any, field: str) -> Any:
+        return value
+
+    def schema(self) -> Schema:
+        return {}
+
+
+@dataclasses.dataclass(frozen=True)
+class Text(Shape):
+    """A text of so many characters. `pattern` is of all of it; `strip`: without blanks around."""
+
+    most: int | None = None
+    least: int = 0
+    pattern: str | None = None
+    form: str | None = None
+    strip: bool = False
+
+    def read(self, value: Any, field: str) -> str:
+        if not isinstance(value, str):
+            raise Invalid(field, "it is a text")
+        found = value.strip() if self.strip else value
+        if len(found) < self.least:
+            raise Invalid(field, "it is empty" if self.least == 1 else f"at least {self.least}")
+        if self.most is not None and len(found) > self.most:
+            raise Invalid(field, f"it has at most {self.most} characters")
+        if self.pattern is not None and not re.fullmatch(self.pattern, found):
+            raise Invalid(field, f"it has the form {self.pattern}")
+        return found
+
+    def schema(self) -> Schema:
+        words = {
+            "minLength": self.least or None,
+            "maxLength": self.most,
+            "pattern": None if self.pattern is None else f"^{self.pattern}$",
+            "format": self.form,
+        }
+        return {"type": "string"} | {name: one for name, one in words.items() if one is not None}
+
+
+@dataclasses.dataclass(frozen=True)
+class Choice(Shape):
+    """One of some texts."""
+
+    some: tuple[str, ...]
+
+    def read(self, value: Any, field: str) -> str:
+        if not isinstance(value, str) or value not in self.some:
+            raise Invalid(field, f"it is one of {', '.join(self.some)}")
+        return value
+
+    def schema(self) -> Schema:
+        return {"type": "string", "enum": list(self.some)}
+
+
+@dataclasses.dataclass(frozen=True)
+class Number(Shape):
+    """A number within bounds; `whole`: an integer."""
+
+    least: float | None = None
+    most: float | None = None
+    whole: bool = False
+
+    def read(self, value: Any, field: str) -> float:
+        is_number = isinstance(value, (int, float)) and not isinstance(value, bool)
+        if not is_number or (isinstance(value, float) and not math.isfinite(value)):
+            raise Invalid(field, "it is a number")
+        if self.whole and value != int(value):
+            raise Invalid(field, "it is a whole number")
+        if (self.least is not None and value < self.least) or (
+            self.most is not None and value > self.most
+        ):
+            raise Invalid(field, f"it is from {self.least} to {self.most}")
+        return int(value) if self.whole else float(value)
+
+    def of_text(self, text: str, field: str) -> float:
+        try:
+            found = int(text) if self.whole else float(text)
+        except ValueError:
+            raise Invalid(field, f"it is a {'whole ' if self.whole else ''}number") from None
+        return self.read(found, field)
+
+    def schema(self) -> Schema:
+        words = {"minimum": self.least, "maximum": self.most}
+        kind = "integer" if self.whole else "number"
+        return {"type": kind} | {name: one for name, one in words.items() if one is not None}
+
+
+@dataclasses.dataclass(frozen=True)
+class Flag(Shape):
+    """True or false."""
+
+    def read(self, value: Any, field: str) -> bool:
+        if not isinstance(value, bool):
+            raise Invalid(field, "it is true or false")
+        return value
+
+    def of_text(self, text: str, field: str) -> bool:
+        return self.read({"true": True, "false": False}.get(text), field)
+
+    def schema(self) -> Schema:
+        return {"type": "boolean"}
+
+
+@dataclasses.dataclass(frozen=True)
+class Nullable(Shape):
+    """A shape, or null."""
+
+    shape: Shape
+
+    def read(self, value: Any, field: str) -> Any:
+        return None if value is None else self.shape.read(value, field)
+
+    def of_text(self, text: str, field: str) -> Any:
+        return self.shape.of_text(text, field)
+
+    def schema(self) -> Schema:
+        told = self.shape.schema()
+        if "$ref" in told or "enum" in told:
+            return {"oneOf": [told, {"type": "null"}]}
+        return told if "type" not in told else {**told, "type": [told["type"], "null"]}
+
+
+@dataclasses.dataclass(frozen=True)
+class Several(Shape):
+    """A list of so many values of one shape."""
+
+    of: Shape
+    least: int = 0
+    most: int | None = None
+
+    def read(self, value: Any, field: str) -> list[Any]:
+        if not isinstance(value, list):
+            raise Invalid(field, "it is a list")
+        if len(value) < self.least or (self.most is not None and len(value) > self.most):
+            raise Invalid(field, f"it has from {self.least} to {self.most} entries")
+        return [self.of.read(one, f"{field}.{place}") for place, one in enumerate(value)]
+
+    def schema(self) -> Schema:
+        words = {"minItems": self.least or None, "maxItems": self.most}
+        found = {"type": "array", "items": self.of.schema()}
+        return found | {name: one for name, one in words.items() if one is not None}
+
+
+@dataclasses.dataclass(frozen=True)
+class Mapped(Shape):
+    """An object with any keys, whose values are of one shape."""
+
+    of: Shape
+
+    def read(self, value: Any, field: str) -> dict[str, Any]:
+        if not isinstance(value, dict):
+            raise Invalid(field, "it is an object")
+        return {name: self.of.read(one, f"{field}.{name}") for name, one in value.items()}
+
+    def schema(self) -> Schema:
+        return {"type": "object", "additionalProperties": self.of.schema()}
+
+
+REQUIRED: Any = object()
+"""The default of a field that has to be there."""
+
+
+@dataclasses.dataclass(frozen=True)
+class Field:
+    """A field of an object, or a parameter of a query; without a default it has to be there."""
+
+    shape: Shape
+    told: str = ""
+    default: Any = REQUIRED
+    example: Any = None
+
+    @property
+    def is_required(self) -> bool:
+        """Whether it has to be there."""
+        return self.default is REQUIRED
+
+    def schema(self) -> Schema:
+        """Its shape, with what is told of it."""
+        found = self.shape.schema()
+        if self.told:
+            found = {**found, "description": self.told}
+        if not self.is_required and self.default is not None:
+            found = {**found, "default": self.default}
+        return found
+
+
+@dataclasses.dataclass(frozen=True, eq=False)
+class Record(Shape):
+    """An object with these fields and no others. `name`: as the document has it."""
+
+    name: str
+    fields: Mapping[str, Field]
+    told: str = ""
+    example: Any = None
+
+    def read(self, value: Any, field: str) -> dict[str, Any]:
+        if not isinstance(value, dict):
+            raise Invalid(field, "it is an object")
+        return read_fields(self.fields, value, field)
+
+    def schema(self) -> Schema:
+        return {"$ref": f"#/components/schemas/{self.name}"}
+
+    def whole(self) -> Schema:
+        """The schema itself, which others refer to."""
+        required = [name for name, field in self.fields.items() if field.is_required]
+        found: Schema = {
+            "type": "object",
+            "properties": {name: field.schema() for name, field in self.fields.items()},
+            "additionalProperties": False,
+        }
+        if required:
+            found["required"] = required
+        if self.told:
+            found["description"] = self.told
+        return found if self.example is None else {**found, "examples": [self.example]}
+
+    @property
+    def is_optional(self) -> bool:
+        """Whether an empty object is one."""
+        return not any(field.is_required for field in self.fields.values())
+
+
+def read_fields(fields: Mapping[str, Field], value: dict[str, Any], place: str) -> dict[str, Any]:
+    """The values of all fields; those that are not there by their defaults. Raises `Invalid`."""
+    for name in value:
+        if name not in fields:
+            shown = name[:MOST_SHOWN]
+            raise Invalid(within(place, shown), f"there is no such field{meant(shown, [*fields])}")
+    found: dict[str, Any] = {}
+    for name, field in fields.items():
+        if name in value:
+            found[name] = field.shape.read(value[name], within(place, name))
+        elif field.is_required:
+            raise Invalid(within(place, name), "it is missing")
+        else:
+            found[name] = field.default
+    return found
+
+
+def within(place: str, name: str) -> str:
+    """The place of a field of an object."""
+    return f"{place}.{name}" if place else name
+
+
+def records(shape: Shape) -> dict[str, Record]:
+    """The records that a shape is made of, by their names."""
+    if isinstance(shape, Record):
+        found = {shape.name: shape}
+        for field in shape.fields.values():
+            found |= records(field.shape)
+        return found
+    if isinstance(shape, Nullable):
+        return records(shape.shape)
+    return records(shape.of) if isinstance(shape, (Several, Mapped)) else {}

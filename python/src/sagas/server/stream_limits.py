@@ -1,0 +1,56 @@
+"""Limits of open event streams."""
+
+from __future__ import annotations
+
+from collections import Counter
+from collections.abc import Callable
+from typing import Any
+
+from starlette.responses import StreamingResponse
+
+
+class Streams:
+    """`most` in all, `each` of one maker, and `kept` of all for the dashboard alone."""
+
+    def __init__(self, most: int, each: int, kept: int) -> None:
+        self.most, self.each, self.kept = most, each, kept
+        self._there: Counter[tuple[str, bool]] = Counter()
+
+    def full(self, maker: str, dashboard: bool) -> str | None:
+        """Why this maker gets no further one; None where there is room."""
+        if self._there[maker, dashboard] >= self.each:
+            return f"you have {self.each} event streams: close some"
+        most = self.most if dashboard else self.most - self.kept
+        others = sum(count for (_, shown), count in self._there.items() if not shown)
+        total = self._there.total()
+        if total >= self.most or (not dashboard and others >= most):
+            return f"there are {most} event streams: ask again in a while"
+        return None
+
+    def take(self, maker: str, dashboard: bool) -> Callable[[], None]:
+        """One more; gives what ends it."""
+        place = maker, dashboard
+        self._there[place] += 1
+
+        def leave() -> None:
+            self._there[place] -= 1
+            if self._there[place] <= 0:
+                del self._there[place]
+
+        return leave
+
+
+class Stream(StreamingResponse):
+    """An answer that leaves its place once it is over, however it ends."""
+
+    def __init__(self, content: Any, leave: Callable[[], None]) -> None:
+        super().__init__(
+            content, media_type="text/event-stream", headers={"X-Accel-Buffering": "no"}
+        )
+        self._leave = leave
+
+    async def __call__(self, *words: Any) -> None:
+        try:
+            await super().__call__(*words)
+        finally:
+            self._leave()

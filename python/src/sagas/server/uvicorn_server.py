@@ -1,0 +1,123 @@
+"""Runs the application under uvicorn: its settings, and a prompt stop.
+
+docs/dev/adr has what is used of uvicorn and of Starlette.
+"""
+
+from __future__ import annotations
+
+import asyncio
+import contextlib
+import resource
+import signal
+import socket
+import threading
+from collections.abc import Callable
+from typing import Any
+
+import uvicorn  # type: ignore[import]
+from uvicorn.protocols.http.auto import AutoHTTPProtocol  # type: ignore[import]
+
+from sagas.server.app import application
+from sagas.server.connections import Connection, Connections
+from sagas.server.service import Service
+from sagas.server.settings import Settings
+
+SPARE = 200  # descriptors that connections leave to the store and its children
+STARTED = 0.005  # seconds between two looks whether uvicorn has started: it makes no event of it
+SIGNALS = signal.SIGTERM, signal.SIGINT
+
+
+def protocol(connections: Connections) -> type[asyncio.Protocol]:
+    """The protocol of uvicorn's choice, within a `Connection`."""
+
+    class Counted(Connection):
+        def __init__(self, **words: Any) -> None:
+            super().__init__(AutoHTTPProtocol(**words), connections)
+
+    return Counted
+
+
+def most_connections(wanted: int) -> int:
+    """As many as are wanted, or as descriptors allow; their limit is raised as far as it may be."""
+    soft, hard = resource.getrlimit(resource.RLIMIT_NOFILE)
+    need = wanted + SPARE
+    if soft != resource.RLIM_INFINITY and soft < need:
+        soft = need if hard == resource.RLIM_INFINITY else min(need, hard)
+        resource.setrlimit(resource.RLIMIT_NOFILE, (soft, hard))
+    return wanted if soft == resource.RLIM_INFINITY else max(16, min(wanted, soft - SPARE))
+
+
+def config_of(app: Any, connections: Connections) -> uvicorn.Config:
+    """The settings of uvicorn. It logs nothing: the application answers for each fault."""
+    return uvicorn.Config(
+        app,
+        http=protocol(connections),
+        loop="asyncio",
+        ws="none",
+        lifespan="off",
+        access_log=False,
+        log_config=None,
+        log_level="critical",
+        server_header=False,
+        timeout_keep_alive=15,
+        backlog=2048,
+        proxy_headers=False,
+    )
+
+
+class Serving:
+    """A server at work, which ends streams and long waits when it is asked to stop."""
+
+    def __init__(self, server: uvicorn.Server, service: Service, connections: Connections) -> None:
+        self._server, self._service, self._connections = server, service, connections
+
+    async def run(self, listening: socket.socket, opened: Callable[[], None]) -> None:
+        """Serves until a signal; `opened` is called once it answers."""
+        work = asyncio.ensure_future(self._server.serve(sockets=[listening]))
+        try:
+            while not self._server.started and not work.done():
+                await asyncio.sleep(STARTED)
+            with self._signals():
+                opened()
+                await work
+        finally:
+            work.cancel()
+            with contextlib.suppress(asyncio.CancelledError):
+                await work
+
+    @contextlib.contextmanager
+    def _signals(self) -> Any:
+        """Signals are this server's, in place of uvicorn's own handlers."""
+        loop = asyncio.get_running_loop()
+        is_main = threading.current_thread() is threading.main_thread()
+        for number in SIGNALS if is_main else ():
+            loop.add_signal_handler(number, self.stop)
+        if self._server.should_exit:
+            self.stop()
+        try:
+            yield
+        finally:
+            for number in SIGNALS if is_main else ():
+                loop.remove_signal_handler(number)
+
+    def stop(self) -> None:
+        """Takes no further request, and ends what waits. A second time it waits for nothing."""
+        self._server.force_exit = self._service.stopping.done()
+        self._server.should_exit = True
+        self._service.stop()
+        self._connections.stop()
+
+
+async def run(settings: Settings, listening: socket.socket, opened: Callable[[], None]) -> None:
+    """Serves at a socket until it is asked to stop; `opened` is called once it answers. Raises
+    what `Store` raises.
+    """
+    most = most_connections(settings.most_connections)
+    connections = Connections(most, settings.head_time, settings.send_time)
+    app, service = application(settings, connections)
+    await service.begin()
+    try:
+        server = uvicorn.Server(config_of(app, connections))
+        await Serving(server, service, connections).run(listening, opened)
+    finally:
+        await service.end()

@@ -1,0 +1,102 @@
+"""The file of webhooks: where what is posted, and by which secret it is signed."""
+
+from __future__ import annotations
+
+import base64
+import binascii
+import dataclasses
+import pathlib
+from typing import Any
+from urllib.parse import urlsplit
+
+import tomllib
+
+TYPES = ("saga.completed", "saga.recovered", "saga.stuck", "saga.attention")
+KEYS = ("name", "url", "secret", "types", "definitions")
+PREFIX = "whsec_"
+LEAST_SECRET = 24  # bytes
+
+
+class WebhookFault(Exception):
+    """The file cannot be read. The text says where and why."""
+
+
+@dataclasses.dataclass(frozen=True, slots=True)
+class Webhook:
+    """Where events of some types are posted. `definitions`: of these alone; None: of all."""
+
+    name: str
+    url: str
+    secret: bytes
+    types: frozenset[str]
+    definitions: frozenset[str] | None
+
+    def wants(self, kind: str, saga: str) -> bool:
+        """Whether it is told of this."""
+        return kind in self.types and (self.definitions is None or saga in self.definitions)
+
+
+def read(path: pathlib.Path) -> list[Webhook]:
+    """The tables `[[webhook]]` of a file. Raises `WebhookFault`."""
+    try:
+        told = tomllib.loads(path.read_text(encoding="utf-8"))
+    except (OSError, UnicodeDecodeError, tomllib.TOMLDecodeError) as error:
+        raise WebhookFault(f"{path}: cannot be read: {error}") from error
+    entries = told.get("webhook", [])
+    if set(told) - {"webhook"} or not isinstance(entries, list):
+        raise WebhookFault(f"{path}: only [[webhook]] tables are allowed")
+    found: dict[str, Webhook] = {}
+    for place, entry in enumerate(entries, 1):
+        try:
+            one = _read_one(entry)
+        except ValueError as error:
+            raise WebhookFault(f"{path}: webhook {place}: {error}") from None
+        if one.name in found:
+            raise WebhookFault(f"{path}: webhook {place}: duplicate name {one.name!r}")
+        found[one.name] = one
+    return list(found.values())
+
+
+def _read_one(entry: Any) -> Webhook:
+    """One of them. Raises `ValueError`."""
+    unknown = sorted(set(entry) - set(KEYS)) if isinstance(entry, dict) else ["?"]
+    if unknown:
+        raise ValueError(f"unknown key {unknown[0]!r}; the keys are {', '.join(KEYS)}")
+    name, url = entry.get("name"), entry.get("url")
+    if not (isinstance(name, str) and 0 < len(name) <= 64 and name.isprintable()):
+        raise ValueError("name must be a text of 1 to 64 printable characters")
+    parts = urlsplit(url) if isinstance(url, str) else None
+    if parts is None or parts.scheme not in ("http", "https") or not parts.hostname:
+        raise ValueError(
+            "url must be an http or https address, for example https://example.org/hook"
+        )
+    if parts.username or parts.password:
+        raise ValueError("url must not contain a user or a password; receivers check the signature")
+    types = _texts(entry.get("types", list(TYPES)), "types")
+    if beyond := sorted(types - set(TYPES)):
+        raise ValueError(f"unknown type {beyond[0]!r}; the types are {', '.join(TYPES)}")
+    some = entry.get("definitions")
+    return Webhook(
+        name, url, _secret(entry.get("secret")), types,
+        None if some is None else _texts(some, "definitions"),
+    )  # fmt: skip
+
+
+def _texts(told: Any, word: str) -> frozenset[str]:
+    if not isinstance(told, list) or not told or not all(isinstance(one, str) for one in told):
+        raise ValueError(f"{word} must be a list of one or more texts")
+    return frozenset(told)
+
+
+def _secret(told: Any) -> bytes:
+    """The bytes of a secret, as Standard Webhooks writes it."""
+    hint = f"secret must be {PREFIX} followed by at least {LEAST_SECRET} random bytes in base64"
+    if not isinstance(told, str) or not told.startswith(PREFIX):
+        raise ValueError(hint)
+    try:
+        found = base64.b64decode(told.removeprefix(PREFIX), validate=True)
+    except binascii.Error:
+        raise ValueError(hint) from None
+    if len(found) < LEAST_SECRET:
+        raise ValueError(hint)
+    return found

@@ -1,0 +1,379 @@
+"""Short-lived connections of the operator command.
+
+What the operators' command reads and writes: a store's file, or its database, beside the programs
+that have it open.
+"""
+
+from __future__ import annotations
+
+import contextlib
+import fcntl
+import functools
+import json
+import os
+import pathlib
+import sqlite3
+import time
+from collections.abc import Iterator
+from typing import Any, Protocol
+
+from sagas.base.errors import SagasError, StoreUnavailable
+from sagas.definition.serialization import cleaned
+from sagas.storage import factory, queries
+from sagas.storage.filters import Filter
+from sagas.storage.operator_requests import ANSWER, ASK, ASK_START, WITHDRAW
+from sagas.storage.sqlite import store_file
+from sagas.storage.sqlite.schema import VERSION
+
+Row = tuple[Any, ...]
+CANNOT = 4
+LEAVE = """
+INSERT INTO operator_commands(key, command, value, at)
+SELECT key, ?, ?, ? FROM sagas WHERE id = ? RETURNING id
+"""
+ALONE = 5_777_002
+"""The advisory lock of who lets ended sagas go."""
+STARTS = """
+SELECT key, saga, version, at FROM pending_starts i
+WHERE NOT EXISTS (SELECT 1 FROM nodes n WHERE n.node = i.node AND n.lease > now()) ORDER BY id
+"""
+UNUSED = """
+DELETE FROM definition_sets
+WHERE definition_set NOT IN (SELECT DISTINCT definition_set FROM shards)
+"""
+STARTS_OF = "SELECT key FROM pending_starts WHERE node IS NULL AND labels @> CAST(? AS jsonb)"
+
+
+class Trouble(Exception):
+    """What ends the command with a line on standard error."""
+
+    def __init__(self, text: str, status: int = 1) -> None:
+        super().__init__(text)
+        self.status = status
+
+
+class Source(Protocol):
+    """A connection. Queries are such as SQLite and PostgreSQL both understand, with `?` for each
+    word.
+    """
+
+    name: str
+    """The store's in messages: the file's, or the URL without its password."""
+
+    def begin(self) -> None:
+        """All that is asked from now on is of one moment."""
+
+    def transaction(self) -> contextlib.AbstractContextManager[object]:
+        """What is written within is written as a whole, or not at all."""
+
+    def now(self) -> float:
+        """The time by the store's own clock, in seconds."""
+
+    def alone(self) -> bool:
+        """Whether no other connection has said this and is not closed yet. A file's are not
+        counted.
+        """
+
+    def ask(self, text: str, *words: Any) -> list[Row]:
+        """The rows of a question, or of a write that gives some."""
+
+    def changed(self, text: str, *words: Any) -> int:
+        """Writes; gives how many rows that changed."""
+
+    def tell(self, what: str) -> None:
+        """Wakes the programs that have the store open, where that can be."""
+
+    def is_driven(self) -> bool:
+        """Whether a program has the store open."""
+
+    def absent(self, key: str) -> Trouble:
+        """What is said where no saga has the key."""
+
+    def starts(self) -> list[Row]:
+        """What clients started and no node has taken: key, saga, version, and since when."""
+
+    def waiting_starts(self, filter: Filter) -> list[str]:
+        """The keys of clients' starts that no node has taken, of a filter."""
+
+    def withdraw(self, key: str) -> bool:
+        """Takes a start of a client back. False where there is none, or a node has taken it."""
+
+    def start_of(self, key: str) -> int | None:
+        """The id of the client's start that has the key, and no log yet."""
+
+    def leave(self, of: int, what: str, value: str) -> int | None:
+        """Leaves a request for the saga with this id, or for a client's start, as of an id below 0.
+        Gives the request's id; None where what is asked is gone."""
+
+    def answer(self, number: int, of: int) -> tuple[bool, str | None]:
+        """Whether a request that was left is there still, and its answer."""
+
+    def drop_definitions(self) -> None:
+        """Deletes the sets of definitions of which no shard is left."""
+
+    def close(self) -> None:
+        """Ends the connection."""
+
+
+class File:
+    """A SQLite file; `mode` is `ro` or `rw`."""
+
+    def __init__(self, name: str, mode: str) -> None:
+        self.name, self.path = name, pathlib.Path(name)
+        try:
+            if not self.path.is_file():
+                what = (
+                    "this is a folder. Name a file"
+                    if self.path.is_dir()
+                    else "the file does not exist. sagas.open creates a store"
+                )
+                raise Trouble(f"{name}: {what}", CANNOT)
+            self.link = sqlite3.connect(
+                f"{self.path.resolve().as_uri()}?mode={mode}",
+                uri=True,
+                timeout=5.0,
+                isolation_level=None,
+            )
+        except OSError as error:
+            raise Trouble(
+                f"{name}: {error.strerror}. This user must be able to read its folder and to "
+                "write there",
+                CANNOT,
+            ) from error
+        except sqlite3.Error as error:
+            raise Trouble(f"{name}: {store_file.told(error)}", CANNOT) from error
+        try:
+            version = self._version(mode)
+        except sqlite3.Error as error:
+            self.link.close()
+            told = store_file.told(error)  # also who only reads writes into `-shm`
+            raise Trouble(
+                f"{name}: {told}" if told != str(error) else f"{name} is not a store: {error}",
+                CANNOT,
+            ) from error
+        if version > VERSION:
+            self.link.close()
+            raise Trouble(
+                f"{name} has tables of version {version}, and this command knows {VERSION}. "
+                "Use a later release",
+                CANNOT,
+            )
+
+    def _version(self, mode: str) -> int:
+        (version,) = self.link.execute("PRAGMA user_version").fetchone()
+        self.link.execute("SELECT 1 FROM sagas LIMIT 1").fetchone()
+        if mode == "rw":
+            self.link.execute("PRAGMA synchronous=FULL")
+        return int(version)
+
+    def _run(self, text: str, words: tuple[Any, ...] = ()) -> sqlite3.Cursor:
+        """Raises `StoreUnavailable` where the file cannot be read or written."""
+        try:
+            return self.link.execute(text, cleaned(words))
+        except sqlite3.Error as error:
+            raise StoreUnavailable(f"{self.name}: {store_file.told(error)}") from error
+
+    def begin(self) -> None:
+        self._run("BEGIN")
+
+    @contextlib.contextmanager
+    def transaction(self) -> Iterator[None]:
+        self._run("BEGIN IMMEDIATE")
+        try:
+            yield
+            self._run("COMMIT")
+        except BaseException:
+            if self.link.in_transaction:
+                self.link.execute("ROLLBACK")
+            raise
+
+    def now(self) -> float:
+        return time.time()
+
+    def alone(self) -> bool:
+        return True
+
+    def ask(self, text: str, *words: Any) -> list[Row]:
+        cursor = self._run(text, words)
+        try:
+            return cursor.fetchall()
+        except sqlite3.Error as error:
+            raise StoreUnavailable(f"{self.name}: {store_file.told(error)}") from error
+
+    def changed(self, text: str, *words: Any) -> int:
+        return self._run(text, words).rowcount
+
+    def tell(self, what: str) -> None:
+        """The program looks by itself."""
+
+    def is_driven(self) -> bool:
+        try:
+            lock = os.open(store_file.lock_of(self.path), os.O_RDONLY)
+        except FileNotFoundError:
+            return False
+        except OSError:  # another user's: a program may have it
+            return True
+        try:
+            fcntl.flock(lock, fcntl.LOCK_EX | fcntl.LOCK_NB)
+        except BlockingIOError:
+            return True
+        finally:
+            os.close(lock)
+        return False
+
+    def absent(self, key: str) -> Trouble:
+        return Trouble(f"no saga has the key {key}")
+
+    def starts(self) -> list[Row]:
+        return []
+
+    def waiting_starts(self, filter: Filter) -> list[str]:
+        return []
+
+    def withdraw(self, key: str) -> bool:
+        return False
+
+    def start_of(self, key: str) -> int | None:
+        return None
+
+    def leave(self, of: int, what: str, value: str) -> int | None:
+        rows = self.ask(LEAVE, what, value, time.time(), of)
+        return int(rows[0][0]) if rows else None
+
+    def answer(self, number: int, of: int) -> tuple[bool, str | None]:
+        rows = self.ask("SELECT answer FROM operator_commands WHERE id = ?", number)
+        return bool(rows), rows[0][0] if rows else None
+
+    def drop_definitions(self) -> None:
+        self.changed(UNUSED)
+
+    def close(self) -> None:
+        self.link.close()
+
+
+class Base:
+    """A PostgreSQL database."""
+
+    def __init__(self, url: str, mode: str) -> None:
+        try:
+            from sagas.storage.postgresql import connections
+            from sagas.storage.postgresql import schema as schema
+        except ImportError as error:
+            raise factory.missing(error) from error
+
+        self.name = connections.named(url)
+        self._faults = functools.partial(connections.faults, self.name)
+        with self._faults():
+            self.link = connections.connect_now(url)
+            version = schema.version_of(self.link)
+        if not 0 < version <= schema.VERSION:
+            self.link.close()
+            known = schema.VERSION
+            of = (
+                f"has tables of version {version}, and this command knows {known}. Use a "
+                "later release"
+                if version
+                else "has no tables yet. Start a node, or run `sagas store URL init`"
+            )
+            raise Trouble(f"{self.name} {of}", CANNOT)
+
+    def begin(self) -> None:
+        with self._faults():
+            self.link.execute("BEGIN ISOLATION LEVEL REPEATABLE READ READ ONLY")
+
+    @contextlib.contextmanager
+    def transaction(self) -> Iterator[None]:
+        with self._faults(), self.link.transaction():
+            yield
+
+    def now(self) -> float:
+        return float(self.ask("SELECT extract(epoch FROM now())")[0][0])
+
+    def alone(self) -> bool:
+        return bool(self.ask("SELECT pg_try_advisory_lock(?)", ALONE)[0][0])
+
+    def ask(self, text: str, *words: Any) -> list[Row]:
+        with self._faults():
+            return self.link.execute(queries.for_postgresql(text), cleaned(words)).fetchall()
+
+    def changed(self, text: str, *words: Any) -> int:
+        with self._faults():
+            return self.link.execute(text.replace("?", "%s"), cleaned(words)).rowcount
+
+    def tell(self, what: str) -> None:
+        with self._faults():
+            self.link.execute("SELECT pg_notify('sagas_nodes', %s)", (what,))
+
+    def is_driven(self) -> bool:
+        return bool(self.ask("SELECT 1 FROM nodes WHERE lease > now() LIMIT 1"))
+
+    def absent(self, key: str) -> Trouble:
+        for saga, version, node in self.ask(
+            "SELECT saga, version, node FROM pending_starts WHERE key = ?", key
+        ):
+            if node is not None:
+                return Trouble(
+                    f"{key} has not started: node {node} has accepted it, and starts it, or "
+                    "another node does when that one is gone"
+                )
+            waits = (
+                f"{key} has not started: it waits for a node that has {saga} (version "
+                f"{version})"
+            )
+            return Trouble(
+                f"{waits}. Run `sagas store URL nodes` to see the nodes, or `sagas store URL "
+                f"abort {key}` to withdraw it"
+            )
+        return Trouble(f"no saga has the key {key}")
+
+    def starts(self) -> list[Row]:
+        return self.ask(STARTS)
+
+    def waiting_starts(self, filter: Filter) -> list[str]:
+        text = STARTS_OF if filter.saga is None else f"{STARTS_OF} AND saga = ?"
+        rows = self.ask(text, json.dumps(dict(filter.labels)), *filter.saga_words)
+        return [key for (key,) in rows]
+
+    def withdraw(self, key: str) -> bool:
+        return bool(self.ask(WITHDRAW, key))
+
+    def start_of(self, key: str) -> int | None:
+        rows = self.ask("SELECT id FROM pending_starts WHERE key = ?", key)
+        return int(rows[0][0]) if rows else None
+
+    def leave(self, of: int, what: str, value: str) -> int | None:
+        rows = self.ask(ASK, what, value, of) if of >= 0 else self.ask(ASK_START, what, value, -of)
+        return int(rows[0][0]) if rows else None
+
+    def answer(self, number: int, of: int) -> tuple[bool, str | None]:
+        ((is_asked, answer, is_started, _),) = self.ask(ANSWER, number, -of if of < 0 else None)
+        return is_asked or is_started, answer
+
+    def drop_definitions(self) -> None:
+        with self.transaction():  # a commit that makes a shard has written both rows, or waits
+            self.changed("LOCK TABLE definition_sets IN SHARE ROW EXCLUSIVE MODE")
+            self.changed(UNUSED)
+
+    def close(self) -> None:
+        self.link.close()
+
+
+def connect(name: str, mode: str = "ro") -> Source:
+    """A connection to a store. Raises `Trouble`, `StoreUnavailable`, `InvalidStore`."""
+    factory.check_name(name)
+    if factory.is_url(name):
+        return Base(name, mode)
+    return File(name, mode)
+
+
+@contextlib.contextmanager
+def writing(name: str) -> Iterator[Source]:
+    """A connection for a short write beside the programs."""
+    link = connect(name, "rw")
+    try:
+        yield link
+    except SagasError as error:
+        told = str(error).removeprefix(f"{link.name}: ")
+        raise Trouble(f"cannot write {link.name}: {told}", CANNOT) from error
+    finally:
+        link.close()

@@ -1,0 +1,159 @@
+"""A closed shard as a folder that `sagas audit` verifies."""
+
+from __future__ import annotations
+
+import fcntl
+import json
+import os
+import pathlib
+import shutil
+from collections.abc import Iterator
+from contextlib import contextmanager
+from typing import Any
+
+import tomllib
+
+from sagas.core.history import Projection
+from sagas.core.protocol import HEADER
+from sagas.definition.capacity import SHARD_CAPACITY
+from sagas.storage import queries
+from sagas.storage.admin import Row, Source
+
+Json = dict[str, Any]
+SAGAS = f"""
+SELECT {queries.SAGA}, {queries.LABELS} FROM sagas s WHERE id >= ? AND id < ? ORDER BY id
+"""
+RESULTS = """
+SELECT id, step, action, number, event, value, at FROM attempts
+WHERE id >= ? AND id < ? ORDER BY id, at, step, action, number
+"""
+ASKED = """
+SELECT s.id, r.command, r.value, r.at, r.answer
+FROM sagas s JOIN operator_commands r USING (key) WHERE s.id >= ? AND s.id < ? ORDER BY r.id
+"""
+SHARD = """
+SELECT name, texts, audit FROM shards JOIN definition_sets USING (definition_set) WHERE shard = ?
+"""
+NAMES = {
+    "results": ("step", "kind", "attempt", "outcome", "value", "at"),
+    "requests": ("what", "value", "at", "answer"),
+}
+
+
+def write(link: Source, log: int, folder: pathlib.Path) -> pathlib.Path:
+    """Writes a log into a folder of its own, named as the log is, and syncs it; gives that
+    folder. One that is there is written anew.
+
+    - `log`, `definition-00.toml` ..: what `sagas audit log definition-*.toml` reads;
+      `about.json` has what it said when the log was closed;
+    - `sagas.jsonl`: a line a saga: its number in the log, key, input, times, end, results, and
+      what was asked of it;
+    - `plans.jsonl`: a line a plan that was adopted: the case and the answer, with its
+      certificate, as `sagas check` reads them.
+
+    Raises `OSError`; then what is there is no whole folder of that name.
+    """
+    name, texts, audit = link.ask(SHARD, log)[0]
+    lines = "".join(
+        text
+        for (text,) in link.ask(
+            "SELECT text FROM event_log WHERE shard = ? ORDER BY first_seq", log
+        )
+    )
+    rows, definitions = link.ask(
+        SAGAS, log * SHARD_CAPACITY, (log + 1) * SHARD_CAPACITY
+    ), json.loads(texts)
+    files = {
+        "log": HEADER + lines,
+        "about.json": json.dumps({"log": log, "name": name, "sagas": len(rows), "audit": audit})
+        + "\n",
+        "sagas.jsonl": _jsonl(_sagas(link, log, rows)),
+        "plans.jsonl": _jsonl(_plans(lines, rows, definitions)),
+    }
+    files |= {f"definition-{place:02}.toml": text for place, text in enumerate(definitions)}
+    folder.mkdir(parents=True, exist_ok=True)
+    with _locked(folder) as held:
+        part, whole = folder / f".{name}.part", folder / str(name)
+        for old in (part, whole):
+            shutil.rmtree(old, ignore_errors=True)
+        part.mkdir()
+        for word, text in files.items():
+            _synced(part / word, text)
+        _sync(part)
+        part.rename(whole)
+        os.fsync(held)
+    return whole
+
+
+def _sagas(link: Source, log: int, rows: list[Row]) -> Iterator[Json]:
+    more: dict[str, dict[int, list[Json]]] = {}
+    for word, query in (("results", RESULTS), ("requests", ASKED)):
+        of: dict[int, list[Json]] = more.setdefault(word, {})
+        for id, *columns in link.ask(query, log * SHARD_CAPACITY, (log + 1) * SHARD_CAPACITY):
+            of.setdefault(id, []).append(_parsed(dict(zip(NAMES[word], columns))))
+    for id, key, saga, place, text, at, phase, end, ended, note, labels in rows:
+        told = {
+            "number": id % SHARD_CAPACITY,
+            "key": key,
+            "saga": saga,
+            "definition": place,
+            "input": json.loads(text),
+            "started": at,
+            "phase": phase,
+            "ended": ended,
+            "note": note,
+            "labels": queries.labels_of(labels),
+        }
+        yield told | {"end": json.loads(end)} | {word: of.get(id, []) for word, of in more.items()}
+
+
+def _parsed(told: Json) -> Json:
+    """Values that are kept as JSON."""
+    return {
+        word: json.loads(value) if word in ("value", "answer") and value is not None else value
+        for word, value in told.items()
+    }
+
+
+def _plans(lines: str, rows: list[Row], texts: list[str]) -> Iterator[Json]:
+    names = [[step["name"] for step in tomllib.loads(text)["step"]] for text in texts]
+    keys = {id % SHARD_CAPACITY: (key, place) for id, key, _, place, *_ in rows}
+    histories = {number: Projection(names[place]) for number, (_, place) in keys.items()}
+    for event in map(json.loads, lines.splitlines()):
+        number = event["saga"]
+        (key, place), history = keys[number], histories[number]
+        history.add(0.0, event)
+        if event["event"] == "adopt" and history.adopted:
+            case, answer = history.adopted
+            told = {"number": number, "key": key, "definition": place}
+            yield told | {"case": case, "answer": answer}
+
+
+def _jsonl(rows: Iterator[Json]) -> str:
+    return "".join(json.dumps(row, ensure_ascii=False) + "\n" for row in rows)
+
+
+@contextmanager
+def _locked(folder: pathlib.Path) -> Iterator[int]:
+    """One program at a time writes into a folder."""
+    held = os.open(folder, os.O_RDONLY | os.O_DIRECTORY | os.O_CLOEXEC)
+    try:
+        fcntl.flock(held, fcntl.LOCK_EX)
+        yield held
+    finally:
+        os.close(held)
+
+
+def _synced(path: pathlib.Path, text: str) -> None:
+    with open(path, "w", encoding="utf-8") as file:
+        file.write(text)
+        file.flush()
+        os.fsync(file.fileno())
+
+
+def _sync(folder: pathlib.Path) -> None:
+    opened = os.open(folder, os.O_RDONLY | os.O_DIRECTORY)
+    try:
+        os.fsync(opened)
+    finally:
+        os.close(opened)

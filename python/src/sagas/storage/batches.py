@@ -1,0 +1,156 @@
+"""Commands to all sagas of a filter: at most 1,000 a transaction.
+
+An abort is left in the store for each saga, as for one (`operator_requests`): it is carried out by
+the program that drives the saga, also by a later one. So a batch that is interrupted has done its
+last transaction or has not begun the next one, and the same command again goes on with the rest.
+"""
+
+from __future__ import annotations
+
+import dataclasses
+import json
+import threading
+import time
+from collections.abc import Sequence
+from typing import Any
+
+from sagas.definition.serialization import clean
+from sagas.storage.admin import Row, Source
+from sagas.storage.filters import Filter
+from sagas.storage.operator_requests import reason
+from sagas.storage.queries import PHASES, RESOLVABLE, RESOLVE
+
+MOST = 1000
+"""Sagas of one transaction."""
+LOOK = 0.02, 0.25
+"""Seconds between two looks for answers: at first, and at most."""
+ABORTABLE = f"""{PHASES["open"]} AND NOT EXISTS (SELECT 1 FROM operator_commands r
+WHERE r.key = s.key AND r.command = 'abort' AND (r.answer IS NULL OR r.answer = 'true'))"""
+"""The sagas that are open, and of which no abort was asked by a command."""
+TO_RESOLVE = f"{RESOLVABLE} AND note IS NULL"
+NOTED = """
+INSERT INTO operator_commands(key, command, value, at, answer) VALUES(?, 'resolve', ?, ?, 'true')
+"""
+
+
+@dataclasses.dataclass(slots=True)
+class BatchResult:
+    """What a command to many sagas came to.
+
+    Attributes:
+        done: The keys of the sagas for which it is carried out.
+        refused: Why it was refused, by key.
+        waiting: The keys of those that have no answer yet: it is carried out once their program
+            comes to it.
+    """
+
+    done: list[str] = dataclasses.field(default_factory=list)
+    refused: dict[str, str] = dataclasses.field(default_factory=dict)
+    waiting: list[str] = dataclasses.field(default_factory=list)
+
+
+def resolve_one(link: Source, key: str, note: str, by: str | None = None) -> bool:
+    """Mark one saga as looked after, in a transaction of the caller. False where it is not one
+    that waits for this."""
+    if not link.changed(RESOLVE, note, key):
+        return False
+    link.changed(NOTED, key, json.dumps({"by": by, "note": clean(note)}), link.now())
+    return True
+
+
+class Batch:
+    """A command to the sagas of a filter, over a connection of its own. For a thread."""
+
+    def __init__(self, link: Source, filter: Filter, stop: threading.Event | None = None) -> None:
+        self._link, self._filter, self._stop = link, filter, stop or threading.Event()
+        self._result = BatchResult()
+
+    def abort_count(self) -> int:
+        """How many sagas `abort` is for now."""
+        return self._count(ABORTABLE) + len(self._link.waiting_starts(self._filter))
+
+    def resolve_count(self) -> int:
+        """How many sagas `resolve` is for now."""
+        return self._count(TO_RESOLVE)
+
+    def abort(self, told: dict[str, Any] | None, timeout: float | None = None) -> BatchResult:
+        """Ask to abort them, and wait for the answers.
+
+        Args:
+            told: What is kept of the command.
+            timeout: Seconds to wait at most for the answers; None: as long as a program has the
+                store.
+        """
+        value, after, asked = json.dumps(told), -1, dict[int, str]()
+        for key in self._link.waiting_starts(self._filter):
+            if self._link.withdraw(key):
+                self._result.done.append(key)
+        until = None if timeout is None else time.monotonic() + timeout
+        while not self._stop.is_set():
+            with self._link.transaction():
+                lot = self._lot(ABORTABLE, after)
+                left = [(self._link.leave(id, "abort", value), key) for id, key in lot]
+            if not lot:
+                break
+            after = lot[-1][0]
+            asked = {number: key for number, key in left if number is not None}
+            self._link.tell("requests")
+            self._result.waiting += self._await(asked, until).values()
+        return self._result
+
+    def resolve(self, note: str, by: str | None) -> BatchResult:
+        """Mark them as looked after.
+
+        Args:
+            note: What was done about them.
+            by: Who did it.
+        """
+        while not self._stop.is_set():
+            with self._link.transaction():
+                lot = self._lot(TO_RESOLVE, -1)
+                for _, key in lot:
+                    resolve_one(self._link, key, note, by)
+            if not lot:
+                break
+            self._result.done += [key for _, key in lot]
+        return self._result
+
+    def _count(self, condition: str) -> int:
+        where, words = self._filter.where()
+        query = f"SELECT count(*) FROM sagas s WHERE {condition} AND {where}"
+        return int(self._link.ask(query, *words)[0][0])
+
+    def _lot(self, condition: str, after: int) -> Sequence[Row]:
+        where, words = self._filter.where()
+        query = f"""SELECT id, key FROM sagas s WHERE {condition} AND {where} AND id > ?
+        ORDER BY id LIMIT {MOST}"""
+        return self._link.ask(query, *words, after)
+
+    def _await(self, asked: dict[int, str], until: float | None) -> dict[int, str]:
+        """Wait for answers; return what has none, as far as nobody has the store, or in time."""
+        pause, most = LOOK
+        while asked and not self._stop.is_set():
+            marks = ", ".join("?" * len(asked))
+            query = f"SELECT id, answer FROM operator_commands WHERE id IN ({marks})"
+            rows = {number: answer for number, answer in self._link.ask(query, *asked)}
+            for number, key in list(asked.items()):
+                if number not in rows or rows[number] is not None:
+                    self._answered(key, json.loads(rows.get(number) or "false"))
+                    del asked[number]
+            is_late = until is not None and time.monotonic() >= until
+            if not asked or is_late or not self._link.is_driven():
+                break
+            self._stop.wait(pause)
+            pause = min(most, 2 * pause)
+        return asked
+
+    def _answered(self, key: str, answer: Any) -> None:
+        if answer is True:
+            self._result.done.append(key)
+        else:
+            said = (
+                reason(answer)
+                if isinstance(answer, dict)
+                else "it has ended, or was aborted before"
+            )
+            self._result.refused[key] = said

@@ -1,0 +1,113 @@
+"""The table `external_attempts`: its statements, for both databases.
+
+Work done elsewhere, as a store's table `external_attempts` has it: what may be asked of it, in
+each database's words.
+
+The row of an attempt is written in the commit that offers it. Any node claims it, with a lease
+that ends by the database's clock, and takes its report; the node that drives its shard reports
+that into the shard, and settles the row in the same commit, under the shard's epoch.
+"""
+
+from __future__ import annotations
+
+from collections.abc import Awaitable, Callable, Sequence
+from typing import NamedTuple, Protocol
+
+from sagas.core.batch import Batch
+
+OFFER = "attempt, shard, id, step, action, number, task, concurrency, lease, offered_at"
+OPEN = "outcome IS NULL"
+REPORTED = "outcome IN ('succeeded', 'failed', 'failed_permanently', 'unknown')"
+OFFERED_AGAIN = """
+lease = CASE WHEN excluded.lease IS NULL THEN e.lease
+  ELSE greatest(excluded.lease, coalesce(e.lease, 0) + 1) END,
+offered_at = CASE WHEN e.outcome IS NULL THEN e.offered_at ELSE excluded.offered_at END,
+until = CASE WHEN e.outcome IS NULL THEN e.until END, outcome = NULL
+WHERE e.outcome IS NULL OR e.outcome IN ('suspended', 'withdrawn', 'person')
+"""
+"""One that is offered already keeps its place and its lease; what a worker reported stands."""
+TAKES = """(
+  {outcome} = 'succeeded' AND lease >= {lease}
+    AND (outcome IS NULL OR outcome IN ('unknown', 'suspended', 'failed', 'failed_permanently'))
+  OR lease = {lease} AND (reported IS NULL OR reported <> {lease})
+    AND (outcome IS NULL OR outcome = 'suspended' AND {outcome} <> 'unknown'))"""
+"""Whether a report counts: *done* under any lease, the others under the newest. *Done* takes the
+place of a failure that is not settled yet, and *unknown* gives way to it."""
+
+
+class Claim(NamedTuple):
+    """An attempt that was claimed, for how many seconds, and whether an earlier lease of it had run
+    out."""
+
+    attempt: str
+    lease: int
+    seconds: float
+    id: int
+    step: int
+    action: str
+    is_takeover: bool
+
+
+class Row(NamedTuple):
+    """What is kept of an attempt: the newest lease, how it ended, and under which lease that was
+    said."""
+
+    lease: int | None
+    outcome: str | None
+    value: str | None
+    reported: int | None
+
+
+class Report(NamedTuple):
+    """How an attempt ended, as it was reported."""
+
+    attempt: str
+    outcome: str
+    value: str
+
+
+class Waiting(NamedTuple):
+    """Of a task how many wait for a worker, since when the first, and how many are leased."""
+
+    task: str
+    ready: int
+    oldest: float | None
+    claimed: int
+
+
+class ExternalAttempts(Protocol):
+    """The table, for a program that has the store open. All raise `StoreUnavailable`."""
+
+    def begin(self, write: Callable[[Batch], Awaitable[None]], clock: Callable[[], float]) -> None:
+        """`write`: puts a batch into the next transaction."""
+
+    async def claim(
+        self, tasks: Sequence[str], limited: Sequence[str], most: int, seconds: float, worker: str
+    ) -> list[Claim]:
+        """Leases of attempts that wait, those first that have waited longest. `limited`: those of
+        the tasks that have a concurrency."""
+
+    async def heartbeat(self, attempt: str, lease: int, seconds: float) -> float | None:
+        """Seconds for which the lease holds from now; None where it is not the newest, or is
+        over."""
+
+    async def advance(self, attempt: str, fraction: float, detail: str | None, at: float) -> None:
+        """Keeps how far the worker is that has an attempt."""
+
+    async def report(self, attempt: str, lease: int, outcome: str, value: str) -> int | None:
+        """Keeps how an attempt ended, and gives its shard; None where it does not count."""
+
+    async def find(self, attempt: str) -> Row | None:
+        """What is kept of an attempt."""
+
+    async def reported(self, shards: Sequence[int]) -> list[Report]:
+        """What was reported of attempts of these shards, and is not settled."""
+
+    async def waiting(self) -> list[Waiting]:
+        """What waits for workers, or is leased, by task."""
+
+    async def withdraw(self, attempt: str) -> bool:
+        """Takes back what nobody has claimed; whether it was so."""
+
+    async def tell(self) -> None:
+        """Wakes the node that drives a shard of which something was reported."""

@@ -1,0 +1,101 @@
+"""The database that a store's name means."""
+
+from __future__ import annotations
+
+import re
+from collections.abc import Callable
+from typing import Any
+
+from sagas.base.errors import DefinitionError, InvalidStore
+from sagas.definition.compiled import Shelf, digest_of
+from sagas.storage.interface import Database
+from sagas.storage.sqlite.storage import Sqlite
+
+SCHEMES = ("postgresql:", "postgres:")
+FORM = "postgresql://user@host/database"
+NO_FILE = re.compile(r"([A-Za-z][A-Za-z0-9+.-]*)://|(?:host|hostaddr|port|dbname|user|service)=")
+"""What is meant for a database, and is no URL of one."""
+
+
+def is_url(name: str) -> bool:
+    """Whether it names a PostgreSQL database, and not a file."""
+    return name.startswith(SCHEMES)
+
+
+def check_name(name: str) -> None:
+    """Raises `InvalidStore`, with what to give instead, where it is neither a file's nor the URL
+    of a PostgreSQL database. A password is not repeated.
+    """
+    if is_url(name):
+        return
+    if not name or name == ":memory:" or name.startswith("file:"):
+        raise InvalidStore(
+            f"{name}: must be the path of a file. In memory, for a test: sagas.testing.run"
+        )
+    found = NO_FILE.match(name)
+    if found and found[1] == "sqlite":
+        raise InvalidStore(
+            f"{name}: name a SQLite store by its path: "
+            f"{name[len('sqlite://'):].removeprefix('/')}"
+        )
+    if found:
+        raise InvalidStore(
+            f"{f'{found[1]}://' if found[1] else 'a list of words'}: a store is an SQLite file, or "
+            f"{FORM}"
+        )
+
+
+def missing(error: ImportError) -> InvalidStore:
+    """What to do where PostgreSQL's client is not installed."""
+    if error.name is None:  # psycopg is there, and finds no libpq
+        return InvalidStore(
+            f"PostgreSQL: {str(error).splitlines()[0]} psycopg needs libpq: apt-get install "
+            "libpq5, or pip install 'psycopg[binary]'"
+        )
+    return InvalidStore(
+        f"PostgreSQL needs {error.name}: pip install psycopg psycopg_pool (the extra "
+        "`postgresql`), or apt-get install python3-psycopg python3-psycopg-pool"
+    )
+
+
+def make(
+    name: str,
+    shelf: Shelf,
+    node: str | None,
+    lease: float,
+    most: int,
+    transactions: Callable[..., Any],
+) -> Database:
+    """The database of that name, not yet opened. `transactions`: as of `PostgreSQL`.
+
+    Raises `InvalidStore` where what it needs is not installed, and `DefinitionError`.
+    """
+    check_name(name)
+    if not is_url(name):
+        for step in (
+            step
+            for saga in shelf.sagas.values()
+            for step in saga.steps
+            if step.run.transaction or step.undo.transaction
+        ):
+            raise DefinitionError(
+                f"{step.where}: saga {step.saga.name!r}, step {step.name!r}: transaction=True "
+                f"needs PostgreSQL, and {name} is a SQLite file"
+            )
+        return Sqlite(name)
+    try:
+        from sagas.storage.postgresql.storage import PostgreSQL
+    except ImportError as error:
+        raise missing(error) from error
+    names = {f"{kind.name}/{kind.version}": kind.text for kind in shelf.kinds if kind.fits}
+    kinds = [f"{name}/{digest_of(text)}" for name, text in names.items()]
+    return PostgreSQL(
+        name,
+        node=node,
+        lease=lease,
+        most=most,
+        sagas=[*names, *kinds],
+        kinds=kinds,
+        version=shelf.shelf,
+        transactions=transactions,
+    )

@@ -1,0 +1,68 @@
+"""What a node reports to other nodes and clients, after its commits."""
+
+from __future__ import annotations
+
+import asyncio
+
+from sagas.storage.postgresql import notifications
+from sagas.storage.postgresql.commit_statement import Commit
+
+SOON = 0.001
+"""Seconds behind a commit in which others hear of it, or sooner behind the next one: what is to be
+done here goes first."""
+
+
+class Announcer:
+    """Tells over the connection that listens: a commit that tells takes a lock over the whole
+    server."""
+
+    def __init__(self, news: notifications.News) -> None:
+        self.news = news
+        self._said: list[str] = []
+        self._telling: asyncio.TimerHandle | None = None
+        self._saying = self._is_closed = False
+
+    def stop(self) -> None:
+        """Nothing more is told before `close`."""
+        self._is_closed = True
+
+    async def close(self) -> None:
+        """Tells what is left, and ends the connection."""
+        words, self._said = self._said, []
+        await self.news.close(words)
+
+    def hurry(self) -> None:
+        """Tells now what was to be told soon: the server is at work anyway."""
+        if self._telling:
+            self._telling.cancel()
+            self._tell()
+
+    def kept(self, commit: Commit) -> None:
+        """A commit is in the store: the others hear of it."""
+        if ended := commit.ended:
+            self._say(notifications.payloads("ended", ended))
+        if any(row[6] for _, rare in commit.rare for row in rare.offers):
+            self._say(["tasks"])
+        for _, rare in commit.rare:
+            begun = [id for id, _ in rare.begun]
+            for what, ids in (("begun", begun), ("answered", [id for _, id in rare.answers])):
+                if ids:
+                    self._say(notifications.payloads(what, ids))
+
+    def _say(self, words: list[str]) -> None:
+        """Tells the other nodes and the clients, behind the commit: a commit that tells takes a
+        lock over the whole server.
+        """
+        self._said += words
+        if self._said and not self._saying and not self._is_closed:
+            self._saying = True
+            self._telling = asyncio.get_running_loop().call_later(SOON, self._tell)
+
+    def _tell(self) -> None:
+        self._telling, words, self._said = None, self._said, []
+        self.news.say(words, self._told)
+
+    def _told(self) -> None:
+        """They were told; what came meanwhile is next."""
+        self._saying = False
+        self._say([])

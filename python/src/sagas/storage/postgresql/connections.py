@@ -1,0 +1,320 @@
+"""Connections, settings and the meaning of errors."""
+
+from __future__ import annotations
+
+import asyncio
+import contextlib
+import re
+from collections.abc import Awaitable, Callable, Iterator, Mapping, Sequence
+from typing import Any, TypeVar
+
+import psycopg
+from psycopg import conninfo, errors
+from psycopg_pool import AsyncConnectionPool, PoolTimeout
+
+from sagas.base.errors import InvalidStore, StoreUnavailable
+from sagas.storage.factory import FORM, is_url
+
+PATIENCE = 20.0
+"""Seconds that a statement may take: what takes longer is given up, and what it did is looked
+up.
+"""
+CONNECT = 5
+KNOCK = 2.0
+"""Seconds that a server has for its answer to a first connection."""
+FINAL = re.compile(
+    r"authentication failed|no password supplied|pg_hba\.conf|not permitted to log in|permission "
+    r"denied for database"
+    r"|(role|database) \".*\" does not exist|no such (user|database)"
+)
+"""What is said, in English alone, to who will never be let in so. There is no code with it:
+libpq keeps that to itself.
+"""
+DEFAULTS: dict[str, Any] = {
+    "connect_timeout": CONNECT,
+    "application_name": "sagas",
+    "keepalives_idle": 5,
+    "keepalives_interval": 2,
+    "keepalives_count": 3,
+    "tcp_user_timeout": 15_000,
+    "target_session_attrs": "read-write",
+}
+DURABLE = (
+    "SELECT set_config('synchronous_commit', 'on', false) WHERE "
+    "current_setting('synchronous_commit') IN ('off', 'local')"
+)
+"""What is committed is on the disk, and on a synchronous standby where there is one, whatever
+the database's own setting says.
+"""
+SETTINGS = (
+    "SET client_encoding = 'UTF8'; SET search_path = sagas; SET jit = off; SET enable_seqscan = "
+    f"off; SET enable_hashjoin = off; SET enable_mergejoin = off; {DURABLE}"
+)
+"""Plans are made once, for tables that were empty then and are full later: let them be by
+indexes.
+"""
+
+LIMITED = f"SET statement_timeout = '{int(PATIENCE)}s'"
+REPEATED = f"SET plan_cache_mode = force_generic_plan; {SETTINGS}"
+"""For statements whose plan has nothing to do with their words: else some are planned anew each
+time.
+"""
+
+RIGHTS = "have the owner of the database run `sagas store URL init --role {role}`"
+"""What helps a role that may not."""
+
+FAULTS = (psycopg.Error, PoolTimeout, OSError, TimeoutError)
+"""What is raised where the server does not answer as it should."""
+
+LINE = "left(pg_walfile_name(pg_current_wal_lsn()), 8)"
+"""The server's timeline: another one once a standby has taken over, which may lack what was
+committed last.
+"""
+
+ESCAPED = (
+    "with % and two hex digits for what is special in a password, "
+    'as urllib.parse.quote(password, safe="") gives it'
+)
+
+CUT = ("08", "57P0")
+"""How the codes begin that say that a connection is over; an error without a code says so too."""
+
+T = TypeVar("T")
+Row = tuple[Any, ...]
+Link = psycopg.AsyncConnection[Row]
+
+
+def read(url: str) -> dict[str, Any]:
+    """What a URL says. Raises `InvalidStore` where it is none, or most likely none; the text has
+    no part of a password.
+    """
+    if not is_url(url):
+        raise InvalidStore(f"this is not a URL of a PostgreSQL database. Write {FORM}")
+    if has_stray_at(url):
+        raise unread("its password probably contains @ or / unescaped")
+    try:
+        told: dict[str, Any] = conninfo.conninfo_to_dict(url)
+    except psycopg.ProgrammingError as error:
+        said = str(error).strip()
+        if (
+            not said.startswith("invalid URI query parameter") or "@" in url.partition("?")[2]
+        ):  # else it may show a part of the password
+            said = (
+                "two slashes are missing"
+                if said.startswith('missing "="')
+                else said.partition('"')[0].strip(" :")
+            )
+        raise unread(said) from None
+    if not all(port.isdigit() or not port for port in str(told.get("port", "")).split(",")):
+        raise unread(
+            "its port is not a number; if that is the password, @ and the host are missing"
+        )
+    return told
+
+
+def unread(why: str) -> InvalidStore:
+    """What is said of a URL that cannot be read."""
+    return InvalidStore(f"the URL of the store cannot be read ({why}). Write {FORM}, {ESCAPED}")
+
+
+def has_stray_at(url: str) -> bool:
+    """Whether an @ would be taken for a part of the host or of the database's name, as it is
+    where a password has @ or / as they are.
+    """
+    told = url.partition("://")[2]
+    user, _, behind = told.partition("@")
+    if "/" in user:  # what stands before it is taken for the host
+        behind = told
+    return "@" in behind.partition("?")[0]
+
+
+def address(url: str) -> str:
+    """The URL with what it leaves open: how soon a dead connection is noticed, and that the
+    server has to take writes.
+    """
+    told = read(url)
+    return conninfo.make_conninfo(
+        url, **{word: value for word, value in DEFAULTS.items() if word not in told}
+    )
+
+
+def named(url: str) -> str:
+    """The URL for messages: without its password."""
+    told = read(url)
+    hosts = zip(
+        str(told.get("host", "")).split(","), (str(told.get("port", "")) + "," * 8).split(",")
+    )
+    places = ",".join(f"{host}:{port}" if port else host for host, port in hosts)
+    user = f"{told['user']}@" if told.get("user") else ""
+    return f"postgresql://{user}{places}/{told.get('dbname', '')}"
+
+
+@contextlib.contextmanager
+def faults(where: str) -> Iterator[None]:
+    """What PostgreSQL and its connections raise, as `StoreUnavailable`."""
+    try:
+        yield
+    except FAULTS as error:
+        raise unwritable(where, error) from error
+
+
+def unwritable(where: str, error: Exception) -> StoreUnavailable:
+    """What was raised, as `StoreUnavailable`, which has it for its cause."""
+    told = str(error).strip().splitlines()[0] if str(error).strip() else type(error).__name__
+    if isinstance(error, errors.InsufficientPrivilege):
+        told += f": {RIGHTS.format(role='NAME')}"
+    fault = StoreUnavailable(f"{where}: {told}")
+    fault.__cause__ = error
+    return fault
+
+
+async def tried(ask: Callable[[], Awaitable[T]]) -> T:
+    """What may be asked twice: connections that broke unnoticed are tried past."""
+    for turn in range(5):
+        try:
+            return await ask()
+        except StoreUnavailable as error:
+            if turn == 4 or not isinstance(error.__cause__, psycopg.OperationalError):
+                raise
+    raise AssertionError
+
+
+def was_cut(error: StoreUnavailable) -> bool:
+    """Whether a connection had ended, as all do where the server starts again: another one may
+    do."""
+    cause = error.__cause__
+    if not isinstance(cause, psycopg.OperationalError):
+        return False
+    return cause.sqlstate is None or cause.sqlstate.startswith(CUT)
+
+
+async def connect(url: str, settings: str = SETTINGS) -> Link:
+    """A connection of the store's own, that commits each statement."""
+    link: Link = await psycopg.AsyncConnection.connect(
+        address(url), autocommit=True, prepare_threshold=1
+    )
+    await link.execute(settings, prepare=False)
+    return link
+
+
+async def knock(url: str, where: str) -> None:
+    """Raises `StoreUnavailable` where the server says for good that it lets nobody in so. A pool
+    would try on, and whatever else it is may pass.
+    """
+    try:
+        async with asyncio.timeout(KNOCK):
+            await (await connect(url)).close()
+    except FAULTS as error:
+        if (
+            isinstance(error, psycopg.Error) and error.pgconn
+        ):  # who has the error keeps it open, and the server would wait for a password
+            with contextlib.suppress(psycopg.Error):
+                error.pgconn.finish()
+        if FINAL.search(str(error)):
+            raise unwritable(where, error) from error
+
+
+async def line_of(link: Link) -> str:
+    """The timeline of the server that it is connected to."""
+    rows = await (await link.execute(f"SELECT {LINE}", prepare=False)).fetchall()
+    return str(rows[0][0])
+
+
+def connect_now(url: str) -> psycopg.Connection[Row]:
+    """As `connect`, for who waits where he stands."""
+    link: psycopg.Connection[Row] = psycopg.Connection.connect(address(url), autocommit=True)
+    link.execute(f"{SETTINGS}; {LIMITED}", prepare=False)
+    return link
+
+
+async def _configure(link: Link) -> None:
+    await link.execute(f"{SETTINGS}; {LIMITED}", prepare=False)
+
+
+def pool(url: str, most: int) -> AsyncConnectionPool:
+    """Connections for short statements, each a transaction of its own; not yet open.
+
+    Who waits for one gives up by the pool's own time: a waiter that is cancelled keeps its
+    place, and the connection that it gets is lost (psycopg_pool 3.1). And the pool gives up to
+    connect soon, so that who asks next makes it try at once, however long the server was away.
+    """
+    words = {"autocommit": True, "prepare_threshold": 2}
+    return AsyncConnectionPool(
+        address(url),
+        min_size=1,
+        max_size=most,
+        open=False,
+        kwargs=words,
+        configure=_configure,
+        timeout=PATIENCE / 4,
+        reconnect_timeout=2.0,
+        name="sagas",
+    )
+
+
+class Asker:
+    """Short statements over a pool."""
+
+    def __init__(self, url: str, where: str, most: int) -> None:
+        self.where, self._url, self._most = where, url, most
+        self.pool = pool(url, most)
+        self._under_way: set[asyncio.Task[list[Row]]] = set()
+
+    async def open(self) -> None:
+        """Connects. Raises `StoreUnavailable`."""
+        with faults(self.where):
+            try:
+                await self.pool.open(wait=True, timeout=2 * CONNECT)
+            except PoolTimeout:
+                await (await connect(self._url)).close()  # raises what the pool keeps to itself
+                raise
+
+    async def renew(self) -> None:
+        """Others are connected from now on: those that are there end, each once nothing is asked
+        over it.
+        """
+        old, self.pool = self.pool, pool(self._url, self._most)
+        await self.pool.open()
+        await old.close(timeout=CONNECT)
+
+    async def close(self) -> None:
+        if self._under_way:
+            await asyncio.wait(self._under_way, timeout=CONNECT)
+        await self.pool.close(timeout=CONNECT)
+
+    async def ask(self, text: str, **words: Any) -> list[Row]:
+        """A statement's rows. Raises `StoreUnavailable`; then nobody knows whether it was done.
+
+        Who is cancelled leaves the statement to its end: a connection in the middle of one is of
+        no use.
+        """
+        return await self._asked(text, words)
+
+    async def _asked(self, text: str, words: Mapping[str, Any] | Sequence[Any]) -> list[Row]:
+        work = asyncio.get_running_loop().create_task(self._ask(text, words))
+        self._under_way.add(work)
+        work.add_done_callback(self._done)
+        return await asyncio.shield(work)
+
+    def _done(self, work: asyncio.Task[list[Row]]) -> None:
+        self._under_way.discard(work)
+        if not work.cancelled():
+            work.exception()  # whoever asked, and was not cancelled, has it
+
+    async def _ask(self, text: str, words: Mapping[str, Any] | Sequence[Any]) -> list[Row]:
+        with faults(self.where):
+            async with asyncio.timeout(PATIENCE + 1), self.pool.connection() as link:
+                cursor = await link.execute(text, words)
+                return (
+                    await cursor.fetchall() if cursor.pgresult and cursor.pgresult.nfields else []
+                )
+
+    async def read(self, text: str, **words: Any) -> list[Row]:
+        """As `ask`, for what may be asked twice: connections that broke unnoticed are tried
+        past.
+        """
+        return await tried(lambda: self._asked(text, words))
+
+    async def rows(self, text: str, *words: Any) -> list[Row]:
+        """As `read`, of a question with a `%s` for each word."""
+        return await tried(lambda: self._asked(text, words))

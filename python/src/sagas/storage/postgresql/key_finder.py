@@ -1,0 +1,135 @@
+"""Looks for sagas by their keys, many at once."""
+
+from __future__ import annotations
+
+import asyncio
+import json
+from collections.abc import Callable, Coroutine
+from typing import Any
+
+from sagas.base.errors import StoreUnavailable
+from sagas.core.batch import SagaRow
+from sagas.definition.serialization import clean
+from sagas.storage import queries
+from sagas.storage.postgresql import prepared
+
+KEYS = "key = ANY(ARRAY(SELECT json_array_elements_text(%(keys)s::json)))"
+FIND = f"""
+SELECT {queries.SAGA} FROM sagas WHERE {KEYS}
+UNION ALL SELECT -id, key, saga, -1, input, at, NULL, NULL, NULL, NULL FROM pending_starts WHERE
+{KEYS}
+"""
+FIND_WIRED = FIND.replace("%(keys)s", "$1")
+FIND_ONE = FIND.replace(KEYS, "key = $1")
+
+
+class KeyFinder:
+    """Has a connection of its own. What is wanted while the server is asked is for the next
+    question."""
+
+    def __init__(
+        self, url: str, where: str, spawn: Callable[[Coroutine[Any, Any, None]], object]
+    ) -> None:
+        self._link, self._spawn = prepared.Kept(url, where), spawn
+        self._wanted: dict[str, list[asyncio.Future[SagaRow | None]]] = {}
+        self._finding = False
+        self._seeking = 0  # keys that the server is asked for
+
+    @property
+    def sought(self) -> int:
+        """How many keys are looked for."""
+        return len(self._wanted) + self._seeking
+
+    async def open(self) -> None:
+        """Connects. Raises `StoreUnavailable`."""
+        await self._link.open()
+
+    def cut(self) -> None:
+        """The connection is to a server of before."""
+        self._link.cut()
+
+    def close(self) -> None:
+        """Ends the connection."""
+        self._link.close()
+
+    async def find(self, key: str) -> SagaRow | None:
+        """The saga with this key; with an id below 0 one that a client started and no log has
+        yet.
+        """
+        loop = asyncio.get_running_loop()
+        future: asyncio.Future[SagaRow | None] = loop.create_future()
+        self._wanted.setdefault(key, []).append(future)
+        if not self._finding:
+            self._finding = True
+            loop.call_soon(self._find)
+        return await future
+
+    def _find(self) -> None:
+        """Looks for all keys that are wanted at once."""
+        wanted, self._wanted = self._wanted, {}
+        self._seeking = len(wanted)
+        keys = [clean(key) for key in wanted]
+        query, word = (
+            (FIND_ONE, keys[0].encode())
+            if len(keys) == 1
+            else (FIND_WIRED, json.dumps(keys).encode())
+        )
+
+        def then(rows: list[prepared.Values], fault: Exception | None) -> None:
+            if fault is None:
+                self._found(wanted, rows)
+            else:
+                self._spawn(self._find_anew(wanted, query, word))
+
+        if not self._link.tell(query, [word], then):
+            self._spawn(self._find_anew(wanted, query, word))
+
+    async def _find_anew(
+        self, wanted: dict[str, list[asyncio.Future[SagaRow | None]]], query: str, word: bytes
+    ) -> None:
+        """As `_find`, over a connection that is made first."""
+        try:
+            rows = await self._link.read(query, word)
+        except StoreUnavailable as fault:
+            self._found(wanted, [], fault)
+        else:
+            self._found(wanted, rows)
+
+    def _found(
+        self,
+        wanted: dict[str, list[asyncio.Future[SagaRow | None]]],
+        rows: list[prepared.Values],
+        fault: StoreUnavailable | None = None,
+    ) -> None:
+        """Tells who wanted to know, and looks for what is wanted by now."""
+        found: dict[str, SagaRow] = {}
+        for row in map(saga_row, rows):
+            if row.key not in found or row.id >= 0:
+                found[row.key] = row
+        for key, futures in wanted.items():
+            for future in futures:
+                if not future.done():
+                    future.set_exception(fault) if fault else future.set_result(found.get(key))
+        self._finding, self._seeking = bool(self._wanted), 0
+        if self._finding:
+            self._find()
+
+
+def saga_row(values: prepared.Values) -> SagaRow:
+    """A row of `FIND_WIRED`."""
+    id, key, saga, place, input, at, phase, end, ended, note = (
+        None if value is None else value.decode() for value in values
+    )
+    assert id and key and saga and place and input is not None and at
+    return SagaRow(
+        int(id),
+        key,
+        saga,
+        int(place),
+        input,
+        float(at),
+        phase,
+        end,
+        None if ended is None else float(ended),
+        note,
+    )

@@ -1,0 +1,88 @@
+"""Slots of fleet limits and rate limits.
+
+Places of steps that are limited over all nodes, in PostgreSQL: rows that are taken and given back
+in one statement, by the server's clock.
+"""
+
+from __future__ import annotations
+
+from collections.abc import Sequence
+
+from sagas.core.batch import Grant
+from sagas.definition.step import Bounds
+from sagas.storage.postgresql.connections import Asker
+from sagas.storage.postgresql.node_lease import LIVE
+
+MAKE = """
+INSERT INTO limit_slots(name, kind, slot)
+SELECT %(name)s, 'limit', n FROM generate_series(1, %(limit)s) n
+UNION ALL SELECT %(name)s, 'rate', n FROM generate_series(1, %(calls)s) n
+ON CONFLICT DO NOTHING
+"""
+SLACK = 1
+"""Seconds: a place that is taken for longer than the rate says was taken before the clock was
+set back, unless by a statement that saw the clock a moment later than this one, and was done
+before.
+"""
+TAKE = f"""
+WITH clock AS MATERIALIZED (SELECT extract(epoch FROM clock_timestamp())::double precision AS now),
+back AS (UPDATE limit_slots SET node = NULL
+  WHERE name = %(name)s AND kind = 'limit' AND node = %(node)s
+    AND slot <> ALL(%(have)s::integer[]) RETURNING slot),
+told AS MATERIALIZED (SELECT pg_notify('sagas_nodes', 'places')
+  FROM (SELECT 1 FROM back LIMIT 1) one),
+room AS MATERIALIZED (SELECT slot FROM limit_slots p
+  WHERE name = %(name)s AND kind = 'limit' AND slot <= %(limit)s
+    AND (node IS NULL OR NOT {LIVE.format('p.node')})
+  ORDER BY slot LIMIT %(want)s FOR UPDATE SKIP LOCKED),
+times AS MATERIALIZED (SELECT slot FROM limit_slots, clock
+  WHERE name = %(name)s AND kind = 'rate' AND slot <= %(calls)s
+    AND (until IS NULL OR until <= now OR until > now + %(seconds)s::double precision + {SLACK})
+  ORDER BY slot LIMIT %(want)s FOR UPDATE OF limit_slots SKIP LOCKED),
+most AS MATERIALIZED (SELECT least(%(want)s::bigint,
+  CASE WHEN %(limit)s > 0 THEN (SELECT count(*) FROM room) END,
+  CASE WHEN %(calls)s > 0 THEN (SELECT count(*) FROM times) END) AS most),
+mine AS (UPDATE limit_slots p SET node = %(node)s
+  FROM (SELECT slot FROM room ORDER BY slot LIMIT (SELECT most FROM most)) r
+  WHERE p.name = %(name)s AND p.kind = 'limit' AND p.slot = r.slot RETURNING p.slot),
+taken AS (UPDATE limit_slots p SET until = now + %(seconds)s::double precision
+  FROM (SELECT slot FROM times ORDER BY slot LIMIT (SELECT most FROM most)) r, clock
+  WHERE p.name = %(name)s AND p.kind = 'rate' AND p.slot = r.slot RETURNING p.slot)
+SELECT (SELECT most FROM most), ARRAY(SELECT slot FROM mine ORDER BY slot),
+  (SELECT count(*) FROM told),
+  (SELECT min(until) - min(now) FROM limit_slots, clock
+    WHERE name = %(name)s AND kind = 'rate' AND slot <= %(calls)s AND until > now),
+  CASE WHEN (SELECT most FROM most) < %(want)s THEN (
+    SELECT count(*) < %(limit)s + %(calls)s FROM limit_slots
+    WHERE name = %(name)s AND slot <= CASE kind WHEN 'limit' THEN %(limit)s ELSE %(calls)s END) END
+"""
+"""Last, where not all are given: whether places are lacking. They are at first, and where another
+server has taken over that does not have them: so nobody remembers that they are made."""
+
+
+TAKE_KEYED = TAKE.replace("UPDATE limit_slots SET node = NULL\n", "DELETE FROM limit_slots\n")
+"""As `TAKE`, for the limit of a key: its places go when they are given back, since there may be
+any number of keys."""
+
+
+class Places:
+    """Takes them for one node."""
+
+    def __init__(self, asker: Asker, node: str) -> None:
+        self._asker, self._node = asker, node
+
+    async def take(
+        self, name: str, bounds: Bounds, want: int, have: Sequence[int], look: float
+    ) -> Grant:
+        """As `Database.admit`; `look`: how soon to look again whose node is gone."""
+        calls, seconds = bounds.rate_limit or (0, 0.0)
+        words = {"name": name, "limit": bounds.concurrency or 0, "calls": calls}
+        more = {"seconds": seconds, "node": self._node, "want": want, "have": list(have)}
+        take = TAKE_KEYED if bounds.is_keyed else TAKE
+        (row,) = await self._asker.ask(take, **words, **more)
+        if row[-1]:
+            await self._asker.ask(MAKE, **words)
+            (row,) = await self._asker.ask(take, **words, **more)
+        count, places, _, pause, _ = row
+        wait = float(pause if pause is not None else seconds) if calls else look
+        return Grant(int(count), places, min(wait, look) if bounds.concurrency else wait)

@@ -1,0 +1,157 @@
+"""LISTEN with reconnect, and who waits for what.
+
+What PostgreSQL tells as it happens, and who waits for it. Whoever waits also looks by himself: a
+word may be lost with its connection.
+"""
+
+from __future__ import annotations
+
+import asyncio
+import contextlib
+from collections import OrderedDict
+from collections.abc import Callable, Iterable, Sequence
+
+import psycopg
+
+from sagas.storage.postgresql import connections
+from sagas.storage.postgresql.prepared import Wire
+
+CHANNEL = "sagas_nodes"
+SAY = (
+    f"SELECT set_config('synchronous_commit', 'off', true), pg_notify('{CHANNEL}', v) FROM "
+    "unnest(%(words)s::text[]) AS v"
+)
+"""It waits for no disk: a crash forgets who listened, and commits behind it need not wait for it
+either.
+"""
+SAY_WIRED = SAY.replace("%(words)s", "$1")
+"""The same over a wire, to which `wired` gives the words."""
+MOST = 400  # ids a word: PostgreSQL takes 8,000 bytes
+FIRST_LOOK, MOST_LOOK = 0.5, 30.0  # seconds
+RECENT = 10_000
+FIRST_PAUSE, MOST_PAUSE = 0.1, 2.0  # seconds
+
+
+def payloads(what: str, ids: Iterable[int]) -> list[str]:
+    """Words that tell of these ids."""
+    told = [str(id) for id in ids]
+    return [f"{what} {' '.join(told[first : first + MOST])}" for first in range(0, len(told), MOST)]
+
+
+def wired(words: Iterable[str]) -> bytes:
+    """Words as an array of PostgreSQL's: there are letters, digits and blanks in them."""
+    return ('{"' + '","'.join(words) + '"}').encode()
+
+
+class Listener:
+    """A connection that listens on channels, and is made anew where it breaks. `heard` is called
+    with each word, and `listens` whenever it has begun to listen: words may have been missed
+    before."""
+
+    def __init__(
+        self,
+        url: str,
+        channels: Sequence[str],
+        heard: Callable[[str], object],
+        listens: Callable[[], object],
+    ) -> None:
+        self._url, self._channels, self._heard, self._listens = url, channels, heard, listens
+        self.wire: Wire | None = None
+        self.ready = asyncio.Event()
+
+    async def run(self) -> None:
+        """Listens until it is cancelled."""
+        pause = FIRST_PAUSE
+        while True:
+            try:
+                wire = self.wire = Wire(await connections.connect(self._url), self._heard)
+                try:
+                    for channel in self._channels:
+                        await wire.rows(f"LISTEN {channel}")
+                    pause = FIRST_PAUSE
+                    self.ready.set()
+                    self._listens()
+                    await wire.gone.wait()
+                finally:
+                    wire.close()
+            except (psycopg.Error, OSError, TimeoutError):
+                pass
+            await asyncio.sleep(pause)
+            pause = min(MOST_PAUSE, 2 * pause)
+
+
+class News:
+    """Listens on a connection of its own. `look` is called for each word that is of no id, and
+    whenever words may have been missed.
+    """
+
+    def __init__(
+        self, url: str, look: Callable[[str], None], channels: Sequence[str] = (CHANNEL,)
+    ) -> None:
+        self._look = look
+        self._listener = Listener(url, channels, self._heard, self._missed)
+        self._waiting: dict[tuple[str, int], list[asyncio.Future[None]]] = {}
+        self._recent: OrderedDict[tuple[str, int], None] = OrderedDict()
+        self._job = asyncio.get_running_loop().create_task(self._listener.run())
+
+    async def close(self, words: Sequence[str] = ()) -> None:
+        """Says a last thing, and listens no more."""
+        if words:
+            said = asyncio.Event()
+            self.say(words, said.set)
+            with contextlib.suppress(TimeoutError):
+                async with asyncio.timeout(connections.CONNECT):
+                    await said.wait()
+        while not self._job.done():  # a connection that is being made may swallow the first word
+            self._job.cancel()
+            await asyncio.wait([self._job], timeout=0.2)
+
+    def say(self, words: Sequence[str], then: Callable[[], object]) -> None:
+        """Tells the others, if they can be told now: whoever waits also looks by himself. `then`
+        is called behind that.
+        """
+        wire = self._listener.wire
+        if words and wire and not wire.closed:
+            wire.ask(SAY_WIRED, [wired(words)], lambda rows, fault: then())
+        else:
+            then()
+
+    def _missed(self) -> None:
+        for futures in self._waiting.values():
+            _wake(futures)
+        self._look("")
+
+    def _heard(self, payload: str) -> None:
+        what, *ids = payload.split()
+        if not ids:
+            self._look(what)
+        for id in ids:
+            at = what, int(id)
+            self._recent[at] = None
+            _wake(self._waiting.get(at, []))
+        while len(self._recent) > RECENT:
+            self._recent.popitem(last=False)
+
+    async def of(self, id: int, turn: int) -> None:
+        """Waits for a saga's end; with an id below 0, for the log that takes it."""
+        await self.wait(*(("ended", id) if id >= 0 else ("begun", -id)), turn)
+
+    async def wait(self, what: str, id: int, turn: int) -> None:
+        """Returns when that was heard, or after a while, which is longer each turn."""
+        at = what, id
+        if at in self._recent:
+            return
+        future = asyncio.get_running_loop().create_future()
+        self._waiting.setdefault(at, []).append(future)
+        try:
+            await asyncio.wait([future], timeout=min(MOST_LOOK, FIRST_LOOK * 2.0 ** min(turn, 16)))
+        finally:
+            self._waiting[at].remove(future)
+            if not self._waiting[at]:
+                del self._waiting[at]
+
+
+def _wake(futures: list[asyncio.Future[None]]) -> None:
+    for future in futures:
+        if not future.done():
+            future.set_result(None)

@@ -1,0 +1,279 @@
+"""A connection that repeats prepared statements through libpq.
+
+A connection for the few statements that a node repeats all day: each is prepared once, and then
+done by libpq, as psycopg hands it out.
+
+A cursor of psycopg looks at each statement, each word and each row anew, which takes some four
+times as much of the processor as the rest.
+"""
+
+from __future__ import annotations
+
+import asyncio
+from collections import deque
+from collections.abc import Callable, Sequence
+from typing import TYPE_CHECKING, NamedTuple, Optional
+
+from psycopg import errors, pq
+
+from sagas.storage.postgresql import connections
+
+if TYPE_CHECKING:
+    from psycopg.pq.abc import PGresult
+
+Words = Sequence[Optional[bytes]]
+"""Of a statement, for $1 and so on, as PostgreSQL reads them."""
+Values = tuple[Optional[bytes], ...]
+"""Of a row, as PostgreSQL writes them."""
+Then = Callable[[list[Values], Optional[Exception]], object]
+"""What is called with the rows, or with what was raised."""
+MOST = 96
+"""Statements that are prepared at once: each takes the server some 270 kB."""
+GOOD = (pq.ExecStatus.TUPLES_OK, pq.ExecStatus.COMMAND_OK)
+
+
+class Job(NamedTuple):
+    """A statement that is under way, or waits for those before it."""
+
+    text: str
+    words: Words
+    then: Then
+
+
+class Wire:
+    """One statement at a time; who is told of it is called in the loop. Where the connection
+    breaks, or is late, it is closed.
+    """
+
+    def __init__(
+        self,
+        link: connections.Link,
+        heard: Callable[[str], object] | None = None,
+        patience: float = connections.PATIENCE,
+    ) -> None:
+        """`heard` is called with each word of a channel that it listens on. `patience`: seconds
+        that an answer may take.
+        """
+        self._link, self._pgconn, self._heard, self._patience = link, link.pgconn, heard, patience
+        self._loop = asyncio.get_running_loop()
+        self._fd = self._pgconn.socket
+        self._names: dict[str, bytes] = {}
+        self._jobs: deque[Job] = deque()
+        self._preparing: bytes | None = None
+        self._lets_go = False  # all that was prepared, before it begins
+        self._result: PGresult | None = None
+        self._is_full = False  # more is to be sent than the socket takes
+        self._timer: asyncio.TimerHandle | None = (
+            None  # one for all statements: it looks at `_until` when it rings
+        )
+        self._until = 0.0
+        self.closed = False
+        self.gone = asyncio.Event()
+        """It is closed."""
+        self._loop.add_reader(self._fd, self._readable)
+
+    def ask(self, text: str, words: Words, then: Then) -> None:
+        """Does a statement behind those before. `then` hears what psycopg raises, or a
+        `TimeoutError`.
+        """
+        self._jobs.append(Job(text, words, then))
+        if self.closed:
+            self._loop.call_soon(self._tell, errors.OperationalError("the connection is closed"))
+        elif len(self._jobs) == 1:
+            self._go_on()
+
+    async def rows(self, text: str, *words: bytes | None) -> list[Values]:
+        """As `ask`, for who waits; who is cancelled leaves the statement to its end."""
+        future: asyncio.Future[list[Values]] = self._loop.create_future()
+
+        def then(rows: list[Values], fault: Exception | None) -> None:
+            if not future.done():
+                future.set_exception(fault) if fault else future.set_result(rows)
+
+        self.ask(text, words, then)
+        return await future
+
+    def close(self) -> None:
+        """Ends it; of what was under way nobody knows."""
+        self._break(errors.OperationalError("the connection is closed"))
+
+    # -- there
+
+    def _go_on(self) -> None:
+        """The next one: it has its time from now on."""
+        self._until = self._loop.time() + self._patience
+        if self._timer is None:
+            self._timer = self._loop.call_at(self._until, self._look)
+        self._begin()
+
+    def _begin(self) -> None:
+        job = self._jobs[0]
+        try:
+            name = self._names.get(job.text)
+            if name is None and len(self._names) >= MOST:
+                self._lets_go = True
+                self._pgconn.send_query(b"DEALLOCATE ALL")
+            elif name is None:
+                self._preparing = b"sagas%d" % len(self._names)
+                self._pgconn.send_prepare(self._preparing, job.text.encode())
+            else:
+                self._pgconn.send_query_prepared(name, job.words)
+            self._flush()
+        except Exception as error:
+            self._loop.call_soon(self._break, error)
+
+    def _flush(self) -> None:
+        is_full = self._pgconn.flush() == 1
+        if is_full != self._is_full:
+            self._is_full = is_full
+            if is_full:
+                self._loop.add_writer(self._fd, self._writable)
+            else:
+                self._loop.remove_writer(self._fd)
+
+    def _writable(self) -> None:
+        try:
+            self._flush()
+        except Exception as error:
+            self._break(error)
+
+    # -- back
+
+    def _readable(self) -> None:
+        try:
+            is_over = self._receive()
+        except Exception as error:
+            self._break(error)
+            return
+        if is_over:
+            self._over()
+
+    def _receive(self) -> bool:
+        """Whether the server has said all of what it was asked last."""
+        self._pgconn.consume_input()
+        while self._heard and (word := self._pgconn.notifies()):
+            self._loop.call_soon(self._heard, word.extra.decode())
+        while self._jobs and not self._pgconn.is_busy():
+            result = self._pgconn.get_result()
+            if result is None:
+                return True
+            self._result = result
+        return False
+
+    def _over(self) -> None:
+        result, self._result = self._result, None
+        preparing, self._preparing = self._preparing, None
+        assert result
+        fault = None if result.status in GOOD else errors.error_from_result(result)
+        lets_go, self._lets_go = self._lets_go, False
+        if lets_go and not fault:
+            self._names.clear()
+            self._begin()
+            return
+        if preparing and not fault:
+            self._names[self._jobs[0].text] = preparing
+            self._begin()
+            return
+        job = self._jobs.popleft()
+        rows = [] if fault else read(result)
+        if self._jobs:
+            self._go_on()
+        job.then(rows, fault)
+
+    # -- what goes wrong
+
+    def _look(self) -> None:
+        """Whether the statement that is under way is late."""
+        self._timer = None
+        if self._jobs and self._loop.time() >= self._until:
+            self._break(TimeoutError(f"no answer in {self._patience:g} s"))
+        elif self._jobs:
+            self._timer = self._loop.call_at(self._until, self._look)
+
+    def _break(self, error: Exception) -> None:
+        """It is of no use any more."""
+        if not self.closed:
+            self.closed = True
+            self.gone.set()
+            self._loop.remove_reader(self._fd)
+            if self._is_full:
+                self._loop.remove_writer(self._fd)
+            if self._timer:
+                self._timer.cancel()
+            self._pgconn.finish()
+        self._tell(error)
+
+    def _tell(self, error: Exception) -> None:
+        jobs, self._jobs = self._jobs, deque()
+        for job in jobs:
+            job.then([], error)
+
+
+def read(result: PGresult) -> list[Values]:
+    """Its rows."""
+    count = result.ntuples
+    if not count:
+        return []
+    columns = range(result.nfields)
+    return [tuple([result.get_value(row, column) for column in columns]) for row in range(count)]
+
+
+class Kept:
+    """A wire that is made again where it broke, for short statements."""
+
+    def __init__(self, url: str, where: str) -> None:
+        self._url, self._where = url, where
+        self._wire: Wire | None = None
+        self._making = asyncio.Lock()
+        self._is_over = False
+
+    async def open(self) -> None:
+        """Connects. Raises `StoreUnavailable`."""
+        with connections.faults(self._where):
+            await self._made()
+
+    async def ask(self, text: str, *words: bytes | None) -> list[Values]:
+        """A statement's rows. Raises `StoreUnavailable`; then nobody knows whether it was done."""
+        with connections.faults(self._where):
+            wire = self._wire
+            if wire is None or wire.closed:
+                wire = await self._made()
+            return await wire.rows(text, *words)
+
+    def tell(self, text: str, words: Words, then: Then) -> bool:
+        """As `Wire.ask`, which takes the loop no turn of a task's; False where there is no
+        connection yet, or any more.
+        """
+        if self._wire is None or self._wire.closed:
+            return False
+        self._wire.ask(text, words, then)
+        return True
+
+    async def read(self, text: str, *words: bytes | None) -> list[Values]:
+        """As `ask`, for what may be asked twice: a connection that broke unnoticed is tried
+        past.
+        """
+        return await connections.tried(lambda: self.ask(text, *words))
+
+    async def _made(self) -> Wire:
+        async with self._making:
+            if self._is_over:
+                raise errors.OperationalError("the connection is closed")
+            if self._wire is None or self._wire.closed:
+                link = await connections.connect(
+                    self._url, f"{connections.REPEATED}; {connections.LIMITED}"
+                )
+                self._wire = Wire(
+                    link, patience=connections.PATIENCE + 1
+                )  # the server gives up first
+            return self._wire
+
+    def cut(self) -> None:
+        """Ends it: the next one is made when it is wanted."""
+        if self._wire:
+            self._wire.close()
+
+    def close(self) -> None:
+        """Ends it, for good."""
+        self._is_over = True
+        self.cut()

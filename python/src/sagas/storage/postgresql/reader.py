@@ -1,0 +1,40 @@
+"""A connection that only reads, for a thread."""
+
+from __future__ import annotations
+
+from typing import Any
+
+import psycopg
+
+from sagas.base.errors import StoreUnavailable
+from sagas.definition.serialization import cleaned
+from sagas.storage import queries
+from sagas.storage.postgresql import connections
+
+
+class Reader:
+    """A connection that only reads. One thread at a time may use it."""
+
+    def __init__(self, url: str, path: str) -> None:
+        self._url, self._path = url, path
+        self._link: psycopg.Connection[connections.Row] | None = None
+
+    def rows(self, query: str, *words: Any) -> list[tuple[Any, ...]]:
+        """Rows of a query. A connection that broke unnoticed is made again. Raises
+        `StoreUnavailable` where the server does not answer.
+        """
+        told = cleaned(words)
+        for turn in (0, 1):
+            try:
+                with connections.faults(self._path):
+                    if self._link is None or self._link.closed:
+                        self._link = connections.connect_now(self._url)
+                    return self._link.execute(queries.for_postgresql(query), told).fetchall()
+            except StoreUnavailable:
+                if turn or (self._link and not self._link.closed):
+                    raise
+        raise AssertionError
+
+    def close(self) -> None:
+        if self._link:
+            self._link.close()

@@ -1,0 +1,255 @@
+"""The tables and grants."""
+
+from __future__ import annotations
+
+import psycopg
+from psycopg import errors, sql
+
+from sagas.base.errors import InvalidStore, StoreSchemaTooNew
+from sagas.storage.postgresql.connections import RIGHTS
+
+LOCK = 5_777_001
+"""The advisory lock under which tables are made and migrated."""
+
+SCHEMA = """
+-- Who drives: a node is one run of a program (its name, and a word of its own); its shards are its
+-- own until `lease`. serves: whether other nodes may ask it what it knows; kinds: the definitions
+-- that it has, each as saga/version/digest.
+CREATE TABLE sagas.nodes(
+  node text PRIMARY KEY, name text NOT NULL, version text NOT NULL, since timestamptz NOT NULL,
+  lease timestamptz NOT NULL,
+  serves boolean NOT NULL DEFAULT false, kinds text[]);
+
+-- The definitions of a shard: a JSON list of TOML texts, sorted by name; `definition_set` is their
+-- digest.
+CREATE TABLE sagas.definition_sets(definition_set text PRIMARY KEY, texts text NOT NULL);
+
+-- closed: 0 it is driven, 1 it is settled and its audit said yes, 2 it is settled and its audit
+-- said no; audit: what it said; owner: the node that drives it, or null; epoch: grows with each
+-- owner and each time it is taken up, and a commit has to know it.
+CREATE SEQUENCE sagas.shard_numbers MINVALUE 0 START 0;
+CREATE TABLE sagas.shards(
+  shard bigint PRIMARY KEY, name text NOT NULL UNIQUE, definition_set text NOT NULL, owner text,
+  epoch bigint NOT NULL,
+  closed smallint NOT NULL DEFAULT 0, audit text) WITH (fillfactor = 50);
+CREATE INDEX shards_open ON sagas.shards(shard) WHERE closed = 0;
+
+-- The events of one commit, a line each; first_seq: how many events the shard has before them.
+CREATE TABLE sagas.event_log(
+  shard bigint NOT NULL, first_seq integer NOT NULL, committed_at double precision NOT NULL,
+  text text NOT NULL,
+  PRIMARY KEY(shard, first_seq));
+
+-- definition_index: of its definition in the shard's set; deadline: when it is
+-- aborted; phase: null while open, then ended or
+-- stuck; outcome: JSON (aborted, answer, kept, states); recovered: it ended by a plan; undo_failed:
+-- and a compensation failed for good; note: of one that a person resolved, null before.
+CREATE TABLE sagas.sagas(
+  id bigint PRIMARY KEY, key text NOT NULL UNIQUE, saga text NOT NULL,
+  definition_index integer NOT NULL, input text NOT NULL,
+  at double precision NOT NULL, deadline double precision, phase text, outcome text,
+  recovered boolean NOT NULL DEFAULT false, undo_failed boolean NOT NULL DEFAULT false,
+  ended double precision, note text) WITH (fillfactor = 70);
+CREATE INDEX sagas_open ON sagas.sagas(id) WHERE phase IS NULL;
+CREATE INDEX sagas_stuck ON sagas.sagas(id) WHERE phase = 'stuck';
+CREATE INDEX sagas_recovered ON sagas.sagas(id) WHERE recovered;
+
+-- The labels of sagas, by which they are found.
+CREATE TABLE sagas.labels(
+  id bigint NOT NULL, name text NOT NULL, value text NOT NULL, PRIMARY KEY(id, name));
+CREATE INDEX labels_value ON sagas.labels(name, value, id);
+
+-- What attempts came to. action: run or undo; number: of the attempt; event: that the report came
+-- to (commit, missed, fail, undone, undo_missed, undo_fail), or ok while that is to come; value:
+-- the result, or {"error": .., "final": .., "called": ..}.
+CREATE TABLE sagas.attempts(
+  id bigint NOT NULL, step integer NOT NULL, action text NOT NULL, number integer NOT NULL,
+  event text NOT NULL, value text, at double precision NOT NULL, PRIMARY KEY(id, step, action,
+  number));
+
+-- Attempts that are suspended. reason: unknown (count: how often nobody knew; detail: what was
+-- raised; until is null once a person has to say), wait (until when), approval (it was asked for;
+-- until when it may be given, or null), cannot_decode (detail: why).
+CREATE TABLE sagas.suspensions(
+  id bigint NOT NULL, step integer NOT NULL, action text NOT NULL, number integer NOT NULL,
+  reason text NOT NULL,
+  count integer NOT NULL, since double precision NOT NULL, until double precision, detail text,
+  PRIMARY KEY(id, step, action, number));
+
+-- How far the functions of attempts were, as they told last (`Task.progress`): for people alone.
+CREATE TABLE sagas.progress(
+  id bigint NOT NULL, step integer NOT NULL, action text NOT NULL, number integer NOT NULL,
+  fraction double precision NOT NULL, detail text, at double precision NOT NULL,
+  PRIMARY KEY(id, step, action, number)) WITH (fillfactor = 70);
+
+-- What is asked of the node that has a saga. command: abort or finish; value and answer: JSON;
+-- saga: the id of the saga that it is asked of, and of no later one of its key.
+CREATE TABLE sagas.operator_commands(
+  id bigint GENERATED ALWAYS AS IDENTITY PRIMARY KEY, key text NOT NULL, command text NOT NULL,
+  value text,
+  at double precision NOT NULL, answer text, saga bigint);
+CREATE INDEX operator_commands_open ON sagas.operator_commands(id) WHERE answer IS NULL;
+CREATE INDEX operator_commands_key ON sagas.operator_commands(key);
+
+-- Sagas that clients started and that no shard has yet. node: who is about to open them; digest: of
+-- the client's definition, null where the client has no steps of it: then any node takes it that
+-- has a saga of that name and version; commands: what is asked of it: a JSON list of lists with id,
+-- command, value and at. They go with the start, and to `operator_commands` in the commit that
+-- opens its saga.
+CREATE TABLE sagas.pending_starts(
+  id bigint GENERATED ALWAYS AS IDENTITY PRIMARY KEY, key text NOT NULL UNIQUE,
+  saga text NOT NULL, version integer NOT NULL,
+  input text NOT NULL, at double precision NOT NULL, node text, digest text,
+  labels jsonb NOT NULL DEFAULT '{}', deadline double precision,
+  commands jsonb NOT NULL DEFAULT '[]');
+
+-- Attempts that are done elsewhere, from the commit that offers them until their shard is closed.
+-- attempt: its id; task: what a worker asks for, saga/step/action, or empty where a message has it;
+-- concurrency: how many leases of the task hold at once, or null; lease: the newest, or null;
+-- until: when it ends, by this server's clock; outcome: null, then as a worker reported it
+-- (OutcomeKind) under the lease `reported`, or what became of it: suspended (nobody
+-- knows, and it is offered again), person (a person has to say), withdrawn (nobody had it) or
+-- settled; value: as in attempts.
+CREATE TABLE sagas.external_attempts(
+  attempt text PRIMARY KEY, shard bigint NOT NULL, id bigint NOT NULL, step integer NOT NULL,
+  action text NOT NULL,
+  number integer NOT NULL, task text NOT NULL, concurrency integer,
+  offered_at double precision NOT NULL, lease bigint,
+  worker text, since double precision, until double precision,
+  given_back boolean NOT NULL DEFAULT false, outcome text,
+  value text, reported bigint) WITH (fillfactor = 70);
+CREATE INDEX external_attempts_offered ON sagas.external_attempts(task, offered_at)
+  WHERE outcome IS NULL;
+CREATE INDEX external_attempts_reported ON sagas.external_attempts(shard)
+  WHERE outcome IN ('succeeded', 'failed', 'failed_permanently', 'unknown');
+CREATE INDEX external_attempts_id ON sagas.external_attempts(id);
+
+-- Slots of steps that are limited over all nodes, by saga and step. kind: limit (who is called has
+-- one, as long as the lease of its node holds) or rate (a call takes one until a time, in seconds
+-- of this server's clock).
+CREATE TABLE sagas.limit_slots(
+  name text NOT NULL, kind text NOT NULL, slot integer NOT NULL, node text, until double precision,
+  PRIMARY KEY(name, kind, slot)) WITH (fillfactor = 50);
+
+-- Schedules. cron: an expression, or empty; every: seconds, or 0; catch_up: last, all or skip;
+-- next_at: of the first time that was not started; error: why the last one could not be.
+CREATE TABLE sagas.schedules(
+  name text PRIMARY KEY, saga text NOT NULL, version integer NOT NULL, input text NOT NULL,
+  labels text NOT NULL, cron text NOT NULL, every double precision NOT NULL,
+  timezone text NOT NULL, catch_up text NOT NULL, next_at double precision NOT NULL,
+  last_at double precision, paused smallint NOT NULL DEFAULT 0, error text);
+
+-- What one service asks of another. command, payload and answer: JSON, but for the first. Who asked
+-- takes the row away; a crash of the server may lose it.
+CREATE UNLOGGED TABLE sagas.peer_calls(
+  id text PRIMARY KEY, node text NOT NULL, command text NOT NULL, payload text NOT NULL,
+  at timestamptz NOT NULL DEFAULT now(), answer text);
+
+-- What nobody outside may know. `leases`: the key by which leases of workers are signed, in hex.
+CREATE TABLE sagas.secrets(name text PRIMARY KEY, value text NOT NULL);
+"""
+
+VERSION = 1
+
+
+TABLES = (
+    "nodes",
+    "pending_starts",
+    "shards",
+    "event_log",
+    "sagas",
+    "labels",
+    "attempts",
+    "suspensions",
+    "progress",
+    "operator_commands",
+    "external_attempts",
+    "definition_sets",
+    "limit_slots",
+    "schedules",
+    "peer_calls",
+    "secrets",
+)
+"""The tables whose rows a node and a client read and write."""
+
+
+def version_of(link: psycopg.Connection[tuple[object, ...]]) -> int:
+    """The version of the tables; 0 where there are none."""
+    if link.execute("SELECT to_regclass('sagas.store')").fetchone() == (None,):
+        return 0
+    row = link.execute("SELECT version FROM sagas.store").fetchone()
+    return int(str(row[0])) if row else 0
+
+
+def check(version: int, where: str) -> None:
+    """Raises `StoreSchemaTooNew` where the tables are of a later version."""
+    if version > VERSION:
+        raise StoreSchemaTooNew(
+            f"{where}: its tables have version {version}, and this program knows "
+            f"{VERSION}. Use a later release"
+        )
+
+
+def migrate(link: psycopg.Connection[tuple[object, ...]], where: str) -> int:
+    """Makes the tables where there are none, in one transaction; gives the version that was there.
+
+    The connection commits each statement. Raises `StoreSchemaTooNew`, or `InvalidStore` where this
+    user
+    may not.
+    """
+    try:
+        version = version_of(link)
+        check(version, where)
+        if version == VERSION:
+            return version
+        link.execute(
+            "SELECT pg_advisory_lock(%s)", (LOCK,)
+        )  # before the transaction: one that waits within it may not see new tables
+        try:
+            version = version_of(link)
+            check(version, where)
+            if version < VERSION:
+                with link.transaction():
+                    _make(link)
+        finally:
+            link.execute("SELECT pg_advisory_unlock(%s)", (LOCK,))
+        return version
+    except errors.InsufficientPrivilege as error:
+        raise InvalidStore(
+            f"{where}: {str(error).splitlines()[0]}: {RIGHTS.format(role=link.info.user)}"
+        ) from error
+
+
+def _make(link: psycopg.Connection[tuple[object, ...]]) -> None:
+    link.execute("CREATE SCHEMA IF NOT EXISTS sagas")
+    link.execute("CREATE TABLE sagas.store(version integer NOT NULL)")
+    link.execute(SCHEMA)
+    link.execute(f"INSERT INTO sagas.store VALUES({VERSION})")
+
+
+def allow(link: psycopg.Connection[tuple[object, ...]], role: str) -> None:
+    """Gives a role what a node and a client need, and no more: the rows of these tables. Raises
+    `InvalidStore` where this user cannot give that.
+    """
+    name = sql.Identifier(role)
+    with link.transaction():
+        link.execute(sql.SQL("GRANT USAGE ON SCHEMA sagas TO {}").format(name))
+        link.execute(sql.SQL("GRANT SELECT ON sagas.store TO {}").format(name))
+        for table in TABLES:
+            link.execute(
+                sql.SQL("GRANT SELECT, INSERT, UPDATE, DELETE ON sagas.{} TO {}").format(
+                    sql.Identifier(table), name
+                )
+            )
+        link.execute(sql.SQL("GRANT USAGE ON ALL SEQUENCES IN SCHEMA sagas TO {}").format(name))
+        given = (
+            "has_schema_privilege(%(role)s, 'sagas', 'USAGE') "
+            "AND has_table_privilege(%(role)s, 'sagas.shards', 'INSERT')"
+        )
+        if link.execute(f"SELECT {given}", {"role": role}).fetchone() != (
+            True,
+        ):  # PostgreSQL only warns where nothing was given
+            raise InvalidStore(
+                f"{link.info.user} cannot grant these rights to {role}. Run the command as "
+                "the owner of the schema `sagas`"
+            )

@@ -1,0 +1,258 @@
+"""Loads many shards in one round trip.
+
+How logs are taken up from PostgreSQL: those that are wanted at once go together, by one message
+to the server and its answer.
+"""
+
+from __future__ import annotations
+
+import asyncio
+import json
+from collections.abc import Callable, Coroutine, Sequence
+from typing import Any, NamedTuple
+
+import psycopg
+
+from sagas.base.errors import StoreUnavailable
+from sagas.core.batch import Born, HeldRow, Loaded, OpenRow, Result
+from sagas.definition.capacity import SHARD_CAPACITY
+from sagas.storage import queries
+from sagas.storage.postgresql import connections
+
+MOST = 64
+"""Logs that are taken up at once."""
+
+LOGS = "shard = ANY(%(logs)s::bigint[])"
+MINE = "owner = %(node)s AND closed = 0"
+SAGAS = (
+    f"sagas s WHERE s.id >= l.shard * {SHARD_CAPACITY} AND s.id < (l.shard + 1) * {SHARD_CAPACITY}"
+)
+TOGETHER = f"""
+UPDATE shards SET epoch = epoch + 1 WHERE shard IN (
+  SELECT shard FROM shards WHERE {LOGS} AND {MINE} FOR NO KEY UPDATE SKIP LOCKED)
+RETURNING shard, epoch;
+SELECT shard, {MINE},
+  (SELECT string_agg(text, '' ORDER BY first_seq) FROM event_log WHERE event_log.shard = l.shard),
+  (SELECT count(*) FROM {SAGAS}),
+  (SELECT json_agg(json_build_array(s.id, s.key, s.definition_index, s.input, s.deadline,
+    (SELECT json_agg(json_build_array({queries.RESULT}) ORDER BY r.step, r.action, r.number)
+      FROM attempts r WHERE r.id = s.id),
+    (SELECT json_agg(json_build_array({queries.HELD})) FROM suspensions h WHERE h.id = s.id))
+    ORDER BY s.id)::text FROM {SAGAS} AND s.phase IS NULL),
+  {connections.LINE} FROM shards l WHERE {LOGS}
+"""
+"""One transaction: the second part sees all that was written under the epochs before, and
+meanwhile nothing is. A log of which a commit is under way is passed over. A log's sagas are one
+text, since psycopg takes longer for some thousand cells than the server for all.
+"""
+BORN = """
+WITH new AS (INSERT INTO definition_sets VALUES (%(shelf)s, %(texts)s) ON CONFLICT DO NOTHING)
+INSERT INTO shards(shard, name, definition_set, owner, epoch)
+VALUES (%(log)s, %(name)s, %(shelf)s, %(node)s, %(epoch)s) ON CONFLICT DO NOTHING
+"""
+"""A log that is not in the store, as far as this node knows: the commit that was to hold it may
+come late, and then meets it, of a later epoch.
+"""
+ALONE = (
+    f"UPDATE shards SET epoch = epoch + 1 WHERE {LOGS} AND {MINE} RETURNING epoch, "
+    f"{connections.LINE}"
+)
+"""Whatever its epoch is, here as above: this node may not have heard of the last one that it
+made.
+"""
+
+
+class Want(NamedTuple):
+    """A log that is to be taken up."""
+
+    log: int
+    epoch: int
+    born: Born | None
+    came: asyncio.Future[Loaded | None]
+
+    def tell(self, loaded: Loaded | None, fault: Exception | None = None) -> None:
+        """To who wants it, and waits for it still."""
+        if not self.came.done():
+            self.came.set_exception(fault) if fault else self.came.set_result(loaded)
+
+
+WAKE = """
+SELECT NOT EXISTS (SELECT 1 FROM shards WHERE shard = %(log)s AND (owner IS DISTINCT FROM %(node)s
+OR epoch <> %(epoch)s OR closed <> 0)), l.first_seq, l.text
+FROM (SELECT) one LEFT JOIN event_log l ON l.shard = %(log)s ORDER BY l.first_seq
+"""
+"""Beside each chunk of a log, whether the log is this node's under this epoch, or is not born
+yet: as of one moment.
+"""
+
+
+class Loads:
+    """Takes up logs for one node."""
+
+    def __init__(
+        self,
+        asker: connections.Asker,
+        node: str,
+        spawn: Callable[[Coroutine[Any, Any, None]], object],
+    ) -> None:
+        self._asker, self._node, self._spawn = asker, node, spawn
+        self._wanted: list[Want] = []
+        self._is_loading = False
+        # shards that are locked go one by one: each may hold for long a connection that others need
+        self._one = asyncio.Lock()
+
+    async def take_up(self, log: int, epoch: int) -> tuple[str, int] | None:
+        """As `Database.take_up`."""
+        rows = await self._asker.read(WAKE, log=log, node=self._node, epoch=epoch)
+        if not rows[0][0]:
+            return None
+        return queries.joined([(first, text) for _, first, text in rows if first is not None])
+
+    async def load(self, log: int, epoch: int, born: Born | None) -> Loaded | None:
+        """As `Database.load`."""
+        want = Want(log, epoch, born, asyncio.get_running_loop().create_future())
+        if born:
+            self._spawn(self._tell_alone(want))
+            return await want.came
+        self._wanted.append(want)
+        if not self._is_loading:
+            self._is_loading = True
+            self._spawn(self._load())
+        return await want.came
+
+    async def _load(self) -> None:
+        """All that is wanted, one lot behind the other."""
+        try:
+            while self._wanted:
+                lot, self._wanted = self._wanted[:MOST], self._wanted[MOST:]
+                await self._tell(lot)
+        finally:
+            self._is_loading = False
+
+    async def _tell(self, lot: Sequence[Want]) -> None:
+        """Tells who wants them. One of which a commit is under way comes alone; and so does each
+        where the server refused, which may be because of one.
+        """
+        try:
+            rest = await self._together(lot)
+        except Exception as fault:
+            rest = [want for want in lot if not want.came.done()]
+            if not _was_heard(fault):
+                for want in rest:
+                    want.tell(None, fault)
+                return
+        for want in rest:
+            self._spawn(self._tell_alone(want))
+
+    async def _tell_alone(self, want: Want) -> None:
+        try:
+            async with self._one:
+                loaded = await self._alone(want)
+        except Exception as fault:
+            want.tell(None, fault)
+        else:
+            want.tell(loaded)
+
+    async def _together(self, lot: Sequence[Want]) -> list[Want]:
+        """Tells of those that were taken up, one behind the other, so that others have their
+        turns; gives those that are locked.
+        """
+        words = {"logs": f"{{{','.join(str(want.log) for want in lot)}}}", "node": self._node}
+        waits, locked = list(lot), list[Want]()
+        with connections.faults(self._asker.where):
+            async with asyncio.timeout(connections.PATIENCE), self._asker.pool.connection() as link:
+                cursor = await psycopg.AsyncClientCursor(link).execute(TOGETHER, words)
+                epochs: dict[int, int] = {log: epoch for log, epoch in await cursor.fetchall()}
+                cursor.nextset()
+                while row := await cursor.fetchone():
+                    log, is_mine, text, opened, sagas, line = row
+                    these, waits = [want for want in waits if want.log == log], [
+                        want for want in waits if want.log != log
+                    ]
+                    if log not in epochs and is_mine:
+                        locked += these
+                        continue
+                    loaded = None
+                    if log in epochs:
+                        loaded = _loaded(text or "", opened, json.loads(sagas or "[]"))
+                        loaded.epoch, loaded.line = epochs[log], line
+                    for want in these:
+                        want.tell(loaded)
+                    await asyncio.sleep(0)
+        for want in waits:
+            want.tell(None)
+        return locked
+
+    async def _alone(self, want: Want) -> Loaded | None:
+        """Row by row, however large it is."""
+        low, high = queries.bounds(want.log)
+        words = {"low": low, "high": high, "log": want.log, "logs": [want.log], "node": self._node}
+
+        async def rows(query: str) -> list[Any]:
+            return await (
+                await link.execute(
+                    query.replace("?", "%(low)s", 1).replace("?", "%(high)s", 1), words
+                )
+            ).fetchall()
+
+        with connections.faults(self._asker.where):
+            async with asyncio.timeout(
+                connections.PATIENCE
+            ), self._asker.pool.connection() as link, link.transaction():
+                if want.born:
+                    name, shelf, texts = want.born
+                    await link.execute(
+                        BORN,
+                        words | {"name": name, "shelf": shelf, "texts": texts, "epoch": want.epoch},
+                    )
+                taken = await rows(ALONE)
+                if not taken:
+                    return None
+                text, events = queries.joined(
+                    await rows(
+                        f"SELECT first_seq, text FROM event_log WHERE {LOGS} ORDER BY first_seq"
+                    )
+                )
+                ((opened,),) = await rows(queries.COUNT)
+                open, results, held = [
+                    await rows(query)
+                    for query in (queries.OPEN_SAGAS, queries.OPEN_RESULTS, queries.OPEN_HELD)
+                ]
+        loaded = Loaded(text, events, opened, open, results, held)
+        ((loaded.epoch, loaded.line),) = taken
+        return loaded
+
+
+def _was_heard(fault: Exception) -> bool:
+    """Whether the server was there, and refused, or took too long."""
+    cause = fault.__cause__ if isinstance(fault, StoreUnavailable) else fault
+    return isinstance(cause, TimeoutError) or getattr(cause, "sqlstate", None) is not None
+
+
+def _loaded(text: str, opened: int, sagas: Sequence[Any]) -> Loaded:
+    """From its cells. Seconds are written as whole numbers there, where they are."""
+    results: list[Result] = [
+        (id, step, kind, attempt, outcome, value, float(at))
+        for saga in sagas
+        for id, step, kind, attempt, outcome, value, at in saga[5] or ()
+    ]
+    held: list[HeldRow] = [
+        (
+            id,
+            step,
+            kind,
+            attempt,
+            why,
+            count,
+            float(since),
+            None if until is None else float(until),
+            error,
+        )
+        for saga in sagas
+        for id, step, kind, attempt, why, count, since, until, error in saga[6] or ()
+    ]
+    open: list[OpenRow] = [
+        (id, key, place, text, None if deadline is None else float(deadline))
+        for id, key, place, text, deadline, _, _ in sagas
+    ]
+    return Loaded(text, text.count("\n"), opened, open, results, held)

@@ -1,0 +1,98 @@
+"""The statement that ends a step's transaction.
+
+The record and the commit are one text. The server stops at the first part that it refuses. The
+text names every table with its schema and leaves the user's settings as they are. The record is
+prepared when a connection is made, since to plan it takes the server longer than to run it.
+"""
+
+from __future__ import annotations
+
+from collections.abc import Sequence
+from typing import Any, NamedTuple
+
+from psycopg import pq
+
+from sagas.storage.postgresql import connections
+from sagas.storage.postgresql.step_connections import is_prepared
+from sagas.storage.postgresql.step_protocol import encoding_of
+
+COMMIT = "; COMMIT"
+UNPREPARED = ("26000", "42P05")
+"""SQLSTATEs of a statement that is not prepared any more, or is prepared already: a function
+deallocated it unseen, or a pooler hands out other sessions."""
+PREPARED = "sagas_record"
+"""The name of the prepared record."""
+PARAMETERS = {
+    "id": "bigint",
+    "step": "integer",
+    "kind": "text",
+    "attempt": "integer",
+    "log": "bigint",
+    "node": "text",
+    "epoch": "bigint",
+    "line": "text",
+    "value": "text",
+}
+TABLE = "sagas", "attempts"
+"""The schema and the name of the table that a record is written to."""
+RECORD = f"""INSERT INTO {'.'.join(TABLE)} VALUES ({{id}}, {{step}}, {{kind}}, {{attempt}},
+  (SELECT 'ok' FROM sagas.shards WHERE shard = {{log}} AND owner = {{node}}
+    AND epoch = {{epoch}} AND {connections.LINE} = {{line}} FOR SHARE),
+  {{value}}, extract(epoch FROM clock_timestamp()))"""
+"""If the shard is not this node's any more, the outcome is null: the server refuses that, and
+nothing is committed."""
+
+
+def prepares() -> str:
+    """The statements that prepare the record as a connection is made.
+
+    They also plan it, by keys: a plan for small tables would be kept while the tables grow. The
+    settings hold for this text alone.
+    """
+    places = {word: f"${place}" for place, word in enumerate(PARAMETERS, 1)}
+    types, nulls = ", ".join(PARAMETERS.values()), ", ".join("NULL" for _ in PARAMETERS)
+    return "; ".join(
+        [
+            "SET LOCAL enable_seqscan = off; SET LOCAL plan_cache_mode = force_generic_plan",
+            f"PREPARE {PREPARED}({types}) AS {RECORD.format(**places)}",
+            f"EXPLAIN EXECUTE {PREPARED}({nulls})",
+        ]
+    )
+
+
+class Fence(NamedTuple):
+    """The owner that a shard must have for anything to be committed."""
+
+    log: int
+    node: str
+    epoch: int
+    line: str
+
+
+def _literal(link: Any, word: str) -> str:
+    """A text as a literal, for this connection."""
+    if word.isascii() and "'" not in word and "\\" not in word and "\0" not in word:
+        return f"'{word}'"
+    encoding = encoding_of(link)
+    escaped = pq.Escaping(link.pgconn).escape_literal(word.encode(encoding))
+    return bytes(escaped).decode(encoding)
+
+
+def record_and_commit(link: Any, row: Sequence[Any], fence: Fence, value: str) -> str:
+    """The record of a result, which locks the shard's row, and the commit."""
+    id, step, kind, attempt = row
+    log, node, epoch, line = fence
+    words = [
+        str(id),
+        str(step),
+        f"'{kind}'",
+        str(attempt),
+        str(log),
+        _literal(link, node),
+        str(epoch),
+        f"'{line}'",
+        _literal(link, value),
+    ]
+    if is_prepared(link):
+        return f"EXECUTE {PREPARED}({', '.join(words)}){COMMIT}"
+    return RECORD.format(**dict(zip(PARAMETERS, words))) + COMMIT

@@ -1,0 +1,228 @@
+"""Statements that both databases understand.
+
+What is asked of a store's tables, in words that SQLite and PostgreSQL both understand; `?` stands
+for a value.
+"""
+
+from __future__ import annotations
+
+import bisect
+import json
+from collections.abc import Callable, Sequence
+from typing import Any
+
+from sagas.base.errors import NoSuchSaga
+from sagas.core.batch import Known, LogRow, SagaRow
+from sagas.definition.capacity import SHARD_CAPACITY
+from sagas.storage.sqlite.schema import PLANNED, UNDO_FAILED
+
+SAGA = "id, key, saga, definition_index, input, at, phase, outcome, ended, note"
+RESULT = "r.id, r.step, r.action, r.number, r.event, r.value, r.at"
+HELD = "h.id, h.step, h.action, h.number, h.reason, h.count, h.since, h.until, h.detail"
+OPEN = "s.id >= ? AND s.id < ? AND s.phase IS NULL"
+
+OPENED = (
+    "SELECT count(*) FROM sagas "
+    f"WHERE id >= shard * {SHARD_CAPACITY} AND id < (shard + 1) * {SHARD_CAPACITY}"
+)
+LOGS = f"""
+SELECT shard, name, definition_set, texts, ({OPENED}), ({OPENED} AND phase IS NULL)
+FROM shards JOIN definition_sets USING (definition_set)
+"""
+LINES = "SELECT first_seq, text FROM event_log WHERE shard = ? ORDER BY first_seq"
+OPEN_SAGAS = (
+    "SELECT s.id, s.key, s.definition_index, s.input, s.deadline "
+    f"FROM sagas s WHERE {OPEN} ORDER BY s.id"
+)
+OPEN_RESULTS = f"""
+SELECT {RESULT} FROM sagas s CROSS JOIN attempts r WHERE {OPEN} AND r.id = s.id
+ORDER BY s.id, r.step, r.action, r.number
+"""
+OPEN_HELD = f"SELECT {HELD} FROM sagas s CROSS JOIN suspensions h WHERE {OPEN} AND h.id = s.id"
+"""SQLite goes by a CROSS JOIN from left to right: by the open sagas first."""
+PLACES = f"SELECT DISTINCT definition_index FROM sagas s WHERE {OPEN}"
+COUNT = "SELECT count(*) FROM sagas s WHERE s.id >= ? AND s.id < ?"
+FIND = f"SELECT {SAGA} FROM sagas WHERE key = ?"
+FIND_MANY = {
+    count: f"SELECT {SAGA} FROM sagas WHERE key IN ({', '.join('?' * count)})"
+    for count in (1, 2, 4, 8, 16, 32, 64, 128, 256)
+}
+"""By how many keys: few numbers, so that their statements are kept."""
+FOUND, MOST_FOUND = [*FIND_MANY], max(FIND_MANY)
+IN_OPEN_LOGS = f""" AND id IN (
+  SELECT o.id FROM shards CROSS JOIN sagas o
+  WHERE closed = 0 AND o.id >= shard * {SHARD_CAPACITY} AND o.id < (shard + 1) * {SHARD_CAPACITY}
+  AND o.phase IS NULL)"""
+"""How a file, which has no index of open sagas, finds them: a log is closed only when none of
+its sagas is open, so those of closed ones are not looked at. In this order too. PostgreSQL has
+an index, and leaves this out.
+"""
+PHASES = {
+    "open": f"phase IS NULL{IN_OPEN_LOGS}", "completed": f"phase = 'ended' AND NOT {PLANNED}",
+    "recovered": f"{PLANNED} AND note IS NULL", "undo_failed": f"{UNDO_FAILED} AND note IS NULL",
+    "stuck": "phase = 'stuck' AND note IS NULL",
+    "resolved": f"(phase = 'stuck' OR ({UNDO_FAILED})) AND note IS NOT NULL",
+}  # fmt: skip
+"""What a list may be asked for. `completed`: all went well; `recovered`: ended by a plan, since a
+step
+had failed or they were aborted; `undo_failed`: those of these of which a compensation failed for
+good. Once a person has resolved such a saga it is `resolved`, as one that was stuck.
+"""
+RESOLVABLE = f"(phase = 'stuck' OR ({UNDO_FAILED}))"
+"""The sagas that a person resolves, also those that somebody has resolved."""
+RESOLVE = f"UPDATE sagas SET note = ? WHERE key = ? AND {RESOLVABLE} AND note IS NULL"
+"""The first note stays."""
+LABELS = """CAST((SELECT json_group_object(b.name, b.value) FROM labels b WHERE b.id = s.id)
+AS TEXT)"""
+"""The labels of a saga `s`, as a JSON object or null."""
+PHASE = f"""CASE WHEN phase IS NULL THEN 'open' WHEN note IS NOT NULL THEN 'resolved'
+WHEN {PLANNED} THEN 'recovered' WHEN phase = 'ended' THEN 'completed' ELSE phase END"""
+DEFINED = f"""sagas JOIN shards ON shard = id / {SHARD_CAPACITY}
+JOIN definition_sets USING (definition_set)"""
+"""Sagas, each with its shard and the texts of the shard's definitions."""
+DEFINITION = f"SELECT texts, definition_index FROM {DEFINED} WHERE id = ?"
+RESULTS = """
+SELECT step, action, number, event, value, at FROM attempts WHERE id = ?
+ORDER BY step, action, number
+"""
+"""What a saga's attempts came to: of each step its tries, then those of its compensation. Not by
+their times, since a clock may step back."""
+KNOWN = f"""
+SELECT 0, definition_index, '', 0, '', texts, 0.0
+FROM {DEFINED} WHERE id = ?
+UNION ALL SELECT 1, step, action, number, event, value, at FROM attempts WHERE id = ?
+"""
+HISTORY = f"""{KNOWN}
+UNION ALL SELECT 2, first_seq, '', 0, '', text, committed_at FROM event_log
+WHERE shard = ? AND (text LIKE ? OR text LIKE ?)
+"""
+"""All that is kept of a saga, in one statement: a log that is let go meanwhile is there or is not.
+Of the log those chunks that name the saga: a line has its number behind `"saga":`."""
+OF_START = "i.saga || '/' || i.version || '/'"
+FITS = f"""EXISTS (SELECT 1 FROM nodes n, unnest(n.kinds) k
+  WHERE n.lease > now() AND starts_with(k, {OF_START})
+  AND k = {OF_START} || coalesce(i.digest, substr(k, length({OF_START}) + 1)))"""
+"""Whether a node is there that takes a client's start `i`, by PostgreSQL's tables."""
+OTHERS = f"""ARRAY(SELECT DISTINCT n.name FROM nodes n, unnest(n.kinds) k
+  WHERE n.lease > now() AND starts_with(k, {OF_START}) AND NOT {FITS} ORDER BY n.name)"""
+"""The nodes that have the saga of a start in that version, where each has another definition."""
+REQUESTS = """
+SELECT r.id, r.key, r.command, r.value, s.id FROM operator_commands r LEFT JOIN sagas s USING (key)
+WHERE r.answer IS NULL AND r.id > ? ORDER BY r.id LIMIT ?
+"""
+"""Of a file, which forgets with a saga what was asked of its key."""
+
+
+def for_postgresql(query: str, mark: str = "%s") -> str:
+    """A query as psycopg and PostgreSQL take it, with a mark for each value."""
+    query = query.replace(IN_OPEN_LOGS, "").replace("json_group_object", "json_object_agg")
+    return query.replace("?", mark)
+
+
+def labels_of(told: str | None) -> dict[str, str]:
+    """The labels that `LABELS` gave, by their names."""
+    return dict(sorted(json.loads(told or "{}").items()))
+
+
+def named(query: str, *names: str) -> str:
+    """A query with a word's name, as psycopg takes it, in place of each `?`."""
+    for name in names:
+        query = query.replace("?", f"%({name})s", 1)
+    return query
+
+
+def bounds(log: int) -> tuple[int, int]:
+    """The ids of a log's sagas: from the first, before the second."""
+    return log * SHARD_CAPACITY, (log + 1) * SHARD_CAPACITY
+
+
+def joined(chunks: list[tuple[Any, ...]]) -> tuple[str, int]:
+    """A log's lines from its chunks, and how many events they are."""
+    events = chunks[-1][0] + chunks[-1][1].count("\n") if chunks else 0
+    return "".join(text for _, text in chunks), events
+
+
+class Rows:
+    """The questions over `rows`, which are answered at once."""
+
+    def rows(self, query: str, *words: Any) -> list[tuple[Any, ...]]:
+        """Rows of a query."""
+        raise NotImplementedError
+
+    def open_logs(self) -> list[LogRow]:
+        """The logs that are not closed, in order."""
+        found = self.rows(f"{LOGS} WHERE closed = 0 ORDER BY shard")
+        return [
+            LogRow(log, name, shelf, json.loads(texts), opened, open)
+            for log, name, shelf, texts, opened, open in found
+        ]
+
+    def places(self, log: int) -> list[int]:
+        """The places of the definitions of a log's open sagas."""
+        return [place for (place,) in self.rows(PLACES, *bounds(log))]
+
+    def find_now(self, key: str) -> SagaRow | None:
+        """The saga with this key."""
+        found = self.rows(FIND, key)
+        return SagaRow(*found[0]) if found else None
+
+    def find_many(self, keys: Sequence[str]) -> dict[str, SagaRow]:
+        """The sagas with these keys, by key, as far as they are there."""
+        return self.found(keys, lambda query, words: self.rows(query, *words))
+
+    def found(
+        self, keys: Sequence[str], rows: Callable[[str, Sequence[str]], list[tuple[Any, ...]]]
+    ) -> dict[str, SagaRow]:
+        """As `find_many`, by what gives the rows of a query."""
+        found = {}
+        for place in range(0, len(keys), MOST_FOUND):
+            lot = [*keys[place : place + MOST_FOUND]]
+            count = FOUND[bisect.bisect_left(FOUND, len(lot))]
+            lot += lot[:1] * (count - len(lot))
+            for row in rows(FIND_MANY[count], lot):
+                found[row[1]] = SagaRow(*row)
+        return found
+
+
+def known_words(id: int, history: bool) -> tuple[Any, ...]:
+    """What is asked of a saga, and the words for it."""
+    if not history:
+        return KNOWN, id, id
+    log, number = divmod(id, SHARD_CAPACITY)
+    return HISTORY, id, id, log, f'%"saga":{number},%', f'%"saga":{number}}}%'
+
+
+def known(rows: Sequence[tuple[Any, ...]], key: str) -> Known:
+    """What these say. Raises `NoSuchSaga` where it was let go since its row was read."""
+    parts: tuple[list[Any], list[Any], list[Any]] = [], [], []
+    for row in sorted(rows, key=lambda row: row[:4]):
+        parts[row[0]].append(row[1:])
+    if not parts[0]:
+        raise NoSuchSaga(f"saga {key!r} was deleted meanwhile")
+    ((place, _, _, _, texts, _),) = parts[0]
+    chunks = [(at, text) for _, _, _, _, text, at in parts[2]]
+    return Known(str(json.loads(texts)[place]), parts[1], chunks)
+
+
+class Questions:
+    """The questions over `read`, which each database has its own way to answer."""
+
+    async def read(self, query: str, *words: Any) -> list[tuple[Any, ...]]:
+        """Rows of a query."""
+        raise NotImplementedError
+
+    async def read_long(self, query: str, *words: Any) -> list[tuple[Any, ...]]:
+        """As `read`, of what may be many megabytes."""
+        return await self.read(query, *words)
+
+    async def text(self, log: int) -> str:
+        """A log's lines."""
+        return joined(await self.read_long(LINES, log))[0]
+
+    async def known(self, row: SagaRow) -> Known:
+        """What the store has of a saga. Raises `NoSuchSaga` where it was let go meanwhile."""
+        return known(await self.read(*known_words(row.id, history=False)), row.key)
+
+    async def history(self, row: SagaRow) -> Known:
+        """As `known`, with its log's chunks."""
+        return known(await self.read_long(*known_words(row.id, history=True)), row.key)

@@ -1,0 +1,128 @@
+"""The table `schedules`: its statements, for both databases."""
+
+from __future__ import annotations
+
+import dataclasses
+import json
+from typing import Any
+
+from sagas.base.errors import NoSuchSchedule
+from sagas.definition.timing import CatchUp, Timing
+from sagas.storage.admin import Row, Source
+
+COLUMNS = """
+name, saga, version, input, labels, cron, every, timezone, catch_up, next_at, last_at, paused, error
+"""
+ALL = f"SELECT {COLUMNS} FROM schedules ORDER BY name"
+DUE = f"SELECT {COLUMNS} FROM schedules WHERE paused = 0 ORDER BY next_at, name"
+SAME = "saga version input labels cron every timezone catch_up".split()
+PUT = f"""
+INSERT INTO schedules(name, {", ".join(SAME)}, next_at, paused)
+VALUES(?, ?, ?, ?, ?, ?, ?, ?, ?, ?, 0)
+ON CONFLICT(name) DO UPDATE SET {", ".join(f"{name} = excluded.{name}" for name in SAME)},
+  next_at = excluded.next_at, error = NULL
+WHERE {" OR ".join(f"schedules.{name} <> excluded.{name}" for name in SAME)}
+"""
+"""One that is there as it is said keeps its next time."""
+ADVANCE = """
+UPDATE schedules SET next_at = ?, last_at = coalesce(?, last_at), error = ?
+WHERE name = ? AND next_at = ?
+"""
+"""Only the one who finds it as it was read: of two nodes, the second changes nothing."""
+
+
+@dataclasses.dataclass(frozen=True, slots=True)
+class Schedule:
+    """Describe a schedule.
+
+    Attributes:
+        name: Its name, with which the keys of its sagas begin.
+        saga: The name of the definition that it starts.
+        version: The version of the definition.
+        input: What its sagas read as `task.input`, as JSON.
+        labels: The labels of its sagas.
+        cron: The cron expression, or None.
+        every: Seconds between two sagas, or None.
+        timezone: The time zone of the expression.
+        catch_up: What becomes of missed times: `last`, `all` or `skip`.
+        next_at: Wall time of its next saga, in seconds since 1970; if paused, without meaning.
+        last_at: Wall time of its last saga, or None.
+        paused: Whether it starts nothing.
+        error: Why its last saga could not be started, or None.
+    """
+
+    name: str
+    saga: str
+    version: int
+    input: Any
+    labels: dict[str, str]
+    cron: str | None
+    every: float | None
+    timezone: str
+    catch_up: str
+    next_at: float
+    last_at: float | None
+    paused: bool
+    error: str | None
+
+    @property
+    def timing(self) -> Timing:
+        """When it starts its sagas."""
+        every, catch_up = self.every or 0.0, CatchUp(self.catch_up)
+        return Timing(self.cron or "", every, self.timezone, catch_up)
+
+
+def of_row(row: Row) -> Schedule:
+    """Return a schedule as the store has it."""
+    name, saga, version, input, labels, cron, every, *rest = row
+    timezone, catch_up, next_at, last_at, paused, error = rest
+    told = json.loads(input), json.loads(labels), cron or None, every or None, timezone, catch_up
+    return Schedule(name, saga, version, *told, next_at, last_at, bool(paused), error)
+
+
+class Schedules:
+    """Changes schedules, over a connection of its own. For a thread."""
+
+    def __init__(self, link: Source) -> None:
+        self._link = link
+
+    def put(
+        self, name: str, saga: tuple[str, int], input: str, labels: str, timing: Timing, now: float
+    ) -> None:
+        """Declare one, or change it; as it is, it keeps its next time."""
+        when = timing.cron, timing.every, timing.timezone, timing.catch_up.value
+        words = (name, *saga, input, labels, *when, timing.next_after(now))
+        self._link.changed(PUT, *words)
+        self._link.tell("requests")
+
+    def pause(self, name: str) -> None:
+        """Start nothing of it from now on. Raises `NoSuchSchedule`."""
+        self._changed(name, "UPDATE schedules SET paused = 1 WHERE name = ?", name)
+
+    def resume(self, name: str, now: float) -> None:
+        """Start its sagas again, from the next time on. Raises `NoSuchSchedule`."""
+        for row in self._link.ask(f"SELECT {COLUMNS} FROM schedules WHERE name = ?", name):
+            next_at = of_row(row).timing.next_after(now)
+            text = "UPDATE schedules SET paused = 0, next_at = ? WHERE name = ? AND paused = 1"
+            self._link.changed(text, next_at, name)
+            self._link.tell("requests")
+            return
+        raise _absent(name)
+
+    def remove(self, name: str) -> None:
+        """Delete it. Raises `NoSuchSchedule`."""
+        self._changed(name, "DELETE FROM schedules WHERE name = ?", name)
+
+    def advance(
+        self, one: Schedule, next_at: float, last_at: float | None, error: str | None
+    ) -> None:
+        """Say which time is the next one."""
+        self._link.changed(ADVANCE, next_at, last_at, error, one.name, one.next_at)
+
+    def _changed(self, name: str, text: str, *words: Any) -> None:
+        if not self._link.changed(text, *words):
+            raise _absent(name)
+
+
+def _absent(name: str) -> NoSuchSchedule:
+    return NoSuchSchedule(f"no schedule has the name {name!r}")

@@ -1,0 +1,1 @@
+"""SQLite, for one program at a time."""

@@ -1,0 +1,141 @@
+"""External attempts in the file.
+
+Work done elsewhere, in a store's file: each statement goes into the next transaction of the
+program that has it open.
+"""
+
+from __future__ import annotations
+
+import sqlite3
+from collections.abc import Awaitable, Callable, Sequence
+from typing import Any
+
+from sagas.core.batch import Batch
+from sagas.storage.external import OPEN, REPORTED, TAKES, Claim, Report, Row, Waiting
+
+HELD = f"SELECT count(*) FROM external_attempts WHERE task = ? AND {OPEN} AND until > ?"
+BOUND = f"""
+SELECT concurrency FROM external_attempts
+WHERE task = ? AND {OPEN} AND concurrency IS NOT NULL LIMIT 1
+"""
+FOUND = f"""
+SELECT offered_at, attempt, lease, given_back, id, step, action FROM external_attempts
+WHERE task = ? AND {OPEN} AND (until IS NULL OR until <= ?) ORDER BY offered_at LIMIT ?
+"""
+LEASE = """
+UPDATE external_attempts SET worker = ?, since = ?, until = ?, given_back = 0, lease = ?
+WHERE attempt = ?
+"""
+KEPT = f"""
+SELECT task, concurrency, until FROM external_attempts
+WHERE attempt = ? AND lease = ? AND {OPEN} AND until IS NOT NULL
+"""
+LENGTHEN = "UPDATE external_attempts SET until = ?, given_back = ? WHERE attempt = ?"
+REPORT = f"""
+UPDATE external_attempts SET outcome = :outcome, value = :value, reported = :lease
+WHERE attempt = :attempt AND {TAKES.format(lease=":lease", outcome=":outcome")} RETURNING shard
+"""
+FIND = "SELECT lease, outcome, value, reported FROM external_attempts WHERE attempt = ?"
+ALL_REPORTED = f"SELECT attempt, outcome, value, shard FROM external_attempts WHERE {REPORTED}"
+WAITING = f"""
+SELECT task, count(*) FILTER (WHERE until IS NULL OR until <= ?1),
+  min(offered_at) FILTER (WHERE until IS NULL OR until <= ?1), count(*) FILTER (WHERE until > ?1)
+FROM external_attempts WHERE {OPEN} AND task > '' GROUP BY task ORDER BY task
+"""
+ADVANCE = """
+INSERT OR REPLACE INTO progress SELECT id, step, action, number, ?, ?, ?
+FROM external_attempts WHERE attempt = ?
+"""
+WITHDRAW = f"""
+UPDATE external_attempts SET outcome = 'withdrawn'
+WHERE attempt = ? AND {OPEN} AND lease IS NULL RETURNING 1
+"""
+
+
+class SqliteExternalAttempts:
+    """As `ExternalAttempts`, of the only program. `write` puts a batch into the next
+    transaction."""
+
+    def __init__(self, rows: Callable[..., list[tuple[Any, ...]]]) -> None:
+        self._rows = rows
+
+    def begin(self, write: Callable[[Batch], Awaitable[None]], clock: Callable[[], float]) -> None:
+        self.write, self.clock = write, clock
+
+    async def _within(self, work: Callable[[sqlite3.Connection], Any]) -> Any:
+        """What this gives, of a transaction that is in the file."""
+        batch = Batch(-1, self.clock())
+        found: list[Any] = []
+
+        def done(db: sqlite3.Connection) -> None:
+            found[:] = [work(db)]
+
+        batch.more.work.append(done)
+        await self.write(batch)
+        return found[0]
+
+    async def claim(
+        self, tasks: Sequence[str], limited: Sequence[str], most: int, seconds: float, worker: str
+    ) -> list[Claim]:
+        def claimed(db: sqlite3.Connection) -> list[Claim]:
+            now = self.clock()
+            found: list[tuple[Any, ...]] = []
+            claims: list[Claim] = []
+            for task in tasks:
+                room = most
+                for (bound,) in db.execute(BOUND, (task,)).fetchall():
+                    (held,) = db.execute(HELD, (task, now)).fetchone()
+                    room = max(0, min(most, bound - held))
+                found += db.execute(FOUND, (task, now, room)).fetchall()
+            for _, attempt, lease, given_back, id, step, action in sorted(found)[:most]:
+                number = max(int(now * 1000), (lease or 0) + 1)
+                db.execute(LEASE, (worker, now, now + seconds, number, attempt))
+                is_takeover = lease is not None and not given_back
+                claims.append(Claim(attempt, number, seconds, id, step, action, is_takeover))
+            return claims
+
+        now = self.clock()
+        if not any(self._rows(FOUND, task, now, 1) for task in tasks):
+            return []
+        found: list[Claim] = await self._within(claimed)
+        return found
+
+    async def heartbeat(self, attempt: str, lease: int, seconds: float) -> float | None:
+        def kept(db: sqlite3.Connection) -> float | None:
+            now = self.clock()
+            for task, bound, until in db.execute(KEPT, (attempt, lease)).fetchall():
+                if bound is not None and until <= now:
+                    (held,) = db.execute(HELD, (task, now)).fetchone()
+                    if held >= bound:
+                        return None
+                db.execute(LENGTHEN, (now + seconds, now + seconds < until, attempt))
+                return seconds
+            return None
+
+        found: float | None = await self._within(kept)
+        return found
+
+    async def advance(self, attempt: str, fraction: float, detail: str | None, at: float) -> None:
+        words = (fraction, detail, at, attempt)
+        await self._within(lambda db: db.execute(ADVANCE, words) and None)
+
+    async def report(self, attempt: str, lease: int, outcome: str, value: str) -> int | None:
+        words = {"attempt": attempt, "lease": lease, "outcome": outcome, "value": value}
+        rows: list[tuple[int]] = await self._within(lambda db: db.execute(REPORT, words).fetchall())
+        return rows[0][0] if rows else None
+
+    async def find(self, attempt: str) -> Row | None:
+        rows = self._rows(FIND, attempt)
+        return Row(*rows[0]) if rows else None
+
+    async def reported(self, shards: Sequence[int]) -> list[Report]:
+        return [Report(*row[:3]) for row in self._rows(ALL_REPORTED) if row[3] in shards]
+
+    async def waiting(self) -> list[Waiting]:
+        return [Waiting(*row) for row in self._rows(WAITING, self.clock())]
+
+    async def withdraw(self, attempt: str) -> bool:
+        return bool(await self._within(lambda db: db.execute(WITHDRAW, (attempt,)).fetchall()))
+
+    async def tell(self) -> None:
+        """There is nobody else."""

@@ -1,0 +1,57 @@
+"""Slots of rate limits.
+
+Places of steps with a rate, in a store's file, so that a program that starts again does not begin
+to count again.
+"""
+
+from __future__ import annotations
+
+import contextlib
+import sqlite3
+from collections.abc import Callable, Sequence
+
+from sagas.base.errors import StoreUnavailable
+
+FREE = (
+    "SELECT slot FROM limit_slots WHERE name = ? AND kind = 'rate' AND slot <= ? AND (until IS "
+    "NULL OR until <= ? OR until > ?) ORDER BY slot LIMIT ?"
+)
+SOON = (
+    "SELECT min(until) FROM limit_slots WHERE name = ? AND kind = 'rate' AND slot <= ? AND until > "
+    "?"
+)
+
+
+def free(limit: int, want: int, have: Sequence[int]) -> list[int]:
+    """The places of a limit that nobody has: one program is the whole fleet of a file."""
+    taken = set(have)
+    return [place for place in range(1, limit + 1) if place not in taken][:want]
+
+
+def take(
+    connect: Callable[[], sqlite3.Connection],
+    where: str,
+    name: str,
+    rate: tuple[int, float],
+    want: int,
+    now: float,
+) -> tuple[int, float]:
+    """How many calls may begin now, and in how many seconds more may. For a thread."""
+    calls, seconds = rate
+    try:
+        with contextlib.closing(connect()) as db:
+            db.execute("BEGIN IMMEDIATE")
+            db.executemany(
+                "INSERT OR IGNORE INTO limit_slots(name, kind, slot) VALUES(?, 'rate', ?)",
+                [(name, place) for place in range(1, calls + 1)],
+            )
+            rows = db.execute(FREE, (name, calls, now, now + seconds, want)).fetchall()
+            db.executemany(
+                "UPDATE limit_slots SET until = ? WHERE name = ? AND kind = 'rate' AND slot = ?",
+                [(now + seconds, name, place) for (place,) in rows],
+            )
+            (soon,) = db.execute(SOON, (name, calls, now)).fetchone()
+            db.execute("COMMIT")
+    except sqlite3.Error as error:
+        raise StoreUnavailable(f"{where}: {error}") from error
+    return len(rows), seconds if soon is None else soon - now

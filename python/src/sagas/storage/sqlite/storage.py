@@ -1,0 +1,364 @@
+"""The file, its lock and its reads."""
+
+from __future__ import annotations
+
+import asyncio
+import contextlib
+import fcntl
+import functools
+import os
+import secrets
+import shlex
+import sqlite3
+import time
+from collections.abc import Sequence
+from typing import Any
+
+from sagas.base.errors import InvalidStore, MissingStep, SagasError, StoreLocked, StoreUnavailable
+from sagas.base.fork_guard import private
+from sagas.base.logger import logger
+from sagas.core.batch import Born, Grant, Loaded, LogRow, Request, SagaRow, Start
+from sagas.definition.serialization import cleaned
+from sagas.definition.step import Bounds
+from sagas.storage import queries
+from sagas.storage.external import ExternalAttempts
+from sagas.storage.interface import Drives, Watcher
+from sagas.storage.sqlite import limit_slots
+from sagas.storage.sqlite.external_attempts import SqliteExternalAttempts
+from sagas.storage.sqlite.schema import VERSION
+from sagas.storage.sqlite.store_file import (
+    Reader,
+    check_file,
+    connect,
+    lengthen,
+    lock_of,
+    migrate,
+    owner_of,
+    there,
+    told,
+)
+from sagas.storage.sqlite.writer import Writer
+
+LOOK = 0.2  # seconds: another program's commit makes no event here
+MOST_LOOK = 30.0
+
+
+def migrate_file(path: str) -> str:
+    """Migrates a file that no program has open; says from which version. Raises `StoreLocked`,
+    `StoreSchemaTooNew`, `InvalidStore`, `StoreUnavailable`.
+    """
+    if not os.path.isfile(path):
+        raise InvalidStore(f"{path}: it is not there")
+    store = Sqlite(path)
+    store._take_lock()
+    with contextlib.closing(connect(path)) as db:
+        before = db.execute("PRAGMA user_version").fetchone()[0]
+    store._make()
+    store._reader.close()
+    store._db.close()
+    store._drop_lock()
+    return f"{path}: tables of version {VERSION}" + (
+        "" if before == VERSION else f", {before} before"
+    )
+
+
+class Sqlite(queries.Questions, queries.Rows):
+    """The file and its lock. Short reads happen in the loop, long ones in a thread; a `Writer`
+    writes."""
+
+    shared = False
+    takes = 0.0
+    sought = 0
+    inside = None
+
+    def __init__(self, path: str | os.PathLike[str]) -> None:
+        self.path = os.fspath(path)
+        self.file = os.path.abspath(path)
+        self._lock: int | None = None
+        self._there: dict[str, tuple[int, int]] = {}  # its files, as they were at the opening
+        self._timer: asyncio.Handle | None = None
+        self._next_log = 0
+        self.external: ExternalAttempts = SqliteExternalAttempts(self.rows)
+        self._writer = writer = Writer()
+        self.commit, self.settle = (
+            writer.commit,
+            writer.settle,
+        )
+
+    @property
+    def commits(self) -> int:
+        """How many transactions were written."""
+        return self._writer.commits
+
+    # -- opening and closing
+
+    async def open(self, drives: Drives) -> list[LogRow]:
+        """Takes the lock and makes the tables. Raises `StoreLocked`, `StoreUnavailable`,
+        `InvalidStore` or `MissingStep`.
+        """
+        self._take_lock()
+        self._make()
+        lengthen(self._db)
+        self._there = {name: there(name) for name in (self.file, f"{self.file}-wal")}
+        self._writer.open(self._db)
+        self._next_log = int(self.rows("SELECT coalesce(max(shard) + 1, 0) FROM shards")[0][0])
+        rows = self.open_logs()
+        for row in rows:
+            lacks = drives(row.texts, self.places(row.log)) if row.open else None
+            if lacks:
+                count = sum(row.open for row in rows)
+                told = (
+                    f"open sagas: {count:,}; `sagas store {shlex.quote(self.path)} list --phase "
+                    "open` lists them"
+                )
+                raise MissingStep(
+                    f"{self.path}: {lacks}. Declare it again, or let the older program finish "
+                    f"them with open(..., accept_new=False); {told}"
+                )
+        return rows
+
+    def _make(self) -> None:
+        try:
+            self._db = connect(self.file)
+            self._db.execute("PRAGMA journal_mode=WAL")
+            migrate(self._db, self.path)
+            self._reader = connect(self.file)
+        except sqlite3.DatabaseError as error:
+            self._drop_lock()
+            if isinstance(error, sqlite3.OperationalError):
+                raise StoreUnavailable(f"{self.path}: {told(error)}") from error
+            raise InvalidStore(f"{self.path}: {error}") from error
+        except BaseException:
+            self._drop_lock()
+            raise
+
+    def _take_lock(self) -> None:
+        check_file(self.path)
+        path = lock_of(self.file)
+        try:
+            self._lock = os.open(path, os.O_RDWR | os.O_CREAT | os.O_CLOEXEC, 0o644)
+        except FileNotFoundError as error:
+            raise StoreUnavailable(
+                f"folder {os.path.dirname(path)} does not exist. Create it first"
+            ) from error
+        except PermissionError as error:
+            owner = owner_of(path)
+            theirs = (
+                f"it belongs to {owner}. Open the store as {owner}, or change the owner of "
+                "the store's files (chown)"
+            )
+            remedy = (
+                theirs
+                if owner
+                else f"{error.strerror}. This user must be able to write to its folder"
+            )
+            raise StoreUnavailable(f"{path}: {remedy}") from error
+        except OSError as error:
+            raise StoreUnavailable(f"{path}: {error.strerror}") from error
+        private.add(self._lock)
+        try:
+            fcntl.flock(self._lock, fcntl.LOCK_EX | fcntl.LOCK_NB)
+        except OSError:
+            holder = os.pread(self._lock, 20, 0).decode(errors="replace")
+            who = (
+                "this program"
+                if holder == str(os.getpid())
+                else f"another program{f' (process {holder})' if holder.isdigit() else ''}"
+            )
+            self._drop_lock()
+            raise StoreLocked(f"{self.path}: {who} has this store open. Close it first") from None
+        with contextlib.suppress(OSError):  # it is only told
+            os.ftruncate(self._lock, 0)
+            os.pwrite(self._lock, str(os.getpid()).encode(), 0)
+
+    def _drop_lock(self) -> None:
+        if self._lock is not None:
+            private.discard(self._lock)
+            fcntl.flock(
+                self._lock, fcntl.LOCK_UN
+            )  # also where a process that was just forked still has it
+            os.close(self._lock)
+            self._lock = None
+
+    async def secret(self) -> bytes:
+        """As `Database.secret`. No commit may be under way."""
+        try:
+            self._db.execute(
+                "INSERT OR IGNORE INTO secrets VALUES ('leases', ?)", (secrets.token_hex(32),)
+            )
+        except sqlite3.Error as error:
+            raise StoreUnavailable(f"{self.path}: {error}") from error
+        return bytes.fromhex(self.rows("SELECT value FROM secrets WHERE name = 'leases'")[0][0])
+
+    def peers(self) -> None:
+        """There are no others."""
+
+    def watch(self, watcher: Watcher) -> None:
+        """Looks for requests that other programs left, where the file has changed."""
+        loop, version = asyncio.get_running_loop(), -1
+
+        def look() -> None:
+            nonlocal version
+            self._timer = loop.call_later(LOOK, look)
+            self._look_for_files()
+            self._look_for_lock()
+            with contextlib.suppress(StoreUnavailable):
+                now = self.rows("PRAGMA data_version")[0][0]
+                if now != version:
+                    version = now
+                    watcher.look()
+
+        self._timer = loop.call_soon(look)
+
+    def _look_for_files(self) -> None:
+        """Where one was deleted or replaced, SQLite would write on into what nobody will find:
+        from then on nothing is.
+        """
+        for name, was in self._there.items():
+            if there(name) != was:
+                remedy = (
+                    "later commits are lost. Close the store, restore the file (a copy with its "
+                    "-wal, or a backup), and open it again"
+                )
+                self._give_up(
+                    f"{self.path}: {name} was deleted or replaced while the store was open, so "
+                    f"{remedy}"
+                )
+
+    def _look_for_lock(self) -> None:
+        """Where it was deleted another program could open the store: it is made again."""
+        lock = self._lock
+        if lock is None or there(lock_of(self.file)) == there(lock):
+            return
+        self._lock = None
+        try:
+            self._take_lock()
+        except SagasError as error:
+            self._lock = lock
+            self._give_up(f"{error} The lock file was deleted while this program held it")
+        else:
+            private.discard(lock)
+            os.close(lock)
+
+    def _give_up(self, why: str) -> None:
+        if not self._writer.fault:
+            self._writer.fault = StoreUnavailable(why)
+            logger.critical("%s", why)
+
+    async def close(self) -> None:
+        """Ends the writer behind what it was given."""
+        if self._timer:
+            self._timer.cancel()
+        if self._lock is None:
+            return
+        self._writer.close()
+        with contextlib.suppress(sqlite3.Error):
+            self._reader.close()
+            self._db.close()
+        self._drop_lock()
+
+    # -- writing
+
+    def new_log(self) -> int:
+        """The number of a log that is to be born."""
+        self._next_log += 1
+        return self._next_log - 1
+
+    @property
+    def line(self) -> str:
+        """A file has none."""
+        return ""
+
+    def holds(self) -> bool:
+        """The lock is held until the end."""
+        return True
+
+    async def admit(self, name: str, bounds: Bounds, want: int, have: Sequence[int]) -> Grant:
+        """Places of a step: this program is the fleet."""
+        places = limit_slots.free(bounds.concurrency, want, have) if bounds.concurrency else []
+        count, pause = len(places) if bounds.concurrency else want, MOST_LOOK
+        if bounds.rate_limit and count:
+            connected = functools.partial(
+                connect, self.file, "NORMAL"
+            )  # a program that is killed has counted
+            count, pause = await asyncio.to_thread(
+                limit_slots.take, connected, self.path, name, bounds.rate_limit, count, time.time()
+            )
+        return Grant(count, places[:count], pause)
+
+    # -- reading
+
+    def rows(self, query: str, *words: Any) -> list[tuple[Any, ...]]:
+        """Rows of the reader. Raises `StoreUnavailable` where the file cannot be read."""
+        return self._read(self._reader, query, cleaned(words))
+
+    def _read(
+        self, db: sqlite3.Connection, query: str, words: Sequence[Any]
+    ) -> list[tuple[Any, ...]]:
+        try:
+            return db.execute(query, words).fetchall()
+        except sqlite3.Error as error:
+            raise StoreUnavailable(f"{self.path}: {error}") from error
+
+    def find_many(self, keys: Sequence[str]) -> dict[str, SagaRow]:
+        """The sagas with these keys, by key, as far as they are there."""
+        return self.found(
+            keys, functools.partial(self._read, self._writer.reader() or self._reader)
+        )
+
+    async def read(self, query: str, *words: Any) -> list[tuple[Any, ...]]:
+        """As `rows`: the file is at hand."""
+        return self.rows(query, *words)
+
+    async def read_long(self, query: str, *words: Any) -> list[tuple[Any, ...]]:
+        """As `read`, in a thread."""
+        return await asyncio.to_thread(self._read_apart, query, words)
+
+    def _read_apart(self, query: str, words: Sequence[Any]) -> list[tuple[Any, ...]]:
+        with contextlib.closing(self.reader()) as reader:
+            return reader.rows(query, *words)
+
+    def reader(self) -> Reader:
+        """Another connection, for a thread that only reads."""
+        return Reader(self.file)
+
+    async def spare(self, log: int) -> bool:
+        """There is nobody else."""
+        return False
+
+    async def take_up(self, log: int, epoch: int) -> tuple[str, int]:
+        """A log's lines and how many events they are, for who will write behind it: nobody else
+        writes this file. No lines of it may be on their way."""
+        text, self._writer.events[log] = queries.joined(self.rows(queries.LINES, log))
+        return text, self._writer.events[log]
+
+    async def load(self, log: int, epoch: int, born: Born | None) -> Loaded:
+        """A log as a pump takes it up. No batch of it may be on its way."""
+        within = queries.bounds(log)
+        text, events = await self.take_up(log, epoch)
+        opened = self.rows(queries.COUNT, *within)[0][0]
+        open, results, held = (
+            self.rows(query, *within)
+            for query in (queries.OPEN_SAGAS, queries.OPEN_RESULTS, queries.OPEN_HELD)
+        )
+        return Loaded(text, events, opened, open, results, held, epoch)  # type: ignore[arg-type]
+
+    async def find(self, key: str) -> SagaRow | None:
+        """The saga with this key."""
+        return self.find_now(key)
+
+    async def requests(self, after: int, most: int) -> list[Request]:
+        """What was asked and has no answer."""
+        return self.rows(queries.REQUESTS, after, most)  # type: ignore[return-value]
+
+    async def starts(self, most: int, under_way: Sequence[int] | None = None) -> list[Start]:
+        """None: who starts a saga has the store open."""
+        return []
+
+    async def ask(self, row: SagaRow, what: str, value: str) -> Any:
+        """Nobody else has the sagas of a file."""
+        raise NotImplementedError
+
+    async def news(self, id: int, turn: int) -> None:
+        """Nobody else ends a saga of a file."""
+        raise NotImplementedError

@@ -1,0 +1,167 @@
+"""The file of a store: its lock, its owner, its write-ahead log."""
+
+from __future__ import annotations
+
+import contextlib
+import os
+import pathlib
+import pwd
+import sqlite3
+from typing import Any
+
+from sagas.base.errors import InvalidStore, StoreSchemaTooNew, StoreUnavailable
+from sagas.definition.serialization import cleaned
+from sagas.storage.sqlite.schema import VERSION, statements
+from sagas.storage.sqlite.writer import BUSY, CHECKPOINT, LONG
+
+FRAME = 24  # bytes before each page of a WAL
+LENGTH = CHECKPOINT + LONG * 3 // 4
+"""Pages: where the WAL has just fewer than are moved, commits go on in the loop until the thread
+has the next one."""
+RIGHTS = "this user must be able to read and write it, and to write to its folder"
+
+
+def connect(path: str, synchronous: str = "FULL") -> sqlite3.Connection:
+    """A connection that commits where it is told to."""
+    db = sqlite3.connect(
+        path,
+        isolation_level=None,
+        check_same_thread=False,
+        cached_statements=256,
+        timeout=BUSY / 1000,
+    )
+    db.execute(f"PRAGMA synchronous={synchronous}")
+    # (else a sync ends in the disk's own memory on macOS; no other system has a difference)
+    db.execute("PRAGMA fullfsync=ON")
+    return db
+
+
+def told(error: sqlite3.Error) -> str:
+    """What SQLite says, and what to do about it where the file cannot be opened or written."""
+    text = str(error)
+    return f"{text}: {RIGHTS}" if "readonly" in text or "unable to open" in text else text
+
+
+def check_file(path: str) -> None:
+    """Looks at what is there, before anything is made beside it. Raises `InvalidStore` where it is
+    no store, and `StoreUnavailable` where this user may not read it.
+
+    By SQLite: to close a file that this program has open there as well would drop the locks on
+    it.
+    """
+    if os.path.isdir(path):
+        raise InvalidStore(f"{path}: this is a folder. Name a file in it")
+    if not os.path.isfile(path):
+        return
+    if (names := os.stat(path).st_nlink) > 1:
+        remedy = (
+            "one program would not see what another one writes. Remove the other names "
+            "(`find -samefile` lists them), or open a copy"
+        )
+        raise InvalidStore(f"{path}: the file has {names} names (hard links), so {remedy}")
+    if not os.access(path, os.R_OK, effective_ids=True):
+        raise StoreUnavailable(f"{path}: unable to open database file: {RIGHTS}")
+    try:
+        uri = f"{pathlib.Path(path).absolute().as_uri()}?mode=ro&immutable=1"
+        with contextlib.closing(sqlite3.connect(uri, uri=True)) as db:
+            db.execute("PRAGMA schema_version").fetchone()
+    except sqlite3.Error as error:
+        # of anything else, as a page that another program writes just now, the opening itself tells
+        if getattr(error, "sqlite_errorcode", None) == sqlite3.SQLITE_NOTADB:
+            raise InvalidStore(
+                f"{path}: {error}. Give the path of a store, or of a file that does not exist"
+            ) from error
+
+
+def lock_of(path: str | os.PathLike[str]) -> str:
+    """The file that the program that has a store open holds: one for all links to the store, as
+    SQLite has one WAL for them.
+    """
+    return f"{os.path.realpath(path)}.lock"
+
+
+def there(path: str | int) -> tuple[int, int]:
+    """Which file has this name, or descriptor; none where there is no such."""
+    try:
+        found = os.stat(path)
+    except OSError:
+        return 0, 0
+    return found.st_dev, found.st_ino
+
+
+def owner_of(path: str) -> str | None:
+    """Whose file it is, where it is another user's."""
+    try:
+        user = os.stat(path).st_uid
+    except OSError:
+        return None
+    if user == os.geteuid():
+        return None
+    try:
+        return pwd.getpwuid(user).pw_name
+    except KeyError:
+        return f"user {user}"
+
+
+def migrate(db: sqlite3.Connection, path: str) -> None:
+    """Makes the tables where there are none, in one transaction. Raises `StoreSchemaTooNew`."""
+    db.execute("BEGIN IMMEDIATE")
+    version = db.execute("PRAGMA user_version").fetchone()[0]
+    if version > VERSION:
+        db.execute("ROLLBACK")
+        raise StoreSchemaTooNew(
+            f"{path}: its tables have version {version}, and this program knows "
+            f"{VERSION}. Use a later release"
+        )
+    if version < VERSION:
+        for statement in statements():
+            db.execute(statement)
+    db.execute(f"PRAGMA user_version = {VERSION}")  # also where it is so: the file can be written
+    db.execute("COMMIT")
+
+
+def lengthen(db: sqlite3.Connection) -> None:
+    """Makes the WAL as long as it becomes before it is moved into the file: a commit that
+    lengthens its file takes the disk about twice as long.
+
+    What is filled in is no commit to SQLite, and stands under a writer's lock, so that nobody
+    else writes there. Where there is no room, it is left.
+    """
+    db.execute("BEGIN IMMEDIATE")
+    try:
+        path = db.execute("PRAGMA database_list").fetchone()[2]
+        page = db.execute("PRAGMA page_size").fetchone()[0]
+        with contextlib.suppress(OSError), open(
+            f"{path}-wal", "r+b", buffering=0
+        ) as wal:  # to close it drops no lock: SQLite has none on this file
+            size = wal.seek(0, os.SEEK_END)
+            zeros = bytes(max(0, LENGTH * (page + FRAME) - size))
+            if wal.write(zeros) < len(zeros):
+                wal.truncate(size)
+            getattr(os, "fdatasync", os.fsync)(wal.fileno())  # macOS has the second alone
+    finally:
+        db.execute("ROLLBACK")
+
+
+class Reader:
+    """A connection that only reads. One thread at a time may use it."""
+
+    def __init__(self, path: str) -> None:
+        self._path = path
+        self._db = sqlite3.connect(
+            f"{pathlib.Path(path).resolve().as_uri()}?mode=ro",
+            uri=True,
+            isolation_level=None,
+            check_same_thread=False,
+            timeout=BUSY / 1000,
+        )
+
+    def rows(self, query: str, *words: Any) -> list[tuple[Any, ...]]:
+        """Rows of a query. Raises `StoreUnavailable` where the file cannot be read."""
+        try:
+            return self._db.execute(query, cleaned(words)).fetchall()
+        except sqlite3.Error as error:
+            raise StoreUnavailable(f"{self._path}: {error}") from error
+
+    def close(self) -> None:
+        self._db.close()

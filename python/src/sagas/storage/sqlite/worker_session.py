@@ -1,0 +1,82 @@
+"""A worker's session with the file."""
+
+from __future__ import annotations
+
+import contextlib
+import os
+import sqlite3
+from typing import Any
+from urllib.parse import quote
+
+from sagas.base.errors import StoreUnavailable, WrongStore
+from sagas.core.dispatch import Begun, Order
+from sagas.core.outcomes import Outcome
+from sagas.definition.serialization import clean
+from sagas.definition.step import Function
+from sagas.storage.sqlite.external_attempts import REPORT
+from sagas.storage.worker_session import BEGIN, fetched
+
+BUSY = (
+    1.0  # seconds that a worker waits while others write, before it looks how long that has gone on
+)
+
+
+class SqliteDesk:
+    """A worker's connection to the file, for one thread."""
+
+    def __init__(self, path: str) -> None:
+        self.path = os.path.abspath(path)
+        self._db: sqlite3.Connection | None = None
+
+    def _ask(self, text: str, words: Any) -> list[tuple[Any, ...]]:
+        try:
+            if self._db is None:
+                # without `create`: a file that is not there is another store
+                self._db = sqlite3.connect(
+                    f"file:{quote(self.path)}?mode=rw", uri=True, isolation_level=None, timeout=BUSY
+                )
+                self._db.execute(
+                    "PRAGMA synchronous=NORMAL"
+                )  # the owner's next commit syncs it; what a crash loses is ordered again
+            return self._db.execute(text, words).fetchall()
+        except sqlite3.Error as error:
+            self.close()
+            if not os.path.exists(self.path):
+                raise WrongStore(
+                    f"{self.path}: the file does not exist for this worker. Over SQLite, workers "
+                    "and store must share it. Otherwise use PostgreSQL"
+                ) from error
+            raise StoreUnavailable(f"{self.path}: {error}") from error
+
+    def begin(self, order: Order) -> Begun | None:
+        """The texts that the order does not carry; None where the attempt is settled. Raises
+        `WrongStore`, `StoreUnavailable`.
+        """
+        return fetched(order, self._ask(BEGIN, (order.token, order.log)), self._one, self.path)
+
+    def _one(self, text: str, *words: Any) -> str:
+        rows = self._ask(text, words)
+        return str(rows[0][0]) if rows and rows[0][0] is not None else "null"
+
+    def report(self, order: Order, outcome: Outcome) -> None:
+        """Writes how it ended, in one statement. Raises `StoreUnavailable`."""
+        self._ask(
+            REPORT,
+            {
+                "attempt": order.token,
+                "lease": order.lease,
+                "outcome": str(outcome.kind),
+                "value": clean(outcome.value),
+            },
+        )
+
+    def within(self, order: Order, function: Function) -> Function:
+        """There is none over SQLite: `open` refused it."""
+        raise WrongStore(f"{self.path}: transaction=True needs PostgreSQL")
+
+    def close(self) -> None:
+        """Drops the connection."""
+        db, self._db = self._db, None
+        if db is not None:
+            with contextlib.suppress(sqlite3.Error):
+                db.close()

@@ -1,0 +1,82 @@
+"""A worker's side of external attempts, for both databases.
+
+A worker's side of what is done elsewhere: what it asks before a function is called, and where it
+writes how that ended.
+"""
+
+from __future__ import annotations
+
+from collections.abc import Callable
+from typing import Any, Protocol
+
+from sagas.base.errors import WrongStore
+from sagas.core.dispatch import Begun, Order, Position, id_of
+from sagas.core.outcomes import Outcome
+from sagas.definition.step import Function
+from sagas.storage.factory import is_url
+
+BEGIN = """
+SELECT l.shard, e.attempt, e.outcome
+FROM shards l LEFT JOIN external_attempts e ON e.attempt = ? WHERE l.name = ?
+"""
+INPUT = "SELECT input FROM sagas WHERE id = ?"
+RESULT = (
+    "SELECT value FROM attempts WHERE id = ? AND step = ? AND action = 'run' AND event = 'commit'"
+)
+OPEN = (None, "unknown", "suspended")
+
+
+class Desk(Protocol):
+    """A worker's connection to the store, for one thread."""
+
+    def begin(self, order: Order) -> Begun | None:
+        """The texts of an attempt; None where it is settled: the message is late, or came twice.
+        Raises `WrongStore`, `StoreUnavailable`.
+        """
+
+    def report(self, order: Order, outcome: Outcome) -> None:
+        """Writes how it ended. Raises `StoreUnavailable`."""
+
+    def within(self, order: Order, function: Function) -> Function:
+        """The function as a transaction in the store's database, which its report is part of. It
+        raises `Settled` where there was one already.
+        """
+
+    def close(self) -> None:
+        """Drops the connection."""
+
+
+def desk_of(store: str) -> Desk:
+    """A desk over that store; it connects when it is asked."""
+    if is_url(store):
+        from sagas.storage.postgresql.worker_session import PostgreSQLDesk
+
+        return PostgreSQLDesk(store)
+    from sagas.storage.sqlite.worker_session import SqliteDesk
+
+    return SqliteDesk(store)
+
+
+def fetched(
+    order: Order, rows: list[tuple[Any, ...]], one: Callable[..., str], where: str
+) -> Begun | None:
+    """What `BEGIN` found, with the texts that the order does not carry."""
+    if not rows:
+        raise WrongStore(
+            f"{where}: it has no shard {order.log}, because the message of saga "
+            f"{order.key!r} came from another store"
+        )
+    shard, attempt, outcome = rows[0]
+    if attempt is None or outcome not in OPEN:
+        return None
+    id = id_of(shard, order.number)
+
+    def whole(text: str | Position) -> str:
+        return one(RESULT, id, text.step) if isinstance(text, Position) else text
+
+    results = {name: whole(text) for name, text in order.results.items()}
+    return Begun(
+        one(INPUT, id) if order.input is None else order.input,
+        results,
+        None if order.result is None else whole(order.result),
+    )

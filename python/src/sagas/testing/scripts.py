@@ -1,0 +1,97 @@
+"""A test's script: which attempts fail or have unknown outcomes, and what is answered.
+
+What a test says that is to happen to the attempts of a saga, and what is wrong with what it says
+(`sagas.testing`).
+"""
+
+from __future__ import annotations
+
+from collections.abc import Callable, Iterable, Mapping
+from typing import Any, Union
+
+from sagas.definition import validation
+from sagas.definition.arguments import shown
+from sagas.definition.saga import Saga
+from sagas.definition.step import Step
+
+Attempts = Union[int, Iterable[int], Exception, type[Exception]]
+"""Which attempts: the first so many, just those of a list, or all of them, by this exception."""
+
+Script = Union[Mapping[str, Attempts], Mapping[Step[Any], Attempts]]
+Answers = Union[Mapping[str, Any], Mapping[Step[Any], Any]]
+Rule = Callable[[int], Exception | None]
+TOLD = "the test says so"
+FORMS = (
+    "a number of attempts (1), a list of attempts ([2]), or an exception for all "
+    '(sagas.Fail("sold out"))'
+)
+
+
+def name_of(saga: Saga, step: object) -> str:
+    """A step's name; an unknown one is a fault of the test."""
+    name = step.name if isinstance(step, Step) else step
+    if not isinstance(name, str):
+        raise TypeError(f"{shown(step)}: must be a step of saga {saga.name!r}, or its name")
+    names = [step.name for step in saga.steps]
+    if name not in names:
+        raise KeyError(f"saga {saga.name!r} has no step {name!r}{validation.meant(name, names)}")
+    return name
+
+
+def answers_of(saga: Saga, answers: Answers | None) -> dict[str, Any]:
+    """What is answered, by step."""
+    if answers is not None and not isinstance(answers, Mapping):
+        raise TypeError(
+            f"answers={shown(answers)}: must be a dict of answers by step: "
+            f'answers={{"{saga.steps[-1].name}": "yes"}}'
+        )
+    return {name_of(saga, step): answer for step, answer in (answers or {}).items()}
+
+
+def script(saga: Saga, word: str, said: Script | None) -> dict[str, Rule]:
+    """What is to happen to attempts, by step; `word` is how the test says it: `fail`,
+    `fail_undo`, `unknown` or `unknown_undo`.
+    """
+    if said is not None and not isinstance(said, Mapping):
+        raise TypeError(
+            f"{word}={shown(said)}: must be a dict of attempts by step: "
+            f'{word}={{"{saga.steps[-1].name}": 1}}'
+        )
+    return {
+        name_of(saga, step): _rule(saga, word, name_of(saga, step), attempts)
+        for step, attempts in (said or {}).items()
+    }
+
+
+def _rule(saga: Saga, word: str, name: str, attempts: Any) -> Rule:
+    if word.endswith("_undo"):
+        _check_compensation(saga, word, name)
+    if isinstance(attempts, type) and issubclass(attempts, Exception):
+        attempts = attempts()
+    if isinstance(attempts, Exception):
+        each = attempts
+        return lambda attempt: each
+    said = f"{word}={{{name!r}: {shown(attempts)}}}"
+    if isinstance(attempts, (str, bytes, type)) or not (
+        validation.is_count(attempts) or isinstance(attempts, Iterable)
+    ):
+        raise TypeError(f"{said}: must be {FORMS}")
+    chosen = range(1, attempts + 1) if isinstance(attempts, int) else [*attempts]
+    if not all(validation.is_count(attempt) and attempt > 0 for attempt in chosen):
+        raise ValueError(f"{said}: attempts are numbered from 1. It must be {FORMS}")
+    told = RuntimeError(TOLD)
+    return lambda attempt: told if attempt in chosen else None
+
+
+def _check_compensation(saga: Saga, word: str, name: str) -> None:
+    step = next(step for step in saga.steps if step.name == name)
+    if not step.has_compensation:
+        raise ValueError(
+            f"{word}: step {name!r} has no compensation, so it is never undone. Declare "
+            f"one with @{name}.compensation, or remove this"
+        )
+    if step.undo.implied:
+        raise ValueError(
+            f"{word}: step {name!r} has no compensation, and undoing it does nothing, "
+            "which cannot fail. Remove this"
+        )

@@ -1,0 +1,326 @@
+"""Drives one saga in memory: `ShardDriver`, `AttemptMachine` and a heap of what is due.
+
+What a store does with an event loop, a database and its timers is done here at once, by a heap of
+what is due and a clock that advances to it. Nothing is decided here.
+"""
+
+from __future__ import annotations
+
+import asyncio
+import dataclasses
+import enum
+import heapq
+import json
+from collections import Counter
+from collections.abc import Mapping
+from typing import Any
+
+from sagas.base.errors import CannotDecode, Fail
+from sagas.core import outcomes, protocol
+from sagas.core.attempts import AttemptMachine
+from sagas.core.decisions import Decision, Do
+from sagas.core.effects import Abort, Effects
+from sagas.core.exhaustion import FAILED_BEFORE
+from sagas.core.history import STANDS
+from sagas.core.model import RUNNING, SUSPENDED, Attempt, SagaInstance
+from sagas.core.outcomes import Outcome
+from sagas.core.shard import MOST_CLAIMS, ShardDriver, ShardIdentity
+from sagas.core.states import OutcomeKind, Suspension, saga_phase, step_state
+from sagas.core.suspensions import SuspensionRow
+from sagas.definition import serialization
+from sagas.definition.compiled import Kind
+from sagas.definition.start_options import StartOptions
+from sagas.runtime import invocation
+from sagas.testing.engine import Engine
+from sagas.testing.scripts import Rule
+from sagas.testing.trial import Call, Clock, Trial
+
+MOST_CALLS = 10_000
+FAILURES = (OutcomeKind.FAILED, OutcomeKind.FAILED_PERMANENTLY)
+
+
+@dataclasses.dataclass(frozen=True, slots=True)
+class Scenario:
+    """What a test says is to happen.
+
+    Attributes:
+        rules: For each of `failed` and `unknown`, and of `run` and `undo`: the steps' rules.
+        answers: What is answered, by step.
+        abort: The step after which the saga is aborted.
+        connection: What `task.connection` is.
+        deadline: When the saga is aborted, by the clock of the simulation.
+    """
+
+    rules: Mapping[tuple[str, str], Mapping[str, Rule]]
+    answers: Mapping[str, Any]
+    abort: str | None = None
+    connection: Any = None
+    deadline: float | None = None
+
+    def rule(self, outcome: str, attempt: Attempt, count: int) -> Exception | None:
+        """Return the exception by which the `count`-th of an action is to end so, if it is."""
+        rule = self.rules[outcome, attempt.kind].get(attempt.name)
+        return rule(count) if rule else None
+
+
+class Due(enum.Enum):
+    """What is due of an attempt."""
+
+    CALL = enum.auto()
+    TIMER = enum.auto()
+    ANSWER = enum.auto()
+    """A person, or another program, says how it ended."""
+
+
+class Simulation:
+    """One saga, from its start to its end."""
+
+    def __init__(self, key: str, text: str, kind: Kind, scenario: Scenario, clock: Clock) -> None:
+        self._kind, self._scenario, self._clock = kind, scenario, clock
+        identity = ShardIdentity(0, "test", "", [kind.text], [kind])
+        self._driver, self._machine = ShardDriver.created(identity), AttemptMachine()
+        self._saga = SagaInstance(key, text, kind, 0, StartOptions(deadline=scenario.deadline))
+        self._began = clock()
+        self._due: list[tuple[float, int, Due, Attempt]] = []
+        self._order = 0
+        self._returns: Counter[tuple[int, str]] = Counter()
+        self._calls: list[Call] = []
+        self._noted: Outcome | None = None
+        self._is_late = False
+        self._fault: Exception | None = None  # of the test, found in a step's function
+
+    async def play(self, engine: Engine) -> Trial:
+        """Run it."""
+        self._driver.open(self._saga)
+        self._turn(engine)
+        while self._due:
+            deadline = self._saga.options.deadline
+            if deadline is not None and self._due[0][0] >= deadline and not self._is_late:
+                self._is_late = True
+                self._clock.advance(max(0.0, deadline - self._clock()))
+                self._driver.abort(Abort(self._saga))
+                self._turn(engine)
+                continue
+            at, _, due, attempt = heapq.heappop(self._due)
+            if self._is_due(at, due, attempt):
+                self._clock.advance(max(0.0, at - self._clock()))
+                await self._meet(due, attempt)
+                self._turn(engine)
+        return self._trial(engine)
+
+    # -- what is due
+
+    def _put(self, at: float, due: Due, attempt: Attempt) -> None:
+        self._order += 1
+        heapq.heappush(self._due, (at, self._order, due, attempt))
+
+    @staticmethod
+    def _is_due(at: float, due: Due, attempt: Attempt) -> bool:
+        """Whether it is due still: a saga that drains gives attempts up."""
+        if due is Due.CALL:
+            return attempt.state is RUNNING
+        is_timed = due is not Due.TIMER or attempt.until is None or attempt.until <= at
+        return attempt.state is SUSPENDED and is_timed
+
+    async def _meet(self, due: Due, attempt: Attempt) -> None:
+        now = self._clock()
+        if due is Due.TIMER:
+            self._do(attempt, self._machine.timer(attempt, now))
+        elif due is Due.ANSWER:
+            told = attempt.reason is Suspension.EXTERNAL and self._scenario.rule(
+                "failed", attempt, attempt.attempt + attempt.failures
+            )
+            outcome = outcomes.raised(told, attempt.manner) if told else self._answer(attempt)
+            reports = self._machine.ended if told else self._machine.finish
+            self._do(attempt, reports(attempt, outcome, now))
+        else:
+            outcome = await self._outcome(attempt)
+            if outcome.kind is OutcomeKind.UNKNOWN:
+                self._note(attempt, outcome)
+            self._do(attempt, self._machine.ended(attempt, outcome, self._clock()))
+
+    # -- a turn of the shard
+
+    def _turn(self, engine: Engine) -> None:
+        """Ask the engine until nothing is due."""
+        driver = self._driver
+        while lines := driver.requests(MOST_CLAIMS):
+            found = driver.replies(engine.ask(lines), "", self._clock())
+            while isinstance(found, list):
+                found = driver.replies(engine.ask(found), "", self._clock())
+            if found.refused:
+                raise self._kind.too_large()
+            for saga in found.draining:
+                self._drain(saga)
+            self._commit(found)
+
+    def _drain(self, saga: SagaInstance) -> None:
+        for attempt, decision in self._machine.drain(saga, self._clock()):
+            self._do(attempt, decision)
+
+    def _commit(self, effects: Effects) -> None:
+        """All that is to be made durable is so at once."""
+        self._driver.writes(effects)
+        self._driver.committed(effects)
+        for attempt in effects.reported:
+            if attempt.event == "commit" and attempt.name == self._scenario.abort:
+                self._driver.abort(Abort(self._saga))
+        for attempt in effects.suspended:
+            self._stored(attempt)
+        for abort in effects.aborted:
+            if abort.done:
+                self._drain(abort.saga)
+        for attempt in effects.dispatch:
+            self._do(attempt, self._machine.begin(attempt, self._clock()))
+
+    def _do(self, attempt: Attempt, decision: Decision) -> None:
+        """Do what was decided about an attempt."""
+        if decision.do is Do.CALL:
+            attempt.queue()
+            attempt.start()
+            self._put(self._clock(), Due.CALL, attempt)
+        elif decision.do in (Do.REPORT, Do.REPORT_AGAIN):
+            assert attempt.outcome
+            if attempt.outcome.called:
+                self._note(attempt, attempt.outcome)
+            self._driver.report(attempt)
+        elif decision.do is Do.OFFER:
+            self._put(self._clock(), Due.ANSWER, attempt)
+        elif decision.do is Do.SUSPEND and decision.timer:
+            self._wait(attempt)
+        if decision.row:
+            self._suspend(attempt, decision.row)
+
+    def _suspend(self, attempt: Attempt, row: SuspensionRow) -> None:
+        if row.reason is Suspension.CANNOT_DECODE:
+            raise CannotDecode(row.error)
+        if row.reason in FAILED_BEFORE and attempt.outcome:
+            self._note(attempt, attempt.outcome)
+        attempt.has_row, attempt.pending = True, row
+        self._commit(self._driver.suspended(attempt, row, self._clock()))
+
+    def _stored(self, attempt: Attempt) -> None:
+        self._do(attempt, self._machine.stored(attempt))
+        if attempt.state is SUSPENDED and attempt.until is None:
+            self._put(self._clock(), Due.ANSWER, attempt)
+
+    def _wait(self, attempt: Attempt) -> None:
+        """Until its time; an approval is answered at once, if the test says how."""
+        if attempt.reason is Suspension.APPROVAL and attempt.name in self._scenario.answers:
+            self._put(self._clock(), Due.ANSWER, attempt)
+        elif attempt.until is not None:
+            self._put(max(self._clock(), attempt.until), Due.TIMER, attempt)
+
+    # -- a call
+
+    async def _outcome(self, attempt: Attempt) -> Outcome:
+        """What a call comes to, or what the test says of it."""
+        count = attempt.attempt + attempt.failures
+        told = self._scenario.rule("failed", attempt, count)
+        if told is not None:
+            return outcomes.raised(told, attempt.manner)
+        outcome = await self._call(attempt)
+        if outcome.kind is not OutcomeKind.SUCCEEDED:
+            return outcome
+        self._returns[attempt.word] += 1
+        told = self._scenario.rule("unknown", attempt, self._returns[attempt.word])
+        return outcome if told is None else outcomes.unknown(str(told))
+
+    async def _call(self, attempt: Attempt) -> Outcome:
+        task, manner = attempt.task(), attempt.manner
+        if manner.transaction:
+            task.enter_by(self._connection)
+        outcome = await invocation.call(manner, task, None)
+        if outcome is None:
+            raise asyncio.CancelledError
+        if self._fault:
+            raise self._fault
+        is_result = outcome.kind is OutcomeKind.SUCCEEDED and not attempt.undo
+        if is_result and attempt.declared.kind != "approval":
+            serialization.stored(json.loads(outcome.value), task.step)
+        return outcome
+
+    def _connection(self) -> Any:
+        """Return what a step with `transaction=True` gets."""
+        if self._scenario.connection is None:
+            self._fault = RuntimeError("sagas.testing has no database. Set connection=...")
+            raise self._fault
+        return self._scenario.connection
+
+    def _answer(self, attempt: Attempt) -> Outcome:
+        """What a person, or another program, says."""
+        answers, name = self._scenario.answers, attempt.name
+        if name not in answers:
+            whose = f"{'the compensation of ' if attempt.undo else ''}step {name!r}"
+            how = f"Set answers={{{name!r}: ...}}"
+            raise LookupError(f"{whose} {self._waits(attempt)}. {how}")
+        answer = answers[name]
+        try:
+            if callable(answer):
+                answer = answer(attempt.task())
+            if isinstance(answer, Exception):
+                raise answer
+        except Exception as error:
+            text = f"{type(error).__name__}: {error}"
+            return outcomes.failure(text, final=isinstance(error, Fail))
+        return Outcome(OutcomeKind.SUCCEEDED, serialization.write(answer, f"answers[{name!r}]"))
+
+    @staticmethod
+    def _waits(attempt: Attempt) -> str:
+        if attempt.reason is Suspension.EXHAUSTED:
+            return "failed, its attempts are used up, and a person is asked (on_exhausted='ask')"
+        return "waits for an answer"
+
+    # -- what is told
+
+    def _note(self, attempt: Attempt, outcome: Outcome) -> None:
+        if outcome is self._noted:
+            return
+        self._noted = outcome
+        if len(self._calls) >= MOST_CALLS:
+            why = "Is an outcome never known? Set max_unknown"
+            raise RuntimeError(f"the saga makes more than {MOST_CALLS:,} calls. {why}")
+        value: Any = outcome.value
+        if outcome.kind is not OutcomeKind.UNKNOWN:
+            told = json.loads(value)
+            value = told["error"] if outcome.kind in FAILURES else told
+        self._calls.append(
+            Call(
+                attempt.name,
+                attempt.undo,
+                attempt.attempt,
+                attempt.token(),
+                self._spent(),
+                str(outcome.kind),
+                value,
+                attempt.extras.control.progress
+                if attempt.extras and attempt.extras.control
+                else None,
+            )
+        )
+
+    def _trial(self, engine: Engine) -> Trial:
+        told = json.loads(engine.ask([protocol.show_line(0)])[0])
+        names, answer = self._kind.names, self._saga.answer or {}
+        stands = [n for n, state in enumerate(told["states"]) if step_state(state) in STANDS]
+        return Trial(
+            phase=saga_phase(told["phase"], answer.get("kind") == "plan", None).value,
+            states={name: step_state(text).value for name, text in zip(names, told["states"])},
+            results={
+                names[step]: serialization.fitting(
+                    self._kind.payloads.decode(self._saga.results[step]),
+                    self._kind.decoders.get(names[step]),
+                )
+                for step in stands
+            },
+            cost=answer.get("cost"),
+            blocking_steps=[names[step] for step in answer.get("chain", ())],
+            aborted=told["aborted"],
+            calls=self._calls,
+            seconds=self._spent(),
+            saga=self._kind.name,
+            key=self._saga.key,
+        )
+
+    def _spent(self) -> float:
+        return round(self._clock() - self._began, 6)

@@ -1,0 +1,165 @@
+"""`sagas.testing.run` and `run_async`.
+
+    trial = sagas.testing.run(trip, {"flight": "LH400"}, fail={"hotel": 3})
+    assert trial.states == {"flight": "committed", "car": "committed", "hotel": "failed", "tour":
+    "waiting"}
+    assert [call.step for call in trial.undone] == []
+
+The program `sagas` decides, attempts live as in a store, and the steps' own functions are called.
+"""
+
+from __future__ import annotations
+
+import asyncio
+from typing import Any
+
+from sagas.definition import payloads, serialization, validation
+from sagas.definition.compiled import Kind
+from sagas.definition.context import Context
+from sagas.definition.payloads import Codec
+from sagas.definition.saga import Saga
+from sagas.definition.start_options import Deadline, deadline_at
+from sagas.definition.step import Step
+from sagas.runtime.lifespan import Lifespan
+from sagas.testing.engine import Engine
+from sagas.testing.scripts import Answers, Script, answers_of, name_of, script
+from sagas.testing.simulation import Scenario, Simulation
+from sagas.testing.trial import Clock, Trial
+
+
+def run(
+    saga: Saga,
+    input: Any = None,
+    *,
+    key: str = "test",
+    fail: Script | None = None,
+    fail_undo: Script | None = None,
+    unknown: Script | None = None,
+    unknown_undo: Script | None = None,
+    answers: Answers | None = None,
+    abort: str | Step[Any] | None = None,
+    clock: Clock | None = None,
+    connection: Any = None,
+    context: Any = None,
+    deadline: Deadline | None = None,
+    codec: Codec | None = None,
+) -> Trial:
+    """Run a whole saga in memory, from its start to its end, in milliseconds.
+
+    The program `sagas` decides, and the steps' own functions are called. Waits, backoffs and
+    approvals take no time: the clock advances to them. Name a step by itself or by its name.
+
+    Args:
+        saga: The definition.
+        input: The saga's input (default: None).
+        key: The saga's key (default: `"test"`).
+        fail: Attempts that fail without a call. `{"tour": 3}`: the first three; `{"tour": [2]}`:
+            only the second; `{"tour": sagas.Fail("sold out")}`: each of them, by this exception.
+        fail_undo: The same for compensations.
+        unknown: Calls whose outcome is lost, counted as in `fail`: the function is called, and the
+            attempt repeats with the same idempotency key.
+        unknown_undo: The same for compensations.
+        answers: What a person, or another program, answers, by step: for approvals, external steps
+            and unknown outcomes. A value completes the step; an exception fails it; a function of
+            the task returns or raises either.
+        abort: The saga is aborted when this step has committed.
+        clock: A `Clock`, for functions that ask for the time (default: a new one).
+        connection: `task.connection` of steps with `transaction=True`. You commit it or roll it
+            back.
+        context: `task.context`, for example a fake; or a function, as for `sagas.open`.
+        deadline: As of `Store.start`, by the clock of the simulation.
+        codec: As for `sagas.open`.
+
+    Returns:
+        A `Trial`.
+
+    Raises:
+        DefinitionError: The definition is not valid.
+        KeyError: A step that is named does not exist.
+        TypeError: A script or the answers do not have one of these forms.
+        ValueError: A script cannot happen, for example a compensation that does not exist.
+        InvalidInput: The first steps cannot read the input.
+        NotSerializable: The input is not JSON.
+        ResultNotSerializable: A result is not JSON.
+        CannotDecode: A stored value does not fit the type of a hint.
+        EngineError: The program `sagas` cannot be run.
+        RuntimeError: An event loop is running: await `run_async`. Or the saga makes too many calls.
+
+    Example:
+        >>> trial = sagas.testing.run(order, {"amount": 40})
+        refund 40
+        >>> trial.phase, trial.states, trial.cost
+        ('recovered', {'charge': 'undone', 'send': 'failed'}, 4)
+        >>> sagas.testing.run(order, {"amount": 40}, fail={charge: 1}).states
+        {'charge': 'failed', 'send': 'waiting'}
+    """
+    try:
+        asyncio.get_running_loop()
+    except RuntimeError:
+        pass
+    else:
+        raise RuntimeError("an event loop is running. Await sagas.testing.run_async(...)")
+    return asyncio.run(
+        run_async(
+            saga,
+            input,
+            key=key,
+            fail=fail,
+            fail_undo=fail_undo,
+            unknown=unknown,
+            unknown_undo=unknown_undo,
+            answers=answers,
+            abort=abort,
+            clock=clock,
+            connection=connection,
+            context=context,
+            deadline=deadline,
+            codec=codec,
+        )
+    )
+
+
+async def run_async(
+    saga: Saga,
+    input: Any = None,
+    *,
+    key: str = "test",
+    fail: Script | None = None,
+    fail_undo: Script | None = None,
+    unknown: Script | None = None,
+    unknown_undo: Script | None = None,
+    answers: Answers | None = None,
+    abort: str | Step[Any] | None = None,
+    clock: Clock | None = None,
+    connection: Any = None,
+    context: Any = None,
+    deadline: Deadline | None = None,
+    codec: Codec | None = None,
+) -> Trial:
+    """Run a whole saga in memory, in a running event loop. See `testing.run`."""
+    validation.check_given(saga)
+    saga.check()
+    rules = {
+        ("failed", "run"): script(saga, "fail", fail),
+        ("failed", "undo"): script(saga, "fail_undo", fail_undo),
+        ("unknown", "run"): script(saga, "unknown", unknown),
+        ("unknown", "undo"): script(saga, "unknown_undo", unknown_undo),
+    }
+    said, stop = answers_of(saga, answers), name_of(saga, abort) if abort else None
+    shared = Context()
+    kind = Kind(saga.toml(), saga, shared, payloads.checked(codec))
+    text = serialization.write(input, "input")
+    wrong = kind.misfit(input, text)
+    if wrong:
+        raise wrong
+    clock = clock or Clock()
+    at = deadline_at(saga.deadline if deadline is None else deadline, clock())
+    text = kind.payloads.encode(text)
+    scenario = Scenario(rules, said, stop, connection, at)
+    with Engine(kind.text) as engine:
+        lifespan = Lifespan(context, shared)
+        await lifespan.enter()
+        try:
+            return await Simulation(key, text, kind, scenario, clock).play(engine)
+        finally:
+            await lifespan.leave()

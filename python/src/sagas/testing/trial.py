@@ -1,0 +1,110 @@
+"""The result of a simulation, and its clock."""
+
+from __future__ import annotations
+
+import dataclasses
+import datetime
+from typing import Any
+
+from sagas.core.outcomes import FAILED, PERMANENT, SUCCEEDED
+from sagas.core.results import Answering
+from sagas.definition.control import Progress
+
+
+class Clock:
+    """Keep a time that advances only when something waits for it.
+
+    Call it for seconds since 1970, as `time.time`.
+
+    Args:
+        at: Where it begins (default: the year 2000, in UTC).
+    """
+
+    def __init__(self, at: datetime.datetime | None = None) -> None:
+        self._at = (at or datetime.datetime(2000, 1, 1, tzinfo=datetime.timezone.utc)).timestamp()
+
+    def __call__(self) -> float:
+        return self._at
+
+    def now(self) -> datetime.datetime:
+        """Return the time as a datetime in UTC."""
+        return datetime.datetime.fromtimestamp(self._at, datetime.timezone.utc)
+
+    def advance(self, by: float | datetime.timedelta) -> None:
+        """Let time pass.
+
+        Args:
+            by: Seconds, or a timedelta.
+        """
+        self._at += by.total_seconds() if isinstance(by, datetime.timedelta) else by
+
+
+@dataclasses.dataclass(frozen=True, slots=True)
+class Call:
+    """Describe a call of a step's function, or one that the test let fail.
+
+    Attributes:
+        step: The step's name.
+        undo: Whether it was the compensation.
+        attempt: The attempt's number, from 1.
+        attempt_id: As `Task.attempt_id`.
+        at: Seconds since the saga began.
+        outcome: `done`, `failed`, `final` or `unknown`.
+        value: The result, or the text of what was raised.
+        progress: What the function reported last by `Task.progress`, or None.
+    """
+
+    step: str
+    undo: bool
+    attempt: int
+    attempt_id: str
+    at: float
+    outcome: str
+    value: Any
+    progress: Progress | None = None
+
+
+@dataclasses.dataclass(frozen=True, slots=True)
+class Trial(Answering):
+    """Tell how a saga ended in a test. Made by `run`.
+
+    Attributes:
+        phase: How it ended, as of `SagaResult`.
+        states: The state of each step.
+        results: The results of the committed steps.
+        cost: Of the last plan; None if there was none.
+        blocking_steps: If it is stuck, the steps that show why no plan was feasible.
+        aborted: Whether it was aborted.
+        calls: The calls, in order.
+        seconds: How long it would have taken.
+        saga: The saga's name.
+        key: The saga's key.
+    """
+
+    phase: str
+    states: dict[str, str]
+    results: dict[str, Any]
+    cost: int | None
+    blocking_steps: list[str]
+    aborted: bool
+    calls: list[Call]
+    seconds: float
+    saga: str = ""
+    key: str = "test"
+
+    @property
+    def errors(self) -> dict[str, str]:
+        """What the failed and undo_failed steps raised last, by step."""
+        told = {
+            call.step: str(call.value) for call in self.calls if call.outcome in (FAILED, PERMANENT)
+        }
+        return {
+            step: text
+            for step, text in told.items()
+            if self.states[step] in ("failed", "undo_failed")
+        }
+
+    @property
+    def undone(self) -> list[Call]:
+        """The compensations that succeeded, in order."""
+        return [call for call in self.calls if call.undo and call.outcome == SUCCEEDED]

@@ -1,0 +1,104 @@
+"""Each answer of a service in the tests is compared with the OpenAPI document, which the repository
+has as a file."""
+
+from __future__ import annotations
+
+import datetime
+import functools
+import json
+import pathlib
+import re
+from typing import Any
+
+import httpx
+import jsonschema
+
+from sagas.server import problems
+
+PATH = pathlib.Path(__file__).resolve().parents[1] / "src" / "sagas" / "server" / "openapi.json"
+DOCUMENT: dict[str, Any] = json.loads(PATH.read_text())
+ANYWHERE = {"MalformedRequest", "NotFound", "MethodNotAllowed", "UnknownHost", "CrossOrigin",
+            "BodyTooLarge", "RequestTimeout", "TooManyRequests", "InternalError"}  # fmt: skip
+"""Problems that a request has before its path counts."""
+seen: dict[str, set[str]] = {}
+"""The statuses of each operation that this program has met."""
+FORMATS = jsonschema.FormatChecker(formats=())
+
+
+@FORMATS.checks("date-time", raises=ValueError)
+def is_time(text: Any) -> bool:
+    return not isinstance(text, str) or (
+        datetime.datetime.fromisoformat(text).tzinfo is not None and text.endswith("Z")
+    )
+
+
+@functools.cache
+def patterns() -> list[tuple[re.Pattern[str], dict[str, Any]]]:
+    """The paths, those without parameters first."""
+    found = []
+    for path in sorted(DOCUMENT["paths"], key=lambda path: ("{" in path, path)):
+        text = re.sub(r"\\{\w+\\}", "[^/]+", re.escape(path))
+        found.append((re.compile(text), DOCUMENT["paths"][path]))
+    return found
+
+
+def operation(method: str, path: str) -> dict[str, Any] | None:
+    """The operation of a request; HEAD has that of GET."""
+    for pattern, methods in patterns():
+        if pattern.fullmatch(path):
+            found: dict[str, Any] | None = methods.get({"HEAD": "get"}.get(method, method.lower()))
+            return found
+    return None
+
+
+def resolved(told: dict[str, Any]) -> dict[str, Any]:
+    """What a reference leads to."""
+    while "$ref" in told:
+        found: Any = DOCUMENT
+        for part in told["$ref"].removeprefix("#/").split("/"):
+            found = found[part]
+        told = found
+    return told
+
+
+@functools.cache
+def validator(text: str) -> Any:
+    """A validator of a schema of the document."""
+    schema = json.loads(text)
+    resolver = jsonschema.RefResolver("", DOCUMENT)
+    return jsonschema.Draft202012Validator(schema, resolver=resolver, format_checker=FORMATS)
+
+
+def check(answer: httpx.Response) -> None:
+    """Raises `AssertionError` where an answer is not as the document has it."""
+    request = answer.request
+    raw = request.url.raw_path.decode().partition("?")[0]
+    kind = answer.headers.get("content-type", "").partition(";")[0]
+    if raw.startswith("/ui") or raw in ("/", "/favicon.ico") or kind == "text/event-stream":
+        return
+    where = f"{request.method} {raw} {answer.status_code}"
+    found = operation(request.method, raw)
+    body = answer.read()
+    if answer.status_code >= 400 and kind == problems.MEDIA_TYPE and request.method != "HEAD":
+        told = json.loads(body)
+        schema = {"$ref": "#/components/schemas/Problem"}
+        validator(json.dumps(schema)).validate(told)
+        name = told["type"].removeprefix(problems.PREFIX)
+        assert told["status"] == answer.status_code == problems.PROBLEMS[name].status, where
+        if found is None or name in ANYWHERE:
+            return
+        names = resolved(found["responses"].get(str(answer.status_code), {})).get("description", "")
+        assert f"`{name}`" in names, f"{where}: the document does not have {name}"
+    assert found is not None, f"{where}: the document has no such operation"
+    status = str(answer.status_code)
+    seen.setdefault(found["operationId"], set()).add(status)
+    assert status in found["responses"], f"{where}: not in the document"
+    content = resolved(found["responses"][status]).get("content")
+    if content is None or request.method == "HEAD":
+        return
+    assert kind in content or (kind == "text/plain" and "form=text" in str(request.url)), where
+    if kind in ("application/json", problems.MEDIA_TYPE):
+        problem = next(
+            validator(json.dumps(content[kind]["schema"])).iter_errors(json.loads(body)), None
+        )
+        assert problem is None, f"{where}: {problem.message} at {list(problem.absolute_path)}"

@@ -1,0 +1,513 @@
+"""What becomes of an attempt: each decision of the machine, without a clock, a loop or a database."""
+
+from __future__ import annotations
+
+import datetime
+import types
+from collections.abc import Iterator
+from typing import Any
+
+import hypothesis
+import hypothesis.strategies as st
+import pytest
+
+import sagas
+from sagas.core import outcomes, states
+from sagas.core.attempts import LOOK, AttemptMachine, is_asked, is_simple, will_be_asked
+from sagas.core.decisions import CALL, NOTHING, OFFER, REPORT, REPORT_AGAIN, SLEEP, WITHDRAW, Decision, Do
+from sagas.core.model import Attempt, SagaInstance
+from sagas.core.outcomes import Outcome
+from sagas.core.states import AttemptState, OutcomeKind, Suspension
+from sagas.core.suspensions import SuspensionRow
+from sagas.definition.compiled import Shelf
+
+NOW = 1000.0
+WAIT = sagas.Backoff(initial=10, maximum=100)
+MACHINE = AttemptMachine()
+
+
+class Where:
+    """A queue of workers that nobody has."""
+
+    timeout = 60.0
+
+    def declare(self, *words: Any) -> None: ...
+
+
+def due(task: sagas.Task[Any]) -> Any:
+    """When the wait `later` is over, as its input says."""
+    if task.input == "raises":
+        raise ValueError("no idea")
+    if task.input == "fails":
+        raise sagas.Fail("never")
+    return {"text": "2030-01-01", "naive": datetime.datetime(2030, 1, 1), "none": None}.get(
+        task.input, datetime.datetime.fromtimestamp(NOW + 50, datetime.timezone.utc)
+    )
+
+
+def trip() -> sagas.Saga:
+    """A saga with a step of each kind."""
+    saga = sagas.Saga("trip")
+
+    @saga.step(undo=0, tries=3, backoff=WAIT)
+    async def simple(task: sagas.Task[Any]) -> None: ...
+
+    @saga.step(undo=0, tries=3, backoff=WAIT, max_unknown=2)
+    def plain(task: sagas.Task[Any]) -> None: ...
+
+    @saga.step(undo=0, backoff=WAIT, max_unknown=datetime.timedelta(seconds=30))
+    def timed(task: sagas.Task[Any]) -> None: ...
+
+    @saga.wait(until=datetime.timedelta(seconds=30), tries=2)
+    def pause(task: sagas.Task[Any]) -> None: ...
+
+    @saga.wait(until=due, tries=2)
+    def later(task: sagas.Task[Any]) -> None: ...
+
+    @saga.approval(timeout=60)
+    def sign(task: sagas.Task[Any]) -> None: ...
+
+    saga.step(name="outside", undo=0, tries=2, external=True, backoff=WAIT)
+    saga.step(name="sent", undo=0, queue=Where(), backoff=WAIT)(lambda task: None)  # type: ignore[arg-type]
+    return saga
+
+
+KIND = Shelf([trip()]).kinds[0]
+
+
+@pytest.fixture(autouse=True)
+def checked() -> Iterator[None]:
+    """Each transition is looked up."""
+    before, states.Check.is_on = states.Check.is_on, True
+    yield
+    states.Check.is_on = before
+
+
+def attempt_of(step: str, number: int = 1, kind: str = "run", text: str = "null", fresh: bool = True) -> Attempt:
+    """An attempt that was claimed, alone in its saga."""
+    instance = SagaInstance("k", text, KIND, 0)
+    instance.token = "test-0"
+    attempt = Attempt(instance, KIND.names.index(step), kind, number, fresh)
+    instance.busy[attempt.word] = attempt
+    return attempt
+
+
+def running(step: str, number: int = 1, kind: str = "run") -> Attempt:
+    """One whose function is called."""
+    attempt = attempt_of(step, number, kind)
+    attempt.start()
+    return attempt
+
+
+def error_of(attempt: Attempt) -> str:
+    """What a finished one is said to have raised."""
+    assert attempt.outcome
+    return attempt.outcome.value
+
+
+# -- begin
+
+
+@pytest.mark.parametrize("step", ["simple", "plain", "sign", "sent"])
+def test_a_function_is_called(step: str) -> None:
+    attempt = attempt_of(step)
+    assert MACHINE.begin(attempt, NOW) is CALL and attempt.state is AttemptState.CLAIMED
+    assert is_simple(attempt) is (step == "simple")
+
+
+def test_a_retry_waits_for_its_back_off() -> None:
+    attempt = attempt_of("simple", 3)
+    attempt.instance.rare.missed_at[attempt.word] = NOW - 5
+    assert MACHINE.begin(attempt, NOW) is SLEEP
+    assert (attempt.reason, attempt.until) == (Suspension.BACKOFF, NOW + 15) and MACHINE.delay(attempt, NOW) == 15
+    assert MACHINE.timer(attempt, NOW + 15) is CALL
+
+
+def test_a_back_off_that_is_over_or_not_known_is_none() -> None:
+    late, new = attempt_of("simple", 2), attempt_of("simple", 2)
+    late.instance.rare.missed_at[late.word] = NOW - 10
+    assert MACHINE.begin(late, NOW) is CALL and MACHINE.begin(new, NOW) is CALL
+
+
+def test_a_clock_that_jumped_back_makes_no_back_off_longer() -> None:
+    attempt = attempt_of("simple", 2)
+    attempt.instance.rare.missed_at[attempt.word] = NOW + 5000
+    assert MACHINE.begin(attempt, NOW) is SLEEP and attempt.until == NOW + 10
+    assert MACHINE.delay(attempt, NOW - 5000) == 100  # no longer than the longest pause
+    assert MACHINE.timer(attempt, NOW - 5000) is CALL  # it is counted here, whatever the clock says
+
+
+def test_behind_a_permanent_failure_nothing_is_called() -> None:
+    attempt = attempt_of("simple", 2)
+    attempt.instance.rare.final.add(attempt.word)
+    assert MACHINE.begin(attempt, NOW) is REPORT and attempt.at == NOW
+    assert attempt.outcome and attempt.outcome.kind is OutcomeKind.FAILED_PERMANENTLY and not attempt.outcome.called
+
+
+@pytest.mark.parametrize(
+    ("number", "aborted", "fresh", "kind", "leaves"),
+    [
+        (1, False, True, "run", True),
+        (3, False, True, "run", False),  # the last attempt: to give it up would be a failure that was none
+        (3, True, True, "run", True),
+        (1, False, False, "run", False),  # it may have been called
+        (1, True, True, "undo", False),
+    ],
+)
+def test_what_is_left_out_of_a_saga_that_drains(number: int, aborted: bool, fresh: bool, kind: str, leaves: bool) -> None:
+    attempt = attempt_of("plain", number, kind, fresh=fresh)
+    attempt.instance.draining, attempt.instance.aborted = True, aborted
+    assert MACHINE.begin(attempt, NOW) is (REPORT if leaves else CALL)
+    assert not leaves or "being undone" in error_of(attempt)
+
+
+@pytest.mark.parametrize("leased", [False, True])
+def test_an_external_step_is_offered(leased: bool) -> None:
+    attempt = attempt_of("outside")
+    assert will_be_asked(attempt) and not is_asked(attempt)
+    assert AttemptMachine(leased).begin(attempt, NOW) is OFFER
+    assert attempt.reason is Suspension.EXTERNAL and attempt.until is None and is_asked(attempt)
+    assert attempt.fresh is leased  # else whoever does it may have begun
+
+
+# -- waits
+
+
+def test_a_wait_is_stored_then_waits_then_is_called() -> None:
+    attempt = attempt_of("pause")
+    assert will_be_asked(attempt)
+    decision = MACHINE.begin(attempt, NOW)
+    assert decision == Decision(Do.SUSPEND, SuspensionRow(Suspension.TIMER, NOW + 30)) and not decision.timer
+    attempt.pending = decision.row
+    assert not is_asked(attempt) and will_be_asked(attempt)
+    assert MACHINE.stored(attempt) == Decision(Do.SUSPEND, timer=True, event=("step_suspended", "wait"))
+    assert is_asked(attempt) and MACHINE.delay(attempt, NOW) == 30 and MACHINE.delay(attempt, NOW - 900) == LOOK
+    assert MACHINE.timer(attempt, NOW - 900) is SLEEP  # a clock that jumped back
+    decision = MACHINE.timer(attempt, NOW + 30)
+    assert decision == Decision(Do.SUSPEND, SuspensionRow(Suspension.TIMER, 0.0))
+    attempt.pending = decision.row
+    assert MACHINE.stored(attempt) is CALL and not will_be_asked(attempt)
+
+
+def test_the_next_attempt_of_a_wait_does_not_wait_again() -> None:
+    attempt = attempt_of("pause", 2)
+    attempt.instance.rare.due[attempt.word] = 0.0
+    assert MACHINE.begin(attempt, NOW) is CALL and attempt.has_row
+    attempt = attempt_of("pause", 2)
+    attempt.instance.rare.due[attempt.word] = NOW + 7
+    assert MACHINE.begin(attempt, NOW).row == SuspensionRow(Suspension.TIMER, NOW + 7)
+
+
+def test_a_wait_until_a_time_that_the_program_says() -> None:
+    assert MACHINE.begin(attempt_of("later"), NOW).row == SuspensionRow(Suspension.TIMER, NOW + 50)
+
+
+@pytest.mark.parametrize(
+    ("text", "kind", "told"),
+    [
+        ('"raises"', OutcomeKind.FAILED, "ValueError: no idea"),
+        ('"fails"', OutcomeKind.FAILED_PERMANENTLY, "Fail: never"),
+        ('"text"', OutcomeKind.FAILED, "fromisoformat"),
+        ('"naive"', OutcomeKind.FAILED, "a datetime without a time zone"),
+        ('"none"', OutcomeKind.FAILED, "NoneType"),
+    ],
+)
+def test_a_wait_that_cannot_say_its_time_has_failed(text: str, kind: OutcomeKind, told: str) -> None:
+    attempt = attempt_of("later", text=text)
+    assert MACHINE.begin(attempt, NOW) is REPORT
+    assert attempt.outcome and attempt.outcome.kind is kind and told in error_of(attempt)
+
+
+def test_a_wait_of_a_saga_that_drains_is_given_up_before_it_waits() -> None:
+    attempt = attempt_of("pause", fresh=False)  # an earlier program had begun it
+    attempt.instance.draining = True
+    assert MACHINE.begin(attempt, NOW) is REPORT and attempt.has_row
+    last = attempt_of("pause", 2)
+    last.instance.draining = True
+    assert MACHINE.begin(last, NOW).do is Do.SUSPEND
+
+
+# -- outcomes
+
+
+@pytest.mark.parametrize("outcome", [outcomes.succeeded({"a": 1}), outcomes.failure("no"), outcomes.failure("no", final=True)])
+def test_an_outcome_is_reported(outcome: Outcome) -> None:
+    attempt = running("plain")
+    assert MACHINE.ended(attempt, outcome, NOW) is REPORT
+    assert (attempt.outcome, attempt.at, attempt.state) == (outcome, NOW, AttemptState.FINISHED)
+    assert (attempt.word in attempt.instance.rare.final) is (outcome.kind is OutcomeKind.FAILED_PERMANENTLY)
+
+
+def test_an_unknown_outcome_is_called_again_until_a_person_has_to_say() -> None:
+    attempt, now = running("plain"), NOW
+    for count, pause in ((1, 10.0), (2, 20.0)):
+        decision = MACHINE.ended(attempt, outcomes.unknown("lost"), now)
+        assert decision.row == SuspensionRow(Suspension.UNKNOWN, now + pause, "lost") and decision.timer
+        assert decision.event == ("step_unknown", "lost" if count == 1 else "lost; 2 times so far")
+        assert (attempt.count, attempt.since, MACHINE.delay(attempt, now)) == (count, NOW, pause)
+        now += pause
+        assert MACHINE.timer(attempt, now) is CALL
+        attempt.queue()
+        attempt.start()
+    decision = MACHINE.ended(attempt, outcomes.unknown("lost"), now)
+    assert decision.row == SuspensionRow(Suspension.UNKNOWN, None, "lost") and attempt.until is None
+    assert decision.event and "a person must report it" in decision.event[1] and is_asked(attempt)
+    assert MACHINE.delay(attempt, now) is None and MACHINE.timer(attempt, now) is NOTHING
+    assert MACHINE.finish(attempt, outcomes.succeeded(1), now) is REPORT
+
+
+def test_an_unknown_outcome_may_be_bounded_by_time() -> None:
+    attempt = running("timed")
+    MACHINE.ended(attempt, outcomes.unknown("lost"), NOW)
+    attempt.queue()
+    attempt.start()
+    assert MACHINE.ended(attempt, outcomes.unknown("lost"), NOW + 30).row == SuspensionRow(Suspension.UNKNOWN, None, "lost")
+
+
+def test_a_wait_that_was_given_up_leaves_its_place_to_others() -> None:
+    attempt = running("simple")
+    attempt.rare.gave_way = True
+    attempt.rare.count = 6
+    MACHINE.ended(attempt, outcomes.unknown("all places are taken"), NOW)
+    assert attempt.until == NOW + 100 and not attempt.rare.gave_way  # its back-off is longer than the 60 s
+
+
+def test_what_cannot_be_decoded_is_parked() -> None:
+    attempt = running("plain")
+    told = Outcome(OutcomeKind.CANNOT_DECODE, "input lacks x")
+    decision = MACHINE.ended(attempt, told, NOW)
+    assert decision == Decision(
+        Do.SUSPEND,
+        SuspensionRow(Suspension.CANNOT_DECODE, None, "input lacks x"),
+        event=("step_cannot_decode", "input lacks x"),
+    )
+    attempt.pending = decision.row
+    assert MACHINE.stored(attempt).timer is False and MACHINE.delay(attempt, NOW) is None and is_asked(attempt)
+    wait = running("pause")
+    wait.instance.rare.due[wait.word] = 0.0
+    assert MACHINE.ended(wait, told, NOW).row == SuspensionRow(Suspension.CANNOT_DECODE, 0.0, "input lacks x")
+
+
+def test_an_approval_is_asked_for_and_given_up_in_time() -> None:
+    attempt = running("sign")
+    decision = MACHINE.ended(attempt, outcomes.succeeded(None), NOW)
+    assert decision == Decision(Do.SUSPEND, SuspensionRow(Suspension.APPROVAL, NOW + 60)) and attempt.fresh
+    attempt.pending = decision.row
+    assert MACHINE.stored(attempt) == Decision(Do.SUSPEND, timer=True, event=("step_suspended", "approval"))
+    assert MACHINE.timer(attempt, NOW + 59) is SLEEP and MACHINE.timer(attempt, NOW + 60) is REPORT
+    assert "nobody approved it" in error_of(attempt) and attempt.word in attempt.instance.rare.final
+
+
+@pytest.mark.parametrize(
+    ("said", "kind"), [(sagas.Approved(5), OutcomeKind.SUCCEEDED), (sagas.Rejected("no"), OutcomeKind.FAILED_PERMANENTLY)]
+)
+def test_an_approval_may_be_decided_by_its_function(said: Any, kind: OutcomeKind) -> None:
+    attempt = running("sign")
+    outcome = outcomes.succeeded(outcomes.Answer(said))
+    assert outcome.kind is OutcomeKind.ANSWERED and MACHINE.ended(attempt, outcome, NOW) is REPORT
+    assert attempt.outcome and attempt.outcome.kind is kind
+
+
+def test_a_compensation_of_an_approval_asks_nobody() -> None:
+    assert MACHINE.ended(running("sign", kind="undo"), outcomes.succeeded(None), NOW) is REPORT
+
+
+def test_an_approval_in_a_saga_that_drains_is_given_up() -> None:
+    attempt = running("sign")
+    attempt.instance.draining = attempt.instance.aborted = True
+    assert MACHINE.ended(attempt, outcomes.succeeded(None), NOW) is REPORT and "being undone" in error_of(attempt)
+
+
+def test_what_external_workers_may_have_is_withdrawn_first() -> None:
+    attempt = attempt_of("outside")
+    leased = AttemptMachine(leased=True)
+    assert leased.begin(attempt, NOW) is OFFER
+    attempt.instance.busy[attempt.word] = attempt
+    attempt.instance.draining = attempt.instance.aborted = True
+    assert leased.drain(attempt.instance, NOW) == [(attempt, WITHDRAW)] and attempt.state is AttemptState.SUSPENDED
+    assert leased.withdrawn(attempt, NOW) is REPORT and "being undone" in error_of(attempt)
+    assert leased.withdrawn(attempt, NOW) is NOTHING
+
+
+def test_what_was_offered_with_its_begin_is_not_given_up_unseen() -> None:
+    attempt = attempt_of("outside")
+    attempt.instance.draining = attempt.instance.aborted = True
+    attempt.rare.offered = 0
+    assert AttemptMachine(leased=True).begin(attempt, NOW) is OFFER
+
+
+# -- rows
+
+
+def test_a_row_that_is_stored_when_the_attempt_went_on_leads_to_nothing() -> None:
+    attempt = running("plain")
+    attempt.pending = MACHINE.ended(attempt, outcomes.unknown("lost"), NOW).row
+    attempt.queue()
+    assert MACHINE.stored(attempt) is NOTHING and attempt.pending is None
+    assert MACHINE.stored(attempt) is NOTHING
+
+
+# -- a shard that was recovered
+
+
+def test_what_was_finished_is_reported_again() -> None:
+    attempt = running("plain")
+    MACHINE.finish(attempt, outcomes.failure("no", final=True), NOW)
+    assert MACHINE.resume(attempt, NOW) is REPORT_AGAIN and MACHINE.report(attempt) is REPORT
+
+
+def test_what_runs_or_waits_here_goes_on() -> None:
+    asleep = attempt_of("plain")
+    asleep.suspend(Suspension.BACKOFF, NOW + 1)
+    queued = attempt_of("plain")
+    queued.queue()
+    assert [MACHINE.resume(one, NOW) for one in (running("plain"), asleep, queued)] == [NOTHING] * 3
+
+
+def test_a_row_that_was_on_its_way_is_put_again() -> None:
+    attempt = running("plain")
+    attempt.pending = row = MACHINE.ended(attempt, outcomes.unknown("lost"), NOW).row
+    assert MACHINE.resume(attempt, NOW + 1) == Decision(Do.SUSPEND, row, timer=True)
+    attempt.queue()
+    assert MACHINE.resume(attempt, NOW + 1) == Decision(Do.NOTHING, row) and attempt.state is AttemptState.QUEUED
+    attempt.start()
+    assert MACHINE.resume(attempt, NOW + 1) is NOTHING
+
+
+@pytest.mark.parametrize(
+    ("step", "reason", "until", "decision"),
+    [
+        ("plain", Suspension.UNKNOWN, NOW + 5, SLEEP),
+        ("plain", Suspension.UNKNOWN, None, NOTHING),
+        ("plain", Suspension.CANNOT_DECODE, None, CALL),
+        ("pause", Suspension.TIMER, NOW + 5, SLEEP),
+        ("pause", Suspension.TIMER, 0.0, CALL),
+        ("sign", Suspension.APPROVAL, NOW + 5, SLEEP),
+        ("sign", Suspension.APPROVAL, None, SLEEP),
+        ("outside", Suspension.EXTERNAL, None, OFFER),
+    ],
+)
+def test_what_an_earlier_program_had_begun_goes_on_by_its_row(
+    step: str, reason: Suspension, until: float | None, decision: Decision
+) -> None:
+    made = attempt_of(step)
+    attempt = Attempt(made.instance, made.step, "run", 1, fresh=False)
+    attempt.reason, attempt.since, attempt.until, attempt.has_row = reason, NOW - 9, until, True
+    assert attempt.has_row and not attempt.fresh and attempt.since == NOW - 9
+    assert MACHINE.resume(attempt, NOW) == decision
+    assert attempt.fresh is (reason in (Suspension.TIMER, Suspension.APPROVAL) and until != 0)
+    if decision is not CALL:
+        assert (attempt.state, attempt.reason, attempt.until) == (AttemptState.SUSPENDED, reason, until)
+
+
+def test_what_an_earlier_program_had_begun_without_a_row_begins_again() -> None:
+    assert MACHINE.resume(attempt_of("plain", fresh=False), NOW) is CALL
+    assert MACHINE.resume(attempt_of("outside", fresh=False), NOW) is OFFER
+
+
+# -- a saga that drains
+
+
+def test_a_saga_that_drains_gives_up_what_waits_and_was_not_called() -> None:
+    instance = attempt_of("plain").instance
+    made: dict[str, Attempt] = {}
+    for step, number in (("simple", 2), ("plain", 3), ("timed", 1), ("sign", 1), ("pause", 1), ("later", 1)):
+        attempt = Attempt(instance, KIND.names.index(step), "run", number, fresh=True)
+        made[step] = instance.busy[attempt.word] = attempt
+    made["simple"].suspend(Suspension.BACKOFF, NOW + 5)
+    made["plain"].suspend(Suspension.BACKOFF, NOW + 5)  # the last attempt
+    made["timed"].start()
+    MACHINE.ended(made["timed"], outcomes.unknown("lost"), NOW)
+    made["sign"].start()
+    MACHINE.begin(made["pause"], NOW)
+    made["later"].queue()
+    assert MACHINE.drain(instance, NOW) == []  # it was planned meanwhile
+    instance.draining = True
+    found = dict(MACHINE.drain(instance, NOW))
+    assert found == {
+        made["simple"]: REPORT,
+        made["plain"]: CALL,
+        made["timed"]: CALL,
+        made["pause"]: REPORT,
+        made["later"]: REPORT,
+    }
+    assert made["sign"].state is AttemptState.RUNNING  # its function goes on
+
+
+def test_an_attempt_is_named_by_the_shard_that_its_saga_comes_into() -> None:
+    """A commit may be refused: what it offered is not what is offered from another shard."""
+    attempt: Any = attempt_of("outside")
+    instance: Any = attempt.instance
+    instance.token, instance.committed = None, False
+    instance.shard, instance.number = types.SimpleNamespace(name="aa", number=1), 30
+    assert attempt.token() == f"aa-30-{attempt.name}-run-1"
+    instance.shard, instance.number = types.SimpleNamespace(name="bb", number=2), 0
+    assert attempt.token() == f"bb-0-{attempt.name}-run-1"
+    instance.committed = True
+    assert attempt.token() == f"bb-0-{attempt.name}-run-1" and instance.token == "bb-0"
+
+
+# -- all of it, in any order
+
+OUTCOMES = (
+    outcomes.succeeded(1),
+    outcomes.failure("no"),
+    outcomes.failure("no", final=True),
+    outcomes.unknown("lost"),
+    Outcome(OutcomeKind.CANNOT_DECODE, "input lacks x"),
+)
+CHOICES = {
+    AttemptState.CLAIMED: ("begin", "resume"),
+    AttemptState.QUEUED: ("start", "limit", "resume", "drain", "stored"),
+    AttemptState.RUNNING: ("ended", "ended", "claim", "resume", "drain", "stored"),
+    AttemptState.SUSPENDED: ("timer", "timer", "stored", "withdrawn", "resume", "drain", "report", "enter"),
+}
+
+
+def decide(what: str, attempt: Attempt, outcome: Outcome, now: float) -> Decision:
+    """One thing that may happen to an attempt, as the runtime does it."""
+    if what == "ended":
+        return MACHINE.ended(attempt, outcome, now)
+    if what == "report":
+        return MACHINE.finish(attempt, outcomes.succeeded(3), now) if is_asked(attempt) else NOTHING
+    if what == "stored":
+        return MACHINE.stored(attempt)
+    if what == "drain":
+        attempt.instance.draining = True
+        return dict(MACHINE.drain(attempt.instance, now)).get(attempt, NOTHING)
+    if what == "limit":
+        attempt.suspend(Suspension.STEP_LIMIT)
+    elif what == "enter":
+        if attempt.reason is Suspension.STEP_LIMIT:
+            attempt.queue()
+    elif what in ("start", "claim"):
+        getattr(attempt, what)()
+    else:
+        return getattr(MACHINE, what)(attempt, now)  # type: ignore[no-any-return]
+    return NOTHING
+
+
+@hypothesis.settings(max_examples=300, deadline=None)
+@hypothesis.given(step=st.sampled_from(KIND.names), number=st.integers(1, 3), data=st.data())
+def test_whatever_happens_each_decision_fits_the_state(step: str, number: int, data: st.DataObject) -> None:
+    """No transition is missing from the table, what is finished stays so, and nothing is called that waits for its row."""
+    attempt, now = attempt_of(step, number), NOW
+    attempt.instance.rare.missed_at[attempt.word] = NOW
+    for _ in range(12):
+        if attempt.state is AttemptState.FINISHED:
+            break
+        now += data.draw(st.sampled_from((0.0, 1.0, 100.0, -1000.0)))
+        what = data.draw(st.sampled_from(CHOICES[attempt.state]))
+        decision = decide(what, attempt, data.draw(st.sampled_from(OUTCOMES)), now)
+        if decision.row:
+            attempt.pending, attempt.has_row = decision.row, True
+        if decision.do is Do.CALL:
+            attempt.queue()
+        assert (decision.do is Do.REPORT) <= (attempt.state is AttemptState.FINISHED)
+        assert (decision.do in (Do.SUSPEND, Do.OFFER)) <= (attempt.state is AttemptState.SUSPENDED)
+        assert not decision.timer or attempt.state is AttemptState.SUSPENDED
+    if attempt.state is AttemptState.FINISHED:
+        first = attempt.outcome
+        assert first and MACHINE.resume(attempt, now) is REPORT_AGAIN
+        assert MACHINE.drain(attempt.instance, now) == [] and MACHINE.timer(attempt, now) is NOTHING
+        assert attempt.outcome is first

@@ -1,0 +1,106 @@
+"""What the functions of a definition say of an attempt, where they are right and where they are not; and lines of errors."""
+
+from __future__ import annotations
+
+import dataclasses
+import json
+import traceback
+from typing import Any
+
+import pytest
+
+import sagas
+from sagas.core import outcomes
+from sagas.core.attempts import AttemptMachine
+from sagas.core.decisions import CALL, REPORT, Do
+from sagas.core.model import Attempt, SagaInstance
+from sagas.core.states import AttemptState, OutcomeKind, Suspension
+from sagas.definition.compiled import Shelf
+
+
+@dataclasses.dataclass
+class Order:
+    """An input with a type."""
+
+    account: str
+
+
+def by(order: Order) -> Any:
+    """The key of an order's limit."""
+    if order.account == "raises":
+        raise LookupError("no account")
+    if order.account == "fails":
+        raise sagas.Fail("never")
+    return object() if order.account == "odd" else [order.account]
+
+
+def shop() -> sagas.Saga:
+    """A step that is limited by its account."""
+    saga = sagas.Saga("shop", fair_by=lambda given: given["account"])
+
+    @saga.step(concurrency=1, concurrency_by=by)
+    def pay(task: sagas.Task[Order]) -> None: ...
+
+    @pay.compensation
+    def unpay(task: sagas.Task[Order]) -> None: ...
+
+    return saga
+
+
+KIND = Shelf([shop()]).kinds[0]
+
+
+def attempt_of(given: Any, kind: str = "run") -> Attempt:
+    """One that was claimed."""
+    instance = SagaInstance("k", json.dumps(given), KIND, 0)
+    instance.token = "test-0"
+    return Attempt(instance, 0, kind, 1, fresh=True)
+
+
+def test_the_key_of_a_limit_is_asked_for_once() -> None:
+    """A compensation has none; whoever cannot say it is not called."""
+    attempt = attempt_of({"account": "a"})
+    assert AttemptMachine().limit(attempt, 5.0) == CALL and attempt.rare.limit_key == '["a"]'
+    attempt.instance.text = "{}"
+    assert AttemptMachine().limit(attempt, 5.0) == CALL
+    undo = attempt_of({"account": "raises"}, "undo")
+    assert AttemptMachine().limit(undo, 5.0) == CALL and undo.extras is None
+    for given, kind in [("raises", OutcomeKind.FAILED), ("fails", OutcomeKind.FAILED_PERMANENTLY), ("odd", OutcomeKind.FAILED)]:
+        attempt = attempt_of({"account": given})
+        assert AttemptMachine().limit(attempt, 5.0) == REPORT and attempt.state is AttemptState.FINISHED
+        assert attempt.outcome and attempt.outcome.kind is kind
+    attempt = attempt_of({"number": 7})
+    decision = AttemptMachine().limit(attempt, 5.0)
+    assert decision.do is Do.SUSPEND and attempt.reason is Suspension.CANNOT_DECODE
+
+
+def test_whose_a_saga_is() -> None:
+    """Where its definition cannot say that, it is nobody's."""
+    assert attempt_of({"account": "a"}).instance.tenant == '"a"'
+    assert attempt_of({}).instance.tenant == "null"
+
+
+class Odd(Exception):
+    """One that has no text."""
+
+    def __str__(self) -> str:
+        raise ValueError
+
+
+def noted() -> Exception:
+    """One with a note."""
+    error = ValueError("n")
+    error.add_note("a note")
+    return error
+
+
+@pytest.mark.parametrize(
+    "error",
+    [
+        ValueError("x"), ValueError(), ValueError(" "), ValueError("a\nb"), KeyError("k"), sagas.Fail("no"), SystemExit(1),
+        json.JSONDecodeError("a", "b", 0), Odd(), OSError(2, "no"), SyntaxError("bad", ("f", 1, 2, "text")), noted(),
+    ],
+)  # fmt: skip
+def test_the_line_of_an_error_is_pythons_own(error: BaseException) -> None:
+    """It is made without `traceback`, which takes ten times as long."""
+    assert outcomes.described(error) == "".join(traceback.format_exception_only(type(error), error)).strip()

@@ -1,0 +1,145 @@
+"""What becomes of an attempt that failed: another one, the same one again, a person, or none."""
+
+from __future__ import annotations
+
+from typing import Any
+
+import pytest
+
+import sagas
+from sagas.core import exhaustion, outcomes
+from sagas.core.attempts import AttemptMachine, is_asked
+from sagas.core.decisions import CALL, NOTHING, REPORT, SLEEP, Do
+from sagas.core.model import Attempt, SagaInstance
+from sagas.core.states import OutcomeKind, Suspension
+from sagas.definition.compiled import Shelf
+
+NOW = 1000.0
+WAIT = sagas.Backoff(initial=10, maximum=60)
+MACHINE = AttemptMachine()
+NO, NEVER = outcomes.failure("no"), outcomes.failure("never", final=True)
+SOON = outcomes.failure("soon", retry_after=3.0)
+
+
+def attempt_of(kind: str = "run", number: int = 1, **words: Any) -> Attempt:
+    """One that runs, of two tries."""
+    saga = sagas.Saga("s")
+    forward = words if kind == "run" else {}
+    step = saga.step(name="a", tries=2, backoff=WAIT, **forward)(lambda task: None)
+    backward = {} if kind == "run" else words
+    step.compensation(tries=2, **backward)(lambda task: None)
+    instance = SagaInstance("k", "null", Shelf([saga]).kinds[0], 0)
+    instance.token = "test-0"
+    attempt = Attempt(instance, 0, kind, number, True)
+    instance.busy[attempt.word] = attempt
+    attempt.start()
+    return attempt
+
+
+def again(attempt: Attempt) -> None:
+    """It is called again."""
+    attempt.queue()
+    attempt.start()
+
+
+@pytest.mark.parametrize(
+    ("kind", "number", "words", "outcome", "comes"),
+    [
+        ("run", 2, {}, NO, None),
+        ("run", 1, {"on_exhausted": "ask"}, NO, None),
+        ("run", 2, {"on_exhausted": "ask"}, NO, Suspension.EXHAUSTED),
+        ("run", 2, {"on_exhausted": "ask"}, NEVER, None),
+        ("run", 2, {"on_exhausted": "retry"}, NEVER, None),
+        ("run", 2, {"on_exhausted": "retry"}, NO, Suspension.RETRY),
+        ("run", 2, {"max_attempts": 2}, NO, None),
+        ("run", 2, {"max_attempts": 3}, NO, Suspension.RETRY),
+        ("undo", 1, {}, NO, None),
+        ("undo", 2, {}, NO, Suspension.EXHAUSTED),
+        ("undo", 1, {}, NEVER, Suspension.EXHAUSTED),
+        ("undo", 1, {"on_exhausted": "retry"}, NEVER, Suspension.EXHAUSTED),
+        ("undo", 2, {"on_exhausted": "retry"}, NO, Suspension.RETRY),
+        ("undo", 1, {"on_exhausted": "fail"}, NEVER, None),
+        ("undo", 1, {"on_exhausted": "fail", "max_attempts": 9}, NEVER, None),
+    ],
+)
+def test_what_a_failure_leads_to(
+    kind: str, number: int, words: dict[str, Any], outcome: outcomes.Outcome, comes: Any
+) -> None:
+    attempt = attempt_of(kind, number, **words)
+    decision = MACHINE.ended(attempt, outcome, NOW)
+    if comes is None:
+        assert decision is REPORT and attempt.outcome is outcome
+        return
+    assert decision.do is Do.SUSPEND and decision.row and decision.row.reason is comes
+    asks = comes is Suspension.EXHAUSTED
+    assert (attempt.until is None) is asks and decision.timer is not asks and is_asked(attempt)
+    name = "step_exhausted" if asks else "step_retrying"
+    assert decision.event == (name, decision.row.error) and attempt.failures == 1
+
+
+def test_so_many_attempts_as_are_wanted() -> None:
+    """The pauses grow up to the longest; then a person is asked, and may begin anew."""
+    attempt, now = attempt_of(number=2, max_attempts=5, on_exhausted="ask"), NOW
+    for pause in (20.0, 40.0, 60.0):
+        MACHINE.ended(attempt, NO, now)
+        assert attempt.until == now + pause and MACHINE.delay(attempt, now) == pause
+        now += pause
+        attempt.pending = None
+        assert MACHINE.timer(attempt, now) is CALL
+        again(attempt)
+    MACHINE.ended(attempt, NO, now)
+    assert (attempt.reason, attempt.failures) == (Suspension.EXHAUSTED, 4)
+    assert MACHINE.timer(attempt, now) is NOTHING and exhaustion.may_retry(attempt)
+    decision = exhaustion.retry(attempt, now)
+    assert decision.row and (decision.row.reason, decision.row.until) == (Suspension.RETRY, now)
+    assert attempt.failures == 0 and MACHINE.timer(attempt, now) is CALL
+
+
+def test_an_unknown_one_stays_unknown_where_it_is_retried() -> None:
+    """Nothing is known of it by that: it may have had its effect."""
+    attempt = attempt_of(number=2, max_unknown=0)
+    MACHINE.ended(attempt, outcomes.unknown("lost"), NOW)
+    decision = exhaustion.retry(attempt, NOW)
+    assert decision.row and (decision.row.reason, decision.row.error) == (Suspension.UNKNOWN, "lost")
+    assert attempt.count == 0 and attempt.outcome and attempt.outcome.kind is OutcomeKind.UNKNOWN
+
+
+@pytest.mark.parametrize("words", [{"on_exhausted": "ask"}, {"on_exhausted": "retry"}])
+def test_a_saga_that_drains_waits_for_no_failure(words: dict[str, Any]) -> None:
+    """What failed has failed; a compensation goes on waiting."""
+    attempt, undo = attempt_of(number=2, **words), attempt_of("undo", 2, **words)
+    for one in (attempt, undo):
+        MACHINE.ended(one, NO, NOW)
+        one.instance.draining = True
+    assert MACHINE.drain(attempt.instance, NOW) == [(attempt, REPORT)] and attempt.outcome is NO
+    assert MACHINE.drain(undo.instance, NOW) == []
+    late = attempt_of(number=2, **words)
+    late.instance.draining = True
+    assert MACHINE.ended(late, NO, NOW) is REPORT
+
+
+@pytest.mark.parametrize("number", [1, 2])
+def test_the_pause_that_a_function_wants(number: int) -> None:
+    """Behind an attempt of the definition, and behind the last one."""
+    attempt = attempt_of(number=number, max_attempts=9)
+    decision = MACHINE.ended(attempt, SOON, NOW)
+    if number == 2:
+        assert attempt.until == NOW + 3 and decision.timer
+        return
+    instance = attempt.instance
+    instance.missed(attempt.word, NOW, {"error": "soon", "retry_after": 3.0})
+    following = Attempt(instance, 0, "run", 2, True)
+    assert MACHINE.begin(following, NOW) is SLEEP and following.until == NOW + 3
+    instance.missed(attempt.word, NOW, {"error": "no"})
+    assert MACHINE.begin(Attempt(instance, 0, "run", 2, True), NOW + 9) is SLEEP
+
+
+@pytest.mark.parametrize("reason", [Suspension.RETRY, Suspension.EXHAUSTED, Suspension.UNKNOWN])
+def test_a_restart_goes_on_waiting(reason: Suspension) -> None:
+    """Nothing is called because of it."""
+    asks = reason is Suspension.EXHAUSTED
+    attempt = Attempt(attempt_of(number=2).instance, 0, "run", 2, False)
+    until = attempt.until = None if asks else NOW + 30
+    attempt.reason, attempt.since, attempt.has_row = reason, NOW, True
+    assert MACHINE.resume(attempt, NOW) is (NOTHING if asks else SLEEP)
+    assert (attempt.reason, attempt.until) == (reason, until) and exhaustion.may_retry(attempt)

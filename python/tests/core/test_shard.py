@@ -1,0 +1,330 @@
+"""One shard without an engine, a loop or a database: what it asks, and what comes of scripted answers."""
+
+from __future__ import annotations
+
+import json
+from typing import Any
+
+import pytest
+
+import sagas
+from sagas.core import outcomes, recovery
+from sagas.core.batch import Loaded
+from sagas.core.effects import Abort, Effects
+from sagas.core.model import Attempt, SagaInstance
+from sagas.core.replies import Disagrees
+from sagas.core.shard import MOST_REPORTS, ShardDriver, ShardIdentity
+from sagas.core.states import AttemptState, Check, IllegalTransition, ShardState, Suspension
+from sagas.core.suspensions import SuspensionRow
+from sagas.definition.compiled import Shelf
+from sagas.definition.start_options import StartOptions
+
+NUMBER, NOW = 7, 50.0
+
+
+def two() -> Shelf:
+    """A saga of two steps in a row; the first can be undone."""
+    saga = sagas.Saga("two")
+
+    @saga.step(tries=2)
+    def a(task: sagas.Task[Any]) -> None: ...
+
+    @a.compensation
+    def unmake(task: sagas.Task[Any]) -> None: ...
+
+    saga.step(name="b", needs=[a], tries=2)(lambda task: None)
+    return Shelf([saga])
+
+
+SHELF = two()
+
+
+def driver() -> ShardDriver:
+    """A new shard with an engine."""
+    found = ShardDriver.created(ShardIdentity(NUMBER, "name", SHELF.shelf, SHELF.texts, SHELF.kinds), "line")
+    found.to(ShardState.STARTING)
+    found.to(ShardState.ACTIVE)
+    return found
+
+
+def instance(key: str) -> SagaInstance:
+    """A saga that is to be opened."""
+    return SagaInstance(key, '{"n":1}', SHELF.kinds[0], 0)
+
+
+def opened(number: int) -> str:
+    """The reply to an open."""
+    return f'{{"event":{{"def":0,"event":"open","saga":{number}}}}}'
+
+
+def event(word: str, phase: str = "going", number: int = 0) -> str:
+    """The reply to a report."""
+    return f'{{"event":{{"event":"{word}","saga":{number},"step":0}},"phase":"{phase}"}}'
+
+
+def tasks(*found: tuple[int, int, str, int], settled: bool = False) -> str:
+    """The reply to a claim: saga, step, action and number of each."""
+    each = ",".join(
+        f'{{"attempt":{count},"name":"x","saga":{saga},"step":{step},"task":"{word}"}}' for saga, step, word, count in found
+    )
+    return f'{{{chr(34)}settled{chr(34)}:true,"tasks":[{each}]}}' if settled else f'{{"tasks":[{each}]}}'
+
+
+def come(shard: ShardDriver, *replies: str, text: str = "line\n") -> Effects:
+    """The effects of an answer."""
+    found = shard.replies(replies, text, NOW)
+    assert isinstance(found, Effects)
+    return found
+
+
+def kept(shard: ShardDriver, effects: Effects) -> Effects:
+    """The same, once its batch is durable."""
+    shard.writes(effects)
+    shard.committed(effects)
+    return effects
+
+
+def begun(shard: ShardDriver, key: str = "k") -> Attempt:
+    """The first attempt of a saga that is opened."""
+    shard.open(instance(key))
+    shard.requests(8)
+    (attempt,) = kept(shard, come(shard, opened(shard.opened), tasks((shard.opened, 0, "run", 1)))).dispatch
+    return attempt
+
+
+def test_a_saga_from_its_start_to_its_end() -> None:
+    """It is asked for, and nothing of it is so before its commit; its end is in the batch of its last report."""
+    shard, saga = driver(), instance("k")
+    shard.open(saga)
+    assert shard.requests(8) == ['{"def":0,"do":"open","saga":0}', '{"do":"next","most":2}']
+    effects = come(shard, opened(0), tasks((0, 0, "run", 1)))
+    assert effects.batch.opened == [(7000, "k", "two", 0, '{"n":1}', NOW, None)] and effects.batch.born and effects.unclaimed == 1
+    assert effects.opened == [saga] and not saga.committed and shard.sent and shard.events == 1
+    shard.writes(effects)
+    assert shard.unwritten == 1 and not shard.is_over
+    shard.committed(effects)
+    assert saga.committed and not shard.sent and shard.unwritten == 0 and shard.born is None
+    for step, phase in ((0, "going"), (1, "ended")):
+        (attempt,) = effects.dispatch
+        assert (attempt.step, attempt.fresh, saga.busy) == (step, True, {attempt.word: attempt})
+        attempt.finish(outcomes.Outcome(outcomes.SUCCEEDED, str(step)), NOW)
+        shard.report(attempt)
+        assert [*shard.unkept()] == [attempt] and shard.is_due(may_claim=False)
+        assert shard.requests(8)[0] == f'{{"attempt":1,"do":"report","outcome":"ok","saga":0,"step":{step},"task":"run"}}'
+        following = [tasks((0, 1, "run", 1))] if phase == "going" else ['{"settled":true,"tasks":[]}']
+        effects = kept(shard, come(shard, event("commit", phase), *following))
+        assert effects.reported == [attempt] and effects.batch.results == [(7000, step, "run", 1, "commit", str(step), NOW)]
+    assert [row[0] for row in effects.batch.ended] == ["ended"] and effects.ended == [saga] and saga.over
+    assert shard.is_over and not shard.hungry and not shard.is_due(may_claim=True) and shard.requests(8) == []
+
+
+def test_no_more_tasks_are_claimed_than_there_are_slots() -> None:
+    """Without one none is asked for; a question has a bounded lot of reports and opens."""
+    shard = driver()
+    for number in range(MOST_REPORTS + 10):
+        shard.open(instance(f"k{number}"))
+    assert len(shard.requests(0)) == MOST_REPORTS and shard.asked and shard.asked.claims == 0 and len(shard.opens) == 10
+    come(shard, *(opened(number) for number in range(MOST_REPORTS)))
+    assert shard.hungry and not shard.is_due(may_claim=False) or shard.opens
+    assert shard.requests(3)[-1] == '{"do":"next","most":3}' and shard.unask() == 3 and shard.asked is None
+
+
+def test_a_shard_that_is_full_takes_no_more() -> None:
+    """Others take those that it was asked for; one that fits into no shard is refused."""
+    shard, lives = driver(), [instance(f"k{number}") for number in range(3)]
+    for saga in lives:
+        shard.open(saga)
+    shard.requests(0)
+    effects = come(shard, opened(0), '{"refused":"full"}', '{"refused":"number"}')
+    assert effects.displaced == lives[1:] and shard.is_full and not shard.has_room(1000) and shard.reserved == shard.opened == 1
+    empty, saga = driver(), SagaInstance("k", "1", two().kinds[0], 0)
+    empty.open(saga)
+    empty.requests(0)
+    assert come(empty, '{"refused":"log-full"}').refused == [saga] and not saga.kind.fits and empty.reserved == 0
+
+
+def test_an_engine_that_knows_something_else() -> None:
+    """Another number of replies, a report of what is not on its way, an open with another number: the shard is recovered."""
+    shard = driver()
+    attempt = begun(shard)
+    attempt.finish(outcomes.Outcome(outcomes.SUCCEEDED, "1"), NOW)
+    for replies in ([], ['{"error":"x"}', tasks((0, 1, "run", 1))]):
+        shard.report(attempt)
+        shard.requests(8)
+        with pytest.raises(Disagrees):
+            shard.replies(replies, "", NOW)
+    shard.open(instance("other"))
+    shard.reports.clear()
+    shard.requests(0)
+    with pytest.raises(Disagrees):
+        shard.replies(['{"refused":"number"}'], "", NOW)
+
+
+def test_a_refused_commit_makes_it_stale() -> None:
+    """What was asked meanwhile is not answered any more; a stale shard is asked nothing."""
+    shard = driver()
+    attempt = begun(shard)
+    attempt.finish(outcomes.Outcome(outcomes.SUCCEEDED, "1"), NOW)
+    shard.report(attempt)
+    shard.requests(8)
+    effects = come(shard, event("commit"), tasks((0, 1, "run", 1)))
+    shard.writes(effects)
+    shard.requests(5)
+    assert shard.failed(effects) == 2 and shard.state is ShardState.STALE and shard.unwritten == 0 and not shard.is_known
+    assert [*shard.unkept()] == [attempt] and shard.fail() == 0
+
+
+def test_a_saga_that_fails_drains_and_its_end_is_asked() -> None:
+    """Once it is over, how it ended goes into the batch of the answer that ends it."""
+    shard = driver()
+    attempt = begun(shard)
+    saga = attempt.instance
+    attempt.finish(outcomes.failure("no", final=True), NOW)
+    shard.report(attempt)
+    assert '"outcome":"fail"' in shard.requests(8)[0] and saga.odd
+    effects = kept(shard, come(shard, event("fail", "planning"), '{"tasks":[]}'))
+    assert effects.draining == [saga] and saga.draining and "no" in saga.rare.errors[0]
+    shard.requests(8)
+    plan = {"answer": {"kind": "plan", "cost": 3}, "phase": "ended", "saga": 0, "task": "plan"}
+    (show,) = shard.replies([json.dumps({"settled": True, "tasks": [plan]})], "plan\n", NOW)  # type: ignore[misc]
+    assert show == '{"do":"show","saga":0}'
+    told = {"aborted": False, "answer": plan["answer"], "kept": [], "phase": "ended", "states": ["fixed", "waiting"]}
+    effects = kept(shard, come(shard, json.dumps(told), text=""))
+    assert effects.planned == [saga] and effects.ended == [saga] and effects.batch.text == "plan\n"
+    ((phase, _, recovered, undo_failed, at, id),) = effects.batch.ended
+    assert (phase, recovered, undo_failed, at, id) == ("ended", True, True, NOW, 7000) and not shard.sagas
+
+
+def test_an_abort_is_answered() -> None:
+    """With the command that it is of, in the batch."""
+    shard = driver()
+    saga = begun(shard).instance
+    for reply, done in (('{"refused":"over"}', False), (event("abort", "draining"), True)):
+        abort = Abort(saga, command=4)
+        shard.abort(abort)
+        shard.requests(0)
+        effects = come(shard, reply)
+        assert effects.aborted == [abort] and abort.done is done and shard.aborting == [abort] and saga.aborted is done
+        assert effects.batch.rare and effects.batch.rare.answers == [("true" if done else "false", 4)]
+        kept(shard, effects)
+        assert shard.aborting == []
+
+
+def test_a_suspension_is_kept_by_itself() -> None:
+    """Its batch has the row alone, behind what was answered."""
+    shard = driver()
+    attempt = begun(shard)
+    effects = shard.suspended(attempt, SuspensionRow(Suspension.UNKNOWN, 60.0, "lost"), NOW)
+    assert effects.batch.rare and effects.batch.rare.held == [(7000, 0, "run", 1, "unknown", 0, 0.0, 60.0, "lost")]
+    assert effects.suspended == (attempt,) and effects.batch.first == 1 and not effects.batch.text
+
+
+def test_a_state_that_may_not_follow(monkeypatch: pytest.MonkeyPatch) -> None:
+    """By the table."""
+    monkeypatch.setattr(Check, "is_on", True)
+    shard = driver()
+    shard.to(ShardState.CLOSED)
+    with pytest.raises(IllegalTransition):
+        shard.to(ShardState.ACTIVE)
+
+
+def rows(*, results: list[Any] = [], held: list[Any] = [], open: bool = True) -> Loaded:
+    """What the store has of a shard with one saga."""
+    there = [(7000, "k", 0, '{"n":1}', 9.0)] if open else []
+    return Loaded("x\n", 1, 1, there, results, held, epoch=3, line="other")
+
+
+def recovered(shard: ShardDriver, loaded: Loaded, busy: list[tuple[int, str, int]]) -> recovery.Recovery:
+    """A shard that was taken up from them."""
+    shard.fail()
+    shard.to(ShardState.LOADING)
+    shard.loaded(loaded)
+    known = {saga.key: saga for saga in shard.sagas.values()}
+    asked, new = recovery.unopened(shard, loaded, known)
+    assert not asked and not new and recovery.requests(loaded) == ['{"do":"busy"}']
+    told = [{"saga": 0, "step": step, "task": word, "attempt": count} for step, word, count in busy]
+    return recovery.recover(loaded, [json.dumps({"busy": told})], NOW, shard, known)
+
+
+def test_what_runs_stays_and_what_had_not_begun_is_forgotten() -> None:
+    """An attempt that the engine knows as begun is the same one; another, of which the store knows nothing, is none."""
+    shard = driver()
+    attempt = begun(shard)
+    attempt.start()
+    found = recovered(shard, rows(), [(0, "run", 1)])
+    assert found.resumed == [attempt] and attempt.state is AttemptState.RUNNING and not found.forgotten
+    assert shard.state is ShardState.ACTIVE and shard.known == (3, "other") and shard.epoch == 3 and found.restored == [attempt.instance]
+    found = recovered(shard, rows(), [])
+    assert found.resumed == [] and found.forgotten == [attempt] and attempt.instance.busy == {}
+
+
+def test_a_finished_attempt_is_reported_again_or_replaced() -> None:
+    """It stays finished. Where its transaction is not there, a new one takes its place."""
+    shard = driver()
+    attempt = begun(shard)
+    attempt.finish(outcomes.Outcome(outcomes.SUCCEEDED, "1"), NOW)
+    shard.report(attempt)
+    found = recovered(shard, rows(), [(0, "run", 1)])
+    assert found.resumed == [attempt] and attempt.state is AttemptState.FINISHED and [*shard.unkept()] == []
+    attempt.recorded = True
+    found = recovered(shard, rows(), [(0, "run", 1)])
+    (other,) = found.resumed
+    assert found.forgotten == [attempt] and other is not attempt and other.state is AttemptState.CLAIMED and not other.fresh
+
+
+def test_rows_of_an_earlier_program() -> None:
+    """A result whose report is not there is reported; a suspension goes on; a saga that is over is gone."""
+    row = (7000, 0, "run", 1)
+    begun_before = recovered(begun_shard := driver(), rows(results=[(*row, "ok", '"r"', 9.0)]), [(0, "run", 1)])
+    (attempt,) = begun_before.resumed
+    assert attempt.state is AttemptState.FINISHED and attempt.outcome and attempt.outcome.value == '"r"' and attempt.at == 9.0
+    held = (*row, "unknown", 2, 5.0, 60.0, "lost")
+    (attempt,) = recovered(driver(), rows(held=[held]), [(0, "run", 1)]).resumed
+    assert (attempt.reason, attempt.count, attempt.until, attempt.has_row, attempt.fresh) == (Suspension.UNKNOWN, 2, 60.0, True, False)
+    saga = attempt.instance
+    assert saga.rare.due == {(0, "run"): 0.0} and begun_shard.hungry
+    gone = recovered(begun_shard, rows(open=False), [])
+    assert [one.key for one in gone.gone] == ["k"] and not gone.restored and not begun_shard.sagas
+
+
+def test_aborts_are_asked_again_or_answered() -> None:
+    """Of a saga that is open once more; of one that is gone it did nothing."""
+    shard = driver()
+    saga = begun(shard).instance
+    abort = Abort(saga)
+    shard.abort(abort)
+    shard.requests(0)
+    assert recovered(shard, rows(), []).aborted == [] and shard.aborts == [abort] and shard.aborting == []
+    found = recovered(shard, rows(open=False), [])
+    assert found.aborted == [abort] and abort.done is False and shard.aborts == []
+
+
+def test_labels_go_with_the_row_of_their_saga() -> None:
+    """A saga that is displaced takes them into the next shard; others have no row of them."""
+    saga = SagaInstance(
+        "k", "1", SHELF.kinds[0], 0, StartOptions({"customer": "7", "region": "north"}, 5.0)
+    )
+    full, shard = driver(), driver()
+    for one in (full, shard):
+        one.open(saga)
+        one.requests(0)
+        effects = come(one, '{"refused":"full"}' if one is full else opened(0))
+        labels = effects.batch.rare.labels if effects.batch.rare else []
+        id = NUMBER * 1000
+        rows = [(id, "customer", "7"), (id, "region", "north")]
+        assert labels == ([] if one is full else rows) and bool(effects.displaced) is (one is full)
+        assert [row[-1] for row in effects.batch.opened] == ([] if one is full else [5.0])
+    shard.open(instance("other"))
+    shard.requests(0)
+    assert come(shard, opened(1)).batch.rare is None
+
+
+def test_a_plan_and_what_it_begins_come_by_one_question() -> None:
+    """Of each attempt that did not succeed, a task more is asked for: a plan comes before what it undoes."""
+    shard = driver()
+    one, two = begun(shard, "one"), begun(shard, "two")
+    for attempt in (one, two):
+        attempt.finish(outcomes.failure("sold out", final=True), NOW)
+        shard.report(attempt)
+    assert shard.requests(8)[-1] == '{"do":"next","most":5}'
+    shard.replies((event("fail", "draining"), event("fail", "draining", 1), tasks(settled=True)), "", NOW)

@@ -1,0 +1,153 @@
+"""Slots: who is called when, with a step's own limit, without a loop."""
+
+from __future__ import annotations
+
+import random
+from collections import Counter
+from collections.abc import Iterator
+
+import pytest
+
+import sagas
+from sagas.core import states
+from sagas.core.limits import Slots
+from sagas.core.model import Attempt, SagaInstance
+from sagas.core.outcomes import Outcome
+from sagas.core.states import AttemptState, OutcomeKind, Suspension
+from sagas.definition.compiled import Shelf
+
+SAGA = sagas.Saga("one")
+
+
+@SAGA.step(undo=0, concurrency=1)
+async def narrow(task: sagas.Task[None]) -> None: ...
+
+
+@SAGA.step(undo=0)
+async def wide(task: sagas.Task[None]) -> None: ...
+
+
+KIND = Shelf([SAGA]).kinds[0]
+
+
+class Shard:
+    """It waits for slots, and counts how often it was told of them."""
+
+    pokes = 0
+
+    def poke(self, now: bool = False) -> None:
+        self.pokes += 1
+
+
+class Store:
+    """Slots, and the attempts that have one."""
+
+    def __init__(self, most: int) -> None:
+        self.called: list[Attempt] = []
+        self.slots = Slots(most, self._start, self._feed)
+        self.fed = 0
+
+    def _start(self, attempt: Attempt) -> None:
+        attempt.start()
+        self.called.append(attempt)
+
+    def _feed(self) -> None:
+        self.fed += 1
+
+    def enter(self, step: str) -> Attempt:
+        attempt = Attempt(SagaInstance("k", "{}", KIND, 0), KIND.names.index(step), "run", 1, fresh=True)
+        self.slots.enter(attempt)
+        return attempt
+
+
+@pytest.fixture(autouse=True)
+def checked() -> Iterator[None]:
+    """Each transition is looked up."""
+    before, states.Check.is_on = states.Check.is_on, True
+    yield
+    states.Check.is_on = before
+
+
+def test_attempts_come_in_turn() -> None:
+    store = Store(2)
+    first, second, third, fourth = (store.enter("wide") for _ in range(4))
+    assert store.called == [first, second] and third.state is AttemptState.QUEUED
+    assert store.slots.is_waiting(third) and store.slots.free() == -2
+    store.slots.leave(first)
+    assert store.called[2:] == [third] and not store.slots.is_waiting(third)
+    store.slots.cancel(fourth)
+    store.slots.left(2)
+    assert len(store.called) == 3 and store.slots.running == 0 and store.slots.free() == 2
+
+
+def test_who_is_over_its_steps_limit_keeps_nobody_back() -> None:
+    store = Store(3)
+    first, second, third = (store.enter("narrow") for _ in range(3))
+    assert store.called == [first] and (second.state, second.reason) == (AttemptState.SUSPENDED, Suspension.STEP_LIMIT)
+    other = store.enter("wide")
+    assert store.called == [first, other]
+    second.forget()  # it was given up meanwhile
+    store.slots.leave(first)
+    assert store.called == [first, other, third]
+
+
+def test_slots_are_taken_for_many_at_once() -> None:
+    store = Store(5)
+    assert store.slots.take(3) == 3 and store.slots.take(9) == 2 and store.slots.take() == 0
+    store.slots.left(5)
+    assert store.slots.running == 0
+
+
+def test_shards_that_want_slots_are_told_of_them() -> None:
+    store, shard, other = Store(2), Shard(), Shard()
+    store.slots.reserve(2)
+    store.slots.starve(shard)
+    store.slots.starve(other)
+    store.slots.feed()
+    assert store.slots.free() == 0 and shard.pokes == 0
+    store.slots.sate(other)
+    store.slots.release(1)
+    assert store.fed == 1
+    store.slots.feed()
+    assert (shard.pokes, other.pokes) == (1, 0) and not store.slots.starved
+
+
+def test_a_store_that_is_closed_begins_nothing() -> None:
+    store = Store(1)
+    first, _, narrow = store.enter("wide"), store.enter("wide"), store.enter("narrow")
+    store.slots.clear()
+    store.slots.leave(first)
+    assert store.called == [first] and narrow.state is AttemptState.QUEUED
+
+
+def test_slots_are_shared_among_tenants() -> None:
+    """Whoever comes and goes: the next one is of a waiting tenant with the fewest slots, and each tenant's go in their order."""
+    draw = random.Random(62)
+    saga = sagas.Saga("fair", fair_by=lambda given: given)
+    saga.step(name="a", undo=0)(wide.run.function)
+    kind, store = Shelf([saga]).kinds[0], Store(3)
+    waiting: dict[str | None, list[Attempt]] = {}
+    for number in range(600):
+        running = [one for one in store.called if one.state is AttemptState.RUNNING]
+        counts = Counter(one.instance.tenant for one in running)
+        if draw.random() < 0.55:
+            tenant = draw.choice("aaaabbc")
+            attempt = Attempt(SagaInstance(f"k{number}", f'"{tenant}"', kind, 0), 0, "run", 1, fresh=True)
+            store.slots.come(attempt)
+            if len(running) == 3:
+                waiting.setdefault(attempt.instance.tenant, []).append(attempt)
+        elif running and draw.random() < 0.9:
+            gone = draw.choice(running)
+            gone.finish(Outcome(OutcomeKind.SUCCEEDED, "null"), 0.0)
+            store.slots.leave(gone)
+            counts[gone.instance.tenant] -= 1
+            there = {tenant: ones for tenant, ones in waiting.items() if ones}
+            if there:
+                following = store.called[-1]
+                assert counts[following.instance.tenant] == min(counts[tenant] for tenant in there)
+                assert following is waiting[following.instance.tenant].pop(0)
+        elif any(waiting.values()):
+            tenant = draw.choice([tenant for tenant, ones in waiting.items() if ones])
+            store.slots.cancel(waiting[tenant].pop(draw.randrange(len(waiting[tenant]))))
+        assert store.slots.running == min(3, len([one for one in store.called if one.state is AttemptState.RUNNING]))
+        assert len(store.slots._queued) == sum(map(len, waiting.values()))

@@ -1,0 +1,106 @@
+"""The core as a whole: random definitions, outcomes, refused commits, deaths of the engine at each point, recovery.
+
+No event loop, database or network has a part in it; `core_world.py` says what judges it.
+"""
+
+from __future__ import annotations
+
+import datetime
+import pathlib
+import tempfile
+from typing import Any
+
+import pytest
+from core_world import World
+from definitions import StepDraw, steps
+from hypothesis import HealthCheck, given, settings
+from hypothesis import strategies as st
+
+import sagas
+from sagas.core import model, shard, states
+
+MOVES, SAGAS = 20_000, 120
+ENDS: dict[str, dict[str, Any]] = {
+    "asks": {"on_exhausted": "ask"}, "goes on": {"on_exhausted": "retry"}, "many": {"max_attempts": 5},
+}
+SOON = sagas.Backoff(initial=5, maximum=60)
+MANNERS = st.sampled_from(
+    ("simple", "plain", "timed", "wait", "approval", "timed approval", "external", "transaction", "asks", "goes on", "many")
+)
+
+
+def cost(value: int | str) -> sagas.Cost:
+    """A cost as the package takes it."""
+    return value if isinstance(value, int) else sagas.NEVER
+
+
+def nothing(task: sagas.Task[Any]) -> None:
+    """It is never called: the world says what comes of it."""
+
+
+async def simple(task: sagas.Task[Any]) -> None:
+    """As `nothing`."""
+
+
+def declare(saga: sagas.Saga, drawn: list[StepDraw], number: int, manner: str) -> None:
+    """One step, in its manner."""
+    one = drawn[number]
+    words: dict[str, Any] = {"name": one.name, "needs": [drawn[need].name for need in one.needs], "skip": cost(one.skip)}
+    if one.undo != "never":
+        words["undo"] = cost(one.undo)
+    if manner == "wait":
+        step = saga.wait(until=datetime.timedelta(hours=1), tries=one.tries, backoff=SOON, keep=cost(one.keep), **words)(nothing)
+    elif manner.endswith("approval"):
+        timeout = 3600 if manner.startswith("timed") else None
+        step = saga.approval(timeout=timeout, tries=one.tries, backoff=SOON, **words)(nothing)
+    else:
+        words |= {"run": cost(one.run), "keep": cost(one.keep), "tries": one.tries, "backoff": SOON}
+        if manner == "external":
+            step = saga.step(external=True, **words)
+            if one.undo != "never":
+                step.compensation(external=True, tries=one.undo_tries, backoff=SOON)
+            return
+        most = datetime.timedelta(minutes=1) if manner == "timed" else 2
+        function = simple if manner == "simple" else nothing
+        words |= ENDS.get(manner, {})
+        step = saga.step(max_unknown=most, transaction=manner == "transaction", **words)(function)
+    if one.undo != "never":
+        words = ENDS.get(manner, {"on_exhausted": "fail"})
+        step.compensation(tries=one.undo_tries, backoff=SOON, max_unknown=1, **words)(nothing)
+
+
+@st.composite
+def definitions(draw: st.DrawFn) -> sagas.Saga:
+    """A saga with steps in any manner."""
+    drawn = draw(steps())
+    saga = sagas.Saga(f"saga{draw(st.integers(0, 10**6))}")
+    for number in range(len(drawn)):
+        declare(saga, drawn, number, draw(MANNERS))
+    return saga
+
+
+@pytest.mark.parametrize("part", range(4))
+def test_whatever_happens(part: int, monkeypatch: pytest.MonkeyPatch) -> None:
+    """Each saga ends as the rules say, over at least 25,000 transitions of attempts, shards and steps in each part."""
+    transitions = 0
+
+    def count(table: Any, before: Any, after: Any) -> None:
+        nonlocal transitions
+        transitions += 1
+        states.check(table, before, after)
+
+    for module in (model, shard):
+        monkeypatch.setattr(module, "check", count)
+
+    @settings(max_examples=14, deadline=None, suppress_health_check=list(HealthCheck), derandomize=True)
+    @given(st.lists(definitions(), min_size=1, max_size=3, unique_by=lambda saga: saga.name), st.integers(0, 10**9))
+    def play(kinds: list[sagas.Saga], seed: int) -> None:
+        nonlocal transitions
+        with tempfile.TemporaryDirectory() as folder:
+            world = World(kinds, pathlib.Path(folder), seed + part, SAGAS)
+            world.play(MOVES)
+            world.judge()
+            transitions += world.store.events
+
+    play()
+    assert transitions >= 25_000, transitions

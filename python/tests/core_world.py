@@ -1,0 +1,570 @@
+"""A shard without a store's event loop, functions and database: the core under anything that may go wrong.
+
+A `World` holds what the runtime is to the core: an engine (`sagas drive --lines`), a store in memory whose
+commits may be refused or lose their answer, and functions that end when the test says so. Each of its moves is
+drawn by a seeded generator, so a failure is one number. At the end the event log is judged by `sagas audit` and
+by the reference model of `follower.py`, and the rows by the log.
+"""
+
+from __future__ import annotations
+
+import itertools
+import json
+import pathlib
+import random
+import subprocess
+from collections import Counter, deque
+from collections.abc import Callable, Sequence
+from typing import Any
+
+from driving import audit, program
+from follower import Definition, Follower
+
+import sagas
+from sagas.core import exhaustion, outcomes, protocol, recovery
+from sagas.core.attempts import AttemptMachine, is_asked
+from sagas.core.batch import Batch, Loaded
+from sagas.core.decisions import Decision, Do
+from sagas.core.effects import Abort, Effects
+from sagas.core.model import FINISHED, RUNNING, SUSPENDED, Attempt, SagaInstance
+from sagas.core.outcomes import Outcome
+from sagas.core.shard import ShardDriver, ShardIdentity
+from sagas.core.states import ShardState
+from sagas.core.suspensions import SuspensionRow
+from sagas.definition.capacity import SHARD_CAPACITY
+from sagas.definition.compiled import Kind
+
+Call = tuple[int, int, str, int]
+"""The saga's number, the step, `run` or `undo`, the attempt's number."""
+
+
+class Wrong(AssertionError):
+    """Something that the core must never do."""
+
+
+class Engine:
+    """`sagas drive --lines`, one question at a time."""
+
+    def __init__(self, paths: Sequence[pathlib.Path], log: pathlib.Path | None) -> None:
+        words = ["--from", str(log), *map(str, paths)] if log else [*map(str, paths)]
+        self._process = subprocess.Popen(
+            [program(), "drive", "--lines", *words], stdin=subprocess.PIPE, stdout=subprocess.PIPE
+        )
+
+    def ask(self, lines: Sequence[str]) -> tuple[list[str], str]:
+        """The replies, and the log's new lines."""
+        assert self._process.stdin and self._process.stdout
+        self._process.stdin.write(("\n".join(lines) + "\n").encode())
+        self._process.stdin.flush()
+        replies, shown = list[str](), list[str]()
+        while len(replies) < len(lines):
+            line = self._process.stdout.readline().decode()
+            assert line, "the engine ended by itself"
+            if line.startswith("+"):
+                shown.append(line[1:])
+            else:
+                replies.append(line.rstrip("\n"))
+        return replies, "".join(shown).removeprefix(protocol.HEADER)
+
+    def kill(self) -> None:
+        """It is no more."""
+        self._process.kill()
+        assert self._process.stdin and self._process.stdout
+        self._process.stdin.close()
+        self._process.stdout.close()
+        self._process.wait()
+
+
+class Store:
+    """What is durable, and where the reference model stands by it."""
+
+    def __init__(self, texts: Sequence[str]) -> None:
+        self.follower = Follower([Definition.read(text) for text in texts])
+        self.finals: set[tuple[int, int, str]] = set()
+        """the actions that failed permanently"""
+        self.missed: dict[tuple[int, int, str], float] = {}
+        """when an action failed last, that is retried"""
+        self.chunks: list[str] = []
+        self.events = 0
+        self.sagas: dict[int, list[Any]] = {}
+        """by id: key, place, input, phase, outcome"""
+        self.attempts: dict[tuple[int, int, str, int], tuple[str, str | None, float]] = {}
+        self.suspensions: dict[tuple[int, int, str, int], Any] = {}
+        self.newest: tuple[int, int, str, int] | None = None
+        """the attempt whose transaction is the last that was made"""
+
+    def record(self, row: tuple[int, int, str, int], value: str, at: float) -> None:
+        """The transaction of a step: what it did, and its result."""
+        if row in self.attempts:
+            raise Wrong(f"{row} is done twice")
+        self.attempts[row], self.newest = ("ok", value, at), row
+
+    def commit(self, batch: Batch) -> None:
+        """All of it, at once."""
+        if batch.text:
+            if batch.first != self.events:
+                raise Wrong(f"lines behind {batch.first} events, where {self.events} are")
+            self.chunks.append(batch.text)
+            self.events += batch.text.count("\n")
+            for line in batch.text.splitlines():
+                self.follower.take(json.loads(line))
+        for id, key, _, place, text, *_ in batch.opened:
+            if id in self.sagas or any(key == row[0] for row in self.sagas.values()):
+                raise Wrong(f"{key} is there")
+            self.sagas[id] = [key, place, text, None, None]
+        self.newest = None
+        for id, step, kind, number, event, value, at in batch.results:
+            recorded = self.attempts.get((id, step, kind, number))
+            is_kept = recorded is not None and event in ("commit", "undone")
+            if recorded and not (is_kept and recorded[:2] == ("ok", value)):
+                raise Wrong(f"attempt {(id, step, kind, number)} is reported twice: {recorded}")
+            self.attempts[id, step, kind, number] = event, value, at
+            told = json.loads(value) if event not in ("commit", "undone") and value else {}
+            if told.get("final"):
+                self.finals.add((id, step, kind))
+            elif told.get("called", True):
+                self.missed[id, step, kind] = at
+            elif event == "fail" and not self.follower.sagas[id % SHARD_CAPACITY].aborted:
+                raise Wrong(f"{(id, step, kind, number)} failed without a call")
+        for phase, end, _, _, _, id in batch.ended:
+            if self.sagas[id][3] is not None:
+                raise Wrong(f"saga {id} ends twice")
+            self.sagas[id][3:] = phase, end
+        if batch.rare:
+            for row in batch.rare.held:
+                self.suspensions[row[:4]] = row
+            for id, step, kind, number in batch.rare.freed:
+                for key in [*self.suspensions]:
+                    if key[:3] == (id, step, kind) and key[3] <= number:
+                        del self.suspensions[key]
+
+    @property
+    def text(self) -> str:
+        """The event log, without its header."""
+        return "".join(self.chunks)
+
+    def load(self) -> Loaded:
+        """As a program takes the shard up."""
+        open_ones = {id: row for id, row in self.sagas.items() if row[3] is None}
+        return Loaded(
+            text=self.text,
+            events=self.events,
+            opened=len(self.sagas),
+            open=[(id, row[0], row[1], row[2], None) for id, row in sorted(open_ones.items())],
+            results=[(*key, *row) for key, row in self.attempts.items() if key[0] in open_ones],
+            held=[row for key, row in self.suspensions.items() if key[0] in open_ones],
+            epoch=1,
+        )
+
+
+class World:
+    """One shard, from its first saga to the end of its last."""
+
+    def __init__(self, kinds: Sequence[sagas.Saga], folder: pathlib.Path, seed: int, sagas_at_most: int) -> None:
+        self.random, self.folder = random.Random(seed), folder
+        texts = [kind.toml() for kind in kinds]
+        self.paths = [folder / f"{number}.toml" for number in range(len(texts))]
+        for path, text in zip(self.paths, texts):
+            path.write_text(text)
+        self.kinds = [Kind(text, kind) for text, kind in zip(texts, kinds)]
+        self.identity = ShardIdentity(0, "shard", "", texts, self.kinds)
+        self.machine, self.store = AttemptMachine(), Store(texts)
+        self.moves: Counter[str] = Counter()
+        self.is_recovered = False
+        self.aborts: list[Abort] = []
+        self.driver = ShardDriver.created(self.identity)
+        self.engine: Engine | None = None
+        self.known: dict[str, SagaInstance] = {}
+        self.now = 1_000_000.0
+        self.left = sagas_at_most
+        self.commits: deque[Effects] = deque()
+        self.waiting: list[SagaInstance] = []  # to be opened once the shard is active
+        self.running: dict[Attempt, None] = {}
+        self.begun: Counter[Call] = Counter()
+        self.effects: dict[tuple[int, int, str], str] = {}
+        """what the last call that succeeded returned"""
+
+    # -- moves
+
+    def play(self, most: int) -> None:
+        """Make so many moves, and then only those that lead to the end."""
+        try:
+            for count in itertools.count():
+                if not self.left and not self._is_open():
+                    break
+                if count > 10 * most:
+                    raise Wrong(f"it does not end: {self._stuck()}")
+                self._move(calm=count > most)
+                self._look()
+            while self.commits:
+                self._commit()
+            self._look_at_the_end()
+        finally:
+            if self.engine:
+                self.engine.kill()
+
+    def _is_open(self) -> bool:
+        return bool(self.commits or self.waiting or any(row[3] is None for row in self.store.sagas.values()) or not self.driver.is_over)
+
+    def _move(self, calm: bool) -> None:
+        moves: list[tuple[int, str, Callable[[], None]]] = []
+        driver, engine = self.driver, self.engine
+        if self.left and driver.state is ShardState.ACTIVE:
+            moves.append((20, "open", self._open))
+        if driver.state is ShardState.IDLE:
+            moves.append((200, "start", self._start))
+        if driver.state is ShardState.STALE and not self.commits:
+            moves.append((200, "recover", self._recover))
+        if driver.state is ShardState.ACTIVE and engine and driver.is_due(True):
+            moves.append((60, "turn", self._turn))
+        if self.commits:
+            moves.append((60, "commit", self._commit))
+        if self.running:
+            moves.append((120, "end_one", self._end_one))
+        if timed := self._timed():
+            moves.append((30, "ring", lambda: self._ring(timed)))
+        if asked := self._asked():
+            moves.append((20, "answer", lambda: self._answer(asked)))
+        if retried := [one for one in self._attempts() if exhaustion.may_retry(one)]:
+            moves.append((3, "retry", lambda: self._retry(retried)))
+        if not calm:
+            if self.commits:
+                moves += [(1, "refuse", self._refuse), (1, "lose_an_answer", self._lose_an_answer)]
+            if self.store.newest:
+                moves.append((3, "fall_back", self._fall_back))
+            if driver.state is ShardState.ACTIVE:
+                moves += [(1, "kill_engine", self._kill_engine), (1, "sleep", self._sleep)]
+            if going := [saga for saga in driver.sagas.values() if not saga.over and saga.committed]:
+                moves.append((2, "abort", lambda: self._abort(going)))
+            if self.store.sagas:
+                moves.append((1, "restart", self._restart))
+        if not moves:
+            raise Wrong(f"nothing can be done: {driver.state}, {self._stuck()}")
+        ((_, name, move),) = self.random.choices(moves, [weight for weight, *_ in moves])
+        self.moves[name] += 1
+        move()
+
+    def _look(self) -> None:
+        """If nothing is on its way, the sagas are as the reference model has them, and each of
+        their attempts is somewhere: it runs, waits or is about to be reported.
+        """
+        driver = self.driver
+        is_quiet = driver.is_known and not (self.commits or driver.asked or driver.unwritten)
+        if not is_quiet or (self.random.random() < 0.8 and not self.is_recovered):
+            return
+        self.is_recovered = False
+        begun = {(task["saga"], task["step"], task["task"]) for task in self.store.follower.busy()}
+        if begun != {(number, *word) for number, saga in driver.sagas.items() for word in saga.busy}:
+            raise Wrong(f"{begun} are under way, and not {self._stuck()}")
+        for attempt in self._attempts():
+            reported = attempt.state is FINISHED and attempt in driver.reports
+            runs = attempt.state is RUNNING and attempt in self.running
+            if not (reported or runs or attempt.state is SUSPENDED):
+                raise Wrong(f"nobody goes on with {attempt.row}, which is {attempt.state}")
+        for number, saga in driver.sagas.items():
+            state = self.store.follower.sagas[number]
+            told = {step for step, word in enumerate(state.states) if word in ("committed", "undoing", "fixed")}
+            drains = state.phase in ("draining", "planning")
+            is_so = {*saga.results} == told, saga.aborted == state.aborted, saga.draining == drains
+            if not all(is_so):
+                raise Wrong(f"{saga.key}: {is_so} {saga.results} {state}")
+            if any(saga.results[step] != self.effects[number, step, "run"] for step in told):
+                raise Wrong(f"{saga.key}: another result than was returned")
+
+    def _look_at_the_end(self) -> None:
+        """Nothing is left, and who asked was answered."""
+        driver = self.driver
+        left = driver.sent, driver.opens, driver.reports, driver.reporting, driver.aborts, driver.aborting, driver.sagas
+        if any(left) or driver.unwritten or not driver.is_over:
+            raise Wrong(f"something is left: {left}")
+        if any(abort.done is None for abort in self.aborts):
+            raise Wrong("an abort has no answer")
+
+    def _stuck(self) -> str:
+        return "; ".join(
+            f"{saga.key}: {[(one.row, one.state, one.reason) for one in saga.busy.values()]}" for saga in self.driver.sagas.values()
+        )
+
+    def _open(self) -> None:
+        self.left -= 1
+        place = self.random.randrange(len(self.kinds))
+        saga = SagaInstance(f"k{self.left}", "null", self.kinds[place], place)
+        self.known[saga.key] = saga
+        self.driver.open(saga)
+
+    def _start(self) -> None:
+        self.driver.to(ShardState.STARTING)
+        self.engine = self._engine()
+        self.driver.to(ShardState.ACTIVE)
+
+    def _engine(self) -> Engine:
+        log = None
+        if self.store.text:
+            log = self.folder / "log.jsonl"
+            log.write_text(protocol.HEADER + self.store.text)
+        return Engine(self.paths, log)
+
+    def _turn(self) -> None:
+        """Ask what is due; the engine may die before it answers, or between two answers."""
+        driver = self.driver
+        lines = driver.requests(self.random.choice((0, 1, 3, 1000)) if driver.reports or driver.opens or driver.aborts else 1000)
+        if not lines:
+            return
+        assert self.engine
+        found: Effects | list[str] = lines
+        while isinstance(found, list):
+            if self.random.random() < 0.005:
+                self._kill_engine()
+                return
+            found = driver.replies(*self.engine.ask(found), self.now)
+        driver.writes(found)
+        for saga in found.draining:
+            self._drain(saga)
+        self._put(found)
+
+    def _put(self, effects: Effects) -> None:
+        if effects.batch:
+            self.commits.append(effects)
+        else:
+            self.driver.committed(effects)
+            self._done(effects)
+
+    def _commit(self) -> None:
+        effects = self.commits.popleft()
+        self.store.commit(effects.batch)
+        self.driver.committed(effects)
+        self._done(effects)
+
+    def _refuse(self) -> None:
+        """A commit is refused, and those behind it with it."""
+        while self.commits:
+            self.driver.failed(self.commits.popleft())
+        self._lose_engine()
+
+    def _lose_an_answer(self) -> None:
+        """A commit is made, and nobody hears of it; those behind it are not."""
+        self.store.commit(self.commits[0].batch)
+        self._refuse()
+
+    def _fall_back(self) -> None:
+        """Another server takes over, which lacks the newest transaction of a step."""
+        row = self.store.newest
+        assert row
+        del self.store.attempts[row], self.effects[row[0] % SHARD_CAPACITY, row[1], row[2]]
+        self.store.newest = None
+        self.driver.fail()
+        self._refuse()
+
+    def _kill_engine(self) -> None:
+        self.driver.fail()
+        self._lose_engine()
+
+    def _lose_engine(self) -> None:
+        if self.engine:
+            self.engine.kill()
+        self.engine = None
+
+    def _sleep(self) -> None:
+        """Another shard gets the engine, as nothing is on its way."""
+        if not self.commits and not self.driver.is_due(True) and not self.driver.asked:
+            self._lose_engine()
+            self.driver.to(ShardState.IDLE)
+
+    def _restart(self) -> None:
+        """The program is killed, and another one takes the shard up: what ran is forgotten."""
+        self._lose_engine()
+        self.commits.clear()
+        self.running.clear()
+        self.aborts.clear()
+        opened = {row[0] for row in self.store.sagas.values()}
+        self.left += sum(key not in opened for key in self.known)  # their starts are made once more
+        self.known = {key: saga for key, saga in self.known.items() if key in opened}
+        spared = [int(key[1:]) for key in opened]
+        self.left = min(self.left, min(spared, default=self.left))
+        self.known = {}
+        self.driver = ShardDriver(self.identity, ShardState.STALE, 1, len(self.store.sagas))
+
+    def _recover(self) -> None:
+        driver, rows = self.driver, self.store.load()
+        driver.to(ShardState.LOADING)
+        driver.loaded(rows)
+        asked, new = recovery.unopened(driver, rows, self.known)
+        self.engine = self._engine()
+        replies, _ = self.engine.ask(recovery.requests(rows))
+        before = {one for saga in driver.sagas.values() for one in saga.busy.values()} | {*driver.unkept()}
+        found = recovery.recover(rows, replies, self.now, driver, self.known)
+        for saga in found.restored:
+            self.known[saga.key] = saga
+        for attempt in found.forgotten:
+            attempt.forget()
+            self.running.pop(attempt, None)
+        after = {one for saga in driver.sagas.values() for one in saga.busy.values()}
+        if any(one.state is not FINISHED for one in before - after):
+            raise Wrong("an attempt that is gone is not finished")
+        driver.writes(found.effects)
+        self._put(found.effects)
+        for attempt in found.resumed:
+            self._do(attempt, self.machine.resume(attempt, self.now))
+        for saga in found.draining:
+            self._drain(saga)
+        for saga in (*asked, *new):
+            driver.open(saga)
+        self.is_recovered = True
+
+    # -- what the executor does
+
+    def _done(self, effects: Effects) -> None:
+        for attempt in effects.suspended:
+            self._do(attempt, self.machine.stored(attempt))
+        for abort in effects.aborted:
+            if abort.done:
+                self._drain(abort.saga)
+        for attempt in effects.dispatch:
+            self._do(attempt, self.machine.begin(attempt, self.now))
+
+    def _drain(self, saga: SagaInstance) -> None:
+        for attempt, decision in self.machine.drain(saga, self.now):
+            self._do(attempt, decision)
+
+    def _do(self, attempt: Attempt, decision: Decision) -> None:
+        if decision.do is Do.CALL:
+            attempt.queue()
+            self._call(attempt)
+        elif decision.do is Do.REPORT_AGAIN:
+            self.machine.report(attempt)
+            self.driver.report(attempt)
+        elif decision.do is Do.REPORT:
+            call = attempt.instance.number, attempt.step, attempt.kind, attempt.attempt
+            is_asked_first = attempt.declared.kind == "approval"
+            if attempt.outcome and not attempt.outcome.called and self.begun[call]:
+                if not is_asked_first:
+                    raise Wrong(f"{attempt.row} was called, and is reported as if it was not")
+            self.driver.report(attempt)
+        if decision.row:
+            self._suspend(attempt, decision.row)
+
+    def _suspend(self, attempt: Attempt, row: SuspensionRow) -> None:
+        attempt.has_row, attempt.pending = True, row
+        effects = self.driver.suspended(attempt, row, self.now)
+        self.driver.writes(effects)
+        self._put(effects)
+
+    def _call(self, attempt: Attempt) -> None:
+        """Its function begins: its event is durable, and what it needs is done."""
+        saga, word = attempt.instance, "start_run" if attempt.kind == "run" else "start_undo"
+        line = f'"event":"{word}","saga":{saga.number},"step":{attempt.step}}}'
+        if self.store.text.count(line) < 1:
+            raise Wrong(f"{attempt.row} is called before it is durable")
+        for name, value in attempt.given.items():
+            step = saga.kind.names.index(name)
+            if attempt.kind == "run" and self.effects.get((saga.number, step, "run")) != value:
+                raise Wrong(f"{attempt.row} is given {value} of {name}")
+        action = saga.id, attempt.step, attempt.kind
+        if action in self.store.finals:
+            raise Wrong(f"{attempt.row} is called behind a permanent failure")
+        missed = self.store.missed.get(action)
+        if attempt.attempt > 1 and missed is not None and not saga.draining and attempt.fresh:
+            if self.now < missed + attempt.manner.backoff.after(attempt.attempt - 1) - 1e-6:
+                raise Wrong(f"{attempt.row} is called before its back-off is over")
+        self.begun[saga.number, attempt.step, attempt.kind, attempt.attempt] += 1
+        attempt.start()
+        self.running[attempt] = None
+
+    # -- functions, time and people
+
+    def _end_one(self) -> None:
+        attempt = self.random.choice([*self.running])
+        del self.running[attempt]
+        if attempt.state is not RUNNING:
+            raise Wrong(f"{attempt.row} runs, and is {attempt.state}")
+        outcome = self._outcome(attempt)
+        if outcome.kind is outcomes.SUCCEEDED and attempt.manner.transaction:
+            if not self._commit_step(attempt, outcome.value):
+                return
+        elif outcome.kind is outcomes.SUCCEEDED:
+            self.effects[attempt.instance.number, attempt.step, attempt.kind] = outcome.value
+        self._do(attempt, self.machine.ended(attempt, outcome, self.now))
+
+    def _commit_step(self, attempt: Attempt, value: str) -> bool:
+        """Commit what it did with its result. False where nobody hears whether that was done."""
+        drawn = self.random.random()
+        if drawn < 0.95:
+            self.store.record(attempt.row, value, self.now)
+            self.effects[attempt.instance.number, attempt.step, attempt.kind] = value
+        if drawn < 0.9:
+            attempt.recorded = True
+            return True
+        attempt.claim()
+        self._kill_engine()  # its shard is recovered, which tells
+        return False
+
+    def _outcome(self, attempt: Attempt) -> Outcome:
+        drawn = self.random.random()
+        if drawn < 0.7:
+            return outcomes.succeeded(f"{attempt.name} {attempt.kind} {self.random.randrange(1000)}")
+        if drawn < 0.85:
+            return outcomes.failure("it failed")
+        if drawn < 0.9:
+            return outcomes.failure("it failed", final=True)
+        return outcomes.unknown("who knows")
+
+    def _attempts(self) -> list[Attempt]:
+        if not self.driver.is_known:
+            return []
+        return [one for saga in self.driver.sagas.values() for one in saga.busy.values()]
+
+    def _timed(self) -> list[Attempt]:
+        return [one for one in self._attempts() if one.state is SUSPENDED and one.until is not None and one.until > 0]
+
+    def _ring(self, attempts: list[Attempt]) -> None:
+        attempt = min(attempts, key=lambda one: one.until or 0.0)
+        assert attempt.until is not None
+        self.now = max(self.now, attempt.until)
+        if attempt.pending is None:  # its timer is set once its row is there
+            self._do(attempt, self.machine.timer(attempt, self.now))
+
+    def _asked(self) -> list[Attempt]:
+        return [one for one in self._attempts() if is_asked(one)]
+
+    def _answer(self, attempts: list[Attempt]) -> None:
+        """Somebody says how one ended."""
+        attempt = self.random.choice(attempts)
+        outcome = self._outcome(attempt)
+        if outcome.kind is outcomes.UNKNOWN:
+            return
+        if outcome.kind is outcomes.SUCCEEDED:
+            self.effects[attempt.instance.number, attempt.step, attempt.kind] = outcome.value
+        self._do(attempt, self.machine.finish(attempt, outcome, self.now))
+
+    def _retry(self, attempts: list[Attempt]) -> None:
+        """Somebody has one attempted again."""
+        attempt = self.random.choice(attempts)
+        self._do(attempt, exhaustion.retry(attempt, self.now))
+
+    def _abort(self, going: list[SagaInstance]) -> None:
+        self.aborts.append(Abort(self.random.choice(going)))
+        self.driver.abort(self.aborts[-1])
+
+    # -- the end
+
+    def judge(self) -> None:
+        """The log is allowed, and all else is as it says."""
+        log = self.folder / "log.jsonl"
+        log.write_text(protocol.HEADER + self.store.text)
+        said = audit(log, self.paths)
+        if not said.startswith("yes"):
+            raise Wrong(f"sagas audit: {said}")
+        follower = self.store.follower
+        for id, (key, _, _, phase, end) in self.store.sagas.items():
+            state, told = follower.sagas[id % SHARD_CAPACITY], json.loads(end)
+            if (phase, told["states"], told["aborted"]) != (state.phase, state.states, state.aborted):
+                raise Wrong(f"{key}: {phase} {told}, where the log says {state.phase} {state.states}")
+        self._judge_rows()
+
+    def _judge_rows(self) -> None:
+        for (id, step, kind, number), (event, value, _) in self.store.attempts.items():
+            told = self.effects.get((id % SHARD_CAPACITY, step, kind))
+            if event == "ok" or (event in ("commit", "undone") and told != value):
+                raise Wrong(f"{(id, step, kind, number)}: {value} is kept, and {told} was returned")
+        if self.store.suspensions:
+            raise Wrong(f"rows of suspensions are left: {self.store.suspensions}")

@@ -1,0 +1,59 @@
+"""The map of the package: each module with the first line of its docstring.
+
+    python3 python/tests/package_map.py
+
+It writes the pages docs/dev/architecture/modules.md and modules-above.md; `test_architecture.py`
+compares them with the modules.
+"""
+
+from __future__ import annotations
+
+import ast
+import pathlib
+import textwrap
+
+TOP = pathlib.Path(__file__).resolve().parents[2]
+SRC = TOP / "python/src/sagas"
+PAGES = {
+    "modules.md": (
+        "Modules below the runtime",
+        ("base", "definition", "core", "engine", "storage", "inspection"),
+    ),
+    "modules-above.md": (
+        "Modules of the runtime and above",
+        ("runtime", "api", "testing", "cli", "server", "celery", ""),
+    ),
+}
+HEAD = """# {}
+
+*Reference. For contributors who look for a module of the package. `python3
+python/tests/package_map.py` writes this page from the modules' docstrings.*
+"""
+
+
+def lines(layer: str) -> list[str]:
+    """A line for each module of a layer; `""` is the package's own folder."""
+    found = []
+    for path in sorted(SRC.glob("*.py") if not layer else (SRC / layer).rglob("*.py")):
+        name = path.relative_to(SRC).as_posix()
+        said = ast.get_docstring(ast.parse(path.read_text())) or ""
+        if name != "__init__.py":
+            found.append(f"- `{name}`: {said.splitlines()[0]}")
+    return found
+
+
+def page(name: str) -> str:
+    """The text of a page."""
+    title, layers = PAGES[name]
+    parts = [HEAD.format(title)]
+    for layer in layers:
+        parts.append(f"\n## {f'`{layer}`' if layer else 'The package itself'}\n\n")
+        for line in lines(layer):
+            parts.append(textwrap.fill(line, 100, subsequent_indent="  ", break_on_hyphens=False))
+            parts.append("\n")
+    return "".join(parts)
+
+
+if __name__ == "__main__":
+    for name in PAGES:
+        (TOP / "docs/dev/architecture" / name).write_text(page(name), encoding="utf-8")

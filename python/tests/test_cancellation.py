@@ -1,0 +1,306 @@
+"""`task.cancelled`, `cancel_on_abort=`, `task.progress`, and where a plain function is that takes too long."""
+
+from __future__ import annotations
+
+import asyncio
+import json
+import os
+import pathlib
+import pickle
+import signal
+import subprocess
+import sys
+import threading
+from typing import Any
+
+import pytest
+from cases import QUICK, Task, run, simple, until
+from driving import program
+from serving import served, start, take
+from test_command import Shell
+from test_service_workers import working
+from witness import notes_of, witness_at
+
+import sagas
+import sagas.testing
+from sagas.definition.control import Control
+
+
+def pair(long: Any, fails: Any, **words: Any) -> sagas.Saga:
+    """A step that takes as long as it is wanted, and one beside it."""
+    saga = sagas.Saga("pair")
+    saga.step(name="long", undo=0, keep=5, backoff=QUICK, **words)(long)
+    saga.step(name="other", undo=0)(fails)
+    return saga
+
+
+def hear_plain(task: Task) -> None:
+    task.progress(0.5)
+    assert task.cancelled.wait(60)
+    raise sagas.Fail(str(task.cancelled.reason))
+
+
+async def hear(task: Task) -> None:
+    task.progress(0.5)
+    raise sagas.Fail(await task.cancelled)
+
+
+@pytest.mark.parametrize("function", [hear, hear_plain])
+@pytest.mark.parametrize("why", ["aborted", "failed"])
+def test_a_function_hears_that_it_is_not_wanted(place: str, function: Any, why: str) -> None:
+    """It decides itself how it ends; the saga is planned as soon as it has."""
+    begun = asyncio.Event()
+
+    async def fails(task: Task) -> None:
+        await begun.wait()
+        if why == "failed":
+            raise sagas.Fail("no")
+
+    async def main() -> None:
+        saga = pair(function, fails)
+        async with sagas.open(place, [saga]) as store:
+            started = await store.start(saga, "k")
+            active = await until(lambda: [one for one in store.active_attempts("k") if one.progress is not None])
+            assert (active[0].step, active[0].progress) == ("long", 0.5)
+            begun.set()
+            if why == "aborted":
+                await started.abort()
+            end = await started.wait()
+            assert end.errors["long"] == f"sagas.Fail: {why}" and end.aborted is (why == "aborted")
+
+    run(main())
+
+
+def test_a_function_that_hears_of_the_end_of_the_store_goes_on_later(place: str) -> None:
+    """It says that nobody knows what it did, and is called again by the next program, with its key."""
+    keys: list[str] = []
+
+    async def long(task: Task) -> int:
+        keys.append(task.attempt_id)
+        if len(keys) == 1:
+            raise sagas.Unknown(await task.cancelled)
+        assert not task.cancelled.is_set()
+        return 7
+
+    async def main() -> None:
+        saga = simple(long)
+        async with sagas.open(place, [saga]) as store:
+            await store.start(saga, "k")
+            await until(lambda: keys)
+        async with sagas.open(place, [saga]) as store:
+            assert (await store.wait("k")).results == {"a": 7}
+
+    run(main())
+    assert keys == [keys[0]] * 2
+
+
+@pytest.mark.parametrize("timeout", [None, 60])
+@pytest.mark.parametrize("says", ["nothing", "fail", "result"])
+def test_a_function_that_is_cancelled_with_its_saga(place: str, says: str, timeout: float | None) -> None:
+    """What it raises then counts. Where it says nothing, nobody knows: it is called again, and not cancelled again."""
+    told: list[str] = []
+
+    async def long(task: Task) -> str:
+        told.append(f"call {task.attempt_id[-1]} {task.cancelled.is_set()}")
+        if len(told) > 1:
+            await asyncio.sleep(0.02)
+            return "again"
+        try:
+            await asyncio.sleep(60)
+        except asyncio.CancelledError:
+            told.append("cancelled")
+            if says == "fail":
+                raise sagas.Fail("stopped") from None
+            if says == "result":
+                return "done"
+            raise
+        return "never"
+
+    async def other(task: Task) -> None: ...
+
+    async def main() -> None:
+        saga = pair(long, other, cancel_on_abort=True, timeout=timeout)
+        async with sagas.open(place, [saga]) as store:
+            started = await store.start(saga, "k")
+            await until(lambda: told)
+            assert await started.abort()
+            end = await started.wait()
+            assert end.states["long"] == ("failed" if says == "fail" else "undone"), end
+
+    run(main())
+    again = ["call 1 True"] if says == "nothing" else []
+    assert told == ["call 1 False", "cancelled", *again]
+
+
+def test_what_cannot_be_cancelled_is_refused() -> None:
+    """The error says what to do instead."""
+    saga = sagas.Saga("s")
+
+    async def later(task: Task) -> None: ...
+
+    for words, text in [
+        ({"cancel_on_abort": 1}, "must be True or False"),
+        ({"cancel_on_abort": True, "transaction": True}, "a transaction cannot be cancelled"),
+    ]:
+        with pytest.raises(sagas.DefinitionError, match=text):
+            saga.step(**words)(later)  # type: ignore[call-overload]
+    with pytest.raises(sagas.DefinitionError, match="Declare it with async def, or let it look at task.cancelled"):
+        saga.step(cancel_on_abort=True, name="b")(lambda task: None)
+
+
+def test_what_is_wrong_with_progress_is_told_to_the_function() -> None:
+    """A copy in another process tells nobody, and is never cancelled."""
+    control = Control()
+    for words, error in [((2,), ValueError), ((True,), TypeError), (("1",), TypeError), ((0.5, 7), TypeError)]:
+        with pytest.raises(error):
+            control.tell(*words)  # type: ignore[arg-type]
+    control.tell(0.25, "x" * 300)
+    assert control.progress == (0.25, "x" * 200) and str(control.progress).startswith("25% xx")
+    assert pickle.loads(pickle.dumps(control)).progress is None
+
+    async def blocks(task: Task) -> None:
+        task.progress(0.75, "half")
+        task.cancelled.wait()
+
+    trial = sagas.testing.run(simple(blocks))
+    assert "Await task.cancelled" in trial.errors["a"] and trial.calls[0].progress == (0.75, "half")
+
+
+def test_the_command_shows_progress(place: str, capsys: pytest.CaptureFixture[str]) -> None:
+    """Of a function that runs, within some seconds; of one that is over nothing."""
+    goes_on = threading.Event()
+
+    def long(task: Task) -> str:
+        task.progress(0.25)
+        task.progress(0.4, "uploaded \0 3")
+        goes_on.wait(60)
+        return "done"
+
+    async def main() -> None:
+        saga, shell = simple(long, undo=0), Shell(place, capsys)
+        async with sagas.open(place, [saga]) as store:
+            await store.start(saga, "k")
+            step = await until(lambda: (one := shell.json("show", "k")["steps"][0])["progress"] and one)
+            assert (step["progress"], step["detail"]) == (0.4, "uploaded \\0 3")
+            assert "40% uploaded" in shell("show", "k")
+            goes_on.set()
+            await store.wait("k")
+            assert shell.json("show", "k")["steps"][0]["progress"] is None
+
+    run(main())
+
+
+def test_a_plain_function_past_its_time_is_named_with_where_it_is(tmp_path: pathlib.Path) -> None:
+    """The innermost call first, out to the step's function, and nothing of the package."""
+    told: list[sagas.Event] = []
+    goes_on = threading.Event()
+
+    def deeper(count: int) -> None:
+        deeper(count - 1) if count else goes_on.wait(60)
+
+    def long(task: Task) -> None:
+        deeper(20)
+
+    async def main() -> None:
+        saga = simple(long, timeout=0.05)
+        async with sagas.open(tmp_path / "store.db", [saga], on_event=told.append) as store:
+            started = await store.start(saga, "k")
+            (event,) = await until(lambda: [one for one in told if one.name == "step_overdue"])
+            goes_on.set()
+            await started.wait()
+            frames = str(event.detail).split(" < ")
+            assert len(frames) == 13 and frames[6] == ".." and "threading.py" in frames[0]
+            assert frames[-1].startswith(f"{__file__}:") and frames[-1].endswith(".long")
+
+    run(main())
+
+
+KILLED = """
+import asyncio, sys
+import sagas
+from witness import Witness
+witness = Witness(sys.argv[2])
+saga = sagas.Saga("killed")
+@saga.step(undo=0, keep=5, cancel_on_abort=True, backoff=sagas.Backoff(initial=0.01))
+async def long(task):
+    witness.note(what="call", key=task.attempt_id, cancelled=task.cancelled.is_set())
+    task.progress(0.5, "half")
+    if sys.argv[3] == "second":
+        raise sagas.Fail("stopped")
+    try:
+        await asyncio.sleep(600)
+    except asyncio.CancelledError:
+        witness.note(what="cancelled")
+        await asyncio.sleep(600)
+async def main():
+    async with sagas.open(sys.argv[1], [saga], node="one") as store:
+        run = await store.start(saga, "k")
+        while sys.argv[3] == "first":
+            await asyncio.sleep(0.01)
+            if any(one.progress for one in store.active_attempts("k")):
+                await run.abort()
+                break
+        end = await run.wait()
+        witness.note(what="end", states=end.states, aborted=end.aborted)
+asyncio.run(main())
+"""
+
+
+def test_a_program_that_is_killed_while_a_function_is_cancelled(place: str, tmp_path: pathlib.Path) -> None:
+    """The abort is kept: the next program calls the same attempt again, and it hears from its beginning that it is cancelled."""
+    here = pathlib.Path(__file__).parent
+    path = f"{here.parent / 'src'}{os.pathsep}{here}"
+    environment = os.environ | {"PYTHONPATH": path, "SAGAS_PROGRAM": program()}
+    notes = tmp_path / "notes"
+
+    def play(which: str) -> subprocess.Popen[bytes]:
+        words = [sys.executable, "-c", KILLED, place, str(tmp_path / "witness"), which]
+        return subprocess.Popen(words, env=environment)
+
+    async def main() -> None:
+        first = play("first")
+        await until(lambda: any(note["what"] == "cancelled" for note in notes_of(notes)))
+        first.send_signal(signal.SIGKILL)
+        first.wait()
+        second = play("second")
+        assert await asyncio.to_thread(second.wait, 60) == 0
+
+    with witness_at(tmp_path / "witness", notes):
+        run(main())
+    found = notes_of(notes)
+    keys = [note["key"] for note in found if note["what"] == "call"]
+    assert [note["what"] for note in found] == ["call", "cancelled", "call", "end"], json.dumps(found)
+    assert len({*keys}) == 1 and [note["cancelled"] for note in found if note["what"] == "call"] == [False, True]
+    assert found[-1]["aborted"] and found[-1]["states"] == {"long": "failed"}
+
+
+def test_a_worker_tells_its_progress_with_its_heartbeat(store: str | None, tmp_path: pathlib.Path) -> None:
+    """The service, its dashboard and the command show it. What is no progress is refused, and keeps nothing."""
+    one = 'format = 2\nname = "one"\n[[step]]\nname = "a"\nundo = "never"\n'
+    goes_on = threading.Event()
+    with served(tmp_path, {"one.toml": one}, store=store) as service, service.client() as client:
+        worker = sagas.Worker(service.url, wait=1.0, lease=1.5)
+
+        @worker.step("one", "a")
+        def a(task: Task) -> None:
+            task.progress(0.4, "uploaded")
+            goes_on.wait(60)
+
+        start(client, "one", "k")
+        with working(worker):
+
+            async def shown() -> Any:
+                return await until(lambda: client.get("/v1/sagas/k").json()["progress"])
+
+            assert run(shown()) == [{"step": "a", "fraction": 0.4, "detail": "uploaded"}]
+            assert "40% uploaded" in client.get("/ui/sagas/k").text
+            goes_on.set()
+            assert client.get("/v1/sagas/k/wait?seconds=60").json()["phase"] == "completed"
+        assert client.get("/v1/sagas/k").json()["progress"] == []
+        start(client, "one", "other")
+        (task,) = take(client, "one/a")
+        path, lease = f"/v1/tasks/{task['attempt_id']}/heartbeat", task["lease"]
+        for wrong in ({"progress": 2}, {"progress": "x"}, {"progress": 0.1, "detail": 7}):
+            assert client.post(path, json={"lease": lease, **wrong}).status_code == 422, wrong
+        assert client.post(path, json={"lease": "1.c0ffee", "progress": 0.5}).status_code == 403
+        assert client.get("/v1/sagas/other").json()["progress"] == []

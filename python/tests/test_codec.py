@@ -1,0 +1,272 @@
+"""A codec of inputs and results, over both kinds of database."""
+
+from __future__ import annotations
+
+import contextlib
+import dataclasses
+import datetime
+import os
+import pathlib
+import subprocess
+import sys
+import textwrap
+from typing import Any
+
+import pytest
+from cases import QUICK, Task, ended, run, simple, until
+from cryptography.fernet import Fernet
+from driving import program
+
+import sagas
+from sagas.cli import store_command
+from sagas.storage import admin
+
+HERE = pathlib.Path(__file__).resolve().parent
+SECRET = "4111-1111"
+OLD, NEW = Fernet.generate_key(), Fernet.generate_key()
+
+
+class Encryption:
+    """Encrypts by the newest of its keys, whose id goes with the data."""
+
+    def __init__(self, **keys: bytes) -> None:
+        self.keys, self.newest = keys, max(keys)
+
+    def encode(self, data: bytes) -> bytes:
+        return self.newest.encode() + b":" + Fernet(self.keys[self.newest]).encrypt(data)
+
+    def decode(self, data: bytes) -> bytes:
+        key, _, token = data.partition(b":")
+        return Fernet(self.keys[key.decode()]).decrypt(token)
+
+
+class Wrong:
+    """Fails, with the value in its text."""
+
+    def __init__(self, fails: bool = True) -> None:
+        self.fails = fails
+
+    def encode(self, data: bytes) -> bytes:
+        if self.fails:
+            raise ValueError(data.decode())
+        return data
+
+    def decode(self, data: bytes) -> bytes:
+        raise ValueError(data.decode())
+
+
+@dataclasses.dataclass
+class Card:
+    number: str
+
+
+def shop() -> sagas.Saga:
+    """Its input, each result and what a person says have the secret in them."""
+    made = sagas.Saga("shop")
+
+    @made.step(undo=1, keep=5)
+    async def pay(task: sagas.Task[Card]) -> Card:
+        assert task.input.number == SECRET
+        return Card(task.input.number)
+
+    @pay.compensation
+    async def pay_back(task: sagas.Task[Card]) -> str:
+        assert task.result.number == task.input.number == SECRET
+        return SECRET
+
+    @made.approval(needs=[pay], skip=9)
+    async def check(task: Task) -> None:
+        assert task.result_of(pay) == Card(SECRET)
+
+    @made.step(needs=[check], skip=1, backoff=QUICK)
+    def send(task: Task) -> Any:
+        assert task.result_of(check) == {"card": SECRET} and task.input == {"number": SECRET}
+        return [SECRET]
+
+    return made
+
+
+def holds_secret(place: str) -> list[str]:
+    """The tables that have the secret in them somewhere."""
+    tables = "sagas attempts suspensions operator_commands external_attempts event_log schedules"
+    found = tables.split() + (["pending_starts"] if place.startswith("postgresql:") else [])
+    with contextlib.closing(admin.connect(place)) as link:
+        return [name for name in found if SECRET in repr(link.ask(f"SELECT * FROM {name}"))]
+
+
+def test_nothing_of_a_value_is_stored(place: str) -> None:
+    """Across restarts; a newer key reads what an older one wrote; callers and steps see values."""
+
+    async def main() -> None:
+        kind = shop()
+        async with sagas.open(place, [kind], codec=Encryption(a=OLD)) as store:
+            for key in ("well", "fails"):
+                await store.start(kind, key, Card(SECRET))
+            await until(lambda: asked(place) == 2)
+        async with sagas.open(place, [kind], codec=Encryption(a=OLD, b=NEW)) as store:
+            assert not (await store.start(kind, "well", Card(SECRET))).new
+            with pytest.raises(sagas.KeyConflict):
+                await store.start(kind, "well", Card("another"))
+            await store.fail("fails", "check", "no", by="ann")
+            for _ in range(2):  # the same report is one
+                await store.complete("well", "check", {"card": SECRET}, by="ann")
+            end = await store.wait("well")
+            assert (
+                end.ok and end.results["send"] == [SECRET] and end.result_of("pay") == Card(SECRET)
+            )
+            assert (await store.wait("fails")).states["pay"] == "undone"
+            values = [event.value for event in await store.log("well") if event.event == "commit"]
+            assert values == [{"number": SECRET}, {"card": SECRET}, [SECRET]]
+            with pytest.raises(sagas.ConflictingReport):
+                await store.complete("well", "check", {"card": "another"})
+            hour = datetime.timedelta(hours=1)
+            await store.schedule("n", kind, {"number": SECRET}, every=hour)
+            assert [one.input for one in await store.schedules()] == [{"number": SECRET}]
+        async with sagas.open(place, [kind], codec=Encryption(a=OLD, b=NEW)) as store:
+            assert (await store.wait("well")).results["send"] == [SECRET]
+
+    run(main())
+    assert holds_secret(place) == []
+    assert store_command.main([place, "show", "well"]) == 0  # who has no key sees that there is one
+
+
+def asked(place: str) -> int:
+    with contextlib.closing(admin.connect(place)) as link:
+        return len(link.ask("SELECT 1 FROM suspensions WHERE reason = 'approval'"))
+
+
+def test_a_store_of_before(place: str) -> None:
+    """What was written without a codec can be read with one."""
+
+    async def main() -> None:
+        kind = shop()
+        async with sagas.open(place, [kind]) as store:
+            await store.start(kind, "k", Card(SECRET))
+            await until(lambda: asked(place))
+        async with sagas.open(place, [kind], codec=Encryption(a=OLD)) as store:
+            assert not (await store.start(kind, "k", Card(SECRET))).new
+            await store.complete("k", "check", {"card": SECRET})
+            assert (await store.wait("k")).results["send"] == [SECRET]
+
+    run(main())
+
+
+def test_a_key_that_is_not_there(place: str, caplog: pytest.LogCaptureFixture) -> None:
+    """The attempt waits and is not counted as failed; it goes on with the key."""
+
+    async def main() -> None:
+        kind = shop()
+        async with sagas.open(place, [kind], codec=Encryption(a=OLD)) as store:
+            await store.start(kind, "k", Card(SECRET))
+            await until(lambda: asked(place))
+        async with sagas.open(place, [kind], codec=Encryption(b=NEW)) as store:
+            with pytest.raises(sagas.CannotDecode, match="the codec could not decode it: KeyError"):
+                await store.start(kind, "k", Card(SECRET))
+            await store.complete("k", "check", {"card": SECRET})
+            (one,) = await until(store.attention)
+            assert one.why is sagas.AttentionReason.CANNOT_DECODE and one.step == "send"
+        async with sagas.open(place, [kind], codec=Encryption(a=OLD, b=NEW)) as store:
+            assert (await store.wait("k", 60)).ok
+
+    run(main())
+    assert SECRET not in caplog.text
+
+
+def test_a_codec_that_fails(tmp_path: pathlib.Path, caplog: pytest.LogCaptureFixture) -> None:
+    """Nothing is begun; a result that cannot be encoded is kept as one that is no JSON."""
+    codec = Wrong()
+
+    async def main() -> None:
+        async with sagas.open(tmp_path / "store.db", [kind], codec=codec) as store:
+            with pytest.raises(sagas.NotSerializable, match="could not encode it: ValueError$"):
+                await store.start(kind, "k", SECRET)
+            assert await store.count() == 0
+            codec.fails = False
+            await store.start(kind, "k", None)
+
+    def a(task: Task) -> str:
+        codec.fails = True
+        return SECRET
+
+    kind = simple(a)
+    run(main())
+    assert SECRET not in caplog.text
+    for wrong in ("aes", object()):
+        with pytest.raises(TypeError, match="codec="):
+            sagas.open("x.db", [kind], codec=wrong)  # type: ignore[arg-type]
+
+
+def test_a_client_and_a_worker(url: str) -> None:
+    """A client has the codec, too; workers over HTTP get and give plain values."""
+    made = sagas.Saga("made")
+    step = made.step(external=True, name="a")
+    step.compensation(external=True)
+
+    async def main() -> None:
+        codec = Encryption(a=OLD)
+        async with sagas.open(url, [made]):
+            pass
+        async with sagas.Client(url, codec=codec) as client:
+            for new in (True, False):
+                assert (await client.start(made, "k", {"card": SECRET})).new is new
+            assert holds_secret(url) == []
+            store = sagas.open(url, [made], codec=codec)
+            store.leased = True
+            async with store:
+                (task,) = await until(lambda: store.workers.claim([("made", "a", "run")], holder="w"))
+                assert task.task.input == {"card": SECRET}
+                await store.workers.report(task.attempt_id, task.lease, [SECRET], holder="w")
+                assert (await client.wait("k")).results == {"a": [SECRET]}
+                assert (await store.wait("k")).result_of(step) == [SECRET]
+
+    run(main())
+    assert holds_secret(url) == []
+
+
+def test_in_a_test_without_a_store() -> None:
+    """The simulation encodes and decodes as a store does."""
+    codec = Encryption(a=OLD)
+    trial = sagas.testing.run(
+        shop(), Card(SECRET), answers={"check": {"card": SECRET}}, codec=codec
+    )
+    assert trial.ok and trial.results["send"] == [SECRET]
+    with pytest.raises(sagas.NotSerializable):
+        sagas.testing.run(shop(), Card(SECRET), codec=Wrong())
+
+
+DRIVER = """
+    import asyncio, sagas, test_codec
+    async def main():
+        kind, codec = test_codec.shop(), test_codec.Encryption(a={key!r})
+        async with sagas.open({path!r}, [kind], codec=codec, lease=2.0) as store:
+            for number in range(99):
+                await store.start(kind, f"k{{number}}", test_codec.Card(test_codec.SECRET))
+                print("began", flush=True)
+    asyncio.run(main())
+"""
+
+
+def test_a_killed_programs_values_are_read(place: str, tmp_path: pathlib.Path) -> None:
+    """Whatever was on its way: what was begun has its input and its results."""
+    (file := tmp_path / "driver.py").write_text(textwrap.dedent(DRIVER.format(path=place, key=OLD)))
+    path = f"{HERE.parent / 'src'}:{HERE}"
+    environment = {**os.environ, "PYTHONPATH": path, "SAGAS_PROGRAM": program()}
+    with subprocess.Popen(
+        [sys.executable, "-u", str(file)], stdout=subprocess.PIPE, text=True, env=environment
+    ) as process:
+        assert process.stdout
+        for _ in range(30):
+            assert process.stdout.readline() == "began\n"
+        process.kill()
+
+    async def main() -> None:
+        async with sagas.open(place, [shop()], codec=Encryption(a=OLD), lease=2.0) as store:
+            found = await store.list(limit=200)
+            assert len(found) >= 30
+            for one in found:
+                await store.complete(one.key, "check", {"card": SECRET})
+            for one in found:
+                assert (await store.wait(one.key)).results["send"] == [SECRET]
+
+    run(main())
+    assert holds_secret(place) == []

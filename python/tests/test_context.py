@@ -1,0 +1,247 @@
+"""`context=` of a store: who gets it, when it is entered and left, and what is wrong with one."""
+
+from __future__ import annotations
+
+import asyncio
+import contextlib
+import datetime
+import pathlib
+import pickle
+from collections.abc import AsyncIterator, Callable, Iterator
+from typing import Any
+
+import pytest
+from cases import HOUR, Task, ended, run, until
+from serving import served, start
+from test_service_workers import working
+
+import sagas
+import sagas.testing
+from sagas.definition.task import Told
+
+
+class Clients:
+    """What functions share; each use of it is told."""
+
+    def __init__(self) -> None:
+        self.told: list[str] = []
+        self.is_open = True
+
+    def use(self, task: Task) -> None:
+        assert self.is_open
+        self.told.append(f"{task.step}{' undo' if task.is_compensation else ''}")
+
+
+def shop(inside: bool) -> sagas.Saga:
+    """Each way in which a function is called."""
+    shop = sagas.Saga("shop")
+
+    @shop.step(undo=1, keep=5)
+    async def simple(task: Task) -> None:
+        task.context.use(task)
+
+    @simple.compensation
+    def back(task: Task) -> None:
+        task.context.use(task)
+
+    @shop.step(needs=[simple], undo=0)
+    def plain(task: Task) -> None:
+        task.context.use(task)
+
+    @shop.step(needs=[plain], undo=0, timeout=60)
+    async def timed(task: Task) -> None:
+        await asyncio.sleep(0)
+        task.context.use(task)
+
+    @shop.step(needs=[timed], undo=0, transaction=inside)
+    async def within(task: Task) -> None:
+        task.context.use(task)
+
+    def at(task: Task) -> Any:
+        task.context.use(task)
+        return datetime.timedelta(0)
+
+    @shop.wait(until=at, needs=[within])
+    def pause(task: Task) -> None:
+        task.context.use(task)
+
+    @shop.approval(needs=[pause])
+    def ask(task: Task) -> object:
+        task.context.use(task)
+        return sagas.Rejected("no")
+
+    return shop
+
+
+USES = ["simple", "plain", "timed", "within", "pause", "pause", "ask", "simple undo"]
+
+
+def factories(clients: Clients) -> dict[str, Any]:
+    """Each form of a context."""
+
+    @contextlib.asynccontextmanager
+    async def later() -> AsyncIterator[Clients]:
+        async with asyncio.TaskGroup(), asyncio.timeout(60):  # both ask for one task
+            yield clients
+        clients.is_open = False
+
+    @contextlib.contextmanager
+    def plain() -> Iterator[Clients]:
+        yield clients
+        clients.is_open = False
+
+    class Made:
+        def __enter__(self) -> Clients:
+            return clients
+
+        def __exit__(self, *_: object) -> None:
+            clients.is_open = False
+
+    return {"object": clients, "async": later, "plain": plain, "class": Made}
+
+
+@pytest.mark.parametrize("form", ["object", "async", "plain", "class"])
+def test_each_function_gets_it_and_it_is_left_behind_the_last(place: str, form: str) -> None:
+    """However it is called: simple, in a thread, in its time, in a transaction, as a compensation."""
+    clients = Clients()
+    saga, context = shop(inside=place.startswith("postgresql")), factories(clients)[form]
+
+    async def main() -> None:
+        async with sagas.open(place, [saga], context=context) as store:
+            assert (await ended(store, saga)).phase == "recovered"
+            assert clients.is_open
+        assert clients.is_open is (form == "object")
+
+    run(main())
+    assert clients.told == USES
+    clients = Clients()
+    trial = sagas.testing.run(saga if form == "object" else shop(False), context=factories(clients)[form])
+    assert trial.phase == "recovered" and clients.told == USES
+
+
+def test_a_store_without_async_opens_and_closes_it_in_one_task(place: str) -> None:
+    """Its calls come from other tasks of the loop; a task group would refuse that."""
+    clients = Clients()
+    saga = shop(inside=False)
+    with sagas.open_sync(place, [saga], context=factories(clients)["async"]) as store:
+        assert store.start(saga, "k").wait(60).phase == "recovered"
+    assert not clients.is_open and clients.told == USES
+
+
+def test_it_is_made_anew_for_what_goes_on(place: str) -> None:
+    """It is there before the first function of a saga that is taken up is called, and while functions end."""
+    saga, told = sagas.Saga("again"), list[str]()
+
+    @contextlib.asynccontextmanager
+    async def made() -> AsyncIterator[list[str]]:
+        told.append("enter")
+        yield told
+        told.append("leave")
+
+    @saga.step(tries=2, backoff=HOUR)
+    async def slow(task: Task) -> None:
+        task.context.append("begin")
+        await asyncio.sleep(0.05 if len(told) < 4 else 0)
+        task.context.append("end")
+
+    async def main() -> None:
+        async with sagas.open(place, [saga], context=made) as store:
+            await store.start(saga, "k")
+            await until(lambda: "begin" in told)
+        async with sagas.open(place, [saga], context=made) as store:
+            await store.wait("k")
+            await ended(store, saga, "again")
+
+    run(main())
+    assert told == ["enter", "begin", "end", "leave", "enter", "begin", "end", "leave"]
+
+
+def bad_factories() -> dict[str, tuple[Callable[[], Any], type[Exception], str]]:
+    """What is wrong with a factory."""
+
+    async def forgot() -> None:
+        ...
+
+    @contextlib.asynccontextmanager
+    async def fails() -> AsyncIterator[None]:
+        raise ConnectionError("no pool")
+        yield
+
+    manager = "Return a context manager"
+    return {
+        "a dict": (lambda: {}, TypeError, f"returned dict. {manager}"),
+        "a coroutine": (forgot, TypeError, f"returned coroutine. {manager}"),
+        "fails": (fails, ConnectionError, "no pool"),
+    }
+
+
+@pytest.mark.parametrize("what", bad_factories())
+def test_a_store_whose_context_cannot_be_entered_is_not_open(place: str, what: str) -> None:
+    """The error is the factory's own, and nobody has the store afterwards."""
+    factory, error, text = bad_factories()[what]
+    saga = shop(inside=False)
+
+    async def main() -> None:
+        with pytest.raises(error, match=text):
+            async with sagas.open(place, [saga], context=factory):
+                raise AssertionError
+        async with sagas.open(place, [saga], context=Clients()) as store:
+            assert (await ended(store, saga)).phase == "recovered"
+
+    run(main())
+
+
+def test_what_is_raised_as_it_is_left_is_raised_by_close(tmp_path: pathlib.Path) -> None:
+    """The store is closed all the same."""
+    saga = shop(inside=False)
+
+    @contextlib.contextmanager
+    def made() -> Iterator[Clients]:
+        yield Clients()
+        raise ConnectionError("left")
+
+    async def main() -> None:
+        with pytest.raises(ConnectionError, match="left"):
+            async with sagas.open(tmp_path / "store.db", [saga], context=made) as store:
+                await ended(store, saga)
+        async with sagas.open(tmp_path / "store.db", [saga], context=Clients()) as store:
+            assert (await store.wait("k")).phase == "recovered"
+
+    run(main())
+
+
+def test_a_store_without_one_says_so(tmp_path: pathlib.Path) -> None:
+    """Also a copy in another process, which never gets the object itself."""
+    saga = sagas.Saga("none")
+
+    @saga.step
+    async def asks(task: Task) -> Any:
+        return task.context
+
+    end = sagas.testing.run(saga)
+    assert "the store was opened without one: give it by sagas.open(.., context=..)" in end.errors["asks"]
+    copied = pickle.loads(pickle.dumps(sagas.Task(Told("s", "k", "a", False, 1, "t-0", "1", {}, None))))
+    with pytest.raises(RuntimeError, match="this task is a copy in another process"):
+        copied.context
+
+
+def test_a_worker_has_its_own(tmp_path: pathlib.Path) -> None:
+    """It is entered before the first task and left behind the last; an async one is refused."""
+    one = 'format = 2\nname = "one"\n[[step]]\nname = "a"\nundo = "never"\n'
+    clients = Clients()
+
+    def a(task: Task) -> None:
+        task.context.use(task)
+
+    with served(tmp_path, {"one.toml": one}) as service, service.client() as client:
+        context = factories(clients)["plain"]
+        worker = sagas.Worker(service.url, wait=1.0, context=context)
+        worker.step("one", "a")(a)
+        start(client, "one", "k")
+        with working(worker):
+            assert client.get("/v1/sagas/k/wait?seconds=60").json()["phase"] == "completed"
+    assert clients.told == ["a"] and not clients.is_open
+    worker = sagas.Worker("http://127.0.0.1:1", context=factories(clients)["async"])
+    worker.step("one", "a")(a)
+    with pytest.raises(TypeError, match="a worker has no event loop"):
+        worker.run()

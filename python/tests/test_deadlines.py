@@ -1,0 +1,178 @@
+"""Sagas that are aborted when their time is over, whoever drives them then."""
+
+from __future__ import annotations
+
+import asyncio
+import datetime
+import os
+import pathlib
+import signal
+from typing import Any
+
+import pytest
+from cases import Task, run, until
+from test_command import Shell
+
+import sagas
+import sagas.testing
+
+SOON = datetime.timedelta(seconds=0.3)
+UTC = datetime.timezone.utc
+
+
+def slow(**words: Any) -> sagas.Saga:
+    """A step that is undone, and an approval that nobody gives."""
+    saga = sagas.Saga("slow", **words)
+
+    @saga.step(keep=9, undo=1)
+    def hold(task: Task) -> float:
+        assert task.deadline is not None and task.deadline.tzinfo is UTC
+        return task.deadline.timestamp()
+
+    @hold.compensation
+    def release(task: Task) -> None:
+        assert task.deadline and task.deadline.timestamp() == task.result
+
+    @saga.approval(needs=[hold])
+    def sign(task: Task) -> None: ...
+
+    return saga
+
+
+def at(place: str, kind: sagas.Saga, events: list[str]) -> Any:
+    """A store whose events are heard."""
+    return sagas.open(
+        place, [kind], node="one", lease=2, on_event=lambda one: events.append(one.name)
+    )
+
+
+@pytest.mark.parametrize("way", ["timedelta", "datetime", "definition"])
+def test_it_is_aborted_in_time(place: str, way: str) -> None:
+    """Its steps know when; one that ended before, and one without, go on."""
+    kind, events = slow(deadline=SOON if way == "definition" else None), list[str]()
+
+    async def main() -> None:
+        async with at(place, kind, events) as store:
+            late: Any = {"timedelta": SOON, "datetime": datetime.datetime.now(UTC) + SOON}.get(way)
+            run = await store.start(kind, "k", deadline=late)
+            done = await store.start(kind, "done", deadline=3600)
+            await until(lambda: [a for a in store.active_attempts("done") if a.waits == "approval"])
+            await store.complete("done", "sign")
+            assert (await done.wait(60)).ok
+            end = await run.wait(60)
+            assert end.aborted and end.states == {"hold": "undone", "sign": "waiting"}
+            await asyncio.sleep(1.2)
+            assert events.count("saga_overdue") == events.count("saga_aborted") == 1
+
+    run(main())
+
+
+def test_over_a_kill(place: str) -> None:
+    """It is kept with the saga: the next program aborts one whose time was over meanwhile."""
+    kind = slow()
+    child = os.fork()
+    if child == 0:
+
+        async def first() -> None:
+            async with at(place, kind, []) as store:
+                await store.start(kind, "k", deadline=1.5)
+                os.kill(os.getpid(), signal.SIGKILL)
+
+        asyncio.run(first())
+    assert os.waitstatus_to_exitcode(os.waitpid(child, 0)[1]) == -signal.SIGKILL
+    events = list[str]()
+
+    async def second() -> None:
+        async with at(place, kind, events) as store:
+            assert (again := await store.start(kind, "k", deadline=3600)) and not again.new
+            assert (await again.wait(60)).states == {"hold": "undone", "sign": "waiting"}
+
+    run(second())
+    assert "saga_overdue" in events
+
+
+def test_the_command_shows_it(place: str, capsys: pytest.CaptureFixture[str]) -> None:
+    """As a time to a person, as a number to programs; of a saga without one it has none."""
+    kind, shell = slow(), Shell(place, capsys)
+
+    async def fill() -> float:
+        async with at(place, kind, []) as store:
+            await store.start(kind, "k", deadline=3600)
+            await store.start(kind, "none", deadline=None)
+            late = {one.key: one.deadline for one in await store.list()}
+            assert late["none"] is None and late["k"]
+            return late["k"]
+
+    when = run(fill())
+    told = datetime.datetime.fromtimestamp(when, UTC).strftime("%Y-%m-%d %H:%M:%SZ")
+    assert f"\ndeadline {told}\n" in shell("show", "k") and "deadline" not in shell("show", "none")
+    assert shell.json("show", "k")["deadline"] == when
+    assert [one["deadline"] for one in shell.json("list")] == [when, None]
+
+
+def test_from_a_client(url: str) -> None:
+    """The time counts from the start of the client, though no node has taken it yet."""
+    kind, events = slow(), list[str]()
+
+    async def main() -> None:
+        async with at(url, kind, []):
+            pass
+        async with sagas.Client(url) as client:
+            started = await client.start(kind, "k", deadline=SOON)
+            await asyncio.sleep(0.4)
+            async with at(url, kind, events):
+                assert (await started.wait(60)).aborted
+
+    run(main())
+    assert events.count("saga_overdue") == 1
+
+
+def test_of_another_node(url: str) -> None:
+    """A node that takes a shard over has the deadlines of its sagas."""
+    kind, events = slow(), list[str]()
+
+    async def main() -> None:
+        one = sagas.open(url, [kind], node="one", lease=1)
+        async with one as store:
+            await store.start(kind, "k", deadline=1.5)
+        two = sagas.open(
+            url, [kind], node="two", lease=1, on_event=lambda one: events.append(one.name)
+        )
+        async with two as store:
+            assert (await store.wait("k", 60)).aborted
+
+    run(main())
+    assert events.count("saga_overdue") == 1
+
+
+def test_in_a_simulation() -> None:
+    """The clock advances to it, and no further than it has to."""
+    kind = sagas.Saga("days")
+
+    @kind.wait(until=datetime.timedelta(days=3))
+    def later(task: Task) -> None: ...
+
+    ended = sagas.testing.run(kind, deadline=datetime.timedelta(days=1))
+    assert ended.aborted and ended.seconds == 86400 and ended.states == {"later": "waiting"}
+    assert sagas.testing.run(kind, deadline=datetime.timedelta(days=4)).ok
+
+
+@pytest.mark.parametrize(
+    ("deadline", "error"),
+    [
+        ("soon", TypeError),
+        (-1, ValueError),
+        (float("nan"), ValueError),
+        (datetime.timedelta.max, ValueError),
+        (datetime.datetime(2030, 1, 1), TypeError),
+    ],
+)
+def test_what_is_no_time(tmp_path: pathlib.Path, deadline: Any, error: type[Exception]) -> None:
+    kind = slow()
+    with sagas.open_sync(tmp_path / "store.db", [kind]) as store:
+        with pytest.raises(error, match="deadline="):
+            store.start(kind, "k", deadline=deadline)
+        assert store.get("k") is None
+    if not isinstance(deadline, (datetime.datetime, datetime.timedelta)):
+        with pytest.raises(sagas.DefinitionError, match="deadline="):
+            slow(deadline=deadline)

@@ -1,0 +1,218 @@
+"""More definitions in a store than a shard has, over both kinds of database."""
+
+from __future__ import annotations
+
+import contextlib
+import json
+import os
+import pathlib
+import subprocess
+import sys
+import textwrap
+from typing import Any
+
+import pytest
+from cases import Task, ended, run, simple, until
+from driving import program
+
+import sagas
+from sagas.runtime import retention
+from sagas.storage import admin
+
+HERE = pathlib.Path(__file__).resolve().parent
+COUNT = 135
+"""Definitions, in three sets."""
+
+
+def many(first: int = 0, count: int = COUNT) -> list[sagas.Saga]:
+    """Sagas of two steps: the second waits for a person where the input says so."""
+    return [make(f"kind-{number}") for number in range(first, first + count)]
+
+
+def make(name: str, version: int = 1) -> sagas.Saga:
+    made = sagas.Saga(name, version=version)
+
+    @made.step
+    async def a(task: Task) -> str:
+        return task.idempotency_key
+
+    @a.compensation
+    async def undo_a(task: Task) -> None:
+        ...
+
+    @made.approval(needs=[a])
+    async def ask(task: Task) -> Any:
+        return None if task.input else sagas.Approved(name)
+
+    return made
+
+
+def rows(path: str, query: str) -> list[tuple[Any, ...]]:
+    """What a store has, beside the programs."""
+    with contextlib.closing(admin.connect(path)) as link:
+        return link.ask(query)
+
+
+def test_a_store_has_as_many_definitions_as_wanted(place: str) -> None:
+    """Sagas of each, before and behind a restart; a shard has 64 of them at most."""
+    kinds = many()
+
+    async def main() -> None:
+        async with sagas.open(place, kinds) as store:
+            for kind in kinds:
+                await store.start(kind, f"{kind.name}-done")
+                await store.start(kind, f"{kind.name}-open", True)
+            for kind in kinds:
+                assert (await store.wait(f"{kind.name}-done")).results["ask"] == kind.name
+            with pytest.raises(sagas.KeyConflict):
+                await store.start(kinds[0], "kind-134-open", True)
+            assert not (await store.start(kinds[134], "kind-134-open", True)).new
+        async with sagas.open(place, [*reversed(kinds), *many(COUNT, 10)]) as store:
+            for kind in kinds:
+                await store.complete(f"{kind.name}-open", "ask", kind.name)
+            for kind in kinds:
+                assert (await store.wait(f"{kind.name}-open")).results["ask"] == kind.name
+            assert {told[:3] for told in (await store.audit()).values()} == {"yes"}
+
+    run(main())
+    sets = [len(json.loads(texts)) for (texts,) in rows(place, "SELECT texts FROM definition_sets")]
+    assert sorted(sets) == [7, 64, 64]
+
+
+def test_full_shards_of_several_sets(
+    tmp_path: pathlib.Path, monkeypatch: pytest.MonkeyPatch
+) -> None:
+    """Each set has a shard of its own that takes sagas, and the next one of the set follows it."""
+    monkeypatch.setattr("sagas.definition.compiled.SHARD_CAPACITY", 3)
+    monkeypatch.setattr("sagas.definition.compiled.MOST_DEFINITIONS", 2)
+    path, kinds = str(tmp_path / "store.db"), many(0, 5)
+
+    async def main() -> None:
+        async with sagas.open(path, kinds) as store:
+            for number in range(4):
+                for kind in kinds:
+                    assert (await ended(store, kind, f"{kind.name}-{number}")).ok
+            await until(
+                lambda: rows(path, "SELECT count(*) FROM shards WHERE closed = 1") == [(5,)]
+            )
+
+    run(main())
+    found = rows(path, "SELECT shard, id, key, texts, definition_index FROM sagas JOIN shards ON "
+                 "shard = id / 1000 JOIN definition_sets USING (definition_set)")  # fmt: skip
+    assert len({shard for shard, *_ in found}) == 8 and len(found) == 20
+    for _, _, key, texts, index in found:
+        assert f'name = "{key.rpartition("-")[0]}"' in json.loads(texts)[index]
+
+
+def test_definitions_without_a_shard_leave(place: str) -> None:
+    """With the last shard of theirs; a version that no open saga has is not asked for any more."""
+    first, second = make("kind", 1), make("kind", 2)
+
+    async def main(kinds: list[sagas.Saga], key: str, waits: bool) -> None:
+        async with sagas.open(place, kinds) as store:
+            await store.start(kinds[-1], key, waits)
+            await (store.wait(key) if not waits else until(lambda: store.list(phase="open")))
+            # shards that take no sagas any more are closed behind what is waited for
+            await until(lambda: len(rows(place, "SELECT 1 FROM shards WHERE closed = 0")) == 1)
+
+    async def rest() -> None:
+        async with sagas.open(place, [second]) as store:
+            await store.abort_all()
+            await store.wait_idle()
+            await until(lambda: not rows(place, "SELECT 1 FROM shards WHERE closed = 0"))
+
+    run(main([first], "a", False))
+    run(main([first, second], "b", False))
+    run(main([second], "c", True))
+    with sagas.open_sync(place, [second]) as store:
+        kept = store.definitions()
+    assert kept == [sagas.DefinitionCount("kind", 1, 0, 1), sagas.DefinitionCount("kind", 2, 1, 2)]
+    assert rows(place, "SELECT count(*) FROM definition_sets") == [(3,)]
+    assert retention.prune(place, 0).sagas == 2  # they ended, and their shards are closed
+    assert rows(place, "SELECT count(*) FROM definition_sets") == [(1,)]
+    run(rest())
+    assert retention.prune(place, 0).sagas == 1
+    assert rows(place, "SELECT count(*) FROM definition_sets") == [(0,)]
+
+
+def test_a_start_beside_a_deletion(url: str) -> None:
+    """Shards are made while sets without one are deleted: each shard has its set."""
+
+    async def main() -> None:
+        async with sagas.open(url, kinds) as store:
+            for kind in kinds:
+                assert (await ended(store, kind, kind.name)).ok
+
+    for turn in range(3):
+        kinds = [simple(lambda task: 1)] if not turn else many(turn, 1)
+        run(main())
+        retention.prune(url, 0)
+    job = subprocess.Popen([sys.executable, "-c", PRUNE.format(url=url)], env=environment())
+    try:
+        for _ in range(5):
+            kinds = many(100, 2)
+            run(main())
+            for shard, texts in rows(
+                url,
+                "SELECT shard, texts FROM shards LEFT JOIN definition_sets USING (definition_set)",
+            ):
+                assert texts, shard
+    finally:
+        job.kill()
+        job.wait()
+
+
+PRUNE = """
+from sagas.runtime import retention
+from sagas.storage import admin
+while True:
+    retention.prune({url!r}, 0)
+    with admin.writing({url!r}) as link:
+        link.drop_definitions()
+"""
+DRIVER = """
+    import asyncio, sagas
+    from test_definition_sets import many
+    async def main():
+        kinds = many()
+        async with sagas.open({path!r}, kinds, lease=2.0) as store:
+            for kind in kinds:
+                await store.start(kind, kind.name, True)
+                print(kind.name, flush=True)
+            await store.serve()
+    asyncio.run(main())
+"""
+
+
+def environment() -> dict[str, str]:
+    """Of a program of its own."""
+    path = f"{HERE.parent / 'src'}:{HERE}"
+    return {**os.environ, "PYTHONPATH": path, "SAGAS_PROGRAM": program()}
+
+
+def test_a_killed_programs_sagas_of_all_sets_go_on(place: str, tmp_path: pathlib.Path) -> None:
+    """What it said was begun is there, under its definition, and is done once."""
+    (file := tmp_path / "driver.py").write_text(textwrap.dedent(DRIVER.format(path=place)))
+    began = []
+    with subprocess.Popen(
+        [sys.executable, "-u", str(file)], stdout=subprocess.PIPE, text=True, env=environment()
+    ) as process:
+        assert process.stdout
+        began = [process.stdout.readline().rstrip() for _ in range(COUNT)]
+        process.kill()
+    assert began == [f"kind-{number}" for number in range(COUNT)]
+
+    async def main() -> None:
+        async with sagas.open(place, many(), lease=2.0) as store:
+            for key in began:
+                await store.complete(key, "ask", key)
+                end = await store.wait(key)
+                assert end.saga == key and end.results["ask"] == key
+            assert {told[:3] for told in (await store.audit()).values()} == {"yes"}
+
+    run(main())
+    runs = rows(
+        place,
+        "SELECT key, value FROM attempts JOIN sagas USING (id) WHERE step = 0 AND event = 'commit'",
+    )
+    assert {*began} <= {key for key, _ in runs} and len(runs) == len({value for _, value in runs})

@@ -1,0 +1,80 @@
+"""Public docstrings are complete and true: parameters, attributes, exceptions and examples."""
+
+from __future__ import annotations
+
+import ast
+import asyncio
+import builtins
+import doctest
+import inspect
+import operator
+import re
+from collections.abc import Iterator
+from typing import Any
+
+import pytest
+
+import sagas
+
+
+def names() -> Iterator[tuple[str, Any]]:
+    """Every public name that has a docstring of its own, and those of its class."""
+    for module in (sagas, sagas.testing, sagas.celery):
+        for name in module.__all__:
+            thing, full = getattr(module, name), f"{module.__name__}.{name}".removeprefix("sagas.")
+            if callable(thing) and thing is not sagas.Cost:
+                yield full, thing
+            if inspect.isclass(thing) and not issubclass(thing, (BaseException, str, tuple)):
+                for part in dir(thing):
+                    found = inspect.getattr_static(thing, part)
+                    if part[0] != "_" and (inspect.isroutine(found) or isinstance(found, property)):
+                        yield f"{full}.{part}", getattr(thing, part)
+
+
+def section(doc: str, word: str) -> set[str]:
+    """The names that a section of a docstring describes."""
+    found = re.search(rf"^{word}:\n((?:    .*\n|\n)+)", doc + "\n", re.M)
+    return set(re.findall(r"^    (\w+):", found[1], re.M)) if found else set()
+
+
+def described(thing: Any) -> set[str]:
+    """What a docstring describes, or one that it refers to."""
+    doc = inspect.getdoc(thing) or ""
+    if inspect.isclass(thing) and inspect.isfunction(vars(thing).get("__init__")):
+        doc += "\n\n" + (inspect.getdoc(vars(thing)["__init__"]) or "")
+    found = section(doc, "Args") | section(doc, "Attributes")
+    for name in re.findall(r"See `([\w.]+)`", doc):
+        found |= described(operator.attrgetter(name)(sagas))
+    return found
+
+
+def declared(kind: type) -> set[str]:
+    """The attributes of a class: its fields, and what its functions set."""
+    tree = ast.walk(ast.parse(inspect.getsource(kind)))
+    sets = (it for it in tree if isinstance(it, ast.Attribute) and isinstance(it.ctx, ast.Store))
+    found = {it.attr for it in sets if isinstance(it.value, ast.Name) and it.value.id == "self"}
+    return found | {it.name for it in getattr(kind, "__dataclass_fields__", {}).values()}
+
+
+@pytest.mark.parametrize("name, thing", names(), ids=lambda it: it if isinstance(it, str) else "")
+def test_says_what_it_takes_and_raises(name: str, thing: Any) -> None:
+    doc = (thing.fget.__doc__ if isinstance(thing, property) else thing.__doc__) or ""
+    assert 0 < len(doc.partition("\n")[0]) <= 80, "the first line is one short sentence"
+    plain = inspect.isclass(thing) and issubclass(thing, (BaseException, str, tuple))
+    wanted = declared(thing) if inspect.isclass(thing) and not plain else set()
+    if not (plain or isinstance(thing, property) or "Made by" in doc):
+        wanted |= set(inspect.signature(thing).parameters) - {"self"}
+    assert {word for word in wanted if word[0] != "_"} <= described(thing)
+    for error in section(inspect.cleandoc(doc), "Raises"):
+        assert issubclass(getattr(sagas, error, None) or getattr(builtins, error), Exception)
+
+
+def test_examples_run(tmp_path: Any, monkeypatch: pytest.MonkeyPatch) -> None:
+    monkeypatch.chdir(tmp_path)
+    told, count = {"sagas": sagas, "asyncio": asyncio}, 0
+    for name, thing in sorted(names(), key=lambda it: it[0] != "Saga"):  # its order is the others'
+        for example in doctest.DocTestFinder(recurse=False).find(thing, name, globs=told):
+            assert not doctest.DocTestRunner().run(example, clear_globs=False).failed, name
+            told.update(example.globs)
+            count += bool(example.examples)
+    assert count >= 10

@@ -1,0 +1,402 @@
+"""Attempts that are used up: they fail, ask a person or go on, over restarts and kills."""
+
+from __future__ import annotations
+
+import asyncio
+import json
+import os
+import pathlib
+import signal
+from collections.abc import Callable
+from typing import Any
+
+import pytest
+from cases import HOUR, QUICK, Task, ended, run, until
+
+import sagas
+import sagas.testing
+from sagas.cli import store_command
+from sagas.core.attention import AttentionReason
+
+ASKS = AttentionReason.EXHAUSTED
+
+
+class Notes:
+    """A witness outside of the store: a file with a line for each call, and what fails still."""
+
+    def __init__(self, folder: pathlib.Path) -> None:
+        self.path, self.broken = folder / "calls", folder / "broken"
+        self.broken.touch()
+        self.strike = 0
+        """the call in which this process is killed"""
+
+    def called(self, task: Task) -> None:
+        """Note it, before anything else; it fails as long as it is broken."""
+        with open(self.path, "a") as file:
+            file.write(f"{task.idempotency_key} {task.attempt}\n")
+        if len(self.lines) == self.strike:
+            os.kill(os.getpid(), signal.SIGKILL)
+        if self.broken.exists():
+            raise RuntimeError("the bank is closed")
+
+    @property
+    def lines(self) -> list[str]:
+        """The calls."""
+        return self.path.read_text().splitlines() if self.path.exists() else []
+
+
+def order(notes: Notes, **words: Any) -> sagas.Saga:
+    """Charges and sends; the sending fails, and then the refund. By defaults alone."""
+    order = sagas.Saga("order")
+
+    @order.step(keep=sagas.NEVER)
+    def charge(task: Task) -> int:
+        return 40
+
+    @charge.compensation(backoff=QUICK, **words)
+    def refund(task: Task) -> None:
+        notes.called(task)
+
+    @order.step(needs=[charge])
+    def send(task: Task) -> None:
+        raise sagas.Fail("sold out")
+
+    return order
+
+
+def alone(notes: Notes, **words: Any) -> sagas.Saga:
+    """One step, which fails as long as it is broken."""
+    saga = sagas.Saga("alone")
+
+    @saga.step(name="a", backoff=words.pop("backoff", QUICK), undo=0, **words)
+    def call(task: Task) -> str:
+        notes.called(task)
+        return "done"
+
+    return saga
+
+
+def killed(place: str, kind: sagas.Saga, keys: list[str]) -> None:
+    """Start sagas in a process that is killed by one of their functions."""
+    child = os.fork()
+    if child == 0:
+        try:
+
+            async def main() -> None:
+                async with sagas.open(place, [kind], node="one", lease=2) as store:
+                    await asyncio.gather(*(ended(store, kind, key) for key in keys))
+
+            asyncio.run(main())
+        finally:
+            os._exit(0)
+    assert os.waitstatus_to_exitcode(os.waitpid(child, 0)[1]) == -signal.SIGKILL
+
+
+async def asked(store: sagas.Store) -> list[sagas.Attention]:
+    """What waits for a person."""
+    return [one for one in await store.attention() if one.why is ASKS]
+
+
+def opened(
+    place: str, kind: sagas.Saga, hook: Callable[[sagas.Event], object] | None = None
+) -> Any:
+    """The next program."""
+    return sagas.open(place, [kind], node="one", lease=2, on_event=hook)
+
+
+@pytest.mark.parametrize("answer", ["retry", "complete", "fail"])
+@pytest.mark.parametrize("strike", [1, 0])
+def test_a_refund_that_fails_asks(
+    place: str, tmp_path: pathlib.Path, answer: str, strike: int
+) -> None:
+    """By defaults alone: it is in the inbox and told, also where the program was killed as it was
+    called; a restart calls nothing again; one answer counts, and the same answer again is one."""
+    notes, events = Notes(tmp_path), list[str]()
+    notes.strike = strike
+    kind = order(notes)
+    if strike:
+        killed(place, kind, ["k"])
+    notes.strike = 0
+
+    async def first() -> None:
+        async with opened(place, kind, lambda one: events.append(one.name)) as store:
+            await store.start(kind, "k")
+            (one,) = await until(lambda: asked(store))
+            told = (one.key, one.saga, one.step, one.undo, one.detail)
+            assert told == ("k", "order", "charge", True, "RuntimeError: the bank is closed")
+            with pytest.raises(TimeoutError, match="retry, complete or fail with undo=True"):
+                await store.wait("k", 0.05)
+
+    async def second() -> None:
+        async with opened(place, kind) as store:
+            count = len(notes.lines)
+            (one,) = await until(lambda: asked(store))
+            with pytest.raises(sagas.StepNotWaiting, match="'send' is not to be retried"):
+                await store.retry("k", "send")
+            assert len(notes.lines) == count
+            notes.broken.unlink()
+            if answer == "retry":
+                await store.retry("k", "charge", undo=True, by="ann", note="it opened")
+            elif answer == "complete":
+                await store.complete("k", "charge", undo=True, by="ann")
+                await store.complete("k", "charge", undo=True)
+            else:
+                await store.fail("k", "charge", "lost", undo=True, by="ann")
+            end = await store.wait("k", 60)
+            assert end.states["charge"] == ("undo_failed" if answer == "fail" else "undone")
+            assert len(notes.lines) == count + (answer == "retry")
+            assert not await asked(store)
+            with pytest.raises(sagas.StepNotWaiting):
+                await store.retry("k", "charge", undo=True)
+
+    run(first())
+    run(second())
+    assert events.count("step_exhausted") == 1
+    assert len({line.split()[0] for line in notes.lines}) == 1
+
+
+def test_a_step_asks_where_it_says_so(place: str, tmp_path: pathlib.Path) -> None:
+    """Each waits by itself, and is answered by itself or with all of a filter; `Fail` asks nobody;
+    one whose saga is aborted has failed."""
+    notes = Notes(tmp_path)
+    kind = alone(notes, on_exhausted="ask", tries=2)
+    keys = ["a", "b", "c", "d"]
+
+    async def main() -> None:
+        async with opened(place, kind) as store:
+
+            async def counted(count: int) -> bool:
+                return len(await asked(store)) == count
+
+            runs = [await store.start(kind, key) for key in keys]
+            await until(lambda: counted(4))
+            assert len(notes.lines) == 8
+            assert await store.abort("d") and (await runs[3].wait()).states == {"a": "failed"}
+            assert await store.retry_all(saga="other") == 0 == await store.retry_all(step="b")
+            await store.complete("c", "a", "by hand")
+            assert (await runs[2].wait()).results == {"a": "by hand"}
+            assert await store.retry_all(limit=1) == 1  # it fails again, and asks again
+            await until(lambda: len(notes.lines) == 9)
+            await until(lambda: counted(2))
+            assert await store.fail_all("no", saga="alone", step="a") == 2
+            assert [(await runs[n].wait()).states["a"] for n in (0, 1)] == ["failed"] * 2
+
+    run(main())
+
+
+@pytest.mark.parametrize("more", [{"max_attempts": 12}, {"on_exhausted": "retry"}])
+def test_more_attempts_than_a_definition_has(
+    place: str, tmp_path: pathlib.Path, more: dict[str, Any]
+) -> None:
+    """They are counted over a kill: the call that was struck is made once more."""
+    notes = Notes(tmp_path)
+    notes.strike = 6
+    kind = alone(notes, tries=3, **more)
+    killed(place, kind, ["k"])
+    notes.strike = 0
+
+    async def main() -> None:
+        async with opened(place, kind) as store:
+            started = await store.start(kind, "k")
+            if "max_attempts" in more:
+                end = await started.wait(60)
+                assert end.states == {"a": "failed"} and len(notes.lines) in (12, 13)
+                return
+            await until(lambda: len(notes.lines) > 20)
+            notes.broken.unlink()
+            assert (await started.wait(60)).ok
+
+    run(main())
+    assert {line.split()[1] for line in notes.lines} == {"1", "2", "3"}
+
+
+def test_a_function_says_when(place: str, tmp_path: pathlib.Path) -> None:
+    """`RetryAfter` goes before the back-off, in attempts of the definition and behind them, and
+    before one of an earlier program."""
+    pauses = [0.01, 0.02, 0.03]
+    saga, seen = sagas.Saga("soon"), list[float]()
+
+    @saga.step(undo=0, backoff=HOUR, tries=2, max_attempts=4)
+    def a(task: Task) -> int:
+        seen.append(task.attempt)
+        if len(seen) <= 3:
+            raise sagas.RetryAfter(pauses[len(seen) - 1] if len(seen) < 3 else 0.4, "too many")
+        return len(seen)
+
+    async def main(is_last: bool) -> None:
+        async with opened(place, saga) as store:
+            started = await store.start(saga, "k")
+            if is_last:
+                assert (await started.wait(60)).results == {"a": 4}
+            else:
+                await until(lambda: len(seen) == 3)
+                await until(lambda: store.active_attempts("k")[0].waits == "retry")
+
+    run(main(False))
+    run(main(True))
+    assert seen == [1, 2, 2, 2] and str(sagas.RetryAfter(2)) == "in 2 s"
+
+
+def test_work_of_a_worker(place: str) -> None:
+    """What an external worker reports as failed asks, too, and is offered again."""
+    saga = sagas.Saga("far")
+    saga.step(name="a", external=True, undo=0, on_exhausted="ask")
+    word = [("far", "a", "run")]
+
+    async def main() -> None:
+        store = opened(place, saga)
+        store.leased = True
+        async with store:
+            started = await store.start(saga, "k")
+            (task,) = await store.workers.claim(word, wait=30)
+            assert await store.workers.report(task.attempt_id, task.lease, error="no")
+            assert not await store.workers.report(task.attempt_id, task.lease, error="no")
+            await until(lambda: asked(store))
+            assert await store.workers.claim(word) == []
+            await store.retry("k", "a")
+            (again,) = await store.workers.claim(word, wait=30)
+            assert again.attempt_id == task.attempt_id and again.lease != task.lease
+            with pytest.raises(sagas.LeaseLost):
+                await store.workers.report(task.attempt_id, task.lease, error="late")
+            assert await store.workers.report(again.attempt_id, again.lease, 5)
+            assert (await started.wait(60)).results == {"a": 5}
+
+    run(main())
+
+
+def test_from_elsewhere(url: str, tmp_path: pathlib.Path) -> None:
+    """A client retries, and the node that has the saga does it."""
+    notes = Notes(tmp_path)
+    kind = alone(notes, on_exhausted="ask")
+
+    async def main() -> None:
+        async with opened(url, kind) as store, sagas.Client(url) as client:
+            started = await store.start(kind, "k")
+            await until(lambda: asked(store))
+            assert [one.why for one in await client.attention()] == [ASKS]
+            with pytest.raises(sagas.StepNotWaiting, match="no step 'b'"):
+                await client.retry("k", "b")
+            notes.broken.unlink()
+            await client.retry("k", kind.steps[0])
+            assert (await started.wait(60)).ok
+            with pytest.raises(sagas.StepNotWaiting, match="saga 'k' has ended"):
+                await client.retry("k", "a")
+
+    run(main())
+
+
+def test_the_command(
+    tmp_path: pathlib.Path, capsys: pytest.CaptureFixture[str]
+) -> None:
+    """What waits is listed, and retried one by one or all of a name."""
+    notes, place = Notes(tmp_path), str(tmp_path / "store.db")
+    kind = alone(notes, on_exhausted="ask")
+
+    def said(*words: str) -> str:
+        assert store_command.main([place, *words]) == 0
+        return capsys.readouterr().out
+
+    async def main() -> None:
+        async with opened(place, kind) as store:
+            runs = [await store.start(kind, key) for key in ("a", "b")]
+
+            async def are_asked() -> bool:
+                return len(await asked(store)) == 2
+
+            await until(are_asked)
+            assert "attempts used up" in said("attention") and "a person: its" in said("pending")
+            assert '"exhausted"' in said("pending", "--json")
+            notes.broken.unlink()
+            done = await asyncio.to_thread(said, "retry", "a", "a")
+            assert done == "a: a is attempted again\n" and (await runs[0].wait()).ok
+            every = "retry", "--all", "--saga", "alone"
+            assert said(*every) == "1 step: --yes retries it\n" == said(*every, "--step", "a")
+            assert said(*every, "--step", "b") == said("retry", "--all", "--label", "x=1") == "0 steps\n"
+            done = await asyncio.to_thread(said, *every, "--yes")
+            assert done == "b: a is attempted again\n" and (await runs[1].wait()).ok
+            assert await asyncio.to_thread(said, "retry", "--all", "--yes") == ""
+
+    run(main())
+    for words in (
+        ["retry"], ["retry", "a"], ["retry", "a", "a", "--all"], ["retry", "a", "a", "--yes"],
+        ["complete", "a"], ["complete", "--all", "--undo"], ["complete", "a", "a", "--step", "a"],
+        ["fail", "a", "a"], ["fail", "--all"], ["fail", "a", "a", "no", "--error", "no"],
+    ):  # fmt: skip
+        assert store_command.main([place, *words]) == 2
+
+
+def test_the_command_reports_all(place: str, tmp_path: pathlib.Path, capsys: pytest.CaptureFixture[str]) -> None:
+    """A count first; then each of the filter alone has the result, or has failed."""
+    notes = Notes(tmp_path)
+    kind, lots = alone(notes, on_exhausted="ask"), {"x": "done", "y": "failed", "z": "left"}
+
+    def said(*words: str) -> str:
+        assert store_command.main([place, *words]) == 0
+        return capsys.readouterr().out
+
+    async def main() -> None:
+        async with opened(place, kind) as store:
+            runs = {
+                f"{lot}-{number}": await store.start(kind, f"{lot}-{number}", labels={"lot": lot})
+                for lot in lots
+                for number in range(2)
+            }
+
+            async def are_asked() -> bool:
+                return len(await asked(store)) == 6
+
+            await until(are_asked)
+            done = "complete", "--all", "--label", "lot=x", "--result", "7"
+            assert said(*done) == "2 steps: --yes completes them\n"
+            assert json.loads(said(*done, "--json")) == {"count": 2}
+            failed = "fail", "--all", "--label", "lot=y", "--error", "it is down"
+            assert said(*failed) == "2 steps: --yes fails them\n" and len(await asked(store)) == 6
+            told = await asyncio.to_thread(said, *done, "--yes", "--note", "seen")
+            assert sorted(told.splitlines()) == ["x-0: a succeeded", "x-1: a succeeded"]
+            told = await asyncio.to_thread(said, *failed, "--yes")
+            assert sorted(told.splitlines()) == ["y-0: a failed", "y-1: a failed"]
+            for number in range(2):
+                assert (await runs[f"x-{number}"].wait()).results == {"a": 7}
+                assert (await runs[f"y-{number}"].wait()).errors == {"a": "it is down"}
+            assert sorted({one.key for one in await asked(store)}) == ["z-0", "z-1"]
+
+    run(main())
+
+
+def test_in_a_simulation() -> None:
+    """A test says what a person answers; without an answer it is told what to say."""
+    saga = sagas.Saga("order")
+
+    @saga.step(keep=sagas.NEVER)
+    def charge(task: Task) -> int:
+        return 40
+
+    @charge.compensation
+    def refund(task: Task) -> None:
+        ...
+
+    @saga.step(needs=[charge], max_attempts=12, tries=2)
+    def send(task: Task) -> None:
+        ...
+
+    fails: dict[str, Any] = {"fail": {"send": 12}, "fail_undo": {"charge": 1}}
+    with pytest.raises(LookupError, match="the compensation of step 'charge' failed, its attempts"):
+        sagas.testing.run(saga, **fails)
+    trial = sagas.testing.run(saga, **fails, answers={"charge": None})
+    assert trial.states == {"charge": "undone", "send": "failed"}
+    assert len([call for call in trial.calls if call.step == "send"]) == 12
+    assert sagas.testing.run(saga, fail={"send": 11}).ok
+
+
+@pytest.mark.parametrize(
+    ("words", "told"),
+    [
+        ({"on_exhausted": "again"}, "on_exhausted='again' of its function: must be one of fail, ask"),
+        ({"max_attempts": 0}, "max_attempts=0 of its function: must be an integer >= tries="),
+        ({"max_attempts": 2, "tries": 3}, "max_attempts=2 .*: must be an integer >= tries=3"),
+        ({"max_attempts": 20, "on_exhausted": "retry"}, "max_attempts=20 .* has no effect with on_exhausted='retry'"),
+    ],
+)
+def test_wrong_words(words: dict[str, Any], told: str, tmp_path: pathlib.Path) -> None:
+    with pytest.raises(sagas.DefinitionError, match=told):
+        alone(Notes(tmp_path), **words)

@@ -1,0 +1,274 @@
+"""`concurrency_by=`, a limit for each key, and `fair_by=`, slots that tenants share."""
+
+from __future__ import annotations
+
+import asyncio
+import contextlib
+import dataclasses
+import os
+import pathlib
+import signal
+import subprocess
+import sys
+import threading
+import time
+from collections import Counter, defaultdict
+from collections.abc import Iterator
+from typing import Any
+
+import psycopg
+import pytest
+from cases import Task, run, until
+from driving import program
+from witness import notes_of, witness_at
+
+import sagas
+
+
+@dataclasses.dataclass
+class Order:
+    """An input with a type."""
+
+    account: str
+    number: int = 0
+
+
+class Inside:
+    """Who is in a function, by account, and how many at once. The first ones wait until there are as many as there may be."""
+
+    def __init__(self, accounts: int) -> None:
+        self.accounts, self.until = accounts, time.monotonic() + 60
+        self.now: Counter[str] = Counter()
+        self.most: Counter[str] = Counter()
+        self.all = 0
+        self.lock = threading.Lock()
+
+    def is_first(self) -> bool:
+        """Whether others are to come in before anybody leaves."""
+        return self.all < self.accounts and time.monotonic() < self.until
+
+    @contextlib.contextmanager
+    def call(self, account: str) -> Iterator[None]:
+        with self.lock:
+            self.now[account] += 1
+            self.most[account] = max(self.most[account], self.now[account])
+            self.all = max(self.all, sum(self.now.values()))
+        try:
+            yield
+        finally:
+            with self.lock:
+                self.now[account] -= 1
+
+
+def bank(inside: Inside, in_thread: bool, **limits: Any) -> sagas.Saga:
+    """A step that is called once at a time for each account."""
+    saga = sagas.Saga("bank")
+
+    def wait(task: sagas.Task[Order]) -> None:
+        with inside.call(task.input.account):
+            time.sleep(0.01)
+            while inside.is_first():
+                time.sleep(0.005)
+
+    async def later(task: sagas.Task[Order]) -> None:
+        with inside.call(task.input.account):
+            await asyncio.sleep(0.01)
+            while inside.is_first():
+                await asyncio.sleep(0.005)
+
+    saga.step(name="move", concurrency_by=lambda order: order.account, **limits)(wait if in_thread else later)
+    return saga
+
+
+@pytest.mark.parametrize("in_thread", [False, True])
+@pytest.mark.parametrize("limit", ["concurrency", "fleet_concurrency"])
+def test_a_limit_holds_for_each_key_by_itself(place: str, limit: str, in_thread: bool) -> None:
+    """Calls of one account go one behind the other, and those of others beside them; nothing of a key is kept behind it."""
+    inside = Inside(3)
+    saga = bank(inside, in_thread, **{limit: 1})
+
+    async def main() -> None:
+        async with sagas.open(place, [saga], concurrency=8) as store:
+            runs = [await store.start(saga, f"k{n}", Order(f"a{n % 3}", n)) for n in range(12)]
+            for one in runs:
+                assert (await one.wait()).ok
+            coordinator = store._inside
+            assert not coordinator.slots._limits
+            assert not any(gate.is_used() for gate in coordinator.executor.fleet._gates.values())
+
+    run(main())
+    assert set(inside.most.values()) == {1} and inside.all == 3, inside.most
+    if place.startswith("postgresql") and limit == "fleet_concurrency":
+        with psycopg.connect(place) as link:
+            assert link.execute("SELECT count(*) FROM sagas.limit_slots").fetchone() == (0,)
+
+
+def test_a_key_is_of_all_nodes(url: str) -> None:
+    """Two nodes never call two steps of one account at the same time."""
+    inside = Inside(2)
+    one, two = bank(inside, False, fleet_concurrency=1), bank(inside, False, fleet_concurrency=1)
+
+    async def main() -> None:
+        async with sagas.open(url, [one], node="one") as first, sagas.open(url, [two], node="two") as second:
+            runs = [await first.start(one, f"one-{n}", Order(f"a{n % 2}")) for n in range(6)]
+            runs += [await second.start(two, f"two-{n}", Order(f"a{n % 2}")) for n in range(6)]
+            for each in runs:
+                assert (await each.wait()).ok
+
+    run(main())
+    assert set(inside.most.values()) == {1} and inside.all == 2
+
+
+def test_a_key_that_cannot_be_said_fails_the_step(place: str) -> None:
+    """Its function is not called; a key is JSON."""
+
+    def account(given: Any) -> Any:
+        if given == "odd":
+            return object()
+        return given["account"]
+
+    saga = sagas.Saga("odd")
+
+    @saga.step(concurrency=1, concurrency_by=account)
+    async def move(task: Task) -> None:
+        assert task.input == {"account": None}
+
+    async def main() -> None:
+        async with sagas.open(place, [saga]) as store:
+            errors = []
+            for number, given in enumerate([{}, "odd", {"account": None}]):
+                end = await (await store.start(saga, f"k{number}", given)).wait()
+                errors.append(end.errors.get("move", "done"))
+            assert errors[0] == "KeyError: 'account'" and errors[1].startswith("NotSerializable: ") and errors[2] == "done"
+
+    run(main())
+
+
+def test_what_is_no_limit_with_a_key_is_refused() -> None:
+    """Each error says what to do."""
+    saga = sagas.Saga("s")
+
+    async def move(task: Task) -> None: ...
+
+    def by(given: Any) -> Any: ...
+
+    for words, text in [
+        ({"concurrency_by": "account", "concurrency": 1}, "a plain function of the input"),
+        ({"concurrency_by": move, "concurrency": 1}, "a plain function of the input"),
+        ({"concurrency_by": by}, "Set concurrency or fleet_concurrency"),
+        ({"concurrency_by": by, "fleet_concurrency": 1, "rate_limit": (1, 1)}, "cannot be combined with rate_limit"),
+    ]:
+        with pytest.raises(sagas.DefinitionError, match=text):
+            sagas.Saga("s").step(name="a", **words)(move)  # type: ignore[call-overload]
+    with pytest.raises(sagas.DefinitionError, match="needs a function in this program"):
+        saga.step(name="b", external=True, concurrency=1, concurrency_by=by)  # type: ignore[call-overload]
+    with pytest.raises(sagas.DefinitionError, match="fair_by=1: must be a plain function"):
+        sagas.Saga("s", fair_by=1)  # type: ignore[arg-type]
+
+
+@pytest.mark.parametrize("again", [False, True])
+def test_a_small_tenant_does_not_wait_for_a_large_one(place: str, again: bool) -> None:
+    """Also where a store is opened again with what was begun. Sagas of one tenant go in their order."""
+    called: list[str] = []
+    opened = asyncio.Event()
+    saga = sagas.Saga("shop", fair_by=lambda given: given["tenant"])
+
+    @saga.step
+    async def work(task: Task) -> None:
+        called.append(task.input["tenant"])
+        await opened.wait()
+
+    @saga.step(needs=[work])
+    def more(task: Task) -> None:
+        called.append(task.input["tenant"])
+
+    async def start(store: sagas.Store) -> None:
+        for number in range(10):
+            await store.start(saga, f"large-{number}", {"tenant": "large"})
+        await store.start(saga, "small", {"tenant": "small"})
+
+    async def main() -> None:
+        nonlocal opened
+        if again:
+            async with sagas.open(place, [saga], concurrency=1, shutdown_timeout=0) as store:
+                await start(store)
+                await until(lambda: called)
+            called.clear()
+        async with sagas.open(place, [saga], concurrency=1) as store:
+            if not again:
+                await start(store)
+            await until(lambda: called)
+            opened.set()
+            await store.wait_idle()
+            assert (await store.wait("small")).ok and called.index("small") <= 2, called
+            assert called.count("small") == 2 and len(called) == 22
+
+    run(main())
+
+
+def test_whose_a_saga_is_cannot_be_said(tmp_path: pathlib.Path, caplog: pytest.LogCaptureFixture) -> None:
+    """It is nobody's, which the log says without the input."""
+    saga = sagas.Saga("shop", fair_by=lambda given: given["tenant"])
+
+    @saga.step
+    async def work(task: Task) -> None: ...
+
+    async def main() -> None:
+        async with sagas.open(tmp_path / "store.db", [saga]) as store:
+            assert (await (await store.start(saga, "k", {"secret": 7})).wait()).ok
+
+    run(main())
+    assert caplog.text.count("fair_by raised KeyError. Such sagas share one tenant") == 1 and "secret" not in caplog.text
+
+
+KILLED = """
+import asyncio, sys
+import sagas
+from witness import Witness
+witness = Witness(sys.argv[2])
+saga = sagas.Saga("bank", fair_by=lambda given: given["account"])
+@saga.step(concurrency=1, fleet_concurrency=1, concurrency_by=lambda given: given["account"])
+async def move(task):
+    witness.note(what="begin", key=task.key, account=task.input["account"])
+    await asyncio.sleep(0.02)
+    witness.note(what="end", key=task.key, account=task.input["account"])
+async def main():
+    witness.note(what="open")
+    async with sagas.open(sys.argv[1], [saga], node="one", concurrency=4) as store:
+        for number in range(24):
+            await store.start(saga, f"k{number}", {"account": number % 3})
+        await store.wait_idle()
+        assert all([(await store.wait(f"k{number}")).ok for number in range(24)])
+asyncio.run(main())
+"""
+
+
+def test_a_program_that_is_killed_while_keys_are_taken(place: str, tmp_path: pathlib.Path) -> None:
+    """No key stays taken, and in each run of the program one saga of an account is called at a time."""
+    here = pathlib.Path(__file__).parent
+    environment = os.environ | {"PYTHONPATH": f"{here.parent / 'src'}{os.pathsep}{here}", "SAGAS_PROGRAM": program()}
+    notes = tmp_path / "notes"
+
+    async def main() -> None:
+        for kill in (3, 9, None):
+            words = [sys.executable, "-c", KILLED, place, str(tmp_path / "witness")]
+            process = subprocess.Popen(words, env=environment)
+            if kill:
+                await until(lambda: sum(note["what"] == "end" for note in notes_of(notes)) >= kill)
+                process.send_signal(signal.SIGKILL)
+            assert (await asyncio.to_thread(process.wait, 120) == 0) is (kill is None)
+
+    with witness_at(tmp_path / "witness", notes):
+        run(main())
+    busy: dict[int, str] = {}
+    ended = defaultdict(int)
+    for note in notes_of(notes):
+        if note["what"] == "open":
+            busy.clear()
+        elif note["what"] == "begin":
+            assert note["account"] not in busy, note
+            busy[note["account"]] = note["key"]
+        else:
+            assert busy.pop(note["account"]) == note["key"]
+            ended[note["key"]] += 1
+    assert len(ended) == 24 and sum(ended.values()) <= 24 + 2 * 3

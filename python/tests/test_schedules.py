@@ -1,0 +1,310 @@
+"""Schedules: their times, and their sagas, once each over all nodes."""
+
+from __future__ import annotations
+
+import asyncio
+import contextlib
+import datetime
+import os
+import pathlib
+import subprocess
+import sys
+import textwrap
+import time
+from collections import Counter
+from typing import Any
+
+import pytest
+from cases import Task, run, simple, until
+from driving import program
+from test_command import Shell
+
+import sagas
+from sagas.definition import timing
+from sagas.runtime import scheduler
+from sagas.storage import admin
+from sagas.storage.schedules import Schedules
+from sagas.testing import schedule_times
+
+HERE = pathlib.Path(__file__).resolve().parent
+UTC = datetime.timezone.utc
+DAY = 86400.0
+START = datetime.datetime(2026, 3, 1, 12, tzinfo=UTC).timestamp()
+EVERY = datetime.timedelta(hours=6)
+
+
+class Clock:
+    """A wall clock that is set."""
+
+    def __init__(self, now: float = START) -> None:
+        self.now = now
+
+    def __call__(self) -> float:
+        return self.now
+
+
+def nightly(**words: Any) -> sagas.Saga:
+    return simple(lambda task: task.input, **words)
+
+
+def keys(path: str) -> list[str]:
+    """The keys of all sagas, in order."""
+    with contextlib.closing(admin.connect(path)) as link:
+        return [key for (key,) in link.ask("SELECT key FROM sagas ORDER BY key")]
+
+
+TIMES = [
+    ("0 2 * * *", "UTC", "2026-03-01 12:00", ["03-02 02:00", "03-03 02:00"]),
+    ("*/20 9-10 * * mon-fri", "UTC", "2026-02-27 10:30", ["02-27 10:40", "03-02 09:00"]),
+    ("15,45 0 1 JAN *", "UTC", "2026-03-01 00:00", ["01-01 00:15", "01-01 00:45"]),
+    ("0 0 29 2 *", "UTC", "2026-03-01 00:00", ["02-29 00:00", "02-29 00:00"]),
+    ("0 0 13 * 5", "UTC", "2026-02-07 00:00", ["02-13 00:00", "02-20 00:00"]),
+    ("0 0 * * 7", "UTC", "2026-02-27 00:00", ["03-01 00:00", "03-08 00:00"]),
+    ("0 0 */10 * 1", "UTC", "2026-03-01 00:00", ["05-11 00:00", "06-01 00:00"]),
+    ("@weekly", "UTC", "2026-02-27 00:00", ["03-01 00:00", "03-08 00:00"]),
+    ("5 0 * * *", "Asia/Kathmandu", "2026-03-01 00:00", ["03-01 18:20", "03-02 18:20"]),
+    # the hour from two to three is left out on the 29th of March, and there twice on the 25th of
+    # October
+    ("30 2 * * *", "Europe/Berlin", "2026-03-28 12:00", ["03-29 01:30", "03-30 00:30"]),
+    ("30 2,3 * * *", "Europe/Berlin", "2026-03-29 00:00", ["03-29 01:30", "03-30 00:30"]),
+    ("30 2 * * *", "Europe/Berlin", "2026-10-24 12:00", ["10-25 00:30", "10-26 01:30"]),
+    ("30 * * * *", "Europe/Berlin", "2026-10-25 00:00", ["10-25 00:30", "10-25 01:30"]),
+    ("30 * * * *", "Europe/Berlin", "2026-03-29 00:00", ["03-29 00:30", "03-29 01:30"]),
+    ("0 */12 * * *", "Europe/Berlin", "2026-03-28 12:00", ["03-28 23:00", "03-29 10:00"]),
+]  # fmt: skip
+
+
+@pytest.mark.parametrize("cron, zone, after, wanted", TIMES)
+def test_times_of_an_expression(cron: str, zone: str, after: str, wanted: list[str]) -> None:
+    start = datetime.datetime.fromisoformat(after).replace(tzinfo=UTC)
+    found = schedule_times(cron=cron, timezone=zone, after=start, count=len(wanted))
+    assert [f"{at:%m-%d %H:%M}" for at in found] == wanted
+
+
+@pytest.mark.parametrize("cron", [None, "* * * * *", "0 0 29 2 *", "30 2 * 3,10 *", "*/7 3 1 * 1"])
+def test_times_of_many_years_are_not_gone_through(cron: str | None) -> None:
+    """The last one that was missed, and the next one, as if each had been looked at."""
+    every, zone = (None if cron else datetime.timedelta(seconds=1)), "Europe/Berlin"
+    when = timing.timing(cron, every, zone, "last")
+    began = time.monotonic()
+    for now in (START + 3 * 366 * DAY, START + 20 * 366 * DAY + 7):
+        (last,), later = when.due(when.next_after(START), now, 100)
+        assert last <= now < later == when.next_after(last)
+        assert when.next_after(last - 1) == last
+    assert time.monotonic() - began < 5
+
+
+def test_times_in_equal_distances() -> None:
+    """They are the same whenever the schedule is declared."""
+    start = datetime.datetime(2026, 3, 1, 12, 0, tzinfo=UTC)
+    found = schedule_times(every=datetime.timedelta(minutes=45), after=start, count=2)
+    assert found == [start.replace(minute=45), start.replace(hour=13, minute=30)]
+
+
+WRONG = [
+    ({}, "cron= or every="),
+    ({"cron": "* * * * *", "every": EVERY}, "cron= or every="),
+    ({"cron": "* * * *"}, "must have five fields"),
+    ({"cron": "60 * * * *"}, "minute '60': must be from 0 to 59"),
+    ({"cron": "* * * * 1-0"}, "the range is empty"),
+    ({"cron": "* * * foo *"}, "month 'foo': must be from 1 to 12"),
+    ({"cron": "*/0 * * * *"}, "the range is empty"),
+    ({"cron": "1.5 * * * *"}, "must be *, a number"),
+    ({"cron": "0 0 31 2 *"}, "this day never comes"),
+    ({"cron": 7}, "cron=7"),
+    ({"every": datetime.timedelta(0)}, "at least a second"),
+    ({"every": "1h"}, "at least a second"),
+    ({"cron": "* * * * *", "timezone": "Europe/Bonn"}, "a time zone of the system"),
+    ({"cron": "* * * * *", "timezone": "../../etc/passwd"}, "a time zone of the system"),
+    ({"cron": "* * * * *", "catch_up": "some"}, "must be one of last, all, skip"),
+    ({"name": "a@b", "every": EVERY}, "without '@'"),
+    ({"name": "", "every": EVERY}, "without '@'"),
+    ({"name": "a\nb", "every": EVERY}, "without '@'"),
+]
+
+
+def test_schedules_that_are_none(tmp_path: pathlib.Path) -> None:
+    """Nothing is kept of them."""
+
+    async def main() -> None:
+        async with sagas.open(tmp_path / "store.db", [kind := nightly()]) as store:
+            for words, text in WRONG:
+                given: dict[str, Any] = {"name": "n", **words}
+                with pytest.raises(sagas.InvalidSchedule) as caught:
+                    await store.schedule(given.pop("name"), kind, **given)
+                assert text in str(caught.value)
+            with pytest.raises(sagas.DefinitionError):
+                await store.schedule("n", nightly(), every=EVERY)
+            with pytest.raises(sagas.NotSerializable):
+                await store.schedule("n", kind, object(), every=EVERY)
+            for change in (store.pause_schedule, store.resume_schedule, store.remove_schedule):
+                with pytest.raises(sagas.NoSuchSchedule):
+                    await change("n")
+            assert await store.schedules() == []
+
+    run(main())
+
+
+def test_a_schedule_starts_sagas(place: str) -> None:
+    """Of real time: each time's saga has its input and labels; a removed one starts no more."""
+
+    async def main() -> None:
+        async with sagas.open(place, [kind := nightly()]) as store:
+            second = datetime.timedelta(seconds=1)
+            for _ in range(2):
+                await store.schedule("tick", kind, {"n": 1}, every=second, labels={"by": "tick"})
+            found = await until(lambda: store.list(labels={"by": "tick"}))
+            end = await store.wait(found[0].key)
+            assert end.results == {"a": {"n": 1}} and found[0].key.startswith("tick@20")
+            await until(lambda: len(keys(place)) >= 2)
+            (one,) = await store.schedules()
+            assert (one.name, one.saga, one.every, one.paused) == ("tick", "simple", 1.0, False)
+            await store.remove_schedule("tick")
+            assert await store.schedules() == []
+
+    run(main())
+
+
+@pytest.mark.parametrize("catch_up", ["last", "all", "skip"])
+def test_times_that_were_missed(place: str, catch_up: str, monkeypatch: pytest.MonkeyPatch) -> None:
+    """No program ran for two days; a paused schedule misses nothing; what is changed is new."""
+    monkeypatch.setattr(scheduler, "MOST", 3)
+    clock = Clock()
+
+    async def main() -> None:
+        async with sagas.open(place, [kind := nightly()], clock=clock) as store:
+            await store.schedule("n", kind, every=EVERY, catch_up=catch_up)
+            await store.schedule("p", kind, every=EVERY, catch_up="all")
+            await store.pause_schedule("p")
+            assert [one.paused for one in await store.schedules()] == [False, True]
+        clock.now += 2 * DAY
+        missed = [
+            f"n@2026-03-0{day}T{hour:02}:00:00Z" for day in (1, 2, 3) for hour in (0, 6, 12, 18)
+        ][3:11]
+        wanted = missed if catch_up == "all" else missed[-1:]  # which is not late
+        async with sagas.open(place, [kind], clock=clock) as store:
+            await until(lambda: is_at(store, START + 2 * DAY))
+            assert keys(place) == wanted
+            await store.resume_schedule("p")
+            found = {one.name: one for one in await store.schedules()}
+            assert {one.next_at for one in found.values()} == {START + 2 * DAY + 6 * 3600}
+            assert found["n"].last_at == START + 2 * DAY and found["p"].last_at is None
+            await store.schedule("n", kind, cron="0 2 * * *", timezone="Europe/Berlin")
+            (one, _) = await store.schedules()
+            assert one.next_at == START + 2 * DAY + 13 * 3600 and one.every is None
+        clock.now += DAY / 2 + 120
+        async with sagas.open(place, [kind], clock=clock) as store:
+            await store.schedule("s", kind, every=EVERY, catch_up="skip")
+            await until(lambda: len(keys(place)) == len(wanted) + 2)
+            await until(lambda: is_at(store, START + 2 * DAY + 12 * 3600, "p"))
+            assert keys(place)[-2:] == ["p@2026-03-03T18:00:00Z", "p@2026-03-04T00:00:00Z"]
+
+    async def is_at(store: sagas.Store, at: float, name: str = "n") -> bool:
+        return any((one.name, one.last_at) == (name, at) for one in await store.schedules())
+
+    run(main())
+
+
+def test_a_saga_that_cannot_be_started(tmp_path: pathlib.Path) -> None:
+    """The key has another saga: that is told and kept, and the next time comes."""
+    told: list[sagas.Event] = []
+    path, clock = str(tmp_path / "store.db"), Clock()
+
+    async def main() -> None:
+        other = nightly()
+        async with sagas.open(path, [other], clock=clock, on_event=told.append) as store:
+            await store.start(other, "n@2026-03-01T18:00:00Z", "mine")
+            await store.schedule("n", other, every=EVERY)
+            clock.now += 6 * 3600
+            await store.schedule("m", other, every=EVERY)  # so that the store is looked at
+            (one,) = await until(lambda: failed(store))
+            assert one.error and one.error.startswith("KeyConflict: key 'n@2026-03-01T18:00:00Z'")
+            assert one.next_at == START + 12 * 3600
+
+    async def failed(store: sagas.Store) -> list[Any]:
+        return [one for one in await store.schedules() if one.error]
+
+    run(main())
+    assert [one.key for one in told if one.name == "schedule_failed"] == ["n@2026-03-01T18:00:00Z"]
+
+
+def test_the_command(place: str, capsys: pytest.CaptureFixture[str]) -> None:
+    shell, clock = Shell(place, capsys), Clock()
+    with sagas.open_sync(place, [kind := nightly()], clock=clock) as store:
+        store.schedule("night", kind, {"n": 1}, cron="0 2 * * *", timezone="Europe/Berlin")
+        store.schedule("tick", kind, every=datetime.timedelta(hours=1))
+    assert shell("schedules").splitlines()[1:] == [
+        "night  simple  0 2 * * * Europe/Berlin        2026-03-02 01:00:00Z",
+        "tick   simple  every 3600 s                   2026-03-01 13:00:00Z",
+    ]
+    assert shell("schedules", "pause", "tick") == "tick: paused\n"
+    assert [one["paused"] for one in shell.json("schedules")] == [False, True]
+    assert (
+        "paused" in shell("schedules") and shell("schedules", "resume", "tick") == "tick: resumed\n"
+    )
+    assert shell.json("schedules", "remove", "tick") == {"name": "tick", "done": "removed"}
+    shell("schedules", "remove", "tick", status=1)
+    shell("schedules", "remove", status=2)
+
+
+NODE = """
+    import asyncio, datetime, os, sagas
+    kind = sagas.Saga("simple")
+    @kind.step(name="a")
+    async def a(task):
+        with open({notes!r}, "a") as file:
+            file.write(task.key + "\\n")
+    async def main():
+        async with sagas.open({path!r}, [kind], lease=2.0) as store:
+            second = datetime.timedelta(seconds=1)
+            for name in ("n", "m"):
+                await store.schedule(name, kind, every=second, catch_up="all")
+            print("open", flush=True)
+            await store.serve()
+    asyncio.run(main())
+"""
+
+
+@contextlib.contextmanager
+def node(file: pathlib.Path, path: str, notes: pathlib.Path) -> Any:
+    """A program with a schedule; it is killed in the end."""
+    file.write_text(textwrap.dedent(NODE.format(path=path, notes=str(notes))))
+    environment = {**os.environ, "PYTHONPATH": str(HERE.parent / "src"), "SAGAS_PROGRAM": program()}
+    with subprocess.Popen(
+        [sys.executable, "-u", str(file)], stdout=subprocess.PIPE, text=True, env=environment
+    ) as process:
+        assert process.stdout and process.stdout.readline() == "open\n"
+        try:
+            yield process
+        finally:
+            process.kill()
+
+
+def test_each_time_comes_once_over_killed_nodes(place: str, tmp_path: pathlib.Path) -> None:
+    """Over PostgreSQL two nodes at once. They are killed at any moment, one behind the other; no
+    second is left out, and none has two sagas. The notes are written outside of the store."""
+    notes, files = tmp_path / "notes", [tmp_path / "a.py", tmp_path / "b.py"]
+    is_shared = place.startswith("postgresql:")
+
+    def noted() -> Counter[str]:
+        return Counter(notes.read_text().split()) if notes.exists() else Counter()
+
+    for wanted in (3, 7):
+        with contextlib.ExitStack() as stack:
+            for file in files if is_shared else files[:1]:
+                stack.enter_context(node(file, place, notes))
+            asyncio.run(until(lambda: len(noted()) >= wanted))
+    with contextlib.closing(admin.connect(place, "rw")) as link:
+        for name in ("n", "m"):
+            Schedules(link).remove(name)
+
+    async def rest() -> None:
+        async with sagas.open(place, [nightly()], lease=2.0) as store:
+            await store.wait_idle()
+
+    run(rest())
+    for name in ("n", "m"):
+        times = [key.partition("@")[2] for key in keys(place) if key.startswith(f"{name}@")]
+        seconds = [datetime.datetime.fromisoformat(time).timestamp() for time in times]
+        assert seconds == [seconds[0] + number for number in range(len(seconds))]
+    assert {*noted()} <= {*keys(place)}

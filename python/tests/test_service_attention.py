@@ -1,0 +1,113 @@
+"""What needs a person in pages, and deeds on many sagas by a filter, over both databases."""
+
+from __future__ import annotations
+
+from collections.abc import Iterator
+from typing import Any
+
+import httpx
+import pytest
+from serving import DEFINITIONS, Served, error_of, report, served, start, take
+
+
+@pytest.fixture(scope="module")
+def service(tmp_path_factory: pytest.TempPathFactory, store: str | None) -> Iterator[Served]:
+    with served(tmp_path_factory.mktemp("attention"), DEFINITIONS, store=store) as one:
+        yield one
+
+
+@pytest.fixture
+def client(service: Served) -> Iterator[httpx.Client]:
+    with service.client() as one:
+        yield one
+
+
+def test_attention_and_many(client: httpx.Client) -> None:
+    """What needs a person is paged and filtered; deeds on many are counted first, and tell who was
+    refused."""
+    for number in range(5):
+        told = {"definition": "licence", "key": f"many-{number}", "labels": {"of": str(number % 2)}}
+        assert client.post("/v1/sagas", json=told).status_code == 201
+    for number in range(3):
+        start(client, "order", f"asked-{number}")
+    for _ in range(5):
+        (task,) = take(client, "licence/server")
+        report(client, task)
+        (task,) = take(client, "licence/licence")
+        report(client, task, "fail", error=f"no licence {task['key'][-1]}", final=True)
+    for number in range(5):
+        client.get(f"/v1/sagas/many-{number}/wait")
+    keys, after = [], ""
+    while after is not None:
+        page = client.get(f"/v1/attention?kind=stuck&limit=2{after}").json()
+        keys += [one["key"] for one in page["entries"]]
+        after = page["next"] and f"&after={page['next']}"
+    assert keys == [f"many-{number}" for number in range(5)]
+    (first, *_) = client.get("/v1/attention?kind=stuck&order=newest").json()["entries"]
+    assert (first["key"], first["calls"]) == ("many-4", ["resolve"])
+    assert first["detail"] == "because of licence: no licence 4"
+    assert [
+        one["key"] for one in client.get("/v1/attention?error=licence%203").json()["entries"]
+    ] == ["many-3"]
+    assert [one["key"] for one in client.get("/v1/sagas?error=licence%203").json()["sagas"]] == [
+        "many-3"
+    ]
+    for path, name in (("/v1/attention?kind=stuck", "entries"), ("/v1/sagas?", "sagas")):
+        found = client.get(f"{path}&label=of=1&search=many-").json()[name]
+        assert sorted(one["key"] for one in found) == ["many-1", "many-3"], path
+    assert client.get("/v1/sagas?label=of").status_code == 422
+    now = client.get("/v1/sagas/many-2").json()
+    assert now["labels"] == {"of": "0"}
+    for query, count in (
+        (f"started_after={now['started_at']}", 3),
+        (f"started_before={now['started']}", 2),
+    ):
+        found = client.get(f"/v1/sagas?search=many-&{query}").json()["sagas"]
+        assert len(found) == count, query
+    assert {one["kind"] for one in client.get("/v1/attention").json()["entries"]} >= {
+        "stuck",
+        "approval",
+    }
+    wanted: dict[str, Any] = {"filter": {"kind": "stuck", "error": "no licence"}, "note": "bought"}
+    counted = client.post("/v1/bulk/resolve", json=wanted).json()
+    assert (counted["count"], counted["dry_run"], counted["done"]) == (5, True, 0)
+    assert client.post("/v1/bulk/resolve", json={**wanted, "dry_run": False}).status_code == 422
+    wrong = client.post("/v1/bulk/resolve", json={**wanted, "dry_run": False, "count": 4})
+    assert (
+        error_of(wrong) == "CountChanged"
+        and client.get("/v1/sagas/many-0").json()["phase"] == "stuck"
+    )
+    done = client.post(
+        "/v1/bulk/resolve", json={**wanted, "dry_run": False, "count": 5, "limit": 3}
+    ).json()
+    assert (done["done"], done["left"], done["refused"]) == (3, 2, [])
+    asked: dict[str, Any] = {
+        "filter": {"kind": "approval", "step": "review", "search": "asked-"},
+        "result": 1,
+    }
+    assert client.post("/v1/bulk/complete", json=asked).json()["count"] == 3
+    labeled = {**wanted, "filter": {"kind": "stuck", "labels": {"of": "1"}}}
+    assert client.post("/v1/bulk/resolve", json=labeled).json()["count"] == 1
+    assert (
+        client.post("/v1/bulk/complete", json={**asked, "dry_run": False, "count": 3}).json()[
+            "done"
+        ]
+        == 3
+    )
+    open_ones: dict[str, Any] = {
+        "filter": {"definition": "order", "search": "asked-"},
+        "note": "no",
+    }
+    counted = client.post("/v1/bulk/abort", json=open_ones).json()
+    assert counted["count"] == 3 and sorted(counted["keys"]) == [
+        f"asked-{number}" for number in range(3)
+    ]
+    assert (
+        client.post("/v1/bulk/abort", json={**open_ones, "dry_run": False, "count": 3}).json()[
+            "done"
+        ]
+        == 3
+    )
+    log = client.get("/v1/sagas/asked-0/log").json()["events"]
+    notes = [(one["value"]["what"], one["value"]["by"]) for one in log if one["event"] == "note"]
+    assert notes == [("complete", "local"), ("abort", "local")]

@@ -1,0 +1,349 @@
+"""The OpenAPI document is true, and enough: for clients in other languages, and for a generated one
+that is type-checked. (tests/contract.py compares each answer of all tests with it.)"""
+
+from __future__ import annotations
+
+import json
+import pathlib
+import re
+import shutil
+import subprocess
+import sys
+import threading
+from collections.abc import Iterator
+from typing import Any
+
+import contract
+import httpx
+import jsonschema
+import pytest
+from serving import (
+    DEFINITIONS,
+    LONG,
+    Served,
+    all_done,
+    environment,
+    error_of,
+    report,
+    served,
+    start,
+    take,
+    token,
+)
+
+from sagas.server import openapi, problems
+
+HERE = pathlib.Path(__file__).resolve().parent
+LANGUAGES = HERE / "other_languages"
+REFERENCE = HERE.parents[1] / "docs" / "reference"
+
+
+@pytest.fixture(scope="module")
+def service(tmp_path_factory: pytest.TempPathFactory) -> Iterator[Served]:
+    folder = tmp_path_factory.mktemp("openapi")
+    token(folder, "operator", "operator")
+    with served(folder, DEFINITIONS, "--token-file", str(folder / "tokens.toml")) as one:
+        yield one
+
+
+@pytest.fixture(scope="module")
+def operator(service: Served) -> str:
+    return token(service.folder, "second", "operator")
+
+
+@pytest.fixture
+def client(service: Served, operator: str) -> Iterator[httpx.Client]:
+    with service.client(operator) as one:
+        yield one
+
+
+def test_the_file_is_the_program_s() -> None:
+    """The file of the repository is what the operations come to."""
+    told = f"print it anew: python3 -m sagas.server.openapi > {contract.PATH}"
+    assert contract.PATH.read_text() == openapi.text(), told
+
+
+def references(told: Any) -> Iterator[str]:
+    if isinstance(told, dict):
+        for name, value in told.items():
+            if name == "$ref":
+                yield value
+            yield from references(value)
+    elif isinstance(told, list):
+        for value in told:
+            yield from references(value)
+
+
+def test_the_document_is_sound() -> None:
+    """By the rules of OpenAPI 3.1 that matter to generators: ids are single, parameters of paths
+    are declared, references lead somewhere, schemas are schemas, examples fit."""
+    document = contract.DOCUMENT
+    assert document["openapi"] == "3.1.0" and {"title", "version"} <= set(document["info"])
+    for reference in set(references(document)):
+        assert contract.resolved({"$ref": reference}), reference
+    for name, schema in document["components"]["schemas"].items():
+        jsonschema.Draft202012Validator.check_schema(schema)
+        for example in schema.get("examples", ()):
+            contract.validator(json.dumps(schema)).validate(example)
+    ids, tags = [], {one["name"] for one in document["tags"]}
+    for path, methods in document["paths"].items():
+        for method, told in methods.items():
+            ids.append(told["operationId"])
+            assert method in ("get", "post", "delete") and set(told["tags"]) <= tags
+            assert told["summary"] and told["responses"], path
+            declared = {one["name"] for one in told.get("parameters", ()) if one["in"] == "path"}
+            assert declared == set(re.findall(r"{(\w+)}", path)), path
+            for one in told.get("parameters", ()):
+                jsonschema.Draft202012Validator.check_schema(one["schema"])
+            needs_token = told["security"] == [{"token": []}]
+            assert needs_token is bool(told.get("x-roles")), path
+            for part in [
+                told.get("requestBody", {}),
+                *map(contract.resolved, told["responses"].values()),
+            ]:
+                for content in part.get("content", {}).values():
+                    for example in content.get("examples", {}).values():
+                        contract.validator(json.dumps(content["schema"])).validate(example["value"])
+    assert len(ids) == len(set(ids))
+
+
+def test_each_problem_is_described() -> None:
+    """The page has each problem with its status, and no other."""
+    page = (REFERENCE / "http-errors.md").read_text()
+    rows = re.findall(r"^\| (\d{3}) \| ((?:`\w+`(?:, )?)+) \|", page, re.M)
+    found = {name: int(status) for status, names in rows for name in re.findall(r"`(\w+)`", names)}
+    assert found == {name: kind.status for name, kind in problems.PROBLEMS.items()}
+
+
+def test_heads_and_methods(client: httpx.Client) -> None:
+    """HEAD answers as GET, without a body; another method is told which there are."""
+    for path in (
+        "/v1/sagas",
+        "/health/live",
+        "/v1/definitions",
+        "/openapi.json",
+        "/ui/login",
+        "/v1/events",
+    ):
+        answer = client.head(path)
+        assert (answer.status_code, answer.content) == (200, b""), path
+    for method, path, allowed in (
+        ("DELETE", "/v1/sagas", "GET, HEAD, POST"),
+        ("GET", "/v1/tasks/claim", "POST"),
+        ("PUT", "/ui/start", "GET, HEAD, POST"),
+    ):
+        answer = client.request(method, path)
+        assert (answer.status_code, answer.headers["allow"]) == (405, allowed)
+
+
+def test_a_saga_has_a_place_and_a_tag(client: httpx.Client) -> None:
+    """Where it is, from its start on; the tag changes with it alone."""
+    answer = start(client, "order", "a/b ü")
+    assert answer.headers["location"] == "/v1/sagas/a%2Fb%20%C3%BC"
+    got = client.get(answer.headers["location"])
+    tag = got.headers["etag"]
+    assert got.headers["cache-control"] == "private, no-cache"
+    for told, status in ((tag, 304), (f'W/{tag}, "x"', 304), ("*", 304), ('"x"', 200)):
+        again = client.get(answer.headers["location"], headers={"If-None-Match": told})
+        assert again.status_code == status and again.headers["etag"] == tag
+    client.post(f"{answer.headers['location']}/abort", json={})
+    assert client.get(answer.headers["location"], headers={"If-None-Match": tag}).status_code == 200
+
+
+def test_bodies_and_parameters(client: httpx.Client) -> None:
+    """What is misspelt, or of another type, is named by its place."""
+    for path, body, field in (
+        ("/v1/sagas", {"definition": "trip", "key": 5}, "key"),
+        ("/v1/sagas", {"definition": "trip"}, "key"),
+        ("/v1/sagas", {"definition": "trip", "key": "k", "inputs": 1}, "inputs"),
+        ("/v1/tasks/claim", {"steps": ["trip/car", 5]}, "steps.1"),
+        ("/v1/tasks/claim", {"steps": ["trip"]}, "steps.0"),
+        ("/v1/tasks/x/complete", {"lease": "1", "next": {"steps": ["no"]}}, "next.steps.0"),
+        ("/v1/tasks/claim", {"steps": ["trip/car"], "limit": True}, "limit"),
+        ("/v1/bulk/abort", {"filter": {"started_after": "yesterday"}}, "filter.started_after"),
+    ):
+        answer = client.post(path, json=body)
+        assert (answer.status_code, answer.json()["field"]) == (422, field), answer.text
+    for query in (
+        "most=2",
+        "limit=0",
+        "limit=x",
+        "limit=1&limit=2",
+        "phase=none",
+        "after=-1",
+        "started_after=x",
+    ):
+        answer = client.get(f"/v1/sagas?{query}")
+        assert (answer.status_code, answer.json()["field"]) == (422, query.partition("=")[0])
+    answer = client.post("/v1/sagas", content=b"{}", headers={"content-type": "text/plain"})
+    assert (answer.status_code, error_of(answer)) == (415, "UnsupportedMediaType")
+    assert client.post("/v1/sagas/nobody/abort").status_code == 404  # the body may be left out
+
+
+def test_definitions(client: httpx.Client) -> None:
+    """Their steps with costs, and who does them."""
+    found = {one["name"]: one for one in client.get("/v1/definitions").json()["definitions"]}
+    assert [*found] == ["few", "licence", "order", "trip"]
+    car = found["trip"]["steps"][1]
+    assert (car["name"], car["needs"], car["undo"], car["keep"]) == ("car", ["flight"], 5, 30)
+    assert (
+        found["trip"]["steps"][0]["undo"] is None
+        and found["order"]["steps"][0]["kind"] == "approval"
+    )
+
+
+def test_what_if(client: httpx.Client) -> None:
+    """A plan that `sagas check` accepts; nothing of the saga has changed."""
+    start(client, "trip", "suppose")
+    all_done(client, "trip/flight", "trip/car")
+    before = client.get("/v1/sagas/suppose/log").json()
+    told = client.post("/v1/sagas/suppose/what-if", json={"abort": True}).json()
+    assert told["cost"] == 15 and told["assumed"] == {"tour": "committed"} or told["cost"] == 30
+    failed = client.post("/v1/sagas/suppose/what-if", json={"fail": "tour"}).json()
+    assert (failed["cost"], failed["assumed"]) == (15, {"tour": "failed"})
+    states = {one["step"]: one["decision"] for one in failed["plan"]["steps"]}
+    assert states == {"flight": "stands", "car": "is undone", "tour": "is left out"}
+    text = "\n---\n".join(
+        part if isinstance(part, str) else json.dumps(part)
+        for part in failed["certificate"].values()
+    )
+    judged = subprocess.run(
+        [environment()["SAGAS_PROGRAM"]],
+        input=text.replace("\n\n---", "\n---"),
+        capture_output=True,
+        text=True,
+        check=False,
+    )
+    assert judged.stdout == "least 15\n", judged
+    assert client.get("/v1/sagas/suppose/log").json() == before
+    for body in ({}, {"abort": True, "fail": "car"}, {"fail": "flight"}, {"fail": "none"}):
+        assert client.post("/v1/sagas/suppose/what-if", json=body).status_code == 422, body
+    all_done(client, "trip/tour")
+    client.get("/v1/sagas/suppose/wait")
+    assert error_of(client.post("/v1/sagas/suppose/what-if", json={"abort": True})) == "SagaOver"
+
+
+def generated() -> str:
+    """A typed client in Python, made of the document alone."""
+    document, lines = contract.DOCUMENT, ["from typing import Any, Literal, NotRequired, TypedDict"]
+    lines.append("def ask(method: str, path: str, body: Any) -> Any: ...")
+
+    def kind(schema: dict[str, Any]) -> str:
+        if "$ref" in schema:
+            return f'"{schema["$ref"].rpartition("/")[2]}"'
+        if "oneOf" in schema:
+            return "Any"
+        if "enum" in schema:
+            return f"Literal[{', '.join(map(repr, schema['enum']))}]"
+        names = schema.get("type", "any")
+        if isinstance(names, list):
+            return f"({kind({**schema, 'type': names[0]})} | None)"
+        if names == "array":
+            return f"list[{kind(schema.get('items', {}))}]"
+        if names == "object":
+            return f"dict[str, {kind(schema.get('additionalProperties', {}))}]"
+        return {"string": "str", "integer": "int", "number": "float", "boolean": "bool"}.get(
+            names, "Any"
+        )
+
+    for name, schema in document["components"]["schemas"].items():
+        fields = []
+        for field, of in schema["properties"].items():
+            told = kind(of)
+            is_there = field in schema.get("required", ())
+            fields.append(f"{field!r}: {told if is_there else f'NotRequired[{told}]'}")
+        lines.append(f"{name} = TypedDict({name!r}, {{{', '.join(fields)}}})")
+    for path, methods in document["paths"].items():
+        for method, operation in methods.items():
+            content = next(iter(operation["responses"].values())).get("content", {})
+            answer = kind(content.get("application/json", {}).get("schema", {}))
+            words = [f"{one}: str" for one in re.findall(r"{(\w+)}", path)]
+            body = "None"
+            if "requestBody" in operation:
+                sent = operation["requestBody"]["content"]["application/json"]
+                words.append(f"body: {kind(sent['schema'])}")
+                body = "body"
+            lines.append(f"def {operation['operationId']}({', '.join(words)}) -> {answer}:")
+            lines.append(
+                f"    found: {answer} = ask({method!r}, f{path!r}, {body})\n    return found"
+            )
+    return "\n".join(lines) + "\n"
+
+
+USE = """
+def use() -> None:
+    started = startSaga({"definition": "trip", "key": "k"})
+    new: bool = started["new"]
+    saga = getSaga("k")
+    phase: Literal["open", "completed", "recovered", "stuck", "resolved"] = saga["phase"]
+    claimed = claimTasks({"steps": ["trip/car"]})
+    lease: str = claimed["tasks"][0]["lease"]
+    completeTask(claimed["tasks"][0]["attempt_id"], {"lease": lease, "result": {"id": 7}})
+"""
+
+
+def test_a_generated_client_is_typed(tmp_path: pathlib.Path) -> None:
+    """`mypy --strict` accepts it and its use, and refuses a misuse."""
+    for name, more, status in (
+        ("good", "", 0),
+        ("bad", '\nwrong: int = getSaga("k")["phase"]\n', 1),
+    ):
+        file = tmp_path / f"{name}.py"
+        file.write_text(generated() + USE + more)
+        words = [
+            sys.executable,
+            "-m",
+            "mypy",
+            "--strict",
+            "--cache-dir",
+            str(tmp_path / "types"),
+            str(file),
+        ]
+        done = subprocess.run(words, capture_output=True, text=True, check=False)
+        assert done.returncode == status, done.stdout[-2000:]
+
+
+def test_other_languages(
+    service: Served, operator: str, client: httpx.Client, tmp_path: pathlib.Path
+) -> None:
+    """A worker in Go whose task outlives its lease, a caller in Node, and one in Java."""
+    go = shutil.which("go")
+    assert go is not None
+    told = environment() | {
+        "GOCACHE": str(tmp_path / "cache"),
+        "GOFLAGS": "-mod=mod",
+        "GO111MODULE": "off",
+        "HOME": str(tmp_path),
+    }
+    program = tmp_path / "worker"
+    subprocess.run(
+        [go, "build", "-o", str(program), str(LANGUAGES / "worker.go")],
+        env=told,
+        check=True,
+        timeout=240,
+    )
+    working = subprocess.Popen(
+        [str(program), service.url, operator], stdout=subprocess.PIPE, text=True
+    )
+    try:
+        found: list[str] = []
+        words = ["node", str(LANGUAGES / "caller.mjs"), service.url, operator, "node/1"]
+        calling = threading.Thread(
+            target=lambda: found.append(
+                subprocess.run(words, capture_output=True, text=True, timeout=120).stdout
+            )
+        )
+        calling.start()
+        all_done(client, "trip/flight", "trip/tour")
+        calling.join(120)
+        got = json.loads(found[0])
+        assert got["statuses"] == [201, 200, 409, 409] and got["phase"] == "completed"
+        assert got["car"] == {"by": "go", "after": {"of": "flight"}}
+        assert [one.rpartition(":")[2] for one in got["types"]] == ["KeyConflict", "SagaOver"]
+        assert working.stdout and working.stdout.readline() == "trip/car 200\n"
+    finally:
+        working.kill()
+        working.wait(LONG)
+    words = ["java", str(LANGUAGES / "Caller.java"), service.url, operator, "java-1"]
+    done = subprocess.run(words, capture_output=True, text=True, timeout=120, check=False)
+    assert done.stdout == "201 /v1/sagas/java-1\n200\n200\nrecovered\n", done

@@ -1,0 +1,114 @@
+"""Schedules and labels over HTTP and in the dashboard, over both kinds of database."""
+
+from __future__ import annotations
+
+import contextlib
+import json
+import re
+import time
+from collections.abc import Iterator
+from typing import Any
+
+import httpx
+import pytest
+from serving import DEFINITIONS, LONG, Served, error_of, served, start, token
+from test_service_tokens import World
+
+from sagas.definition.timing import timing
+from sagas.storage import admin
+from sagas.storage.schedules import Schedules
+
+TOKENS: dict[str, tuple[str, ...]] = {
+    "operator": ("operator",),
+    "of-order": ("operator", "--definition", "order"),
+    "caller": ("caller",),
+}
+
+
+@pytest.fixture(scope="module")
+def world(tmp_path_factory: pytest.TempPathFactory, store: str | None) -> Iterator[World]:
+    folder = tmp_path_factory.mktemp("schedules")
+    tokens = {name: token(folder, name, *words) for name, words in TOKENS.items()}
+    words = "--token-file", str(folder / "tokens.toml")
+    with served(folder, DEFINITIONS, *words, store=store) as service:
+        found = World(service, tokens)
+        yield found
+        for client in found.clients.values():
+            client.close()
+
+
+def declare(service: Served, name: str, saga: str, seconds: float) -> None:
+    """A schedule, as a program declares it beside the service."""
+    when = timing(None, seconds, "UTC", "last")
+    with contextlib.closing(admin.connect(service.store, "rw")) as link:
+        labels = json.dumps({"by": name})
+        Schedules(link).put(name, (saga, 1), '{"n":1}', labels, when, time.time())
+
+
+def names(client: httpx.Client) -> list[str]:
+    return [one["name"] for one in client.get("/v1/schedules").json()["schedules"]]
+
+
+def found_by(client: httpx.Client, label: str) -> list[dict[str, Any]]:
+    """Waits for sagas with a label."""
+    deadline = time.monotonic() + LONG
+    while not (found := client.get("/v1/sagas", params={"label": label}).json()["sagas"]):
+        assert time.monotonic() < deadline
+        time.sleep(0.05)
+    return list(found)
+
+
+def test_the_service_starts_and_changes_schedules(world: World) -> None:
+    """Of definitions that the token may see; of others it hears as of those that are not there."""
+    operator, of_order, caller = world["operator"], world["of-order"], world["caller"]
+    declare(world.service, "tick", "order", 1.0)
+    declare(world.service, "trips a/b", "trip", 3600.0)
+    (one, *_) = found_by(operator, "by=tick")
+    assert one["key"].startswith("tick@20") and one["definition"] == "order"
+    assert names(operator) == names(caller) == ["tick", "trips a/b"] and names(of_order) == ["tick"]
+    (told,) = of_order.get("/v1/schedules").json()["schedules"]
+    assert (told["every"], told["cron"], told["labels"]) == (1.0, None, {"by": "tick"})
+    path = "/v1/schedules/trips%20a%2Fb"
+    for call in (
+        of_order.post(f"{path}/pause"),
+        of_order.delete(path),
+        operator.delete(f"{path}x"),
+    ):
+        assert (call.status_code, error_of(call)) == (404, "NoSuchSchedule")
+    assert caller.delete("/v1/schedules/tick").status_code == 403
+    assert operator.post(f"{path}/pause").json() == {"name": "trips a/b", "done": "paused"}
+    (_, told) = operator.get("/v1/schedules").json()["schedules"]
+    assert told["paused"] is True and told["next"] is None
+    assert operator.post(f"{path}/resume").json()["done"] == "resumed"
+    assert operator.delete(path).json()["done"] == "removed" and names(operator) == ["tick"]
+    assert "operator has removed the schedule 'trips a/b'" in world.service.told()
+    assert operator.delete("/v1/schedules/tick").status_code == 200
+
+
+def test_the_dashboard_has_schedules_and_labels(world: World) -> None:
+    """A page with forms, which ask for the session's word; and a filter of the list."""
+    page = world.page("operator")
+    declare(world.service, "<b>night", "trip", 86400.0)
+    text = page.get("/ui/schedules").text
+    assert "&lt;b&gt;night" in text and "<b>night" not in text and "every 1 d" in text
+    assert "night" not in world.page("of-order").get("/ui/schedules").text
+    csrf = re.search(r'name="csrf" value="([^"]+)"', text)
+    assert csrf
+    path = "/ui/schedules/%3Cb%3Enight"
+    assert page.post(f"{path}/pause", data={"csrf": "x"}).status_code == 403
+    other = world.page("of-order")
+    theirs = re.search(r'name="csrf" value="([^"]+)"', other.get("/ui").text)
+    assert theirs and other.post(f"{path}/remove", data={"csrf": theirs[1]}).status_code == 409
+    assert page.post(f"{path}/pause", data={"csrf": csrf[1]}).status_code == 303
+    assert "paused" in page.get("/ui/schedules").text
+    assert page.post(f"{path}/remove", data={"csrf": csrf[1]}).status_code == 303
+    assert "There is no schedule" in page.get("/ui/schedules").text
+    told = {"definition": "order", "key": "labeled", "labels": {"customer": "7"}}
+    assert world["caller"].post("/v1/sagas", json=told).status_code == 201
+    assert start(world["caller"], "order", "other-1").status_code == 201
+    text = page.get("/ui/sagas", params={"label": "customer=7"}).text
+    assert "labeled" in text and "other-1" not in text and 'value="customer=7"' in text
+    wrong = page.get("/ui/sagas", params={"label": "nothing"})
+    assert "a label is NAME=VALUE" in wrong.text and "labeled" not in wrong.text
+    text = page.get("/ui/sagas").text
+    assert "labeled" in text and "other-1" in text

@@ -1,0 +1,171 @@
+"""Webhooks: posts that a receiver can verify, retries, and the list of deliveries."""
+
+from __future__ import annotations
+
+import base64
+import hashlib
+import hmac
+import http.server
+import json
+import pathlib
+import threading
+import time
+from collections.abc import Iterator
+from typing import Any
+
+import pytest
+from serving import DEFINITIONS, LONG, all_done, host, report, served, start, stuck, take, token
+
+from sagas.server import webhook_file
+from sagas.server.webhook_file import WebhookFault
+
+SECRET = base64.b64encode(b"k" * 32).decode()
+
+
+class Receiver:
+    """A server of somebody else's, which answers with these statuses first, and then with 204."""
+
+    def __init__(self, *statuses: int) -> None:
+        self.got: list[tuple[dict[str, str], bytes]] = []
+        left, got = [*statuses], self.got
+
+        class Handler(http.server.BaseHTTPRequestHandler):
+            def do_POST(self) -> None:
+                body = self.rfile.read(int(self.headers["content-length"]))
+                got.append(({name.lower(): value for name, value in self.headers.items()}, body))
+                self.send_response(left.pop(0) if left else 204)
+                self.send_header("location", "/elsewhere")
+                self.send_header("content-length", "0")
+                self.end_headers()
+
+            def log_message(self, *words: Any) -> None:
+                ...
+
+        self.server = http.server.ThreadingHTTPServer((host(), 0), Handler)
+        threading.Thread(target=self.server.serve_forever, daemon=True).start()
+
+    @property
+    def url(self) -> str:
+        return f"http://{self.server.server_address[0]!s}:{self.server.server_address[1]}/hook?a=1"
+
+    def wait(self, count: int) -> list[dict[str, Any]]:
+        """So many verified posts, in the order of their times."""
+        deadline = time.monotonic() + LONG
+        while len(self.got) < count:
+            assert time.monotonic() < deadline, self.got
+            time.sleep(0.05)
+        for headers, body in self.got:
+            text = f"{headers['webhook-id']}.{headers['webhook-timestamp']}.".encode() + body
+            code = hmac.new(b"k" * 32, text, hashlib.sha256).digest()
+            assert headers["webhook-signature"] == f"v1,{base64.b64encode(code).decode()}"
+            assert abs(int(headers["webhook-timestamp"]) - time.time()) < LONG
+        return [json.loads(body) for _, body in self.got]
+
+
+@pytest.fixture
+def receiver() -> Iterator[Receiver]:
+    one = Receiver()
+    yield one
+    one.server.shutdown()
+
+
+def written(folder: pathlib.Path, *tables: str) -> str:
+    """A file of webhooks."""
+    path = folder / "webhooks.toml"
+    path.write_text("".join(f"[[webhook]]\n{table}\n" for table in tables))
+    return str(path)
+
+
+def table(url: str, more: str = "") -> str:
+    return f'name = "one"\nurl = "{url}"\nsecret = "whsec_{SECRET}"\n{more}'
+
+
+def test_what_is_posted(tmp_path: pathlib.Path, receiver: Receiver) -> None:
+    """Ends, stuck sagas, and what needs a person; no input, result or error is in it."""
+    words = ("--webhooks", written(tmp_path, table(receiver.url)))
+    with served(tmp_path, DEFINITIONS, *words) as service, service.client() as client:
+        start(client, "trip", "good", {"secret": "input"})
+        all_done(client, "trip/flight", "trip/car", "trip/tour")
+        start(client, "trip", "bad")
+        all_done(
+            client, "trip/flight", "trip/car", "trip/tour", "trip/car/undo", failing=["trip/tour"]
+        )
+        stuck(client, "stuck-1")
+        start(client, "order", "asked")
+        start(client, "trip", "hazy")
+        all_done(client, "trip/flight", "trip/car")
+        (task,) = take(client, "trip/tour")
+        report(client, task, "unknown", error="the line went dead")
+        found = receiver.wait(5)
+        told = {(one["type"], one["data"]["key"]): one["data"] for one in found}
+        assert {*told} == {
+            ("saga.completed", "good"), ("saga.recovered", "bad"), ("saga.stuck", "stuck-1"),
+            ("saga.attention", "asked"), ("saga.attention", "hazy"),
+        }  # fmt: skip
+        assert told["saga.attention", "asked"]["kind"] == "approval"
+        assert told["saga.attention", "hazy"] == {
+            "key": "hazy", "definition": "trip", "kind": "unknown", "step": "tour", "undo": False,
+        }  # fmt: skip
+        assert not any(b"secret" in body or b"dead" in body for _, body in receiver.got)
+        listed = client.get("/v1/webhooks/deliveries?state=delivered").json()["deliveries"]
+        assert len(listed) == 5 and listed[0]["attempts"] == 1 and SECRET not in str(listed)
+
+
+def test_it_is_repeated(tmp_path: pathlib.Path) -> None:
+    """Under the same id, also behind a redirect, which is not followed; 410 ends it."""
+    first, second = Receiver(500, 302), Receiver(410)
+    tables = (
+        table(first.url),
+        table(second.url, 'definitions = ["order"]\ntypes = ["saga.attention"]').replace(
+            "one", "two"
+        ),
+    )
+    words = ("--webhooks", written(tmp_path, *tables))
+    with served(tmp_path, DEFINITIONS, *words) as service, service.client() as client:
+        start(client, "trip", "t")
+        all_done(client, "trip/flight", "trip/car", "trip/tour")
+        start(client, "order", "o")
+        first.wait(4)
+        ids = [headers["webhook-id"] for headers, body in first.got if b"saga.completed" in body]
+        assert len(set(ids)) == 1
+        deadline = time.monotonic() + LONG
+        while True:
+            listed = client.get("/v1/webhooks/deliveries").json()["deliveries"]
+            states = sorted((one["webhook"], one["state"]) for one in listed)
+            if states == [("one", "delivered"), ("one", "delivered"), ("two", "failed")]:
+                break
+            assert time.monotonic() < deadline, states
+            time.sleep(0.1)
+        assert sum(one["attempts"] for one in listed if one["webhook"] == "one") == 4
+        assert service.stop() == 0
+
+
+def test_who_may_look(tmp_path: pathlib.Path) -> None:
+    """Operators alone."""
+    tokens = {role: token(tmp_path, role, role) for role in ("caller", "operator", "worker")}
+    words = ("--token-file", str(tmp_path / "tokens.toml"))
+    with served(tmp_path, DEFINITIONS, *words) as service:
+        for role, status in (("caller", 403), ("worker", 403), ("operator", 200)):
+            with service.client(tokens[role]) as client:
+                assert client.get("/v1/webhooks/deliveries").status_code == status
+
+
+@pytest.mark.parametrize(
+    "text, says",
+    [
+        ('[[webhook]]\nname = "a"\nurl = "ftp://x/"', "url must be an http or https address"),
+        ('[[webhook]]\nname = "a"\nurl = "https://u:p@x/"', "a user or a password"),
+        ('[[webhook]]\nname = "a"\nurl = "https://x/"\nsecret = "abc"', "secret must be whsec_"),
+        ('[[webhook]]\nname = "a"\nurl = "https://x/"\nsecret = "whsec_YWJj"', "at least 24"),
+        ("[[webhook]]\nurls = 1", "unknown key 'urls'"),
+        (f"[[webhook]]\n{table('https://x/')}\ntypes = ['saga.lost']", "unknown type 'saga.lost'"),
+        (f"[[webhook]]\n{table('https://x/')}\n[[webhook]]\n{table('https://x/')}", "duplicate name"),
+        ("[[webhook", "cannot be read"),
+    ],
+)
+def test_a_file_that_is_wrong(tmp_path: pathlib.Path, text: str, says: str) -> None:
+    """It is named with the place and the rule, and no secret is in the text."""
+    (tmp_path / "w.toml").write_text(text)
+    with pytest.raises(WebhookFault, match=says) as found:
+        webhook_file.read(tmp_path / "w.toml")
+    assert SECRET not in str(found.value)
