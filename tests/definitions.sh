@@ -1,4 +1,4 @@
 #!/usr/bin/env bash
-# Looks in docs/DEFINITIONS.md for each word that a public contract cites.
+# Compares the pages in docs/dev/definitions and docs/dev/promises with the crates: tests/definitions.py says how.
 set -uo pipefail
 exec python3 "$(dirname "$0")/definitions.py"

@@ -1,10 +1,12 @@
 #!/usr/bin/env bash
-# Goes through docs/ERRORS.md: runs each command of the page, in a folder that has the examples and the program, and compares what
-# it prints, and its status, with the page; and looks whether each entry has a command or says that no input gives it, whether
-# each word of docs/FORMATS.md has an entry, and whether the table at the head of the page has a row for each entry and no other.
+# Goes through the pages in docs/reference/errors: runs each command, in a folder that has the examples and the program, and compares what it
+# prints, and its status, with the page; and looks whether each entry says what it means and what to do, and has a command or says that no
+# input gives it; whether each line and word of the program's sources has an entry; and whether the tables of docs/ERRORS.md, one for each
+# page, have a row for each entry of that page and no other.
 set -uo pipefail
 cd "$(dirname "$0")/.."
 ./sagas --help >/dev/null || { echo "the program is not built"; exit 1; }
+pages=(docs/reference/errors/*.md)
 work=$(mktemp -d)
 trap 'rm -rf "$work"' EXIT
 ln -s "$PWD/examples" "$work"
@@ -18,57 +20,39 @@ commands() {
     /^## / { status = $NF }
     /^```/ { if (open && row != "") print row; open = !open; row = ""; next }
     open && /^\$ / { if (row != "") print row; row = status "\t" substr($0, 3); next }
-    open { row = row "\t" $0 }' docs/ERRORS.md
+    open { row = row "\t" $0 }' "${pages[@]}"
 }
 
-# The entries of the page that have neither a command nor the sentence that no input gives them.
+# The entries of the pages that have neither a command nor the sentence that no input gives them, or that lack their meaning or action.
 bare() {
   awk '
-    function tell() { if (entry != "" && !shown) print entry }
-    /^##/ { tell(); entry = ""; shown = 0 }
+    function tell() { if (entry != "" && !(shown && meant && acted)) print entry }
+    /^##/ { tell(); entry = ""; shown = meant = acted = 0 }
+    /^## / { status = $NF }
     /^### / { entry = $0 }
-    /^\$ / || /No input gives it/ { shown = 1 }
-    END { tell() }' docs/ERRORS.md
+    /^\*\*Meaning\.\*\*/ { meant = 1 }
+    /^\*\*Action\.\*\*/ { acted = 1 }
+    /^\$ / || /No input (gives|causes) it/ { shown = 1 }
+    END { tell() }' "${pages[@]}"
 }
 
-# The rows of the table, and the entries, each by its letters, its link (as GitHub makes it of a heading) and its status.
+# The rows of the tables, and the entries: page, line and status of each.
 rows() {
   awk -F ' [|] ' '
-    /\(#.*\) \|$/ {
-      word = tolower($1); gsub(/[^a-z0-9]/, "", word)
-      link = $NF; gsub(/.*#|\).*/, "", link)
-      print word, link, $2
-    }' docs/ERRORS.md
+    /^## \[.*\]\(.*\.md\)$/ { page = $0; gsub(/.*\(|\)$/, "", page) }
+    /^\| `/ { line = substr($1, 3); status = $2; sub(/ \|$/, "", status); print page "\t" line "\t" status }' docs/ERRORS.md
 }
 headings() {
   awk '
     /^## / { status = $NF }
-    /^### / {
-      word = link = tolower(substr($0, 5)); gsub(/[^a-z0-9]/, "", word)
-      gsub(/[^a-z0-9 _-]/, "", link); gsub(/ /, "-", link)
-      print word, link, status
-    }' docs/ERRORS.md
+    /^### `/ { print substr(FILENAME, 6) "\t" substr($0, 5) "\t" status }' "${pages[@]}"
 }
 
-# The words of FORMATS.md that a fault, a verdict or a line is told by: those with a hyphen within, those that its lists of faults
-# name, and those that its tables of lines on standard error have.
+# What the sources of the program print: the words of its refusals and errors, the beginnings of its lines, and the replies of drive.
 words() {
-  awk -v RS= '
-    function tell(text, pattern) {
-      gsub(/\([^()]*\)/, "", text)
-      n = split(text, cells, "`")
-      for (i = 2; i <= n; i += 2) if (cells[i] ~ pattern) print cells[i]
-    }
-    { tell($0, "^[a-z]+(-[a-z0-9]+)+$") }
-    /^Faults|^[0-9]+\. `/ { tell($0, "^[a-z]+( N)?$") }
-    /^\|/ {
-      rows = split($0, lines, "\n")
-      for (r = 1; r <= rows; r++) {
-        if (lines[r] !~ /^\| `sagas: /) continue
-        if (lines[r] ~ /WORD/) tell(lines[r], "^[a-z-]+$")
-        else { sub(/ \| [0-9] .*/, "", lines[r]); tell(lines[r], "^sagas: ") }
-      }
-    }' docs/FORMATS.md | sort -u
+  grep -rhoE '=> "[a-z]+(-[a-z0-9]+)*"' crates/saga_*/src/faults.rt crates/saga_*/src/reasons.rt | sed 's/.*"\(.*\)"/\1/'
+  grep -rhoE '\\"(refused|fault)\\":\\"[a-z-]+' crates/saga_drive/src | sed 's/\\"//g; s/:/: /'
+  grep -rhoE --include='*.rt' '"sagas: [^"\\{]+' crates/saga_c crates/saga_serve crates/saga_texts crates/saga_tool | sed 's/^"//; s/ *$//'
 }
 
 runs=0
@@ -96,22 +80,22 @@ while IFS= read -r row; do
 done < <(commands)
 
 while IFS= read -r entry; do
-  complain "without an input: $entry"
+  complain "without an input, a meaning or an action: $entry"
 done < <(bare)
 
 while IFS= read -r row; do
   complain "a row (<) or an entry (>) alone: $row"
 done < <(diff <(rows | sort) <(headings | sort) | grep '^[<>]')
-sed -n 's/^| `\(.*\)` | [0-4] | .*/\1/p' docs/ERRORS.md | LC_ALL=C sort -c || complain "the table is not in order"
+awk '/^## / { close(sort); sort = "LC_ALL=C sort -c" } /^\| `/ { print | sort }' docs/ERRORS.md 2>&1 | grep . && complain "a table is not in order"
 
-entries=$(sed -n 's/^### `\(.*\)`$/\1/p' docs/ERRORS.md)
+entries=$(sed -n 's/^### `\(.*\)`$/\1/p' "${pages[@]}")
 while IFS= read -r word; do
   case $word in
-    # keys, and the states of a busy step
-    answer | format | name | never | step | stand | running | undoing) continue ;;
+    # A request has no list of states and no answer, so these are not replies of drive.
+    "fault: kept" | "fault: wrong-length" | "fault: busy") continue ;;
   esac
-  grep -qE "(^|: | )${word% [N-]}( |\$)" <<<"$entries" || complain "without an entry: $word"
-done < <(words)
+  grep -qE "(^|: | )$word(\$|:? )" <<<"$entries" || complain "without an entry: $word"
+done < <(words | sort -u)
 
 echo "errors: $runs inputs, $(wc -l <<<"$entries") entries, $wrong wrong"
 [ "$runs" -gt 0 ] && [ "$wrong" = 0 ]

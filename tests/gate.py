@@ -33,7 +33,7 @@ TOP = Path(__file__).resolve().parent.parent
 SKIPPED = 77
 
 # The checks that take seconds, over the release where nothing is built.
-CHEAP = ("format", "definitions", "release", "pages", "errors", "pictures", "rows")
+CHEAP = ("format", "definitions", "release", "pages", "docs", "errors", "pictures", "rows")
 
 # How much memory a proof may take, in KiB. Where there is so much for each processor, `rt ci` gives each proof one of them: a proof by several
 # jobs takes half as much again of the processors' time.

@@ -1,7 +1,7 @@
 #!/usr/bin/env bash
 # Looks at the release, its program, library and page, and at how ./sagas chooses the program that it runs. No proof, and no kit but a false one.
 #
-# First that the release in dist/ is whole, of these sources, and asks for no more of a machine than README.md says. Then, in copies of
+# First that the release in dist/ is whole, of these sources, and asks for no more of a machine than docs/dev/testing.md says. Then, in copies of
 # this tree: that a copy answers at once without the kit; that it builds where a source was changed, and not where another file was; that a
 # release with a byte changed or of older sources is refused by name; and starts in other folders, through links, two at a time, and where
 # nothing can be written.
@@ -99,7 +99,7 @@ fresh() {
   echo "$work/$1"
 }
 
-# blocked FOLDER: what the first command of README.md prints there, and its status, without the kit.
+# blocked FOLDER: what `./sagas check` says of the example `licence` there, and its status, without the kit.
 blocked() {
   (cd "$1" && PATH=$bare ./sagas check examples/licence.toml examples/licence.case.json examples/licence.answer.json 2>&1; echo "$?")
 }
@@ -233,6 +233,9 @@ expect_piece './release --check of a changed page' 'dist/sagas.html is of other 
 expect 'a page that was made anew, by ./release --check' 0 "$(check "$tree")"
 echo "/* changed */" >>"$tree/library/sagas.h"
 expect_piece './release --check of a changed header' 'dist/sagas.h is not library/sagas.h' "$(check "$tree")"
+cp "$tree/dist/sagas.h" "$tree/library/sagas.h"
+echo "/* changed */" >>"$tree/library/c/tail.c"
+expect_piece './release --check of a changed C file' 'dist/sagas.c.xz is of another library/c/head.c or tail.c' "$(check "$tree")"
 echo "// changed" >>"$tree/crates/saga_c/src/lib.rt"
 expect 'a start with a changed saga_c' "$answer" "$(blocked "$tree")"
 expect_piece './release --check of a changed saga_c' 'the library in dist/ is of other sources' "$(check "$tree")"

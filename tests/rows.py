@@ -3,7 +3,7 @@
 
     tests/rows.py [FOLDER[/FILE] ..]
 
-A row is a table of a file `tests/rows/COMMAND/SUBJECT.toml`; docs/CHANGING.md has its keys. Rows run side by side, as many as there are
+A row is a table of a file `tests/rows/COMMAND/SUBJECT.toml`; docs/dev/changing/tests.md has its keys. Rows run side by side, as many as there are
 processors, over the program that the variable SAGAS names, or over the one that `./sagas` starts.
 """
 
