@@ -92,7 +92,8 @@ def test_done_was_reported_before(
             else:
                 words = [late.place, "fail", "k", "once", "I gave up"]
                 assert await asyncio.to_thread(store_command.main, words) == 1
-                assert "its worker has reported success" in capsys.readouterr().err
+                said = capsys.readouterr().err  # or the program has heard of the report by then
+                assert "its worker has reported success" in said or "k has ended" in said
             end = await store.wait("k", 60)
             assert end.ok and end.results == {"once": "by the worker"}
 
