@@ -139,7 +139,9 @@ def wrong_in_code() -> Iterator[str]:
                 compile(block, str(name), "exec", ast.PyCF_ALLOW_TOP_LEVEL_AWAIT)
             except SyntaxError as error:
                 yield f"{name} has Python that cannot be read: {error.text}"
-        for word in sorted(set(NAME.findall(text))):
+        # A page on Go means its package of the same name: there only blocks of Python are looked at.
+        own = "".join(PYTHON.findall(text)) if "```go\n" in text else text
+        for word in sorted(set(NAME.findall(own))):
             if not hasattr(package, word) and not importlib.util.find_spec(f"sagas.{word}"):
                 yield f"{name} has sagas.{word}, which the package has not"
 

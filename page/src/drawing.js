@@ -1,17 +1,19 @@
 // From the text of a drawing to its steps, and to a picture.
 
 const STATES = ['waiting', 'committed', 'failed', 'undone', 'fixed'];
+// A state in the words of the dashboard; the case has the program's own.
+const state_words = state => ({ committed: 'done', fixed: 'undo failed' })[state] || state;
 const NEVER = Infinity;
 
-const price_of = word => word === 'never' ? NEVER : Number(word);
+const cost_of = word => word === 'never' ? NEVER : Number(word);
 
-// A step of a drawing: its name, its state where it has one, and its prices.
+// A step of a drawing: its name, its state where it has one, and its costs.
 function step_of(lines) {
   const step = { name: lines[0], state: null, run: 0, undo: 0, skip: 0, keep: 0, lines: [] };
   for (const line of lines.slice(1)) {
     const found = /^(run|undo|skip|keep) (never|\d+)$/.exec(line);
     if (found) {
-      step[found[1]] = price_of(found[2]);
+      step[found[1]] = cost_of(found[2]);
       step.lines.push(line);
     } else step.state = line.split(',')[0];
   }
@@ -135,10 +137,10 @@ function outline({ x, y, w, h, step }, grow, kind) {
 
 function node_of(box, marked, is_chain) {
   const { step, number, x, y } = box;
-  const words = [step.name, ...(step.state ? [step.state] : []), ...step.lines];
-  const mark = marked.has(number) ? (is_chain ? 'shows it' : 'kept') : '';
+  const words = [step.name, ...(step.state ? [state_words(step.state)] : []), ...step.lines];
+  const mark = marked.has(number) ? (is_chain ? 'blocks' : 'keep') : '';
   const node = svg('g', { class: 'node', tabindex: 0, role: 'button', 'data-step': number,
-    'aria-label': `${step.name}: ${step.state || 'no state'}${mark && ', ' + mark}. Press for the next state.` });
+    'aria-label': `${step.name}: ${state_words(step.state) || 'no state'}${mark && ', ' + mark}. Press for the next state.` });
   if (mark) node.append(outline(box, 4.5, is_chain ? 'ring chain' : 'ring'));
   node.append(outline(box, 0, `shape ${step.state || ''}`));
   words.forEach((word, k) => node.append(svg('text', { x, y: y + (k - (words.length - 1) / 2) * LINE + 4.5, 'text-anchor': 'middle', class: k ? 'line' : 'name' }, word)));

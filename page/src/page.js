@@ -143,7 +143,7 @@ function show_picture(drawing, marked, is_chain, title) {
     at('picture').replaceChildren(button);
   } else fill();
   const words = [];
-  if (marked.size) words.push(element('span', {}, element('i', { class: is_chain ? 'chain' : '' }), is_chain ? 'the steps that show it' : 'is kept'));
+  if (marked.size) words.push(element('span', {}, element('i', { class: is_chain ? 'chain' : '' }), is_chain ? 'the steps that block every plan' : 'keep'));
   words.push(element('span', {}, 'Arrows lead to what a step needs.'), element('span', {}, 'Click a step to change its state.'));
   at('legend').replaceChildren(...words);
 }
@@ -153,20 +153,20 @@ const priced = price => price === NEVER ? 'never' : price.toLocaleString('en');
 // A chooser of a step's state.
 function chooser(step, number) {
   const made = element('select', { 'aria-label': `State of ${step.name}`, 'data-step': number });
-  for (const state of STATES) made.append(new Option(state, state, false, state === (step.state || 'waiting')));
+  for (const state of STATES) made.append(new Option(state_words(state), state, false, state === (step.state || 'waiting')));
   made.addEventListener('change', () => set_state(number, made.value));
   return made;
 }
 
-// The row of a step: its state, its two prices, what it shall do and why. Without a plan there is no end to tell.
+// The row of a step: its state, its two costs, the decision and its reason. Without a plan there is no decision.
 function row_of(drawing, beside, kept, i, is_aborted) {
   const step = drawing.steps[i], is_kept = kept?.has(i);
   const price = (label, value, is_taken) => element('td', { class: `price${is_taken ? ' taken' : ''}`, 'data-label': label }, priced(value));
   return element('tr', {},
     element('td', { class: 'name' }, step.name),
     element('td', { class: 'is' }, chooser(step, i)),
-    price('cost to keep', to_stand(step, is_aborted), kept && is_kept),
-    price('cost to drop', to_leave(step), kept && !is_kept),
+    price('cost to keep', cost_to_keep(step, is_aborted), kept && is_kept),
+    price('cost to drop', cost_to_drop(step), kept && !is_kept),
     element('td', { class: `shall ${is_kept ? 'stands' : 'gone'}` }, kept ? shall(step, is_kept) : ''),
     element('td', { class: 'why' }, kept ? why(drawing, beside, kept, i, is_aborted) : ''));
 }
@@ -174,7 +174,7 @@ function row_of(drawing, beside, kept, i, is_aborted) {
 // The table of the steps; of very many only the first, until all are asked for.
 function show_steps(drawing, kept, cost) {
   const focused = document.activeElement?.closest?.('td select')?.dataset.step;
-  const body = at('steps').querySelector('tbody'), beside = neighbours_of(drawing), is_aborted = at('aborted').checked;
+  const body = at('steps').querySelector('tbody'), beside = neighbors_of(drawing), is_aborted = at('aborted').checked;
   const fill = count => {
     body.replaceChildren(...drawing.steps.slice(0, count).map((_, i) => row_of(drawing, beside, kept, i, is_aborted)));
     at('all').hidden = count >= drawing.steps.length;
@@ -188,7 +188,7 @@ function show_steps(drawing, kept, cost) {
   if (focused !== undefined) body.querySelector(`select[data-step="${focused}"]`)?.focus({ preventScroll: true });
 }
 
-// Where each step stands is changed: the case is written anew.
+// States have changed: the case is written anew.
 function write_case(states) {
   at('case').value = JSON.stringify(at('aborted').checked ? { aborted: true, states } : { states });
   return run();
@@ -228,7 +228,7 @@ function show_right(drawing, answer, says, is_planned) {
     const cost = says.split(' ')[1], kept = new Set(answer.kept);
     const undone = drawing.steps.flatMap((step, i) => step.state === 'committed' && !kept.has(i) ? [i] : []);
     const ends = [answer.kept.length ? `keep ${listed(answer.kept, drawing.steps)}` : 'keep nothing', ...(undone.length ? [`undo ${listed(undone, drawing.steps)}`] : [])];
-    tell('good', `${is_planned ? 'Plan of minimum cost' : 'Valid: a plan of minimum cost'} ${cost}: ${ends.join('; ')}`, checked, 'No allowed plan costs less. The flow in the certificate proves it.');
+    tell('good', `${is_planned ? 'Plan of minimum cost' : 'Valid: a plan of minimum cost'} ${cost}: ${ends.join('; ')}`, checked, 'No feasible plan costs less. The flow in the certificate proves it.');
     show_picture(drawing, kept, false, `${drawing.name}: plan of cost ${cost}`);
     show_steps(drawing, kept, cost);
   } else {

@@ -1,6 +1,6 @@
-// What it costs that a step stands, and that it does not (the table of prices, as the planner has it); and why it ends as it does.
+// What it costs to keep a step, and to drop it (the table of costs, as the planner has it); and the reason of its decision.
 
-function to_stand(step, is_aborted) {
+function cost_to_keep(step, is_aborted) {
   switch (step.state) {
     case 'waiting': return is_aborted ? NEVER : step.run + step.keep;
     case 'committed': case 'fixed': return step.keep;
@@ -8,7 +8,7 @@ function to_stand(step, is_aborted) {
   }
 }
 
-function to_leave(step) {
+function cost_to_drop(step) {
   switch (step.state) {
     case 'committed': return step.undo + step.skip;
     case 'fixed': return NEVER;
@@ -16,18 +16,18 @@ function to_leave(step) {
   }
 }
 
-// The neighbours of each step: whom it needs, and who needs it.
-function neighbours_of(drawing) {
+// The neighbors of each step: what it needs, and what needs it.
+function neighbors_of(drawing) {
   const needs = drawing.steps.map(() => []), users = drawing.steps.map(() => []);
   for (const [user, need] of drawing.needs) { needs[user].push(need); users[need].push(user); }
   return { needs, users };
 }
 
-// Why a step cannot be without.
+// Why a step cannot be dropped.
 const why_forced = step => step.state === 'fixed' ? 'its compensation failed'
   : step.state === 'committed' && step.undo === NEVER ? 'it cannot be undone' : 'it is mandatory';
 
-// Why a step cannot stand.
+// Why a step cannot be kept.
 const why_barred = (step, is_aborted) => step.state === 'failed' ? 'it has failed'
   : step.state === 'undone' ? 'it was undone'
   : step.state === 'waiting' && is_aborted ? 'the saga was aborted'
@@ -35,21 +35,21 @@ const why_barred = (step, is_aborted) => step.state === 'failed' ? 'it has faile
 
 const names = (list, steps) => list.slice(0, 3).map(i => steps[i].name).join(', ') + (list.length > 3 ? ` and ${list.length - 3} more` : '');
 
-// Why a step stands, or does not, in a right plan with this kept set.
+// Why a step is kept, or dropped, in an optimal plan with this kept set.
 function why(drawing, { needs, users }, kept, i, is_aborted) {
-  const step = drawing.steps[i], stand = to_stand(step, is_aborted), leave = to_leave(step);
+  const step = drawing.steps[i], keep = cost_to_keep(step, is_aborted), drop = cost_to_drop(step);
   if (kept.has(i)) {
-    if (leave === NEVER) return why_forced(step);
-    const standing = users[i].filter(user => kept.has(user));
-    if (stand > leave || (stand === leave && standing.length)) return `${names(standing, drawing.steps)} ${standing.length > 1 ? 'need' : 'needs'} it`;
-    return stand === leave ? 'both cost the same' : 'this costs less';
+    if (drop === NEVER) return why_forced(step);
+    const using = users[i].filter(user => kept.has(user));
+    if (keep > drop || (keep === drop && using.length)) return `${names(using, drawing.steps)} ${using.length > 1 ? 'need' : 'needs'} it`;
+    return keep === drop ? 'both cost the same' : 'this costs less';
   }
-  if (stand === NEVER) return why_barred(step, is_aborted);
-  if (leave < stand) return 'this costs less';
+  if (keep === NEVER) return why_barred(step, is_aborted);
+  if (drop < keep) return 'this costs less';
   const lacking = needs[i].filter(need => !kept.has(need));
   if (lacking.length) return `it needs ${names(lacking, drawing.steps)}, which ${lacking.length > 1 ? 'are' : 'is'} dropped`;
-  return leave === stand ? 'both cost the same' : 'this costs less together with other steps';
+  return drop === keep ? 'both cost the same' : 'this costs less together with other steps';
 }
 
-// What a plan does with a step: it is kept or not.
+// What a plan does with a step, in the words of the dashboard.
 const shall = (step, is_kept) => is_kept ? (step.state === 'waiting' ? 'run' : 'keep') : step.state === 'committed' ? 'undo' : 'skip';

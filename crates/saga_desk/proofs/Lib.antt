@@ -5,3 +5,4 @@ pub mod BridgeLemmas
 mod StepLemmas
 mod FinishLemmas
 mod ServeLemmas
+mod RoundLemmas

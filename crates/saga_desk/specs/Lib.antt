@@ -9,4 +9,6 @@ pub mod Merges
 pub mod Agreement
 pub mod Laws
 pub mod Rests
+pub mod Signs
+pub mod Rounds
 pub mod Finish

@@ -1,14 +1,15 @@
 -- Why a call is refused.
-use Rattle.std.specs.Prelude.{◌≡◌, ℕ, ◌<◌, ◌≤◌, length}
+use Rattle.std.specs.Prelude.{◌≡◌, ℕ, ◌<◌, ◌≤◌, ◌%◌, length}
 use Rattle.saga_case.specs.Situation.{Situation}
 use Rattle.saga_history.specs.Tasks.{busy_state}
 use Rattle.saga_core.specs.Book.{Book}
-use Rattle.saga_core.specs.Refusals.{AdoptIsRefused, DropRefused, OfSaga, ReportRefused}
+use Rattle.saga_core.specs.Refusals.{AdoptIsRefused, DropRefused, OfSaga, OpenRefused, ReportRefused}
 use Rattle.saga_core.specs.declared.refusals.AdoptRefusal.{AdoptRefusal}
 use Rattle.saga_core.specs.declared.refusals.DropRefusal.{DropRefusal}
 use Rattle.saga_core.specs.declared.refusals.OpenRefusal.{OpenRefusal}
 use Rattle.saga_core.specs.declared.refusals.OpenRefusal.TheVariants as opening
 use Rattle.saga_core.specs.declared.refusals.ReportRefusal.{ReportRefusal}
+use Rattle.saga_desk.specs.Desk.{Desk}
 use Rattle.saga_desk.specs.Effects.{IsAttempt}
 use Rattle.saga_desk.specs.Job.{Job, PlanJob, kind_of}
 use Rattle.saga_desk.specs.Seat.{Seat}
@@ -20,12 +21,26 @@ pub record HasClaimed (number : ℕ) (seat : Seat) : Type 0 where
   pub own : number ≡ seat.number
   pub some : 0 < seat.claims
 
--- why a desk with so many definitions opens no saga: its definition is not on the shelf; or it is, and the shard is full or
--- memory is wanting
-abbrev pub OpenIsRefused : ℕ → ℕ → OpenRefusal → Type 0
-OpenIsRefused shelf k opening.NoSuchDefinition = shelf ≤ k
-OpenIsRefused shelf k opening.Full = k < shelf
-OpenIsRefused shelf k opening.OutOfMemory = k < shelf
+-- the book has so many definitions, and numbers its sagas as the shard of that number does, of so many
+pub record IsOnShard (count shards shard : ℕ) (b : Book) : Type 0 where
+  pub shelf : length b.shelf ≡ count
+  pub first : b.first ≡ shard
+  pub stride : b.stride ≡ shards
+
+-- this holds of a book that the shard of that number had
+abbrev pub OnShard : ℕ → ℕ → ℕ → (Book → Type 0) → Type 0
+OnShard shelf shards shard P = (b : Book) × IsOnShard shelf shards shard b × P b
+
+-- this holds of a book that the shard had on which such a desk has a saga
+abbrev pub OnShardOf : Desk → ℕ → (Book → Type 0) → Type 0
+OnShardOf desk saga P = OnShard (length desk.shelf) desk.shards (saga % desk.shards) P
+
+-- why a desk with so many definitions opens no saga on a shard: its definition is not on the shelf; or it is, and the shard is full,
+-- or memory is wanting
+abbrev pub OpenIsRefused : ℕ → ℕ → ℕ → ℕ → OpenRefusal → Type 0
+OpenIsRefused shelf shards shard k opening.NoSuchDefinition = shelf ≤ k
+OpenIsRefused shelf shards shard k opening.Full = (k < shelf) × OnShard shelf shards shard (λ b. OpenRefused b k opening.Full)
+OpenIsRefused shelf shards shard k opening.OutOfMemory = (k < shelf) × OnShard shelf shards shard (λ b. OpenRefused b k opening.OutOfMemory)
 
 -- there is such a step, and the job is not the next attempt at it, or has another name
 abbrev pub IsOfAnother : Book → Job → Type 0

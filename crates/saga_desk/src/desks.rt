@@ -1,11 +1,14 @@
 //! The desk: shards under locks of their own, which seats share.
-ghost use Rattle.std.specs.Prelude.{◌≡◌, ◌<◌, ◌≤◌, ◌-◌, ◌%◌, [], IfOk, IfErr, IfSome, IfNone, OnOk, OnErr, length};
-ghost use Rattle.saga_history.specs.declared.events.Event.TheVariants as event;
+ghost use Rattle.std.specs.Prelude.{◌≡◌, ◌↔◌, ◌<◌, ◌≤◌, ◌-◌, ◌%◌, IfOk, IfErr, IfSome, IfNone, IsTrue, OnOk, OnErr, length};
+ghost use Rattle.std.specs.Sync.Mutex.{mutex_guard_value};
 ghost use Rattle.saga_history.specs.declared.events.Mark.TheVariants as mark;
-ghost use Rattle.saga_core.specs.Refusals.{OpenRefused};
-ghost use Rattle.saga_desk.specs.Effects.{Claims, Ends, Gains, GainsEnd, GainsOn, Records, Serves};
+ghost use Rattle.saga_history.specs.Changes.{aborts};
+ghost use Rattle.saga_core.specs.Refusals.{SagaRefused};
+ghost use Rattle.saga_core.specs.Tasks.{NoTaskIsAllowed};
+ghost use Rattle.saga_desk.specs.Effects.{Claims, Gains, GainsEnd, GainsOn, Serves};
 ghost use Rattle.saga_desk.specs.Finish.{AreFirstSeats};
-ghost use Rattle.saga_desk.specs.Refusals.{AdoptionIsRefused, EndIsRefused, GivingBackIsRefused, HasClaimed, OpenIsRefused, ReportIsRefused};
+ghost use Rattle.saga_desk.specs.Refusals.{AdoptionIsRefused, GivingBackIsRefused, HasClaimed, IsOnShard, OnShardOf, OpenIsRefused, ReportIsRefused};
+ghost use Rattle.saga_desk.specs.Rounds.{Begins, IsFoundBy, IsFree, IsTask, WasFoundAs, WasFree, WasLookedAt};
 ghost use Rattle.saga_desk.specs.Told.{HoldsTold};
 
 mod finish;
@@ -13,7 +16,10 @@ mod finish;
 use crate::jobs::{Claim, Job, PlanJob};
 use crate::policies::Policy;
 use crate::refusals::{AdoptionRefused, GiveBackRefused, ReportRefused};
-use crate::shards::{Seat, Shard};
+use crate::rounds::{Found, Round};
+use crate::ruled::Ruled;
+use crate::shards::Seat;
+use crate::signs::{Shown, Sign};
 pub use finish::FinishRefused;
 use saga_check::Verdict;
 use saga_core::{Book, OpenRefusal, SagaRefusal};
@@ -21,8 +27,8 @@ use saga_def::Definition;
 use saga_history::Outcome;
 use std::alloc::{AllocError, Global};
 use std::hint::spin_loop;
-use std::marker::{Brand, Model, PhantomData};
-use std::sync::atomic::{AtomicBool, AtomicU64, Ordering};
+use std::marker::{Brand, Model};
+use std::sync::atomic::{AtomicU64, Ordering};
 use std::sync::{Mutex, MutexGuard, Wait};
 use std::thread::yield_now;
 
@@ -47,158 +53,14 @@ fn pause(turns: u32) {
     }
 }
 
-/// A shard that holds nothing but what may be told.
-///
-/// Its methods are those of [`Shard`], as far as a desk says what they do.
-#[derive(Drop)]
-struct Ruled<'d, P: Policy> {
-    shard: Shard<'d>,
-    of: PhantomData<P>,
-}
-
-impl<'d, P: Policy> Model for Ruled<'d, P> {
-    ghost use Rattle.saga_core.specs.Book.{Book};
-    ghost use Rattle.saga_desk.specs.Told.{HoldsTold};
-
-    ghost Value = { Book };
-
-    ghost view = { λ r. r.shard };
-
-    ghost invariant = { λ r. HoldsTold P.may P.may_abort r.shard };
-}
-
-impl<'d, P: Policy> Ruled<'d, P> {
-    /// A shard without sagas.
-    fn new(alloc: Global, shelf: &'d [Definition], first: u32, stride: u32) -> Ruled<'d, P>
-        requires begins { first < stride }
-        requires near { stride ≤ 16 }
-        ensures { result
-            ≡ record { shelf = shelf.entry.now; first = first; stride = stride; history = [] } }
-    {
-        Ruled {
-            shard: Shard::new(alloc, shelf, first, stride),
-            of: PhantomData,
-        }
-    }
-
-    fn open_saga(&mut self, seat: &mut Seat, definition: u32) -> Result<u32, OpenRefusal>
-        ensures known { OnOk result (definition < length self.old.shelf) }
-        ensures ok { IfOk result
-            (λ saga. Records self.old self.new seat.old seat.new
-            (event.Open saga definition) seat.old.claims) }
-        ensures err { OnErr result (seat.new ≡ seat.old) }
-        ensures why { IfErr result
-            (λ why. OpenRefused self.old definition why) }
-    {
-        self.shard.open_saga(seat, definition)
-    }
-
-    fn serve(&mut self, seat: &mut Seat) -> Result<Claim<'d>, AllocError>
-        ensures ok { IfOk result (λ claim. Serves self.old self.new seat.old seat.new claim) }
-        ensures err { OnErr result (seat.new ≡ seat.old) }
-    {
-        self.shard.serve(seat)
-    }
-
-    fn report(
-        &mut self,
-        seat: &mut Seat,
-        job: Job<'d>,
-        outcome: Outcome,
-    ) -> Result<(), ReportRefused<'d>>
-        requires { P.may job outcome }
-        ensures own { OnOk result (HasClaimed job.entry.seat seat.old) }
-        ensures ok { OnOk result (Ends self.old self.new seat.old seat.new job.entry outcome) }
-        ensures err { IfErr result (λ refused. seat.new ≡ seat.old) }
-        ensures back { IfErr result (λ refused. refused.job ≡ job.entry) }
-        ensures why { IfErr result
-            (λ refused. ReportIsRefused self.old seat.old job.entry refused.why) }
-    {
-        self.shard.report(seat, job, outcome)
-    }
-
-    fn adopt(
-        &mut self,
-        seat: &mut Seat,
-        job: PlanJob,
-        verdict: Verdict<'d>,
-    ) -> Result<(), AdoptionRefused<'d>>
-        ensures own { OnOk result (HasClaimed job.seat seat.old) }
-        ensures ok { OnOk result
-            (Records self.old self.new seat.old seat.new (event.Adopt job.saga verdict.entry.answer)
-            (seat.old.claims - 1)) }
-        ensures err { IfErr result (λ refused. seat.new ≡ seat.old) }
-        ensures back { IfErr result
-            (λ refused. (refused.job ≡ job) × (refused.verdict ≡ verdict.entry)) }
-        ensures why { IfErr result
-            (λ refused. AdoptionIsRefused self.old seat.old job verdict.entry.case refused.why) }
-    {
-        self.shard.adopt(seat, job, verdict)
-    }
-
-    fn give_back(&mut self, seat: &mut Seat, job: PlanJob) -> Result<(), GiveBackRefused>
-        ensures own { OnOk result (HasClaimed job.seat seat.old) }
-        ensures ok { OnOk result
-            (Records self.old self.new seat.old seat.new (event.DropPlan job.saga)
-            (seat.old.claims - 1)) }
-        ensures err { IfErr result (λ refused. seat.new ≡ seat.old) }
-        ensures back { IfErr result (λ refused. refused.job ≡ job) }
-        ensures why { IfErr result
-            (λ refused. GivingBackIsRefused self.old seat.old job refused.why) }
-    {
-        self.shard.give_back(seat, job)
-    }
-
-    fn abort(&mut self, seat: &mut Seat, saga: u32) -> Result<(), SagaRefusal>
-        requires { P.may_abort saga }
-        ensures ok { OnOk result
-            (Records self.old self.new seat.old seat.new (event.Abort saga) seat.old.claims) }
-        ensures err { OnErr result (seat.new ≡ seat.old) }
-    {
-        self.shard.abort(seat, saga)
-    }
-
-    fn has_task(&self) -> bool {
-        self.shard.has_task()
-    }
-
-    fn is_settled(&self) -> bool {
-        self.shard.is_settled()
-    }
-
-    fn first(&self) -> u32
-        ensures { result ≡ self.now.first }
-    {
-        self.shard.first()
-    }
-
-    fn definitions(&self) -> usize
-        ensures { result ≡ length self.now.shelf }
-    {
-        self.shard.definitions()
-    }
-
-    /// The book alone.
-    fn into_book(self) -> Book<'d>
-        ensures value { result ≡ self.entry }
-        ensures told { HoldsTold P.may P.may_abort result }
-    {
-        let Ruled { shard, .. } = self;
-        shard.into_book()
-    }
-}
-
 /// A shard under its lock, with its number, and what a claim may look at without the lock.
 ///
-/// `may_serve` is cleared only where the shard has no task, and set where an event made that it has one. `settled` is set only
-/// where each saga of the shard is ended or stuck, and cleared where one is opened. `claims` counts the claims. All three are
-/// written under the lock alone. They lie apart from the lock and from the next slot, in cache lines of their own, so that those who
-/// look do not slow down those who write.
+/// `claims` counts the claims. It and the sign are written under the lock alone. They lie apart from the lock and from the next slot,
+/// in cache lines of their own, so that those who look do not slow down those who write.
 #[derive(Drop)]
 struct Slot<'d, P: Policy> {
     number: u32,
-    may_serve: AtomicBool,
-    settled: AtomicBool,
+    sign: Sign,
     claims: AtomicU64,
     before: [u64; 8],
     shard: Mutex<Ruled<'d, P>>,
@@ -211,40 +73,12 @@ impl<'d, P: Policy> Slot<'d, P> {
     {
         Slot {
             number: ruled.first(),
-            may_serve: AtomicBool::new(false),
-            settled: AtomicBool::new(true),
+            sign: Sign::new(),
             claims: AtomicU64::new(0),
             before: [0; 8],
             shard: Mutex::new(ruled),
             behind: [0; 8],
         }
-    }
-
-    /// Opens a saga on this shard, whose shelf has so many definitions.
-    fn open_saga<R: Wait>(
-        &self,
-        rt: &R,
-        seat: &mut Seat,
-        shelf: usize,
-        definition: u32,
-    ) -> Result<u32, OpenRefusal>
-        ensures known { OnOk result (definition < shelf) }
-        ensures ok { IfOk result
-            (λ saga. GainsOn self.now.number seat.old seat.new (mark.Open saga definition)) }
-        ensures err { OnErr result (seat.new ≡ seat.old) }
-        ensures why { IfErr result (λ why. OpenIsRefused shelf definition why) }
-    {
-        let mut locked = self.lock(rt);
-        let ruled: &mut Ruled<'d, P> = &mut *locked;
-        if ruled.first() != self.number || ruled.definitions() != shelf {
-            // Never taken: a shard keeps its number and its shelf. Nothing is known of what a lock holds but its type.
-            for _ in rt.forever() {}
-            unreachable!()
-        }
-        let saga = ruled.open_saga(seat, definition)?;
-        self.settled.store(false, Ordering::SeqCst);
-        self.may_serve.store(true, Ordering::SeqCst);
-        Ok(saga)
     }
 
     /// The shard under its lock.
@@ -258,46 +92,49 @@ impl<'d, P: Policy> Slot<'d, P> {
         self.shard.lock(rt)
     }
 
-    /// Whether it may have a task.
-    fn may_serve(&self) -> bool {
-        self.may_serve.load(Ordering::SeqCst)
-    }
-
-    /// Whether it is settled.
-    fn is_settled(&self) -> bool {
-        self.settled.load(Ordering::SeqCst)
-    }
-
-    /// Tells those who look without the lock what an event made of the shard, under its lock.
-    fn tell(&self, ruled: &Ruled<'d, P>) {
-        if self.may_serve() {
-            return;
-        }
-        if ruled.has_task() {
-            self.may_serve.store(true, Ordering::SeqCst);
-        } else if ruled.is_settled() {
-            self.settled.store(true, Ordering::SeqCst);
+    /// How the shard was found, where its sign shows that it has no task.
+    fn found(&self) -> Option<Found>
+        ensures { IfSome result (λ found. IsFree found) }
+    {
+        match self.sign.read() {
+            Shown::Open => None,
+            Shown::Idle => Some(Found::Idle),
+            Shown::Over => Some(Found::Over),
         }
     }
 
-    /// What the shard has for the seat, under its lock, as [`Shard::serve`] tells it.
-    fn serve(&self, ruled: &mut Ruled<'d, P>, seat: &mut Seat) -> Result<Claim<'d>, AllocError>
-        ensures ok { IfOk result (λ claim. Claims seat.old seat.new claim) }
+    /// What the shard has for the seat, under its lock; where it has nothing, the round is told how it was found.
+    fn serve(
+        &self,
+        ruled: &mut Ruled<'d, P>,
+        seat: &mut Seat,
+        round: &mut Round,
+    ) -> Result<Option<Claim<'d>>, AllocError>
+        requires next { round.old.next < round.old.shards }
+        requires left { round.old.looked < round.old.shards }
+        ensures some { IfOk result
+            (λ o. IfSome o (λ claim. IsTask claim × Serves ruled.old ruled.new seat.old seat.new claim)) }
+        ensures idle { IfOk result
+            (λ o. IfNone o (NoTaskIsAllowed ruled.old × (seat.new ≡ seat.old))) }
+        ensures found { IfOk result
+            (λ o. IfNone o (WasFoundAs ruled.old round.old round.new)) }
         ensures err { OnErr result (seat.new ≡ seat.old) }
     {
-        let claim = ruled.serve(seat)?;
-        match &claim {
+        match ruled.serve(&self.sign, seat)? {
             Claim::Settled => {
-                self.settled.store(true, Ordering::SeqCst);
-                self.may_serve.store(false, Ordering::SeqCst);
+                round.note(Found::Over);
+                Ok(None)
             }
-            Claim::Idle => self.may_serve.store(false, Ordering::SeqCst),
-            _ => {
+            Claim::Idle => {
+                round.note(Found::Idle);
+                Ok(None)
+            }
+            claim => {
                 let before = self.claims.fetch_add(1, Ordering::SeqCst);
                 seat.stay(self.number, before.wrapping_add(1));
+                Ok(Some(claim))
             }
         }
-        Ok(claim)
     }
 
     /// Whether another seat claimed here last, and one claims again within a moment: then a seat more would only have them wait for
@@ -311,45 +148,59 @@ impl<'d, P: Policy> Slot<'d, P> {
         self.claims.load(Ordering::SeqCst) != claims
     }
 
-    /// The answer where the shard has no task.
-    fn rest(&self, seat: &Seat) -> Claim<'d>
-        ensures { Claims seat.now seat.now result }
-    {
-        rest(seat, self.is_settled())
-    }
-
-    /// What this shard has for the seat. Where it has no task, the lock is not taken.
-    fn claim<R: Wait>(&self, rt: &R, seat: &mut Seat) -> Result<Claim<'d>, AllocError>
-        ensures ok { IfOk result (λ claim. Claims seat.old seat.new claim) }
+    /// The task that this shard has for the seat; where it has none, the round is told how it was found. Where that is shown, the
+    /// lock is not taken.
+    fn claim<R: Wait>(
+        &self,
+        rt: &R,
+        seat: &mut Seat,
+        round: &mut Round,
+    ) -> Result<Option<Claim<'d>>, AllocError>
+        requires next { self.now.number ≡ round.old.next }
+        requires within { round.old.next < round.old.shards }
+        requires left { round.old.looked < round.old.shards }
+        ensures some { IfOk result
+            (λ o. IfSome o (λ claim. IsTask claim × Claims seat.old seat.new claim)) }
+        ensures none { IfOk result (λ o. IfNone o (seat.new ≡ seat.old)) }
+        ensures found { IfOk result
+            (λ o. IfNone o (WasFree round.old round.new)) }
         ensures err { OnErr result (seat.new ≡ seat.old) }
     {
-        if !self.may_serve() {
-            return Ok(self.rest(seat));
+        if let Some(found) = self.found() {
+            round.note(found);
+            return Ok(None);
         }
         let mut locked = self.lock(rt);
-        self.serve(&mut *locked, seat)
+        self.serve(&mut *locked, seat, round)
     }
 
-    /// The same, or none where it may have a task, and other seats are at it.
-    fn try_claim(&self, seat: &mut Seat) -> Result<Option<Claim<'d>>, AllocError>
+    /// The same without waiting for the lock; where the shard may have a task, and other seats are at it, it was found busy.
+    fn try_claim(&self, seat: &mut Seat, round: &mut Round) -> Result<Option<Claim<'d>>, AllocError>
+        requires next { self.now.number ≡ round.old.next }
+        requires within { round.old.next < round.old.shards }
+        requires left { round.old.looked < round.old.shards }
         ensures some { IfOk result
-            (λ o. IfSome o (λ claim. Claims seat.old seat.new claim)) }
+            (λ o. IfSome o (λ claim. IsTask claim × Claims seat.old seat.new claim)) }
         ensures none { IfOk result (λ o. IfNone o (seat.new ≡ seat.old)) }
+        ensures found { IfOk result
+            (λ o. IfNone o (WasLookedAt round.old round.new)) }
         ensures err { OnErr result (seat.new ≡ seat.old) }
     {
-        if !self.may_serve() {
-            return Ok(Some(self.rest(seat)));
+        if let Some(found) = self.found() {
+            round.note(found);
+            return Ok(None);
         }
         if self.is_busy(seat) {
+            round.note(Found::Busy);
             return Ok(None);
         }
         let Some(mut locked) = self.shard.try_lock() else {
             seat.be_careful(true);
+            round.note(Found::Busy);
             return Ok(None);
         };
         seat.be_careful(false);
-        let claim = self.serve(&mut *locked, seat)?;
-        Ok(Some(claim))
+        self.serve(&mut *locked, seat, round)
     }
 
     fn into_book(self) -> Book<'d>
@@ -360,12 +211,30 @@ impl<'d, P: Policy> Slot<'d, P> {
     }
 }
 
-/// The answer where no shard has a task.
-fn rest<'d>(seat: &Seat, settled: bool) -> Claim<'d>
-    ensures { Claims seat.now seat.now result }
+/// Waits for ever, with a shard that is not the one of its place. It is never called: nothing is known of what a lock holds but its
+/// type, but a shard keeps its number and its shelf.
+fn wait_for_ever<'s, 'd, R: Wait, P: Policy>(
+    rt: &R,
+    locked: MutexGuard<'s, Ruled<'d, P>>,
+    shelf: usize,
+    shards: usize,
+    shard: usize,
+) -> MutexGuard<'s, Ruled<'d, P>>
+    requires { IsOnShard shelf shards shard (mutex_guard_value locked) → ⊥ }
+    ensures { IsOnShard shelf shards shard (mutex_guard_value result) }
 {
-    let _ = seat;
-    if settled { Claim::Settled } else { Claim::Idle }
+    let _ = (locked, shelf, shards, shard);
+    for _ in rt.forever() {}
+    unreachable!()
+}
+
+/// Whether this is the shard of that number, of so many, with so many definitions on its shelf.
+fn is_on_shard<P: Policy>(ruled: &Ruled<'_, P>, shelf: usize, shards: usize, shard: usize) -> bool
+    ensures { IsTrue result ↔ IsOnShard shelf shards shard ruled.now }
+{
+    ruled.definitions() == shelf
+        && ruled.first() as usize == shard
+        && ruled.stride() as usize == shards
 }
 
 /// Shards that several seats share. Contracts see its shelf, and how many seats and shards it has.
@@ -454,6 +323,20 @@ impl<'d, P: Policy> Desk<'d, P> {
         self.slots.len() as u32
     }
 
+    /// The shard of that number, under its lock.
+    fn lock<R: Wait>(&self, rt: &R, shard: usize) -> MutexGuard<'_, Ruled<'d, P>>
+        requires { shard < self.now.shards }
+        ensures { IsOnShard (length self.now.shelf) self.now.shards shard (mutex_guard_value result) }
+    {
+        let shelf = self.shelf.len();
+        let shards = self.slots.len();
+        let locked = self.slots[shard].lock(rt);
+        if is_on_shard(&*locked, shelf, shards, shard) {
+            return locked;
+        }
+        wait_for_ever(rt, locked, shelf, shards, shard)
+    }
+
     /// Opens a saga on a shard by a definition on the shelf, and gives its number. NoSuchDefinition where the definition is not
     /// on the shelf; what else refuses it is told by the shard.
     pub fn open_saga<R: Wait>(
@@ -468,10 +351,13 @@ impl<'d, P: Policy> Desk<'d, P> {
         ensures ok { IfOk result
             (λ saga. GainsOn shard seat.old seat.new (mark.Open saga definition)) }
         ensures err { OnErr result (seat.new ≡ seat.old) }
-        ensures why { IfErr result (λ why. OpenIsRefused (length self.now.shelf) definition why) }
+        ensures why { IfErr result
+            (λ why. OpenIsRefused (length self.now.shelf) self.now.shards shard definition why) }
     {
-        let shelf = self.shelf.len();
-        self.slots[shard as usize].open_saga(rt, seat, shelf, definition)
+        let place = shard as usize;
+        let mut locked = self.lock(rt, place);
+        let ruled: &mut Ruled<'d, P> = &mut *locked;
+        ruled.open_saga(&self.slots[place].sign, seat, definition)
     }
 
     /// Claims the first task of a shard that has one: of the one at which the seat claimed last, and else of the next, going round.
@@ -482,7 +368,8 @@ impl<'d, P: Policy> Desk<'d, P> {
         ensures err { OnErr result (seat.new ≡ seat.old) }
     {
         for look in 0..LOOKS {
-            if let Some(claim) = self.try_claim(seat)? {
+            let mut round = self.round(seat);
+            if let Some(claim) = self.try_claim(seat, &mut round)? {
                 return Ok(claim);
             }
             pause(MOMENT << look.min(SHORT_LOOKS));
@@ -490,62 +377,74 @@ impl<'d, P: Policy> Desk<'d, P> {
                 yield_now();
             }
         }
-        self.wait_and_claim(rt, seat)
+        let mut round = self.round(seat);
+        self.wait_and_claim(rt, seat, &mut round)
+    }
+
+    /// A round that begins where the seat claimed last.
+    fn round(&self, seat: &Seat) -> Round
+        ensures { Begins self.now.shards result }
+    {
+        let count = self.slots.len();
+        Round::new(count, seat.place() as usize % count)
     }
 
     /// The same, without waiting for a lock: none where a shard may have a task, and other seats are at it.
-    fn try_claim(&self, seat: &mut Seat) -> Result<Option<Claim<'d>>, AllocError>
+    fn try_claim(&self, seat: &mut Seat, round: &mut Round) -> Result<Option<Claim<'d>>, AllocError>
+        requires { Begins self.now.shards round.old }
         ensures some { IfOk result
             (λ o. IfSome o (λ claim. Claims seat.old seat.new claim)) }
         ensures none { IfOk result (λ o. IfNone o (seat.new ≡ seat.old)) }
+        ensures found { IfOk result (λ o. IsFoundBy self.now.shards round.new o) }
         ensures err { OnErr result (seat.new ≡ seat.old) }
     {
         let count = self.slots.len();
-        let begin = seat.place() as usize % count;
-        let mut settled = true;
-        let mut busy = false;
         for turn in 0..count {
-            match self.slots[(begin + turn) % count].try_claim(seat)? {
-                None => busy = true,
-                Some(Claim::Settled) => {}
-                Some(Claim::Idle) => settled = false,
-                claim => return Ok(claim),
+            let _ = turn;
+            if let Some(claim) = self.slots[round.next()].try_claim(seat, round)? {
+                return Ok(Some(claim));
             }
         }
-        if busy {
-            return Ok(None);
-        }
-        Ok(Some(rest(seat, settled)))
+        Ok(round.end(seat))
     }
 
     /// The same, waiting for the lock of each shard that may have a task.
-    fn wait_and_claim<R: Wait>(&self, rt: &R, seat: &mut Seat) -> Result<Claim<'d>, AllocError>
+    fn wait_and_claim<R: Wait>(
+        &self,
+        rt: &R,
+        seat: &mut Seat,
+        round: &mut Round,
+    ) -> Result<Claim<'d>, AllocError>
+        requires { Begins self.now.shards round.old }
         ensures ok { IfOk result (λ claim. Claims seat.old seat.new claim) }
+        ensures found { IfOk result
+            (λ claim. IsFoundBy self.now.shards round.new (Some claim)) }
         ensures err { OnErr result (seat.new ≡ seat.old) }
     {
         let count = self.slots.len();
-        let begin = seat.place() as usize % count;
-        let mut settled = true;
         for turn in 0..count {
-            match self.slots[(begin + turn) % count].claim(rt, seat)? {
-                Claim::Settled => {}
-                Claim::Idle => settled = false,
-                claim => return Ok(claim),
+            let _ = turn;
+            if let Some(claim) = self.slots[round.next()].claim(rt, seat, round)? {
+                return Ok(claim);
             }
         }
-        Ok(rest(seat, settled))
+        let Some(claim) = round.end(seat) else {
+            unreachable!()
+        };
+        Ok(claim)
     }
 
     /// Whether a claim would be answered by idle, as far as can be seen without a lock.
     pub fn is_idle(&self) -> bool {
-        let mut settled = true;
+        let mut is_idle = false;
         for slot in &self.slots {
-            if slot.may_serve() {
-                return false;
+            match slot.sign.read() {
+                Shown::Open => return false,
+                Shown::Idle => is_idle = true,
+                Shown::Over => {}
             }
-            settled = settled && slot.is_settled();
         }
-        !settled
+        is_idle
     }
 
     /// The action or the compensation of a job ended: done, or failed, to be tried again while the step has tries left.
@@ -564,14 +463,13 @@ impl<'d, P: Policy> Desk<'d, P> {
         ensures err { IfErr result (λ refused. seat.new ≡ seat.old) }
         ensures back { IfErr result (λ refused. refused.job ≡ job.entry) }
         ensures why { IfErr result
-            (λ refused. EndIsRefused job.entry.seat seat.old (Unit {0}) (λ why. Unit {0}) refused.why) }
+            (λ refused. OnShardOf self.now job.entry.saga
+            (λ b. ReportIsRefused b seat.old job.entry refused.why)) }
     {
-        let slot = &self.slots[self.place_of(job.saga())];
-        let mut locked = slot.lock(rt);
+        let place = self.place_of(job.saga());
+        let mut locked = self.lock(rt, place);
         let ruled: &mut Ruled<'d, P> = &mut *locked;
-        ruled.report(seat, job, outcome)?;
-        slot.tell(ruled);
-        Ok(())
+        ruled.report(&self.slots[place].sign, seat, job, outcome)
     }
 
     /// A planning ends by an answer: a verdict on the saga's present case is adopted. Takes no memory. A refusal hands job
@@ -590,14 +488,13 @@ impl<'d, P: Policy> Desk<'d, P> {
         ensures back { IfErr result
             (λ refused. (refused.job ≡ job) × (refused.verdict ≡ verdict.entry)) }
         ensures why { IfErr result
-            (λ refused. EndIsRefused job.seat seat.old ⊥ (λ why. Unit {0}) refused.why) }
+            (λ refused. OnShardOf self.now job.saga
+            (λ b. AdoptionIsRefused b seat.old job verdict.entry.case refused.why)) }
     {
-        let slot = &self.slots[self.place_of(job.saga())];
-        let mut locked = slot.lock(rt);
+        let place = self.place_of(job.saga());
+        let mut locked = self.lock(rt, place);
         let ruled: &mut Ruled<'d, P> = &mut *locked;
-        ruled.adopt(seat, job, verdict)?;
-        slot.tell(ruled);
-        Ok(())
+        ruled.adopt(&self.slots[place].sign, seat, job, verdict)
     }
 
     /// A planning ends without an answer. Takes no memory. A refusal hands the job back, with the cause as
@@ -614,14 +511,13 @@ impl<'d, P: Policy> Desk<'d, P> {
         ensures err { IfErr result (λ refused. seat.new ≡ seat.old) }
         ensures back { IfErr result (λ refused. refused.job ≡ job) }
         ensures why { IfErr result
-            (λ refused. EndIsRefused job.seat seat.old ⊥ (λ why. Unit {0}) refused.why) }
+            (λ refused. OnShardOf self.now job.saga
+            (λ b. GivingBackIsRefused b seat.old job refused.why)) }
     {
-        let slot = &self.slots[self.place_of(job.saga())];
-        let mut locked = slot.lock(rt);
+        let place = self.place_of(job.saga());
+        let mut locked = self.lock(rt, place);
         let ruled: &mut Ruled<'d, P> = &mut *locked;
-        ruled.give_back(seat, job)?;
-        slot.tell(ruled);
-        Ok(())
+        ruled.give_back(&self.slots[place].sign, seat, job)
     }
 
     /// A saga is aborted.
@@ -629,13 +525,13 @@ impl<'d, P: Policy> Desk<'d, P> {
         requires { P.may_abort saga }
         ensures ok { OnOk result (Gains seat.old seat.new (mark.Abort saga) seat.old.claims) }
         ensures err { OnErr result (seat.new ≡ seat.old) }
+        ensures why { IfErr result
+            (λ why. OnShardOf self.now saga (λ b. SagaRefused b saga aborts why)) }
     {
-        let slot = &self.slots[self.place_of(saga)];
-        let mut locked = slot.lock(rt);
+        let place = self.place_of(saga);
+        let mut locked = self.lock(rt, place);
         let ruled: &mut Ruled<'d, P> = &mut *locked;
-        ruled.abort(seat, saga)?;
-        slot.tell(ruled);
-        Ok(())
+        ruled.abort(&self.slots[place].sign, seat, saga)
     }
 
     /// The place of the shard that has the sagas of such a number.

@@ -25,7 +25,10 @@ mod laws;
 mod policies;
 mod receipts;
 mod refusals;
+mod rounds;
+mod ruled;
 mod shards;
+mod signs;
 
 pub use desks::{Desk, FinishRefused};
 pub use jobs::{Claim, Job, PlanJob};

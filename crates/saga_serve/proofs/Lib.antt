@@ -2,3 +2,5 @@ mod LineLemmas
 mod ShownLemmas
 mod DriveLemmas
 mod SurvivalLemmas
+mod TalkLemmas
+mod ServedLemmas

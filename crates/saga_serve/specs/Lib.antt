@@ -3,4 +3,5 @@ pub mod Limits
 pub mod Outside
 pub mod Logs
 pub mod Shown
+pub mod Conversations
 pub mod Drives

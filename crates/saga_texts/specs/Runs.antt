@@ -75,11 +75,11 @@ pub record AreReady (definitions : List (List ℕ)) (script : List ℕ) : Type 0
   pub statements : List Statement
   pub script_is : statements_of script ≡ Ok statements
 
--- a shelf could be read, and a run of each of its definitions may end in that fault
-pub record MayEndIn (definitions : List (List ℕ)) (why : RunFault) : Type 0 where
+-- a shelf could be read, and a run of each of its definitions, on so many shards, may end in that fault
+pub record MayEndIn (definitions : List (List ℕ)) (shards : ℕ) (why : RunFault) : Type 0 where
   pub shelf : List Contents
   pub shelf_is : AreDefinitions definitions shelf
-  pub fault : IsRunFault shelf (range_with_len 0 (length shelf)) why
+  pub fault : IsRunFault shards shelf (range_with_len 0 (length shelf)) why
 
 -- the first fault in the order number of definitions, script, definitions; or a run
 abbrev pub RunsTo : List (List ℕ) → List ℕ → ℕ → RunConclusion → Type 0
@@ -88,7 +88,7 @@ RunsTo definitions script shards (Script why) =
     (length definitions ≤ max_shelf) × (statements_of script ≡ Err why) × (why ≢ bad.OutOfMemory)
 RunsTo definitions script shards (Definition place why) = AreReady definitions script × IsFirstFaulty definitions place why
 RunsTo definitions script shards (Fault why) =
-    AreReady definitions script × MayEndIn definitions why × (why ≢ fault.OutOfMemory)
+    AreReady definitions script × MayEndIn definitions shards why × (why ≢ fault.OutOfMemory)
 RunsTo definitions script shards (Told account) = IsRan definitions script shards account
 
 abbrev pub out_of : RunConclusion → List ℕ

@@ -24,12 +24,12 @@ seated_all desk count seats same seated = record {
 }
 
 -- a desk whose seats all came back is refused its end by no stranger and for no missing seat
-pub finishing_fault : {P : Type 0} (shelf : List Contents) (asks : List ℕ) (desk : Desk) (count : ℕ) (seats : List Seat) (why : FinishRefused P) → desk.seats ≡ count
-    → AreSeated count seats → AreOnShelf shelf asks (length asks) → FinishIsRefused desk seats why → IsRunFault shelf asks (fault_of_finish why)
-finishing_fault {P} shelf asks desk count seats (finish.Stranger d ss) same seated known is = absurd (is.2 (seated_all desk count seats same seated).own)
-finishing_fault {P} shelf asks desk count seats (finish.Missing d ss) same seated known is = absurd (is.3 (seated_all desk count seats same seated).all)
-finishing_fault {P} shelf asks desk count seats (finish.OutOfMemory d ss) same seated known is = tt
-finishing_fault {P} shelf asks desk count seats (finish.Torn books ss) same seated known is = known
+pub finishing_fault : {P : Type 0} (shards : ℕ) (shelf : List Contents) (asks : List ℕ) (desk : Desk) (count : ℕ) (seats : List Seat) (why : FinishRefused P) → desk.seats ≡ count
+    → AreSeated count seats → AreOnShelf shelf asks (length asks) → FinishIsRefused desk seats why → IsRunFault shards shelf asks (fault_of_finish why)
+finishing_fault {P} shards shelf asks desk count seats (finish.Stranger d ss) same seated known is = absurd (is.2 (seated_all desk count seats same seated).own)
+finishing_fault {P} shards shelf asks desk count seats (finish.Missing d ss) same seated known is = absurd (is.3 (seated_all desk count seats same seated).all)
+finishing_fault {P} shards shelf asks desk count seats (finish.OutOfMemory d ss) same seated known is = tt
+finishing_fault {P} shards shelf asks desk count seats (finish.Torn books ss) same seated known is = known
 
 -- the seats that come back have the numbers of those that were worked
 pub seated_back : {S : Type 0} (P : Mark → Type 0) (x : S) (count : ℕ) (seats : List Seat) (done : List (Seat × S)) (back : List Seat)

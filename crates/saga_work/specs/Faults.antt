@@ -1,5 +1,5 @@
 -- Which fault a run ends in, and which stop it tells.
-use Rattle.std.specs.Prelude.{ℕ, ◌<◌, ◌≤◌, Bool, true, false, List, [], ◌∷◌, Option, Some, None, length, slice_index}
+use Rattle.std.specs.Prelude.{ℕ, ◌<◌, ◌≤◌, ◌/◌, Bool, true, false, List, [], ◌∷◌, Option, Some, None, length, slice_index}
 use Rattle.saga_def.specs.Contents.{Contents}
 use Rattle.saga_core.specs.declared.refusals.OpenRefusal.{OpenRefusal}
 use Rattle.saga_core.specs.declared.refusals.OpenRefusal.TheVariants as opening
@@ -27,20 +27,25 @@ fault_of_finish (finish.Torn books seats) = Finish Torn
 abbrev pub AreOnShelf : List Contents → List ℕ → ℕ → Type 0
 AreOnShelf shelf asks n = (k : ℕ) → k < n → slice_index asks k < length shelf
 
--- why the saga of that number is not opened: its definition is not on the shelf, or its shard is full
-abbrev pub IsOpenFault : List Contents → List ℕ → ℕ → OpenRefusal → Type 0
-IsOpenFault shelf asks j opening.NoSuchDefinition = length shelf ≤ slice_index asks j
-IsOpenFault shelf asks j opening.Full = slice_index asks j < length shelf
-IsOpenFault shelf asks j opening.OutOfMemory = ⊥
+-- so many sagas a shard may have
+abbrev pub max_sagas : ℕ
+max_sagas = 1000
+
+-- why the saga of that number, one of those on so many shards in turn, is not opened: its definition is not on the shelf; or it is,
+-- and as many as a shard may have are on its shard
+abbrev pub IsOpenFault : ℕ → List Contents → List ℕ → ℕ → OpenRefusal → Type 0
+IsOpenFault shards shelf asks j opening.NoSuchDefinition = length shelf ≤ slice_index asks j
+IsOpenFault shards shelf asks j opening.Full = (slice_index asks j < length shelf) × (max_sagas ≤ j / shards)
+IsOpenFault shards shelf asks j opening.OutOfMemory = ⊥
 
 -- the faults that a run may end in: the first saga that could not be opened; what the seats tell is not what the books hold; or
 -- a growth of memory was refused. The seats that come back are those of the desk, so none is missing and none a stranger
-abbrev pub IsRunFault : List Contents → List ℕ → RunFault → Type 0
-IsRunFault shelf asks (Open j why) = (j < length asks) × AreOnShelf shelf asks j × IsOpenFault shelf asks j why
-IsRunFault shelf asks (Finish Stranger) = ⊥
-IsRunFault shelf asks (Finish Missing) = ⊥
-IsRunFault shelf asks (Finish Torn) = AreOnShelf shelf asks (length asks)
-IsRunFault shelf asks OutOfMemory = Unit {0}
+abbrev pub IsRunFault : ℕ → List Contents → List ℕ → RunFault → Type 0
+IsRunFault shards shelf asks (Open j why) = (j < length asks) × AreOnShelf shelf asks j × IsOpenFault shards shelf asks j why
+IsRunFault shards shelf asks (Finish Stranger) = ⊥
+IsRunFault shards shelf asks (Finish Missing) = ⊥
+IsRunFault shards shelf asks (Finish Torn) = AreOnShelf shelf asks (length asks)
+IsRunFault shards shelf asks OutOfMemory = Unit {0}
 
 -- the first stop of several workers, in the order of their seats
 abbrev pub first_stop : List (Option Stop) → Option Stop

@@ -1,4 +1,9 @@
 //! The bell, on which idle workers wait.
+ghost use Rattle.std.specs.Prelude.{◌≡◌, IfOk, OnErr, length};
+ghost use Rattle.saga_desk.specs.Effects.{Claims};
+
+use saga_desk::{Claim, Desk, Policy, Seat};
+use std::alloc::AllocError;
 use std::sync::atomic::{AtomicU64, Ordering};
 use std::sync::{Condvar, Mutex, Wait};
 
@@ -27,33 +32,86 @@ impl Bell {
     }
 
     /// Counts one more that waits. Gives how often it rang, modulo 2^64.
-    pub(crate) fn enter(&self) -> u64 {
+    fn enter(&self) -> u64 {
         self.waiting.fetch_add(1, Ordering::SeqCst);
         self.rings.load(Ordering::SeqCst)
     }
 
     /// Counts one less.
-    pub(crate) fn leave(&self) {
+    fn leave(&self) {
         self.waiting.fetch_sub(1, Ordering::SeqCst);
     }
 
     /// Whether anyone waits.
-    pub(crate) fn is_awaited(&self) -> bool {
+    fn is_awaited(&self) -> bool {
         self.waiting.load(Ordering::SeqCst) > 0
     }
 
     /// Rings, and wakes whoever waits.
-    pub(crate) fn ring<R: Wait>(&self, rt: &R) {
+    fn ring<R: Wait>(&self, rt: &R) {
         let _door = self.door.lock(rt);
         self.rings.fetch_add(1, Ordering::SeqCst);
         self.rung.notify_all();
     }
 
     /// Waits until it has rung more often than that.
-    pub(crate) fn wait_past<R: Wait>(&self, rt: &R, seen: u64) {
+    fn wait_past<R: Wait>(&self, rt: &R, seen: u64) {
         let door = self.door.lock(rt);
         let _door = self
             .rung
             .wait_while(rt, door, |_| self.rings.load(Ordering::SeqCst) == seen);
+    }
+}
+
+/// The bell as one worker has it: how many of its seat's receipts it has rung for, where that was of use to anyone.
+///
+/// A worker may claim only where it has rung for all of them, so whatever it did to the desk, those that wait are woken before it
+/// goes on.
+#[derive(Drop)]
+pub(crate) struct Rope<'b> {
+    bell: &'b Bell,
+    rung_for: usize,
+}
+
+impl<'b> Rope<'b> {
+    /// The bell for a seat, of whose receipts all were rung for.
+    pub(crate) fn new(bell: &'b Bell, seat: &Seat) -> Rope<'b>
+        ensures { result.rung_for ≡ length seat.now.receipts }
+    {
+        Rope {
+            bell,
+            rung_for: seat.receipts().len(),
+        }
+    }
+
+    /// Rings where someone waits, and may have something to claim, or is to go home.
+    pub(crate) fn ring<R: Wait, P: Policy>(&mut self, rt: &R, desk: &Desk<'_, P>, seat: &Seat)
+        ensures { self.new.rung_for ≡ length seat.now.receipts }
+    {
+        if self.bell.is_awaited() && !desk.is_idle() {
+            self.bell.ring(rt);
+        }
+        self.rung_for = seat.receipts().len();
+    }
+
+    /// Looks once more what there is for the seat, counted among those that wait; where there is nothing, waits until that may have
+    /// changed.
+    pub(crate) fn wait<'d, R: Wait, P: Policy>(
+        &self,
+        rt: &R,
+        desk: &Desk<'d, P>,
+        seat: &mut Seat,
+    ) -> Result<Claim<'d>, AllocError>
+        requires { self.now.rung_for ≡ length seat.old.receipts }
+        ensures ok { IfOk result (λ claim. Claims seat.old seat.new claim) }
+        ensures err { OnErr result (seat.new ≡ seat.old) }
+    {
+        let seen = self.bell.enter();
+        let claim = desk.claim(rt, seat);
+        if let Ok(Claim::Idle) = claim {
+            self.bell.wait_past(rt, seen);
+        }
+        self.bell.leave();
+        claim
     }
 }

@@ -4,7 +4,7 @@ ghost use Rattle.saga_work.specs.Asked.{AreOpened, AreSeated, IsOpening, OpensAl
 ghost use Rattle.saga_work.specs.Faults.{AreOnShelf, IsRunFault, fault_of_opening};
 
 use crate::faults::RunFault;
-use saga_core::OpenRefusal;
+use saga_core::{MAX_SAGAS, OpenRefusal};
 use saga_def::Definition;
 use saga_desk::{Desk, Policy, Seat};
 use std::alloc::Global;
@@ -35,12 +35,17 @@ fn open_all<P: Policy, R: Wait>(
     ensures only { OnOk result (All IsOpening seat.new.receipts) }
     ensures number { seat.new.number ≡ seat.old.number }
     ensures known { OnOk result (AreOnShelf desk.now.shelf asks.now (length asks.now)) }
-    ensures why { IfErr result (λ fault. IsRunFault desk.now.shelf asks.now fault) }
+    ensures why { IfErr result (λ fault. IsRunFault shards desk.now.shelf asks.now fault) }
 {
     for j in 0..asks.len() {
         let shard = (j % shards as usize) as u32;
-        if let Err(why) = desk.open_saga(rt, seat, shard, asks[j]) {
-            return Err(open_fault(j, why));
+        match desk.open_saga(rt, seat, shard, asks[j]) {
+            Ok(_) => {}
+            // Never so: no other seat has opened anything, and this one fewer on that shard than it may have.
+            Err(OpenRefusal::Full) if j / (shards as usize) < MAX_SAGAS => {
+                return Err(RunFault::OutOfMemory);
+            }
+            Err(why) => return Err(open_fault(j, why)),
         }
     }
     Ok(())
@@ -62,7 +67,7 @@ pub fn opened<'d, P: Policy, R: Wait>(
     ensures seats { IfOk result (λ r. AreOpened shards asks.now r.1.items) }
     ensures numbers { IfOk result (λ r. AreSeated workers r.1.items) }
     ensures known { OnOk result (AreOnShelf shelf.entry.now asks.now (length asks.now)) }
-    ensures why { IfErr result (λ fault. IsRunFault shelf.entry.now asks.now fault) }
+    ensures why { IfErr result (λ fault. IsRunFault shards shelf.entry.now asks.now fault) }
 {
     let Ok((desk, mut seats)) = Desk::open_with_policy(alloc, shelf, workers, shards) else {
         return Err(RunFault::OutOfMemory);

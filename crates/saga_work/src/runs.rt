@@ -136,7 +136,7 @@ fn run_with_policy<'d, P: Policy + Send + Sync, R: Threads + Wait + Sync, A: Act
     ensures told { IfOk result (λ run. All (HoldsTold P.may P.may_abort) run.books.items) }
     ensures legal { IfOk result (λ run. MergesAreLegal shelf.entry.now run.books.items) }
     ensures headline { IfOk result (λ run. HeadlineHolds shelf.entry.now run.books.items) }
-    ensures why { IfErr result (λ fault. IsRunFault shelf.entry.now asks.now fault) }
+    ensures why { IfErr result (λ fault. IsRunFault shards shelf.entry.now asks.now fault) }
 {
     let (desk, seats) = opened::<P, R>(rt, alloc, shelf, asks, workers, shards)?;
     let Ok((back, stop)) = worked(rt, alloc, &desk, seats, actor) else {
@@ -176,7 +176,7 @@ pub fn run_all<'d, R: Threads + Wait + Sync, A: Actor + Sync>(
         (λ run. AreAnswered (A.may actor.now) (A.may_abort actor.now) run.books.items) }
     ensures legal { IfOk result (λ run. MergesAreLegal shelf.entry.now run.books.items) }
     ensures headline { IfOk result (λ run. HeadlineHolds shelf.entry.now run.books.items) }
-    ensures why { IfErr result (λ fault. IsRunFault shelf.entry.now asks.now fault) }
+    ensures why { IfErr result (λ fault. IsRunFault shards shelf.entry.now asks.now fault) }
 {
     run_with_policy::<Brand, R, A>(rt, alloc, shelf, asks, workers, shards, actor)
 }

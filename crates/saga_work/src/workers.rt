@@ -5,7 +5,7 @@ ghost use Rattle.saga_work.specs.Added.{Adds, EachAdds, HasClaims, stop_of};
 ghost use Rattle.saga_work.specs.Answered.{EndsPlan, IsAbortOf, IsWork, MayBeTold};
 
 use crate::actors::Actor;
-use crate::bells::Bell;
+use crate::bells::{Bell, Rope};
 use crate::faults::Stop;
 use saga_case::Case;
 use saga_check::verify;
@@ -149,29 +149,16 @@ fn after(stop: Option<Stop>) -> Course
 fn claim<'d, R: Wait, P: Policy>(
     rt: &R,
     desk: &Desk<'d, P>,
-    bell: &Bell,
+    rope: &Rope<'_>,
     seat: &mut Seat,
 ) -> Result<Claim<'d>, AllocError>
+    requires { rope.now.rung_for ≡ length seat.old.receipts }
     ensures ok { IfOk result (λ claim. Claims seat.old seat.new claim) }
     ensures err { OnErr result (seat.new ≡ seat.old) }
 {
-    let claim = desk.claim(rt, seat)?;
-    let Claim::Idle = claim else {
-        return Ok(claim);
-    };
-    let seen = bell.enter();
-    let claim = desk.claim(rt, seat);
-    if let Ok(Claim::Idle) = claim {
-        bell.wait_past(rt, seen);
-    }
-    bell.leave();
-    claim
-}
-
-/// Rings where someone waits, and may have something to claim, or is to go home.
-fn call<R: Wait, P: Policy>(rt: &R, desk: &Desk<'_, P>, bell: &Bell) {
-    if bell.is_awaited() && !desk.is_idle() {
-        bell.ring(rt);
+    match desk.claim(rt, seat)? {
+        Claim::Idle => rope.wait(rt, desk, seat),
+        claim => Ok(claim),
     }
 }
 
@@ -180,31 +167,33 @@ fn take_turn<R: Wait, A: Actor, P: Policy>(
     rt: &R,
     alloc: Global,
     desk: &Desk<'_, P>,
-    bell: &Bell,
+    rope: &mut Rope<'_>,
     seat: &mut Seat,
     actor: &A,
 ) -> Course
-    requires { MayBeTold (A.may actor.now) (A.may_abort actor.now) P.may P.may_abort }
+    requires told { MayBeTold (A.may actor.now) (A.may_abort actor.now) P.may P.may_abort }
+    requires rung { rope.old.rung_for ≡ length seat.old.receipts }
+    ensures rung { rope.new.rung_for ≡ length seat.new.receipts }
     ensures adds { Adds IsWork seat.old seat.new }
     ensures ended { HasClaims (stop_of result) seat.new seat.old.claims }
 {
-    match claim(rt, desk, bell, seat) {
+    match claim(rt, desk, rope, seat) {
         Err(_) => Course::Ends(Some(Stop::OutOfMemory)),
         Ok(Claim::Settled) => Course::Ends(None),
         Ok(Claim::Idle) => Course::Goes,
         Ok(Claim::Run(job)) => {
             let stop = perform(rt, desk, seat, actor, job);
-            call(rt, desk, bell);
+            rope.ring(rt, desk, seat);
             after(stop)
         }
         Ok(Claim::Undo(job)) => {
             let stop = perform(rt, desk, seat, actor, job);
-            call(rt, desk, bell);
+            rope.ring(rt, desk, seat);
             after(stop)
         }
         Ok(Claim::Plan(job, case)) => {
             let stop = settle(rt, alloc, desk, seat, job, case);
-            call(rt, desk, bell);
+            rope.ring(rt, desk, seat);
             after(stop)
         }
     }
@@ -230,9 +219,9 @@ pub fn work<R: Wait, A: Actor, P: Policy>(
     ensures ended { HasClaims result.1 result.0 seat.claims }
 {
     let mut seat = seat;
+    let mut rope = Rope::new(bell, &seat);
     for _ in rt.forever() {
-        if let Course::Ends(stop) = take_turn(rt, alloc, desk, bell, &mut seat, actor) {
-            bell.ring(rt);
+        if let Course::Ends(stop) = take_turn(rt, alloc, desk, &mut rope, &mut seat, actor) {
             return (seat, stop);
         }
     }

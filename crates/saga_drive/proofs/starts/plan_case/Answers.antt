@@ -40,7 +40,7 @@ returns-clause-ok c =
     let gained : List Event = event.StartPlan c.args.saga ∷ event.Adopt c.args.saga answer ∷ [] in
     let lines : string_bytes item.lines ≡ flat_map event_line gained = c.in_ok-item.ensures.lines ∙ two_lines (event.StartPlan c.args.saga) (event.Adopt c.args.saga answer) in
     let short : length (flat_map event_line gained) ≤ 128 + answer_room c.args.case.definition =
-    subst (λ (l : List ℕ). length l ≤ 128 + answer_room c.args.case.definition) (c.as_str.ensures.value ∙ lines) (rw c.definition.ensures.value at (c.if-not-plan_fits.ensures refl)) in
+    subst (λ (l : List ℕ). length l ≤ 128 + answer_room c.args.case.definition) (c.as_str.ensures.value ∙ lines) (rw c.definition.ensures.value at (c.if-not-plan_fits.ensures.0 refl)) in
     record {
       gained = event.StartPlan c.args.saga ∷ event.Adopt c.args.saga answer ∷ [];
       told = plan_text answer c.phase_in.result c.args.saga;

@@ -16,6 +16,6 @@ returns-clause-opened g c =
 
 pub returns-in-Err-clause-why : goal.returns-in-Err-clause-why
 returns-in-Err-clause-why g c =
-    rw c.finish_fault.ensures (finishing_fault c.args.shelf.now c.args.asks.now c.in_ok-desk.desk c.args.workers c.in-Ok.back.items c.in-Err.refused
+    rw c.finish_fault.ensures (finishing_fault c.args.shards c.args.shelf.now c.args.asks.now c.in_ok-desk.desk c.args.workers c.in-Ok.back.items c.in-Err.refused
     (ap (λ (d : Desk). d.seats) c.in_ok-desk.ensures.desk) (c.in-Ok.ensures.numbers c.args.workers c.in_ok-desk.ensures.numbers)
     c.in_ok-desk.ensures.known c.in-Err.ensures.why)

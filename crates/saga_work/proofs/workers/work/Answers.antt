@@ -18,4 +18,5 @@ loop-preserved g c = (
   adds_on IsWork c.args.seat c.loop.seat c.take_turn.new.seat
       c.loop.invariant.2 c.take_turn.ensures.adds,
   claims_same c.take_turn.new.seat c.loop.seat.claims (rw c.in_default.is at c.take_turn.ensures.ended) ∙ c.loop.invariant.3,
+  c.take_turn.ensures.rung,
 )

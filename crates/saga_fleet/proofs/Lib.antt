@@ -1,0 +1,5 @@
+pub mod ByKey
+pub mod Lists
+pub mod ReadLemmas
+pub mod Records
+pub mod Runs

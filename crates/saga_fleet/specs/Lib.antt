@@ -1,0 +1,7 @@
+pub mod Fleet
+pub mod Limits
+pub mod Lines
+pub mod Needed
+pub mod Records
+pub mod Told
+pub mod Written

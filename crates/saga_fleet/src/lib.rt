@@ -1,0 +1,23 @@
+//! Many nodes over one database: what was told survives, and records of runs are judged.
+//!
+//! [`told_survives_on_many_nodes`] says what follows of every run, and [`each_rule_is_needed`] that no rule can be left out.
+//! [`audit_record`] says of a record of what really happened whether it is such a run, or the first event that is not
+//! allowed, and why.
+#![tactic(auto)]
+
+mod answers;
+mod events;
+mod laws;
+mod limits;
+mod lines;
+mod watch;
+
+pub use answers::{Reason, RecordAnswer};
+pub use events::{Deed, Event, Stage};
+pub use laws::{
+    answers_may_be_sent, book_survives_on_many_nodes, each_rule_is_needed, the_key_alone_does,
+    told_survives_on_many_nodes,
+};
+pub use limits::MAX_RECORD;
+pub use lines::{LineFault, Record, read_record};
+pub use watch::{Now, RecordFault, Tally, audit_record};

@@ -1,0 +1,350 @@
+//! What is kept of a log while its record is read: numbers alone.
+ghost use Rattle.std.specs.Prelude.{◌≡◌, ◌↔◌, ◌+◌, ◌≤◌, ◌<◌, ℕ, Bool, IsTrue, IfOk, IfSome, OnOk, List, Some, None, length, if◌then◌else◌};
+ghost use Rattle.saga_fleet.specs.Fleet.{IsDone, IsIdle, IsSent, nothing};
+ghost use Rattle.saga_fleet.specs.Records.{CountFails, DeedFails, Fails, IsAnswer, IsRecordFrom, May, MayFollow, Says, did, digests_after, digests_did, is_yes, last_digest, log_after, now_after, only, tallies_after};
+ghost use Rattle.saga_fleet.specs.Told.{Holds, HoldsUnlessCut};
+ghost use Rattle.saga_fleet.specs.declared.events.Deed.TheVariants.{Heard, Written};
+ghost use Rattle.saga_fleet.specs.declared.events.Event.TheVariants.{Did, TookOver};
+
+use crate::answers::{Reason, RecordAnswer};
+use crate::events::{Deed, Event, Stage};
+use std::alloc::{AllocError, Global};
+
+/// Of a log: its epoch, how many chunks each server has that may take over, and how many servers took over.
+#[derive(Clone, Copy, Debug, PartialEq, Eq)]
+pub struct Now {
+    pub epoch: u64,
+    pub shipped: u64,
+    pub servers: u64,
+}
+
+/// Of a session: where and under which epoch it began, how many chunks it knows and has asked for, the digest of what it asked
+/// for where that is one chunk, and what became of it.
+#[derive(Clone, Copy, Debug, PartialEq, Eq)]
+pub struct Tally {
+    pub server: u64,
+    pub epoch: u64,
+    pub known: u64,
+    pub asked: u64,
+    pub digest: Option<u64>,
+    pub stage: Stage,
+}
+
+/// Why a record is not judged.
+#[derive(Clone, Copy, Debug, PartialEq, Eq, Drop)]
+pub enum RecordFault {
+    OutOfMemory,
+    /// A number is past 64 bits.
+    TooLong,
+}
+
+impl From<AllocError> for RecordFault {
+    fn from(_: AllocError) -> RecordFault {
+        RecordFault::OutOfMemory
+    }
+}
+
+impl Stage {
+    fn is_idle(self) -> bool
+        ensures { IsTrue result ↔ IsIdle self }
+    {
+        match self {
+            Stage::Idle => true,
+            Stage::Sent | Stage::Done | Stage::Refused => false,
+        }
+    }
+
+    fn is_sent(self) -> bool
+        ensures { IsTrue result ↔ IsSent self }
+    {
+        match self {
+            Stage::Sent => true,
+            Stage::Idle | Stage::Done | Stage::Refused => false,
+        }
+    }
+
+    fn is_done(self) -> bool
+        ensures { IsTrue result ↔ IsDone self }
+    {
+        match self {
+            Stage::Done => true,
+            Stage::Idle | Stage::Sent | Stage::Refused => false,
+        }
+    }
+}
+
+impl Tally {
+    /// Whether each server that may take over has what it asked for.
+    fn is_safe(self, now: Now) -> bool
+        ensures { IsTrue result ↔ (self.known + self.asked ≤ now.shipped) }
+    {
+        self.known <= now.shipped && self.asked <= now.shipped - self.known
+    }
+
+    /// What speaks against a commit of that digest, behind so many chunks.
+    fn against_commit(self, now: Now, digests: &[u64], first: u64, digest: u64) -> Option<Reason>
+        ensures { (b : Bool) → Says result (May b now digests.now self (Written first digest))
+            (DeedFails b now digests.now self (Written first digest)) }
+    {
+        if !self.stage.is_sent() {
+            Some(Reason::NothingSent)
+        } else if self.server != now.servers {
+            Some(Reason::OtherServer)
+        } else if self.epoch != now.epoch {
+            Some(Reason::OldEpoch)
+        } else if first != digests.len() as u64 {
+            Some(Reason::OtherPlace)
+        } else if self.digest != Some(digest) {
+            Some(Reason::OtherContent)
+        } else {
+            None
+        }
+    }
+
+    /// What speaks against an answer.
+    fn against_answer(self, synchronous: bool, now: Now) -> Option<Reason>
+        ensures { (ds : List ℕ) → Says result (May synchronous now ds self Heard)
+            (DeedFails synchronous now ds self Heard) }
+    {
+        if !self.stage.is_done() {
+            Some(Reason::NothingDone)
+        } else if self.server != now.servers {
+            Some(Reason::OtherServer)
+        } else if synchronous && !self.is_safe(now) {
+            Some(Reason::NotShipped)
+        } else {
+            None
+        }
+    }
+
+    /// What speaks against its doing that now.
+    fn against(self, synchronous: bool, now: Now, digests: &[u64], deed: Deed) -> Option<Reason>
+        ensures { Says result (May synchronous now digests.now self deed)
+            (DeedFails synchronous now digests.now self deed) }
+    {
+        match deed {
+            Deed::Decided(_) => against(self.stage.is_idle(), Reason::NotIdle),
+            Deed::Written(first, digest) => self.against_commit(now, digests, first, digest),
+            Deed::TurnedDown => against(self.stage.is_sent(), Reason::NothingSent),
+            Deed::Heard => self.against_answer(synchronous, now),
+            Deed::Told(n) => against(n <= self.known, Reason::NotKnown),
+        }
+    }
+
+    /// What it is then; nothing where a number is past 64 bits.
+    fn after(self, deed: Deed) -> Option<Tally>
+        ensures { IfSome result (λ t. t ≡ did self deed) }
+    {
+        match deed {
+            Deed::Decided(digest) => Some(Tally {
+                asked: 1,
+                digest: Some(digest),
+                stage: Stage::Sent,
+                ..self
+            }),
+            Deed::Written(_, _) => Some(Tally {
+                stage: Stage::Done,
+                ..self
+            }),
+            Deed::TurnedDown => Some(Tally {
+                stage: Stage::Refused,
+                ..self
+            }),
+            Deed::Heard => {
+                let known = self.known.checked_add(self.asked)?;
+                Some(Tally {
+                    known,
+                    asked: 0,
+                    digest: None,
+                    stage: Stage::Idle,
+                    ..self
+                })
+            }
+            Deed::Told(_) => Some(self),
+        }
+    }
+}
+
+/// That reason, unless it holds.
+fn against(holds: bool, reason: Reason) -> Option<Reason>
+    ensures { result ≡ (if holds then None else Some reason) }
+{
+    if holds { None } else { Some(reason) }
+}
+
+/// The digest of the last chunk, 0 where there is none.
+fn last_of(digests: &[u64]) -> u64
+    ensures { result ≡ last_digest digests.now }
+{
+    match digests.last() {
+        Some(digest) => *digest,
+        None => 0,
+    }
+}
+
+/// The digest of the only chunk.
+fn only_of(digests: &[u64]) -> Option<u64>
+    ensures { result ≡ only digests.now }
+{
+    match digests {
+        [digest] => Some(*digest),
+        _ => None,
+    }
+}
+
+/// What speaks against a takeover.
+fn against_takeover(now: Now, digests: &[u64], epoch: u64, read: u64, digest: u64) -> Option<Reason>
+    ensures { (b : Bool) (ts : List Tally) → Says result (MayFollow b now digests.now ts (TookOver epoch read digest))
+        (Fails b now digests.now ts (TookOver epoch read digest)) }
+{
+    if epoch == 0 || epoch - 1 != now.epoch {
+        Some(Reason::EpochNotNext)
+    } else if read != digests.len() as u64 {
+        Some(Reason::OtherLength)
+    } else if digest != last_of(digests) {
+        Some(Reason::OtherContent)
+    } else {
+        None
+    }
+}
+
+/// What speaks against so many chunks on servers that may take over.
+fn against_count(now: Now, digests: &[u64], n: u64) -> Option<Reason>
+    ensures { Says result ((now.shipped ≤ n) × (n ≤ length digests.now)) (CountFails now digests.now n) }
+{
+    if n < now.shipped {
+        Some(Reason::FewerThanShipped)
+    } else if n > digests.len() as u64 {
+        Some(Reason::MoreThanWritten)
+    } else {
+        None
+    }
+}
+
+/// A log, and its sessions.
+#[derive(Drop)]
+struct Watch {
+    log: Now,
+    /// Of each chunk.
+    digests: Vec<u64>,
+    tallies: Vec<Tally>,
+}
+
+impl Watch {
+    /// What speaks against an event now.
+    fn against(&self, synchronous: bool, event: Event) -> Option<Reason>
+        ensures { Says result (MayFollow synchronous self.now.log self.now.digests.items self.now.tallies.items event)
+            (Fails synchronous self.now.log self.now.digests.items self.now.tallies.items event) }
+    {
+        let digests = self.digests.as_slice();
+        match event {
+            Event::TookOver(epoch, read, digest) => {
+                against_takeover(self.log, digests, epoch, read, digest)
+            }
+            Event::Did(session, deed) => match self.tallies.get(session) {
+                Some(tally) => tally.against(synchronous, self.log, digests, deed),
+                None => Some(Reason::NoSuchSession),
+            },
+            Event::Shipped(n) | Event::FailedOver(n, _) => against_count(self.log, digests, n),
+        }
+    }
+
+    /// A session takes the log over.
+    fn take_over(&mut self, epoch: u64, read: u64) -> Result<(), RecordFault>
+        ensures now { OnOk result (self.new.log ≡ now_after self.old.log (TookOver epoch read 0)) }
+        ensures digests { OnOk result (self.new.digests.items ≡ self.old.digests.items) }
+        ensures tallies { OnOk result (self.new.tallies.items ≡ tallies_after self.old.log self.old.digests.items self.old.tallies.items (TookOver epoch read 0)) }
+    {
+        let tally = Tally {
+            server: self.log.servers,
+            epoch,
+            known: 0,
+            asked: read,
+            digest: only_of(self.digests.as_slice()),
+            stage: Stage::Done,
+        };
+        if let Err(error) = self.tallies.push(tally) {
+            return Err(AllocError::from(error).into());
+        }
+        self.log.epoch = epoch;
+        Ok(())
+    }
+
+    /// A session does something.
+    fn see_deed(&mut self, session: usize, deed: Deed) -> Result<(), RecordFault>
+        requires { session < length self.old.tallies.items }
+        ensures now { OnOk result (self.new.log ≡ self.old.log) }
+        ensures digests { OnOk result (self.new.digests.items ≡ digests_did self.old.digests.items deed) }
+        ensures tallies { OnOk result (self.new.tallies.items ≡ tallies_after self.old.log self.old.digests.items self.old.tallies.items (Did session deed)) }
+    {
+        let Some(after) = self.tallies[session].after(deed) else {
+            return Err(RecordFault::TooLong);
+        };
+        if let Deed::Written(_, digest) = deed {
+            if let Err(error) = self.digests.push(digest) {
+                return Err(AllocError::from(error).into());
+            }
+        }
+        self.tallies[session] = after;
+        Ok(())
+    }
+
+    /// An event that may follow has happened.
+    fn see(&mut self, synchronous: bool, event: Event) -> Result<(), RecordFault>
+        requires { MayFollow synchronous self.old.log self.old.digests.items self.old.tallies.items event }
+        ensures now { OnOk result (self.new.log ≡ now_after self.old.log event) }
+        ensures digests { OnOk result (self.new.digests.items ≡ digests_after self.old.digests.items event) }
+        ensures tallies { OnOk result (self.new.tallies.items ≡ tallies_after self.old.log self.old.digests.items self.old.tallies.items event) }
+    {
+        let _ = synchronous;
+        match event {
+            Event::TookOver(epoch, read, _) => self.take_over(epoch, read),
+            Event::Did(session, deed) => self.see_deed(session, deed),
+            Event::Shipped(n) => {
+                self.log.shipped = n;
+                Ok(())
+            }
+            Event::FailedOver(n, epoch) => {
+                let Some(servers) = self.log.servers.checked_add(1) else {
+                    return Err(RecordFault::TooLong);
+                };
+                self.digests.truncate(n as usize);
+                self.log.epoch = epoch;
+                self.log.servers = servers;
+                Ok(())
+            }
+        }
+    }
+}
+
+/// Whether these events record a run of moves that are allowed, from the log's birth on; or the first event that is not
+/// allowed, and why. In time and memory by their number.
+pub fn audit_record(
+    alloc: Global,
+    synchronous: bool,
+    events: &[Event],
+) -> Result<RecordAnswer, RecordFault>
+    ensures yes { IfOk result (λ answer. IsTrue (is_yes answer) ↔ IsRecordFrom synchronous nothing events.now) }
+    ensures no { IfOk result (IsAnswer synchronous events.now) }
+    // where it says yes, all that something was told of is in the database, but for what a server lacked that took over
+    ensures told { IfOk result (λ answer. IsTrue (is_yes answer) → HoldsUnlessCut (log_after synchronous nothing events.now)) }
+    ensures told_all { IfOk result (λ answer. IsTrue (is_yes answer) → IsTrue synchronous → Holds (log_after synchronous nothing events.now)) }
+{
+    let mut watch = Watch {
+        log: Now {
+            epoch: 0,
+            shipped: 0,
+            servers: 0,
+        },
+        digests: Vec::new(alloc),
+        tallies: Vec::new(alloc),
+    };
+    for position in 0..events.len() {
+        let event = events[position];
+        if let Some(reason) = watch.against(synchronous, event) {
+            return Ok(RecordAnswer::No { position, reason });
+        }
+        watch.see(synchronous, event)?;
+    }
+    Ok(RecordAnswer::Yes)
+}
