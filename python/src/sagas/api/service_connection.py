@@ -1,20 +1,27 @@
-"""A worker's connection to one or more services over one database."""
+"""The connection of a client or a worker to one or more services over one database."""
 
 from __future__ import annotations
 
+import contextlib
+import dataclasses
 import http.client
 import json
 import logging
+import os
 import random
+import socket
 import threading
 import time
 import urllib.parse
+import weakref
 from collections import deque
-from collections.abc import Sequence
-from typing import Any
+from collections.abc import Callable, Sequence
+from typing import Any, TypeVar
 
-from sagas.base.errors import SagasError
+from sagas.base.errors import Closed, SagasError, ServiceUnavailable
 from sagas.definition import serialization
+
+T = TypeVar("T")
 
 logger = logging.getLogger("sagas.worker")
 REPEAT = 408, 429, 500, 502, 503, 504
@@ -23,21 +30,38 @@ FIRST_PAUSE, MOST_PAUSE = 0.1, 5.0  # seconds between tries to reach the service
 
 
 class ServiceRefused(SagasError):
-    """The service refuses this worker: check address, token and steps.
+    """The service refuses this worker, or this call.
+
+    Check address, token, names and values.
 
     Attributes:
         status: The HTTP status.
         name: The name of the problem, as docs/reference/http-errors.md has it.
+        field: The parameter, or the place in the body, that is not valid; else None.
     """
 
-    def __init__(self, status: int, text: str, name: str = "") -> None:
+    def __init__(self, status: int, text: str, name: str = "", field: str | None = None) -> None:
         super().__init__(text)
-        self.status, self.name = status, name
+        self.status, self.name, self.field = status, name, field
+
+
+@dataclasses.dataclass(frozen=True, slots=True)
+class OpenAnswer:
+    """An answer that is read as it comes, and what it comes over."""
+
+    link: http.client.HTTPConnection
+    channel: socket.socket
+    response: http.client.HTTPResponse
+
+    def close(self) -> None:
+        """By the thread that reads it; another one calls `end` of the channel."""
+        self.response.close()
+        self.link.close()
 
 
 class ServiceConnection:
-    """Asks a service; where it does not answer, the next one. Each thread has a connection of its
-    own.
+    """Asks a service; where it does not answer, the next one. Any thread may ask; connections are
+    kept for the next request.
 
     Attributes:
         heard: Whether a service has answered.
@@ -47,19 +71,22 @@ class ServiceConnection:
         self, url: str | Sequence[str], token: str | None, patience: float, stop: threading.Event
     ) -> None:
         self._urls = deque(one.rstrip("/") for one in ([url] if isinstance(url, str) else url))
+        if not self._urls:
+            raise ValueError("no service is given. Write, for example, http://127.0.0.1:8080")
+        if token and not (token.isascii() and token.isprintable()):
+            raise ValueError("the token has a character that no token has. Copy it again")
         for one in self._urls:
             if not one.startswith(("http://", "https://")):
                 raise ValueError(
                     f"{one!r} is not the address of a service. Write, for example, "
                     "http://127.0.0.1:8080"
                 )
-        self._headers = {"Content-Type": "application/json"} | (
-            {"Authorization": f"Bearer {token}"} if token else {}
-        )
+        self._headers = {"Authorization": f"Bearer {token}"} if token else {}
         self._patience, self._stop = patience, stop
         self._lock = threading.Lock()
-        self._links = threading.local()  # each thread's connection
-        self._lacks = self.heard = False
+        self._idle: list[tuple[tuple[str, int], http.client.HTTPConnection]] = []
+        self._all: weakref.WeakSet[http.client.HTTPConnection] = weakref.WeakSet()
+        self._lacks = self.heard = self._ended = False
         self._unknown_steps: set[str] = set()  # those of which was told that nobody has them
 
     @property
@@ -85,7 +112,11 @@ class ServiceConnection:
         while True:
             url = self.url
             try:
-                return self.ask(url, path, body, self._patience)
+                found = self.ask(url, path, body, self._patience)
+                self._lacks, self.heard = False, True
+                for step in (found.get("next") or found).get("unknown_steps", ()):
+                    self._say_unknown(url, step)
+                return found
             except ServiceRefused as refusal:
                 if refusal.status not in REPEAT:
                     raise
@@ -102,22 +133,56 @@ class ServiceConnection:
             time.sleep(pause * random.uniform(0.5, 1.0))
             pause = min(MOST_PAUSE, 2 * pause)
 
-    def ask(self, url: str, path: str, body: dict[str, Any], seconds: float) -> dict[str, Any]:
-        """One request, over this thread's connection, which is kept; one that the service has
-        closed meanwhile is opened anew. Raises `ServiceRefused`, or an `OSError` or a
+    def repeated(
+        self, call: Callable[[str, float], T], patience: float, stop: threading.Event
+    ) -> T:
+        """Calls with the address of a service, and the seconds that are left, until one answers.
+        Raises `ServiceRefused`; `ServiceUnavailable` where none does in time; `Closed` where it
+        was stopped meanwhile.
+        """
+        until, pause = time.monotonic() + patience, FIRST_PAUSE
+        while not stop.is_set():
+            url = self.url
+            try:
+                return call(url, max(0.001, until - time.monotonic()))
+            except ServiceRefused as refusal:
+                if refusal.status not in REPEAT:
+                    raise
+                error: Exception = refusal
+            except (OSError, ValueError) as failed:
+                error = failed
+            if stop.is_set():
+                break
+            self.turn_from(url)
+            rest = pause * random.uniform(0.5, 1.0)
+            if time.monotonic() + rest >= until:
+                raise ServiceUnavailable(
+                    f"{url} does not answer within {patience:g} s: {error}. The request may have "
+                    "been carried out. Repeat it"
+                ) from error
+            stop.wait(rest)
+            pause = min(MOST_PAUSE, 2 * pause)
+        raise Closed("the client is closed. Make another one")
+
+    def ask(
+        self, url: str, path: str, body: dict[str, Any] | None, seconds: float
+    ) -> dict[str, Any]:
+        """One request, a GET where it has no body, over a connection that is kept; one that the
+        service has closed meanwhile is opened anew. Raises `ServiceRefused`, or an `OSError` or a
         `ValueError` where there was no answer.
         """
-        link, base = self._link(url, seconds)
-        data = serialization.write(body).encode()
+        data = None if body is None else serialization.write(body).encode()
+        link, path = self._link(url, seconds), urllib.parse.urlsplit(url).path + path
         was_open = link.sock is not None
+        headers = self._headers | ({} if data is None else {"Content-Type": "application/json"})
         try:
             try:
-                status, text = _answer(link, base + path, data, self._headers)
+                status, text = self._answer(link, path, data, headers)
             except ConnectionError:
                 if not was_open:
                     raise
                 link.close()
-                status, text = _answer(link, base + path, data, self._headers)
+                status, text = self._answer(link, path, data, headers)
         except Exception as error:
             link.close()
             if isinstance(error, (OSError, ValueError)):
@@ -125,13 +190,48 @@ class ServiceConnection:
             raise ConnectionError(
                 f"{type(error).__name__}: {error}"
             ) from error  # http.client's own: half an answer, say
+        with self._lock:
+            self._idle.append(((url, os.getpid()), link))
         if status >= 300:
             raise refusal_of(status, text)
         found: dict[str, Any] = json.loads(text)
-        self._lacks, self.heard = False, True
-        for step in (found.get("next") or found).get("unknown_steps", ()):
-            self._say_unknown(url, step)
         return found
+
+    def opened(self, url: str, path: str, headers: dict[str, str], seconds: float) -> OpenAnswer:
+        """An answer that is read later, over a connection of its own. Raises as `ask`."""
+        link, path = self._new(url, seconds), urllib.parse.urlsplit(url).path + path
+        try:
+            link.connect()
+            channel: socket.socket = link.sock
+            link.request("GET", path, headers=self._headers | headers)
+            answer = link.getresponse()
+            if answer.status == 200:
+                return OpenAnswer(link, channel, answer)
+            refusal = refusal_of(answer.status, answer.read())
+        except http.client.HTTPException as error:
+            link.close()
+            raise ConnectionError(f"{type(error).__name__}: {error}") from error
+        except BaseException:
+            link.close()
+            raise
+        link.close()
+        raise refusal
+
+    def close(self) -> None:
+        """Ends all connections, also those over which an answer is awaited."""
+        self._ended = True
+        self.close_idle()
+        with self._lock:
+            links = list(self._all)
+        for link in links:
+            end(link.sock)
+
+    def close_idle(self) -> None:
+        """Closes those over which nothing is awaited."""
+        with self._lock:
+            idle, self._idle = self._idle, []
+        for _, link in idle:
+            link.close()
 
     def _say_unknown(self, url: str, step: str) -> None:
         """No task of such a step will ever come: said once of each."""
@@ -146,24 +246,44 @@ class ServiceConnection:
                 step,
             )
 
-    def _link(self, url: str, seconds: float) -> tuple[http.client.HTTPConnection, str]:
-        """This thread's connection to the service, and the path of its address."""
-        of, link = getattr(self._links, "kept", ("", None))
-        parts = urllib.parse.urlsplit(url)
-        if of != url or link is None:
-            if link is not None:
+    def _link(self, url: str, seconds: float) -> http.client.HTTPConnection:
+        """A connection to the service that nobody uses now, or a new one."""
+        mine = url, os.getpid()  # behind a fork, those of the parent are not used
+        with self._lock:
+            while self._idle:
+                of, link = self._idle.pop()
+                if of == mine:
+                    break
                 link.close()
-            kind = (
-                http.client.HTTPSConnection
-                if parts.scheme == "https"
-                else http.client.HTTPConnection
-            )
-            link = kind(parts.hostname or "", parts.port)
-            self._links.kept = url, link
+            else:
+                link = self._new(url, seconds)
+                self._all.add(link)
         link.timeout = seconds
         if link.sock is not None:
             link.sock.settimeout(seconds)
-        return link, parts.path
+        return link
+
+    def _answer(
+        self, link: http.client.HTTPConnection, path: str, data: bytes | None,
+        headers: dict[str, str],
+    ) -> tuple[int, bytes]:  # fmt: skip
+        """Asks, and reads the answer to its end, so that the connection can be used again."""
+        if link.sock is None:
+            link.connect()
+        if self._ended:  # looked at once it is connected: `close` ends what it finds connected
+            raise ConnectionAbortedError("the client is closed")
+        link.request("GET" if data is None else "POST", path, data, headers)
+        answer = link.getresponse()
+        return answer.status, answer.read()
+
+    @staticmethod
+    def _new(url: str, seconds: float) -> http.client.HTTPConnection:
+        parts = urllib.parse.urlsplit(url)
+        is_secure = parts.scheme == "https"
+        kind: type[http.client.HTTPConnection] = (
+            http.client.HTTPSConnection if is_secure else http.client.HTTPConnection
+        )
+        return kind(parts.hostname or "", parts.port, timeout=seconds)
 
 
 def is_final(refusal: ServiceRefused) -> bool:
@@ -177,15 +297,14 @@ def refusal_of(status: int, text: bytes) -> ServiceRefused:
     try:
         told = json.loads(text)
         name = str(told["type"]).rpartition(":")[2]
-        return ServiceRefused(status, f"{status} {name}: {told['detail']}", name)
+        text_of = f"{status} {name}: {told['detail']}"
+        return ServiceRefused(status, text_of, name, told.get("field"))
     except (ValueError, KeyError, TypeError):
         return ServiceRefused(status, f"{status}: {shown}")
 
 
-def _answer(
-    link: http.client.HTTPConnection, path: str, data: bytes, headers: dict[str, str]
-) -> tuple[int, bytes]:
-    """Posts, and reads the answer to its end, so that the connection can be used again."""
-    link.request("POST", path, data, headers)
-    answer = link.getresponse()
-    return answer.status, answer.read()
+def end(channel: socket.socket | None) -> None:
+    """Ends a connection, also for a thread that reads of it."""
+    if channel is not None:
+        with contextlib.suppress(OSError):
+            channel.shutdown(socket.SHUT_RDWR)

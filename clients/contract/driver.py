@@ -1,0 +1,241 @@
+"""The driver of the contract suite for Python: commands as lines of JSON. See README.md."""
+
+from __future__ import annotations
+
+import dataclasses
+import json
+import socket
+import sys
+import threading
+from collections import Counter, defaultdict
+from collections.abc import Callable
+from typing import Any
+
+import sagas
+
+PATIENCE = 60.0
+Words = dict[str, Any]
+
+
+class Driver:
+    """The commands, and what they share."""
+
+    def __init__(self) -> None:
+        self.lock = threading.Lock()
+        self.client: sagas.ServiceClient | None = None
+        self.stream: tuple[sagas.ServiceEvents, threading.Thread] | None = None
+        self.workers: dict[str, tuple[sagas.Worker, threading.Thread, list[Exception]]] = {}
+        self.counts: Counter[tuple[str, str]] = Counter()
+        self.released: defaultdict[tuple[str, str], threading.Event] = defaultdict(threading.Event)
+
+    def say(self, told: Words) -> None:
+        text = json.dumps(told)
+        with self.lock:
+            print(text, flush=True)
+
+    def carry_out(self, words: Words) -> None:
+        number, name = words.pop("id"), words.pop("do")
+        try:
+            self.say({"id": number, "value": getattr(self, f"do_{name}")(**words)})
+        except Exception as error:
+            self.say({"id": number, "error": told_of(error)})
+
+    # -- callers
+
+    def do_open(self, url: str | list[str], token: str | None) -> Words:
+        if self.client:
+            self.client.close()
+        self.client = sagas.ServiceClient(url, token, timeout=PATIENCE)
+        return {"language": "python"}
+
+    @property
+    def calls(self) -> sagas.ServiceClient:
+        assert self.client
+        return self.client
+
+    def do_start(self, definition: str, key: str, **words: Any) -> Words:
+        run = self.calls.start(definition, key, **words)
+        return {"key": run.key, "new": run.new}
+
+    def do_get(self, key: str) -> Words:
+        if (saga := self.calls.get(key)) is None:
+            raise sagas.NoSuchSaga(key)
+        return saga_of(saga)
+
+    def do_wait(self, key: str, timeout: float) -> Words:
+        return saga_of(self.calls.wait(key, timeout))
+
+    def do_abort(self, key: str, **words: Any) -> Words:
+        return {"aborted": self.calls.abort(key, **words)}
+
+    def do_complete(self, key: str, step: str, **words: Any) -> Words:
+        self.calls.complete(key, step, **words)
+        return {}
+
+    def do_fail(self, key: str, step: str, **words: Any) -> Words:
+        self.calls.fail(key, step, **words)
+        return {}
+
+    def do_list(self, page: int, definition: str | None = None, **words: Any) -> Words:
+        found = self.calls.list(page_size=page, saga=definition, **words)
+        return {"keys": [one.key for one in found]}
+
+    def do_events(self, key: str | None = None, definition: str | None = None) -> Words:
+        events = self.calls.events(key=key, saga=definition).open()
+        thread = threading.Thread(target=self.follow, args=(events,), daemon=True)
+        self.stream = events, thread
+        thread.start()
+        return {}
+
+    def follow(self, events: sagas.ServiceEvents) -> None:
+        with events:
+            for event in events:
+                if event.name == "missed":
+                    self.say({"note": "missed"})
+                else:
+                    told = dataclasses.asdict(event)
+                    self.say({"note": "event", "event": {name: told[name] for name in told if told[name] is not None}})
+
+    def do_events_stop(self) -> Words:
+        assert self.stream
+        events, thread = self.stream
+        events.close()
+        thread.join()
+        return {}
+
+    # -- workers
+
+    def do_worker(
+        self, worker: str, url: str | list[str], token: str | None, steps: list[str],
+        concurrency: int, lease: float, wait: float, quiet: bool = False,
+    ) -> Words:  # fmt: skip
+        one = sagas.Worker(url, token, concurrency=concurrency, lease=lease, wait=wait, name=worker)
+        for step in steps:
+            saga, name, *undo = step.split("/")
+            declare = one.compensation if undo else one.step
+            declare(saga, name)(self.play(worker, step, quiet))
+        faults: list[Exception] = []
+        thread = threading.Thread(target=self.work, args=(worker, one, faults), daemon=True)
+        self.workers[worker] = one, thread, faults
+        thread.start()
+        return {}
+
+    def work(self, name: str, worker: sagas.Worker, faults: list[Exception]) -> None:
+        try:
+            worker.run()
+        except Exception as error:
+            faults.append(error)
+        if self.workers.pop(name, None):
+            error = told_of(faults[0]) if faults else None
+            self.say({"note": "worker_ended", "worker": name, "error": error})
+
+    def do_stop(self, worker: str) -> Words:
+        one, thread, faults = self.workers.pop(worker)
+        one.stop()
+        thread.join()
+        if faults:
+            raise faults[0]
+        return {}
+
+    def do_release(self, key: str, step: str) -> Words:
+        self.released[key, step].set()
+        return {}
+
+    def play(self, worker: str, name: str, quiet: bool) -> Callable[[sagas.Task[Any]], Any]:
+        def played(task: sagas.Task[Any]) -> Any:
+            if not quiet:
+                self.say(
+                    {
+                        "note": "called",
+                        "worker": worker,
+                        "name": name,
+                        "key": task.key,
+                        "step": task.step,
+                        "undo": task.is_compensation,
+                        "attempt": task.attempt,
+                        "idempotency_key": task.idempotency_key,
+                        "results": task.results,
+                        "result": task.result,
+                    }
+                )
+            given = task.input
+            if not isinstance(given, dict) or "script" not in given:
+                return given
+            place = f"{task.step}/undo" if task.is_compensation else task.step
+            words = given["script"].get(place, ["ok"])
+            with self.lock:
+                count = self.counts[task.key, place]
+                self.counts[task.key, place] += 1
+            return self.act(worker, words[min(count, len(words) - 1)], task, place)
+
+        return played
+
+    def act(self, worker: str, word: str, task: sagas.Task[Any], place: str) -> Any:
+        match word:
+            case "ok":
+                return {"done": place}
+            case "echo":
+                return task.input["value"]
+            case "nothing":
+                return None
+            case "fail":
+                raise sagas.Fail("no")
+            case "retry":
+                raise ValueError("not yet")
+            case "unknown":
+                raise sagas.Unknown("who knows")
+            case "throw":
+                raise TypeError("a bug")
+            case "timeout":
+                silent = socket.socketpair()
+                silent[0].settimeout(0.01)
+                silent[0].recv(1)
+            case "refused":
+                socket.create_connection(("127.0.0.1", 9))
+            case "hold" | "deaf":
+                self.hold(worker, task, word == "deaf")
+                return {"done": place}
+            case "big" | "huge":
+                return {"text": "x" * (1_000_000 if word == "big" else 3_000_000)}
+        raise AssertionError(word)
+
+    def hold(self, worker: str, task: sagas.Task[Any], deaf: bool) -> None:
+        released = self.released[task.key, task.step]
+        while not released.wait(0.05):
+            if not deaf and task.cancelled.is_set():
+                why = "lease" if task.cancelled.reason == "lost" else "abort"
+                self.say({"note": "canceled", "worker": worker, "key": task.key, "step": task.step, "why": why})
+                raise sagas.Fail("no")
+
+
+NAMES = "key", "phase", "over", "aborted", "input", "states", "results", "errors"
+
+
+def saga_of(saga: sagas.ServiceSaga) -> Words:
+    return {"definition": saga.saga, **{name: getattr(saga, name) for name in NAMES}}
+
+
+def told_of(error: Exception) -> Words:
+    if isinstance(error, sagas.ServiceRefused):
+        return {"name": error.name, "status": error.status, "text": str(error)}
+    kinds = {
+        sagas.ServiceUnavailable: "Unreachable", sagas.SagasError: type(error).__name__,
+        TimeoutError: "Timeout", ValueError: "InvalidArgument", TypeError: "InvalidArgument",
+    }  # fmt: skip
+    name = next((name for kind, name in kinds.items() if isinstance(error, kind)), "Other")
+    return {"name": name, "status": 0, "text": repr(error)}
+
+
+def main() -> None:
+    """Carries out commands until the end of its input."""
+    driver = Driver()
+    for line in sys.stdin:
+        words = json.loads(line)
+        if words["do"] == "end":
+            driver.say({"id": words["id"], "value": {}})
+            break
+        threading.Thread(target=driver.carry_out, args=(words,), daemon=True).start()
+
+
+if __name__ == "__main__":
+    main()

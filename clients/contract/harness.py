@@ -1,0 +1,178 @@
+"""Drivers as processes, and a service for them."""
+
+from __future__ import annotations
+
+import contextlib
+import itertools
+import json
+import os
+import pathlib
+import shutil
+import signal
+import subprocess
+import sys
+import tempfile
+import threading
+from collections.abc import Callable, Iterator
+from concurrent.futures import Future
+from typing import Any
+
+TOP = pathlib.Path(__file__).resolve().parents[2]
+LONG = 60.0
+Words = dict[str, Any]
+
+
+class Refused(Exception):
+    """An error that a driver answered."""
+
+    def __init__(self, name: str, status: int, text: str) -> None:
+        super().__init__(f"{name} ({status}): {text}")
+        self.name, self.status, self.text = name, status, text
+
+
+def command_of(language: str, room: pathlib.Path) -> list[str]:
+    """What starts a language's driver; Go's is built first."""
+    if language == "python":
+        return [sys.executable, str(TOP / "clients/contract/driver.py")]
+    if language == "node":
+        return ["node", str(TOP / "clients/node/contract/driver.mjs")]
+    program = room / "driver"
+    cache = {"GOCACHE": os.environ.get("GOCACHE", str(room / "cache")), "GOFLAGS": "-mod=mod"}
+    words = ["go", "build", "-o", str(program), "./internal/contractdriver"]
+    subprocess.run(words, cwd=TOP / "clients/go", env=os.environ | cache, check=True, timeout=240)
+    return [str(program)]
+
+
+def languages() -> list[str]:
+    """Those that are asked for and there."""
+    wanted = os.environ.get("SAGAS_CLIENTS", "python,node,go").split(",")
+    return [one for one in wanted if one != "go" or (TOP / "clients/go/go.mod").exists()]
+
+
+@contextlib.contextmanager
+def commands() -> Iterator[Callable[[str], list[str]]]:
+    """The commands of all languages; each is made once."""
+    room = pathlib.Path(tempfile.mkdtemp(prefix="sagas-drivers-"))
+    made: dict[str, list[str]] = {}
+    try:
+        yield lambda language: _made(made, language, room)
+    finally:
+        shutil.rmtree(room)
+
+
+def _made(made: dict[str, list[str]], language: str, room: pathlib.Path) -> list[str]:
+    if language not in made:
+        made[language] = command_of(language, room)
+    return made[language]
+
+
+class Driver:
+    """A driver that runs."""
+
+    def __init__(self, command: list[str]) -> None:
+        path = f"{TOP / 'python/src'}{os.pathsep}{os.environ.get('PYTHONPATH', '')}"
+        self.errors = tempfile.TemporaryFile()
+        self.process = subprocess.Popen(
+            command, stdin=subprocess.PIPE, stdout=subprocess.PIPE, stderr=self.errors,
+            env=os.environ | {"PYTHONPATH": path},
+        )  # fmt: skip
+        self.notes: list[Words] = []
+        self._numbers = itertools.count(1)
+        self._answers: dict[int, Future[Any]] = {}
+        self._news = threading.Condition()
+        self._reader = threading.Thread(target=self._read, daemon=True)
+        self._reader.start()
+
+    def _read(self) -> None:
+        assert self.process.stdout
+        for line in self.process.stdout:
+            told = json.loads(line)
+            with self._news:
+                if "note" in told:
+                    self.notes.append(told)
+                    self._news.notify_all()
+                    continue
+                answer = self._answers.pop(told["id"])
+            if "error" in told:
+                error = told["error"]
+                answer.set_exception(Refused(error["name"], error["status"], error["text"]))
+            else:
+                answer.set_result(told["value"])
+        with self._news:
+            for answer in self._answers.values():
+                answer.set_exception(EOFError("the driver has ended"))
+            self._news.notify_all()
+
+    def send(self, word: str, **words: Any) -> Future[Any]:
+        """Sends a command; its answer comes later."""
+        answer: Future[Any] = Future()
+        number = next(self._numbers)
+        with self._news:
+            self._answers[number] = answer
+        assert self.process.stdin
+        text = json.dumps({"id": number, "do": word, **words}, ensure_ascii=False)
+        self.process.stdin.write(text.encode() + b"\n")
+        self.process.stdin.flush()
+        return answer
+
+    def ask(self, word: str, **words: Any) -> Any:
+        """Sends a command, and waits for its answer."""
+        return self.send(word, **words).result(LONG)
+
+    def refused(self, word: str, **words: Any) -> str:
+        """The name of the error of a command."""
+        error = self.send(word, **words).exception(LONG)
+        assert isinstance(error, Refused), (word, words, error)
+        return error.name
+
+    def heard(self, note: str, count: int = 1, **words: Any) -> list[Words]:
+        """Waits until so many notes are there that say this."""
+        found: list[Words] = []
+
+        def enough() -> bool:
+            told = {"note": note, **words}
+            found[:] = [one for one in self.notes if told.items() <= one.items()]
+            return len(found) >= count
+
+        with self._news:
+            assert self._news.wait_for(enough, LONG), (note, words, self.notes[-20:], self.told())
+        return found
+
+    def calls(self, key: str, name: str) -> list[Words]:
+        """The calls of a step of a saga up to now."""
+        with self._news:
+            told = {"note": "called", "key": key, "name": name}
+            return [one for one in self.notes if told.items() <= one.items()]
+
+    def told(self) -> str:
+        """What it wrote to its standard error."""
+        self.errors.seek(0)
+        return self.errors.read().decode(errors="replace")
+
+    def kill(self) -> None:
+        self.process.kill()
+        self.process.wait(LONG)
+        self._close()
+
+    def end(self) -> None:
+        """Asks it to end, and sees that it does."""
+        if self.process.poll() is None:
+            self.ask("end")
+            assert self.process.wait(LONG) == 0
+        self._close()
+
+    def _close(self) -> None:
+        self._reader.join(LONG)
+        assert self.process.stdin and self.process.stdout
+        with contextlib.suppress(BrokenPipeError):
+            self.process.stdin.close()
+        self.process.stdout.close()
+
+    @contextlib.contextmanager
+    def paused(self) -> Iterator[None]:
+        """It stands still meanwhile."""
+        self.process.send_signal(signal.SIGSTOP)
+        try:
+            yield
+        finally:
+            self.process.send_signal(signal.SIGCONT)

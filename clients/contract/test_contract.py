@@ -1,0 +1,443 @@
+"""What each client and worker does at a real service, over both databases. See README.md."""
+
+from __future__ import annotations
+
+import contextlib
+import itertools
+import json
+from collections.abc import Callable, Iterator
+from typing import Any
+
+import pytest
+from harness import LONG, Driver, commands, languages
+from relay import relaying
+from server import serving
+from serving import Served, error_of, report, take
+
+from sagas.server import auth
+
+PAIR = """format = 2
+name = "pair"
+[[step]]
+name = "a"
+undo = 5
+keep = 9
+tries = 3
+[[step]]
+name = "b"
+needs = ["a"]
+undo = "never"
+tries = 3
+"""
+MANNER = "".join(
+    f'[step.{step}]\nbackoff = {{ initial = 0.01 }}\nundo_on_exhausted = "fail"\n' for step in "ab"
+)
+DEFINITIONS = {
+    "pair.toml": PAIR, "pair.service.toml": MANNER,
+    "solo.toml": PAIR.replace("pair", "solo"), "solo.service.toml": MANNER,
+    "asked.toml": 'format = 2\nname = "asked"\n[[step]]\nname = "sign"\nundo = "never"\n',
+    "asked.service.toml": '[step.sign]\nkind = "approval"\n',
+}  # fmt: skip
+STEPS = ["pair/a", "pair/a/undo", "pair/b"]
+SOLO = [step.replace("pair", "solo") for step in STEPS]
+"""The same definition twice: all cases share a worker of `pair`, and have workers of their own for `solo`."""
+TOKENS = {"contract": ("operator", None), "weak": ("worker", ["pair/a"]), "caller": ("caller", None)}
+COUNT = itertools.count()
+Words = dict[str, Any]
+Make = Callable[[], Driver]
+Made = Callable[[str], list[str]]
+
+
+@pytest.fixture(scope="module")
+def tokens() -> dict[str, str]:
+    """Those of the service, which has them from its start on."""
+    return {}
+
+
+@pytest.fixture(scope="session")
+def command() -> Iterator[Made]:
+    with commands() as made:
+        yield made
+
+
+@pytest.fixture(
+    scope="module",
+    params=[pytest.param(one, marks=pytest.mark.xdist_group(one)) for one in ("sqlite", "postgresql")],
+)
+def service(request: pytest.FixtureRequest, tokens: dict[str, str], tmp_path_factory: pytest.TempPathFactory) -> Iterator[Served]:
+    folder = tmp_path_factory.mktemp("service")
+    for name, (role, steps) in TOKENS.items():
+        limits = auth.limits_of([role], None, steps, None)
+        tokens[name] = auth.make(folder / "tokens.toml", name, [role], limits)
+    with contextlib.ExitStack() as stack:
+        url = None
+        if request.param == "postgresql":
+            server = stack.enter_context(serving())
+            url = server.create()
+        one = Served(folder, DEFINITIONS, "--token-file", str(folder / "tokens.toml"), store=url)
+        one.start()
+        stack.callback(one.kill)
+        yield one
+
+
+@pytest.fixture(scope="module")
+def operator(service: Served, tokens: dict[str, str]) -> str:
+    return tokens["contract"]
+
+
+@pytest.fixture(scope="module", params=languages())
+def language(request: pytest.FixtureRequest) -> str:
+    found: str = request.param
+    return found
+
+
+@pytest.fixture(scope="module")
+def driver(service: Served, operator: str, language: str, command: Made) -> Iterator[Driver]:
+    """A driver with a worker, for many cases."""
+    with contextlib.ExitStack() as stack:
+        one = driven(stack, service, operator, language, command)
+        work(one, service.url, operator, "main")
+        yield one
+        one.end()
+
+
+@pytest.fixture
+def make(service: Served, operator: str, language: str, command: Made) -> Iterator[Make]:
+    """Makes drivers that are killed behind their case."""
+    with contextlib.ExitStack() as stack:
+        yield lambda: driven(stack, service, operator, language, command)
+
+
+def driven(stack: contextlib.ExitStack, service: Served, operator: str, language: str, command: Made) -> Driver:
+    one = Driver(command(language))
+    stack.callback(one.kill)
+    assert one.ask("open", url=service.url, token=operator) == {"language": language}
+    return one
+
+
+def work(driver: Driver, url: str | list[str], token: str | None, name: str, **words: Any) -> None:
+    words = {"steps": STEPS, "concurrency": 4, "lease": 30, "wait": 5, **words}
+    assert driver.ask("worker", worker=name, url=url, token=token, **words) == {}
+
+
+def fresh(word: str = "k") -> str:
+    return f"{word}-{next(COUNT)}"
+
+
+def script(*words: str, **more: list[str]) -> Words:
+    """An input: what `a` does, and the others."""
+    return {"script": {"a": list(words), **{name.replace("_", "/"): done for name, done in more.items()}}}
+
+
+def played(driver: Driver, given: Any, key: str | None = None) -> Words:
+    """A saga of `pair` from its start to its end."""
+    key = key or fresh()
+    assert driver.ask("start", definition="pair", key=key, input=given) == {"key": key, "new": True}
+    end: Words = driver.ask("wait", key=key, timeout=LONG)
+    assert end["over"] and end["key"] == key and end["input"] == given
+    return end
+
+
+DONE = {"a": {"done": "a"}, "b": {"done": "b"}}
+
+
+def test_outcomes(driver: Driver, language: str) -> None:
+    """Returned, failed, tried again and unknown: how often each function is called, with which key, and how the saga ends."""
+    unknowns = ["unknown", "timeout", "refused", *(["throw"] if language != "python" else [])]
+    cases: dict[str, tuple[Words, str, int, int, int]] = {
+        "ok": (script("ok"), "completed", 1, 1, 0),
+        "nothing": (script("nothing", b=["nothing"]), "completed", 1, 1, 0),
+        "fail": (script("fail"), "recovered", 1, 0, 0),
+        "retry": (script("retry", "retry", "ok"), "completed", 3, 1, 0),
+        "exhausted": (script("retry"), "recovered", 3, 0, 0),
+        "unknown": (script(*unknowns, "ok"), "completed", 1 + len(unknowns), 1, 0),
+        "undone": (script("ok", b=["fail"]), "recovered", 1, 1, 1),
+        "undone at last": (script("ok", b=["retry"], a_undo=["unknown", "ok"]), "recovered", 1, 3, 2),
+    }
+    keys = {name: fresh("outcome") for name in cases}
+    for name, (given, *_) in cases.items():
+        driver.ask("start", definition="pair", key=keys[name], input=given)
+    for name, (_, phase, of_a, of_b, of_undo) in cases.items():
+        key, end = keys[name], driver.ask("wait", key=keys[name], timeout=LONG)
+        found = [driver.calls(key, step) for step in ("pair/a", "pair/b", "pair/a/undo")]
+        assert (end["phase"], *map(len, found)) == (phase, of_a, of_b, of_undo), (name, end)
+        for calls in found:
+            assert len({one["idempotency_key"] for one in calls}) == min(1, len(calls)), name
+        if of_b:
+            assert found[1][0]["results"] == {"a": None if name == "nothing" else {"done": "a"}}
+        if of_undo:
+            assert all(one["undo"] and one["result"] == {"done": "a"} for one in found[2])
+            assert end["states"] == {"a": "undone", "b": "failed"} and end["results"] == {}
+        if name == "fail":
+            assert end["states"]["a"] == "failed" and "no" in end["errors"]["a"]
+        if name == "ok":
+            assert end["results"] == DONE and end["states"] == {"a": "committed", "b": "committed"}
+        if name == "nothing":
+            assert end["results"] == {"a": None, "b": None}
+
+
+def nested(depth: int) -> Any:
+    value: Any = "core"
+    for _ in range(depth):
+        value = [value]
+    return value
+
+
+ODD = [
+    "", "ünïcödé \u2028 \U0001f600 \x00 \x7f \"quoted\" \\ back", 2**53 + 1, -(2**70), 0.1, 1e300, -0.5,
+    True, None, [], {}, {"": {"ß/~": [1, [2, {"x": None}]]}}, "9007199254740993", "1" * 40, nested(60),
+    {"bigint:": 12345678901234567890}, [1234567890123456789, "\\\"1234567890123456789"], "y" * 900_000,
+]  # fmt: skip
+
+
+def test_inputs(driver: Driver) -> None:
+    """What goes in comes out: as input, as result, and in what the next step needs."""
+    keys = [fresh("odd/ü %\U0001f600") for _ in ODD]
+    for key, value in zip(keys, ODD):
+        given = {"script": {"a": ["echo"], "b": ["echo"]}, "value": value}
+        driver.ask("start", definition="pair", key=key, input=given)
+        assert not driver.ask("start", definition="pair", key=key, input=given)["new"]
+    for key, value in zip(keys, ODD):
+        end = driver.ask("wait", key=key, timeout=LONG)
+        assert end["results"] == {"a": value, "b": value} and end["input"]["value"] == value, key
+        assert json.dumps(end["results"]["a"]) == json.dumps(value)
+        assert driver.calls(key, "pair/b")[0]["results"] == {"a": value}
+    for given in (None, 7, "text", [1]):
+        end = played(driver, given)
+        assert end["results"] == {"a": given, "b": given}
+
+
+def test_big_results(driver: Driver, language: str) -> None:
+    """One of a megabyte is stored; a step whose result is refused is done all the same."""
+    end = played(driver, script("big", b=["huge"]))
+    assert end["results"]["a"] == {"text": "x" * 1_000_000}
+    assert end["phase"] == "completed" and list(end["results"]["b"]) == ["unstorable"]
+
+
+def test_callers(driver: Driver, service: Served) -> None:
+    """Each call, and the errors by their names."""
+    ask, refused = driver.ask, driver.refused
+    key, labels = fresh("call"), {"customer": fresh("c"), "ü": "ß=1"}
+    start = {"definition": "asked", "key": key, "input": {"n": 1}, "labels": labels}
+    assert ask("start", **start)["new"] and not ask("start", **start)["new"]
+    assert refused("start", **start | {"input": {"n": 2}}) == "KeyConflict"
+    assert refused("start", definition="none", key=fresh(), input=None) == "NoSuchDefinition"
+    assert refused("start", definition="asked", key="a\nb", input=None) == "InvalidKey"
+    assert refused("get", key="none") == refused("wait", key="none", timeout=1) == "NoSuchSaga"
+    assert refused("abort", key="none") == refused("complete", key="none", step="sign", result=1) == "NoSuchSaga"
+    assert refused("wait", key=key, timeout=0.05) == "Timeout"
+    saga = ask("get", key=key)
+    assert (saga["phase"], saga["over"], saga["definition"], saga["input"]) == ("open", False, "asked", {"n": 1})
+    assert refused("complete", key=key, step="none", result=1) == "StepNotWaiting"
+    waiting = driver.send("wait", key=key, timeout=LONG)
+    assert ask("complete", key=key, step="sign", result={"by": "Ada"}, note="seen") == {}
+    assert ask("complete", key=key, step="sign", result={"by": "Ada"}) == {}
+    assert refused("complete", key=key, step="sign", result={"by": "Bob"}) in ("ConflictingReport", "StepNotWaiting")
+    end = waiting.result(LONG)
+    assert end["phase"] == "completed" and end["results"] == {"sign": {"by": "Ada"}}
+    assert ask("abort", key=key) == {"aborted": False}
+
+    failed = fresh("call")
+    ask("start", definition="asked", key=failed, input=None, labels=labels)
+    ask("fail", key=failed, step="sign", error="too ünusual")
+    end = ask("wait", key=failed, timeout=LONG)
+    assert end["phase"] == "recovered" and "too ünusual" in end["errors"]["sign"]
+
+    aborted = fresh("call")
+    ask("start", definition="asked", key=aborted, input=None, deadline=3600)
+    assert ask("abort", key=aborted, note="no more") == {"aborted": True}
+    assert ask("wait", key=aborted, timeout=LONG)["aborted"]
+
+    rest = [fresh("listed") for _ in range(5)]
+    for one in rest:
+        ask("start", definition="asked", key=one, input=None, labels=labels)
+    assert ask("list", page=2, definition="asked", labels=labels, phase="open")["keys"] == rest[::-1]
+    assert ask("list", page=100, labels=labels)["keys"] == [*rest[::-1], failed, key]
+    assert ask("list", page=100, search=rest[0])["keys"] == [rest[0]]
+    assert ask("list", page=100, labels={"customer": "nobody"})["keys"] == []
+    assert refused("list", page=0) in ("InvalidRequest", "InvalidArgument")
+
+
+def test_rights(make: Make, service: Served, tokens: dict[str, str]) -> None:
+    """A token that is wrong, or too weak: callers get the error, and a worker ends with it."""
+    driver, url = make(), service.url
+    weak, caller = tokens["weak"], tokens["caller"]
+    for wrong in ("sagas_wrong", None):
+        driver.ask("open", url=url, token=wrong)
+        assert driver.refused("start", definition="pair", key=fresh(), input=None) == "Unauthorized"
+        assert driver.refused("events") == "Unauthorized"
+    driver.ask("open", url=url, token=weak)
+    assert driver.refused("get", key="none") == "Forbidden"
+    driver.ask("open", url=url, token=caller)
+    key = fresh()
+    assert driver.ask("start", definition="asked", key=key, input=None)["new"]
+    assert driver.refused("complete", key=key, step="sign", result=None) == "Forbidden"
+    for name, given in {"wrong": "sagas_wrong", "none": None, "caller": caller, "weak": weak}.items():
+        work(driver, url, given, name)
+        (ended,) = driver.heard("worker_ended", worker=name)
+        assert ended["error"]["name"] == ("Forbidden" if name in ("caller", "weak") else "Unauthorized")
+    work(driver, url, weak, "one", steps=["pair/a"])
+    driver.ask("stop", worker="one")
+    assert driver.refused("worker", worker="x", url="nowhere", token=None, steps=STEPS, concurrency=1, lease=1, wait=1) == "InvalidArgument"
+
+
+def test_events(make: Make, service: Served) -> None:
+    """They come in order, of the saga that is asked for; behind a restart comes that some are missed, and the stream goes on."""
+    driver, key = make(), fresh("event")
+    driver.ask("events", key=key)
+    driver.ask("start", definition="asked", key=fresh(), input=None)
+    driver.ask("start", definition="asked", key=key, input=None)
+    driver.heard("event")
+    service.kill()
+    service.start()
+    driver.heard("missed")
+    driver.ask("complete", key=key, step="sign", result=1)
+
+    def names() -> list[str]:
+        return [one["event"]["name"] for one in driver.notes if one["note"] == "event"]
+
+    while "saga_ended" not in names():
+        driver.heard("event", len(names()) + 1)
+    assert names()[0] == "saga_started" and names()[-1] == "saga_ended"
+    assert {one["event"]["key"] for one in driver.heard("event")} == {key}
+    driver.ask("events_stop")
+
+
+def test_restart_of_the_service(make: Make, service: Served, operator: str) -> None:
+    """It is killed while functions run and callers wait, and is away for their reports: all are repeated, and each function ran once."""
+    driver = make()
+    work(driver, [service.url], operator, "w", steps=SOLO)
+    keys = [fresh("restart") for _ in range(4)]
+    for key in keys:
+        driver.ask("start", definition="solo", key=key, input=script("hold"))
+    for key in keys:
+        driver.heard("called", key=key)
+    waits = [driver.send("wait", key=key, timeout=LONG) for key in keys]
+    service.kill()
+    for key in keys:
+        driver.ask("release", key=key, step="a")
+    late = driver.send("start", definition="solo", key=(last := fresh("restart")), input=script("ok"))
+    service.start()
+    assert late.result(LONG)["key"] == last
+    for key, wait in zip([*keys, last], [*waits, driver.send("wait", key=last, timeout=LONG)]):
+        assert wait.result(LONG)["results"] == DONE
+        assert len(driver.calls(key, "solo/a")) == len(driver.calls(key, "solo/b")) == 1
+    driver.ask("stop", worker="w")
+
+
+def test_lost_answers(make: Make, service: Served, operator: str) -> None:
+    """The answer of a start, of a claim and of each kind of report is lost: it is repeated, and counts once."""
+    host, _, port = service.address.rpartition(":")
+    with relaying(int(port), host=host) as relay:
+        driver, url = make(), f"http://127.0.0.1:{relay.port}"
+        driver.ask("open", url=url, token=operator)
+        for word, given in {
+            "/v1/sagas HTTP": script("ok"), "/complete": script("ok"), "/fail": script("retry", "ok"),
+            "/unknown": script("unknown", "ok"), "/claim": script("ok"),
+        }.items():  # fmt: skip
+            key = fresh("lost")
+            relay.mark = word.encode() if word == "/v1/sagas HTTP" else None
+            work(driver, url, operator, key, steps=SOLO, lease=1, wait=1)
+            relay.mark = word.encode()
+            driver.ask("start", definition="solo", key=key, input=given)
+            end = driver.ask("wait", key=key, timeout=LONG)
+            assert end["results"] == DONE and relay.mark is None, word
+            assert len(driver.calls(key, "solo/a")) == (2 if "ok" in given["script"]["a"][1:] else 1), word
+            driver.ask("stop", worker=key)
+
+
+def test_lost_lease(make: Make, service: Served, operator: str) -> None:
+    """A worker stands still past its lease. Another has the task: the function hears of it, and its report counts for nothing."""
+    driver = make()
+    work(driver, service.url, operator, "w", steps=["solo/a"], lease=1, concurrency=2)
+    key, done = fresh("lease"), fresh("lease")
+    for one, word in ((key, "hold"), (done, "deaf")):
+        driver.ask("start", definition="solo", key=one, input=script(word))
+    for one in (key, done):
+        driver.heard("called", key=one)
+    with service.client(operator) as client:
+        with driver.paused():
+            tasks = {}
+            while len(tasks) < 2:
+                tasks |= {one["key"]: one for one in take(client, "solo/a", lease=LONG, most=2)}
+        driver.heard("canceled", key=key, why="lease")
+        driver.ask("release", key=done, step="a")  # `complete` counts under any lease that was issued
+        theirs = driver.calls(done, "solo/a")[0]
+        assert tasks[done]["idempotency_key"] == theirs["idempotency_key"]
+        assert report(client, tasks[key], result={"done": "a"}).status_code == 200
+        rest = {}
+        while len(rest) < 2:
+            rest |= {one["key"]: one for one in take(client, "solo/b", most=2)}
+        answer = report(client, tasks[done], result={"done": "another"})
+        assert answer.status_code == 409 and error_of(answer) in ("ConflictingReport", "LeaseLost")
+        for b in rest.values():
+            assert report(client, b, result={"done": "b"}).status_code == 200
+    for one in (key, done):
+        assert driver.ask("wait", key=one, timeout=LONG)["results"] == DONE
+    driver.ask("stop", worker="w")
+
+
+def test_abort_while_a_function_runs(make: Make, service: Served, operator: str) -> None:
+    """It is told by a heartbeat that the saga is to be undone, and says that it had no effect; one that does not listen is undone."""
+    driver = make()
+    work(driver, service.url, operator, "w", steps=SOLO, lease=1)
+    listens, deaf = fresh("abort"), fresh("abort")
+    for key, word in ((listens, "hold"), (deaf, "deaf")):
+        driver.ask("start", definition="solo", key=key, input=script(word))
+    for key in (listens, deaf):
+        driver.heard("called", key=key)
+        assert driver.ask("abort", key=key) == {"aborted": True}
+    driver.heard("canceled", key=listens, why="abort")
+    driver.ask("release", key=deaf, step="a")
+    for key, states in ((listens, ("failed", "waiting")), (deaf, ("undone",))):
+        end = driver.ask("wait", key=key, timeout=LONG)
+        assert (end["phase"], end["aborted"]) == ("recovered", True) and end["states"]["a"] in states
+        assert len(driver.calls(key, "solo/a/undo")) == ("undone" in states) and driver.calls(key, "solo/b") == []
+    driver.ask("stop", worker="w")
+
+
+def test_killed_worker(make: Make, service: Served, operator: str) -> None:
+    """It is killed with -9: when its leases have ended, another does the tasks with the same idempotency keys."""
+    first, second = make(), make()
+    work(first, service.url, operator, "first", steps=SOLO, lease=1)
+    keys = [fresh("kill") for _ in range(3)]
+    for key in keys:
+        first.ask("start", definition="solo", key=key, input=script("hold"))
+    calls = {key: first.heard("called", key=key)[0] for key in keys}
+    first.kill()
+    for key in keys:
+        second.ask("release", key=key, step="a")
+    work(second, service.url, operator, "second", steps=SOLO)
+    for key in keys:
+        assert second.ask("wait", key=key, timeout=LONG)["results"] == DONE
+        (again,) = second.calls(key, "solo/a")
+        assert again["idempotency_key"] == calls[key]["idempotency_key"]
+    second.ask("stop", worker="second")
+
+
+def test_long_functions_and_a_stop(make: Make, service: Served, operator: str) -> None:
+    """A lease is kept while a function runs. A worker that is asked to end reports it, and gives back what has not begun."""
+    driver = make()
+    work(driver, service.url, operator, "w", steps=["solo/a"], concurrency=1, lease=1)
+    keys = [fresh("stop") for _ in range(3)]
+    driver.ask("start", definition="solo", key=keys[0], input=script("hold"))
+    driver.heard("called", key=keys[0])
+    with service.client(operator) as client:
+        assert take(client, "solo/a", wait=2.2) == []  # over two leases long
+        for key in keys[1:]:
+            driver.ask("start", definition="solo", key=key, input=script("ok"))
+        stopped = driver.send("stop", worker="w")
+        found: set[str] = set()
+        while found != set(keys[1:]):
+            for task in take(client, "solo/a", most=2):
+                assert report(client, task, result={"done": "a"}).status_code == 200
+                found.add(task["key"])
+        assert not stopped.done()
+        driver.ask("release", key=keys[0], step="a")
+        assert stopped.result(LONG) == {}
+        for _ in keys:
+            (task,) = take(client, "solo/b")
+            assert report(client, task, result={"done": "b"}).status_code == 200
+    for key in keys:
+        assert driver.ask("wait", key=key, timeout=LONG)["results"] == DONE
+        assert len(driver.calls(key, "solo/a")) == (1 if key == keys[0] else 0)

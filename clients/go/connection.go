@@ -1,0 +1,298 @@
+package sagas
+
+import (
+	"bytes"
+	"context"
+	"encoding/json"
+	"errors"
+	"io"
+	"log"
+	"math/rand"
+	"net"
+	"net/http"
+	"net/url"
+	"strconv"
+	"strings"
+	"sync"
+	"time"
+)
+
+const (
+	firstPause     = 100 * time.Millisecond
+	mostPause      = 5 * time.Second
+	connectTimeout = 10 * time.Second
+	requestTimeout = 60 * time.Second
+)
+
+// Logger gets what a client or worker says for people. A *log.Logger is one.
+type Logger interface {
+	Printf(format string, values ...any)
+}
+
+type settings struct {
+	services []string
+	token    string
+	http     *http.Client
+	logger   Logger
+	timeout  time.Duration
+}
+
+// Option configures a Client. It is also a WorkerOption.
+type Option func(*settings)
+
+func (o Option) applyWorker(w *workerSettings) { o(&w.settings) }
+
+// WithToken sends a token with each request.
+func WithToken(token string) Option {
+	return func(s *settings) { s.token = token }
+}
+
+// WithServices adds services over the same database. If one does not answer, the next one is asked.
+func WithServices(urls ...string) Option {
+	return func(s *settings) { s.services = append(s.services, urls...) }
+}
+
+// WithHTTPClient replaces the HTTP client, for example for TLS or a proxy. Its Timeout must be 0, or
+// longer than a minute. The default client connects directly, and follows no redirects.
+func WithHTTPClient(client *http.Client) Option {
+	return func(s *settings) { s.http = client }
+}
+
+// WithLogger replaces the logger (default: log.Default()).
+func WithLogger(logger Logger) Option {
+	return func(s *settings) { s.logger = logger }
+}
+
+// WithTimeout sets for how long a call of a client repeats its request while no service answers
+// (default: one minute). The context of a call may end it earlier. A worker repeats without end.
+func WithTimeout(timeout time.Duration) Option {
+	return func(s *settings) { s.timeout = timeout }
+}
+
+// connection asks one or more services over one database.
+type connection struct {
+	settings
+	mu    sync.Mutex
+	first int  // the service that is asked now
+	lacks bool // it was said that none answers
+}
+
+func newConnection(address string, s settings) (*connection, error) {
+	c := &connection{settings: s}
+	c.services = append([]string{address}, s.services...)
+	for at, one := range c.services {
+		parsed, err := url.Parse(one)
+		if err != nil || (parsed.Scheme != "http" && parsed.Scheme != "https") || parsed.Host == "" {
+			return nil, invalidArgument("%q is not the address of a service; write, for example, http://127.0.0.1:8080", one)
+		}
+		c.services[at] = strings.TrimRight(one, "/")
+	}
+	if strings.ContainsAny(c.token, "\r\n") {
+		return nil, invalidArgument("the token has a line break")
+	}
+	if c.http == nil {
+		c.http = defaultHTTPClient()
+	}
+	if c.logger == nil {
+		c.logger = log.Default()
+	}
+	if c.timeout == 0 {
+		c.timeout = time.Minute
+	}
+	return c, nil
+}
+
+func defaultHTTPClient() *http.Client {
+	return &http.Client{
+		Transport: &http.Transport{
+			DialContext:         (&net.Dialer{Timeout: connectTimeout, KeepAlive: 30 * time.Second}).DialContext,
+			TLSHandshakeTimeout: connectTimeout,
+			MaxIdleConnsPerHost: 256,
+			IdleConnTimeout:     30 * time.Second,
+			DisableCompression:  true,
+		},
+		CheckRedirect: func(*http.Request, []*http.Request) error { return http.ErrUseLastResponse },
+	}
+}
+
+// url returns the service that is asked now.
+func (c *connection) url() string {
+	c.mu.Lock()
+	defer c.mu.Unlock()
+	return c.services[c.first]
+}
+
+// turnFrom asks the next service from now on, unless another call turned already.
+func (c *connection) turnFrom(service string) {
+	c.mu.Lock()
+	defer c.mu.Unlock()
+	if c.services[c.first] == service {
+		c.first = (c.first + 1) % len(c.services)
+	}
+}
+
+// lacking says once that a service does not answer, until one does.
+func (c *connection) lacking(service string, err error) {
+	c.mu.Lock()
+	said := c.lacks
+	c.lacks = true
+	c.mu.Unlock()
+	if !said {
+		c.logger.Printf("sagas: %s does not answer: %v. Retrying", service, err)
+	}
+}
+
+func (c *connection) answered() {
+	c.mu.Lock()
+	c.lacks = false
+	c.mu.Unlock()
+}
+
+// request is what is asked, of any service.
+type request struct {
+	method, path string
+	body         []byte
+	timeout      time.Duration // of one attempt
+}
+
+// open sends a request to a service, and returns its answer before the body is read.
+func (c *connection) open(ctx context.Context, service string, r request, header http.Header) (*http.Response, error) {
+	var body io.Reader
+	if r.body != nil {
+		body = bytes.NewReader(r.body)
+	}
+	asked, err := http.NewRequestWithContext(ctx, r.method, service+r.path, body)
+	if err != nil {
+		return nil, err
+	}
+	if header != nil {
+		asked.Header = header
+	}
+	if r.body != nil {
+		asked.Header.Set("Content-Type", "application/json")
+	}
+	if c.token != "" {
+		asked.Header.Set("Authorization", "Bearer "+c.token)
+	}
+	return c.http.Do(asked)
+}
+
+// ask sends a request to a service once. An answer that is not a success is a *Problem.
+func (c *connection) ask(ctx context.Context, service string, r request) (body []byte, pause time.Duration, err error) {
+	ctx, cancel := context.WithTimeout(ctx, r.timeout)
+	defer cancel()
+	answer, err := c.open(ctx, service, r, nil)
+	if err != nil {
+		return nil, 0, bare(err)
+	}
+	defer answer.Body.Close()
+	body, err = io.ReadAll(answer.Body)
+	if err != nil {
+		return nil, 0, bare(err)
+	}
+	if answer.StatusCode >= 300 {
+		return nil, retryAfter(answer.Header), problemOf(answer.StatusCode, body)
+	}
+	c.answered()
+	return body, 0, nil
+}
+
+// bare leaves out the address and the method, which are said elsewhere.
+func bare(err error) error {
+	var told *url.Error
+	if errors.As(err, &told) {
+		return told.Err
+	}
+	return err
+}
+
+func retryAfter(header http.Header) time.Duration {
+	seconds, err := strconv.Atoi(header.Get("Retry-After"))
+	if err != nil || seconds < 0 || seconds > 30 {
+		return 0
+	}
+	return time.Duration(seconds) * time.Second
+}
+
+// until repeats a request until a service answers it. It returns a *Problem, or an
+// *UnreachableError once the context has ended.
+func (c *connection) until(ctx context.Context, r request) ([]byte, error) {
+	pause := firstPause
+	last := errors.New("no answer in time")
+	for tries := 0; ; tries++ {
+		service := c.url()
+		body, asked, err := c.ask(ctx, service, r)
+		if err == nil {
+			return body, nil
+		}
+		var problem *Problem
+		if errors.As(err, &problem) && !repeats(problem.Status) {
+			c.answered()
+			return nil, err
+		}
+		if ctx.Err() != nil {
+			return nil, &UnreachableError{URL: service, Last: last, Context: ctx.Err()}
+		}
+		if !errors.Is(err, context.DeadlineExceeded) { // of the attempt
+			last = err
+		}
+		c.turnFrom(service)
+		if tries == 0 && problem == nil {
+			continue // a connection that was kept is closed at times: once more, and at once
+		}
+		c.lacking(service, last)
+		wait := time.Duration((0.5 + rand.Float64()/2) * float64(pause))
+		if asked > wait {
+			wait = asked
+		}
+		if !sleep(ctx, wait) {
+			return nil, &UnreachableError{URL: service, Last: last, Context: ctx.Err()}
+		}
+		if pause *= 2; pause > mostPause {
+			pause = mostPause
+		}
+	}
+}
+
+// call repeats a request of a client, for as long as its timeout, and reads the answer.
+func (c *connection) call(ctx context.Context, method, path string, asked, answer any) error {
+	r := request{method: method, path: path, timeout: requestTimeout}
+	if asked != nil {
+		body, err := json.Marshal(asked)
+		if err != nil {
+			return invalidArgument("%v", err)
+		}
+		r.body = body
+	}
+	within, cancel := context.WithTimeout(ctx, c.timeout)
+	defer cancel()
+	body, err := c.until(within, r)
+	var unreachable *UnreachableError
+	if errors.As(err, &unreachable) {
+		unreachable.Context = ctx.Err()
+	}
+	if err != nil || answer == nil {
+		return err
+	}
+	return json.Unmarshal(body, answer)
+}
+
+// sleep waits, and returns false if the context ended first.
+func sleep(ctx context.Context, d time.Duration) bool {
+	timer := time.NewTimer(d)
+	defer timer.Stop()
+	select {
+	case <-ctx.Done():
+		return false
+	case <-timer.C:
+		return true
+	}
+}
+
+// escaped writes a key or a name as a part of a path.
+func escaped(text string) string {
+	if text == "." || text == ".." {
+		return strings.ReplaceAll(text, ".", "%2E")
+	}
+	return url.PathEscape(text)
+}

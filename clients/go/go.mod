@@ -1,0 +1,3 @@
+module sagas
+
+go 1.19

@@ -1,0 +1,6 @@
+//go:build sagas_planner && sagas_system
+
+package planner
+
+// #cgo pkg-config: sagas
+import "C"

@@ -1,0 +1,128 @@
+// A caller of the service: it starts sagas, waits for them, and decides steps.
+
+import { Connection } from "./connection.js";
+import { InvalidArgument, NoSuchSaga, WaitTimeout } from "./errors.js";
+import { EventStream } from "./events.js";
+import { write } from "./json.js";
+import { sagaOf, summaryOf } from "./views.js";
+
+const PATIENCE = 60; // seconds
+const ANSWER = 20; // seconds that one request may take
+const MOST_WAIT = 30; // seconds that the service keeps one request
+const BEYOND = 15; // seconds that an answer may take beyond that
+const LATE = 10;
+
+const name = (what, value) => {
+  if (typeof value !== "string" || !value) throw new InvalidArgument(`${what}: it is a text that is not empty`);
+  return value;
+};
+const path = (key, ...rest) => ["v1/sagas", name("key", key), ...rest].map((part, i) => (i ? encodeURIComponent(part) : part)).join("/");
+const seconds = (value) => (value instanceof Date ? value.toISOString() : value);
+
+/** A saga that this program started, or found. */
+export class Run {
+  #client;
+
+  constructor(client, { key, definition, version, new: isNew }) {
+    this.#client = client;
+    Object.assign(this, { key, definition, version, new: isNew });
+  }
+
+  wait(options) {
+    return this.#client.wait(this.key, options);
+  }
+
+  get() {
+    return this.#client.get(this.key);
+  }
+
+  abort(options) {
+    return this.#client.abort(this.key, options);
+  }
+}
+
+export class Client {
+  #connection;
+  #timeout;
+
+  constructor(url, { token, timeout = PATIENCE } = {}) {
+    if (!(timeout > 0)) throw new InvalidArgument("timeout: it is a number of seconds above 0");
+    this.#connection = new Connection(url, token);
+    this.#timeout = timeout;
+  }
+
+  get url() {
+    return this.#connection.url.href.replace(/\/$/, "");
+  }
+
+  close() {
+    this.#connection.close();
+  }
+
+  async start(definition, key, input = null, { labels, deadline, version, signal } = {}) {
+    const body = write({ definition: name("definition", definition), key: name("key", key), input, labels, deadline, version });
+    return new Run(this, await this.#ask("POST", "v1/sagas", { body, signal }));
+  }
+
+  async get(key, { signal } = {}) {
+    try {
+      return sagaOf(await this.#ask("GET", path(key), { signal }));
+    } catch (error) {
+      if (error instanceof NoSuchSaga) return null;
+      throw error;
+    }
+  }
+
+  async wait(key, { timeout = Infinity, signal } = {}) {
+    const until = performance.now() + 1000 * timeout;
+    for (;;) {
+      const left = Math.max(0, (until - performance.now()) / 1000);
+      const wait = Math.min(MOST_WAIT, left);
+      const told = await this.#ask("GET", `${path(key)}/wait?seconds=${wait.toFixed(3)}`, {
+        signal, seconds: wait + BEYOND, patience: Math.max(LATE, Math.min(left, this.#timeout)) + wait,
+      });
+      if (told.over) return sagaOf(told);
+      if (performance.now() >= until) {
+        const waits = told.waits.map(({ step, why }) => `${step} (${why})`).join(", ");
+        throw new WaitTimeout(`'${key}' is still open after ${timeout} s${waits && `: it waits for ${waits}`}`);
+      }
+    }
+  }
+
+  async abort(key, { note, signal } = {}) {
+    const { aborted } = await this.#ask("POST", path(key, "abort"), { body: write({ note }), signal });
+    return aborted;
+  }
+
+  async complete(key, step, result = null, { undo = false, early, note, signal } = {}) {
+    await this.#ask("POST", path(key, "steps", name("step", step), "complete"), { body: write({ result, undo, early, note }), signal });
+  }
+
+  async fail(key, step, error, { undo = false, early, note, signal } = {}) {
+    const body = write({ error: name("error", error), undo, early, note });
+    await this.#ask("POST", path(key, "steps", name("step", step), "fail"), { body, signal });
+  }
+
+  async *list({ pageSize = 100, phase, definition, search, labels = {}, startedAfter, startedBefore, error, signal } = {}) {
+    const query = new URLSearchParams();
+    const words = {
+      limit: pageSize, phase, definition, search, error, started_after: seconds(startedAfter), started_before: seconds(startedBefore),
+    };
+    for (const [word, value] of Object.entries(words)) if (value !== undefined) query.set(word, value);
+    for (const [label, value] of Object.entries(labels)) query.append("label", `${label}=${value}`);
+    for (;;) {
+      const { sagas, next } = await this.#ask("GET", `v1/sagas?${query}`, { signal });
+      for (const saga of sagas) yield summaryOf(saga);
+      if (next === null) return;
+      query.set("after", next);
+    }
+  }
+
+  events(filter = {}) {
+    return new EventStream(this.#connection, filter);
+  }
+
+  async #ask(method, path, { body, signal, seconds = Math.min(ANSWER, this.#timeout), patience = this.#timeout }) {
+    return (await this.#connection.untilAnswered(method, path, { body, seconds, patience, signal })).value;
+  }
+}

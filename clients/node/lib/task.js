@@ -1,0 +1,93 @@
+// A task that a worker has claimed, and the outcome of its function.
+
+import { Fail, InvalidArgument, LeaseLost, Retry, problemOf } from "./errors.js";
+import { write } from "./json.js";
+
+const MOST_TEXT = 4000; // characters of an error
+const MOST_DETAIL = 200;
+
+/** A text of at most so many characters, without halves of characters. */
+export function shortened(text, most = MOST_TEXT) {
+  const whole = text.length > most ? [...text.slice(0, 2 * most)].slice(0, most).join("") : text;
+  return whole.replace(/\p{Surrogate}/gu, "\ufffd");
+}
+
+export class Task {
+  #cancelled = new AbortController();
+  #news = null;
+  #isLost = false;
+
+  constructor(told, heartbeat) {
+    Object.assign(this, {
+      name: told.name,
+      attemptId: told.attempt_id,
+      definition: told.definition,
+      key: told.key,
+      step: told.step,
+      isCompensation: told.undo,
+      attempt: told.attempt,
+      input: told.input,
+      results: told.results,
+      result: told.result,
+      idempotencyKey: told.idempotency_key,
+      originalIdempotencyKey: told.original_idempotency_key,
+      deadline: told.deadline === null ? null : new Date(1000 * told.deadline),
+    });
+    const hidden = { lease: told.lease, heartbeat, until: performance.now() + 500 * told.seconds, unstorable: undefined };
+    for (const [name, value] of Object.entries(hidden)) Object.defineProperty(this, name, { value, writable: true });
+  }
+
+  get signal() {
+    return this.#cancelled.signal;
+  }
+
+  progress(fraction, detail) {
+    if (typeof fraction !== "number" || !(fraction >= 0 && fraction <= 1)) throw new InvalidArgument("progress: it is a number from 0 to 1");
+    if (detail !== undefined && typeof detail !== "string") throw new InvalidArgument("progress: the detail is a text");
+    this.#news = { progress: fraction, detail: detail === undefined ? null : shortened(detail, MOST_DETAIL) };
+  }
+
+  /** What was reported of its progress since the last heartbeat. */
+  news() {
+    const news = this.#news;
+    this.#news = null;
+    return news;
+  }
+
+  cancel(reason) {
+    if (!this.signal.aborted) this.#cancelled.abort(reason);
+  }
+
+  /** The service refused a heartbeat. */
+  refused(status, text, logger) {
+    const problem = problemOf(status, text);
+    if (!this.#isLost) logger.warn(`${this.attemptId}: ${problem.message}`);
+    if (![403, 404, 409].includes(status)) return;
+    this.#isLost = true;
+    this.cancel(problem instanceof LeaseLost ? problem : new LeaseLost(status, problem.problem, problem.message));
+  }
+}
+
+function described(error) {
+  if (!(error instanceof Error)) return String(error);
+  const own = error instanceof Fail || error instanceof Retry ? error.message || error.name : `${error.name}: ${error.message || error.code || ""}`;
+  return error.cause === undefined ? own : `${own}: ${described(error.cause)}`;
+}
+
+/** Calls a function; gives what is reported: the verb, and the keys of its body as JSON. */
+export async function outcomeOf(run, task, logger) {
+  let result;
+  try {
+    result = await run(task);
+  } catch (error) {
+    const text = `"error":${JSON.stringify(shortened(described(error)))}`;
+    if (error instanceof Fail) return { verb: "fail", told: `${text},"final":true` };
+    return { verb: error instanceof Retry ? "fail" : "unknown", told: text };
+  }
+  try {
+    return { verb: "complete", told: `"result":${write(result)}` };
+  } catch (error) {
+    logger.warn(`${task.attemptId}: the result could not be stored: ${error.message}`);
+    return { verb: "complete", told: `"result":${JSON.stringify({ unstorable: shortened(error.message) })}` };
+  }
+}

@@ -1,0 +1,397 @@
+"""A client over HTTP: it starts sagas at a service, waits for them, and decides steps.
+
+    with sagas.ServiceClient("http://127.0.0.1:8080", token="..") as client:
+        run = client.start("trip", "order-1", {"to": "Rome"})
+        print(run.wait(timeout=30))
+
+It needs nothing but the standard library. Each request is safe to repeat, so each call repeats its
+request until a service answers.
+"""
+
+from __future__ import annotations
+
+import builtins
+import datetime
+import threading
+import time
+import urllib.parse
+import weakref
+from collections.abc import Iterator, Sequence
+from types import TracebackType
+from typing import Any
+
+from sagas.api.service_connection import ServiceConnection, ServiceRefused
+from sagas.api.service_events import ServiceEvents
+from sagas.api.service_run import ServiceRun
+from sagas.api.service_views import (
+    ServiceSaga,
+    ServiceSummary,
+    error_of,
+    saga_of,
+    summary_of,
+    waits_of,
+)
+from sagas.base.errors import NoSuchSaga
+from sagas.core.pending import still_open
+from sagas.definition import arguments
+from sagas.definition.labels import Labels, checked
+from sagas.definition.saga import Saga
+from sagas.definition.start_options import Deadline, deadline_at
+from sagas.definition.step import Step
+
+ANSWER = 20.0  # seconds that one request may take
+MOST_WAIT = 30.0  # seconds that the service keeps one request
+BEYOND = 15.0  # seconds that an answer may take beyond that
+LATE = 10.0  # seconds for which a request is repeated at least
+
+
+class ServiceClient:
+    """Start and inspect sagas of an HTTP service, and decide steps.
+
+    It uses only the standard library. Its calls block, and any thread may make them, also at once.
+    Each call repeats its request until a service answers, for `timeout` seconds. A repeated request
+    counts once. Use it by `with`, or call `close`.
+
+    Each call can raise `ServiceUnavailable` if no service answers in time, `ServiceRefused` if the
+    service refuses the call, for example its token, and `Closed` if the client is closed.
+
+    Attributes:
+        timeout: Seconds for which a call repeats its request.
+    """
+
+    def __init__(
+        self, url: str | Sequence[str], token: str | None = None, *, timeout: float = 60.0
+    ) -> None:
+        """Make a client. It connects at its first call.
+
+        Args:
+            url: The service, or several services over one database: if one does not answer, the
+                next one is asked.
+            token: The token of a caller, an approver or an operator (default: None).
+            timeout: Seconds for which a call repeats its request (default: 60).
+
+        Raises:
+            ValueError: The URL is not the address of a service, or the timeout is not valid.
+        """
+        self.timeout = arguments.time("timeout", timeout, none=False)
+        self._closed = threading.Event()
+        self._service = ServiceConnection(url, token, self.timeout, self._closed)
+        self._streams: weakref.WeakSet[ServiceEvents] = weakref.WeakSet()
+
+    @property
+    def url(self) -> str:
+        """The service that it asks now."""
+        return self._service.url
+
+    # -- sagas
+
+    def start(
+        self,
+        saga: Saga | str,
+        key: str,
+        input: Any = None,
+        *,
+        labels: Labels | None = None,
+        deadline: Deadline | None = None,
+        version: int | None = None,
+    ) -> ServiceRun:
+        """Start a saga, or return the one with this key.
+
+        When it returns, the saga is stored, and the service will execute it.
+
+        Args:
+            saga: The saga's name, or its definition, whose version is then meant. The service has
+                to know it.
+            key: Its key: the same key with the same input is one saga.
+            input: What its steps get, as JSON (default: None).
+            labels: Texts by name, by which lists find it (default: none).
+            deadline: Seconds, a timedelta, or a datetime with a time zone, after which it is
+                aborted (default: as its definition says).
+            version: The version of the definition (default: the newest).
+
+        Raises:
+            KeyConflict: The key belongs to a saga of another name or input.
+            InvalidKey: The key is not valid.
+            InvalidInput: The first steps cannot read the input.
+            InvalidLabel: A label is not valid.
+            NotSerializable: The input is not JSON.
+            TooLarge: The saga fits into no shard.
+            ServiceRefused: The service has no such definition, or refuses the token.
+            ServiceUnavailable: No service answered in time. Repeat the call.
+        """
+        arguments.key(key)
+        if isinstance(saga, Saga) and version is None:
+            version = saga.version
+        body: dict[str, Any] = {"definition": _name("saga", saga), "key": key, "input": input}
+        words = {
+            "labels": dict(checked(labels)) or None,
+            "deadline": _seconds_to(deadline),
+            "version": version,
+        }
+        body |= {word: value for word, value in words.items() if value is not None}
+        return ServiceRun(self, self._ask("/v1/sagas", body))
+
+    def get(self, key: str) -> ServiceSaga | None:
+        """Return the saga with this key as it is now, or None.
+
+        Args:
+            key: The saga's key.
+
+        Raises:
+            InvalidKey: The key is not valid.
+            ServiceRefused: The service refuses the token.
+            ServiceUnavailable: No service answered in time.
+        """
+        try:
+            return saga_of(self._ask(_path(key)))
+        except NoSuchSaga:
+            return None
+
+    def wait(self, key: str, timeout: float | None = None) -> ServiceSaga:
+        """Wait until a saga has ended.
+
+        Args:
+            key: The saga's key.
+            timeout: Seconds (default: as long as it takes).
+
+        Returns:
+            The saga. Look at `ok`: a saga that was compensated does not raise.
+
+        Raises:
+            TimeoutError: It has not ended in time, and goes on. The message says what it waits for.
+            NoSuchSaga: No saga has the key.
+            ServiceRefused: The service refuses the token.
+            ServiceUnavailable: No service answered in time.
+        """
+        most = float("inf") if timeout is None else arguments.time("timeout", timeout)
+        until = time.monotonic() + most
+        while True:
+            left = max(0.0, until - time.monotonic())
+            seconds = min(MOST_WAIT, left)
+            told = self._ask(
+                f"{_path(key, 'wait')}?seconds={seconds:.3f}", None, seconds + BEYOND,
+                max(LATE, min(left, self.timeout)) + seconds,
+            )  # fmt: skip
+            if told["over"]:
+                return saga_of(told)
+            if time.monotonic() >= until:
+                raise still_open(key, most, waits_of(told))
+
+    def abort(self, key: str, *, note: str | None = None) -> bool:
+        """Abort a saga: no further step starts, and what costs least is undone.
+
+        Args:
+            key: The saga's key.
+            note: Why; it is stored with who and when (default: none).
+
+        Returns:
+            Whether this call aborted it. It is False if the saga is over or was aborted before,
+            also by a request of this call whose answer was lost.
+
+        Raises:
+            NoSuchSaga: No saga has the key.
+            ServiceRefused: The service refuses the token.
+            ServiceUnavailable: No service answered in time. Repeat the call.
+        """
+        done: bool = self._ask(_path(key, "abort"), _given(note=note))["aborted"]
+        return done
+
+    def complete(
+        self, key: str, step: Step[Any] | str, result: Any = None, *, undo: bool = False,
+        early: bool = True, note: str | None = None,
+    ) -> None:  # fmt: skip
+        """Report that a step succeeded, for example that it is approved.
+
+        An approver reports approvals, an operator also other steps. The same report again is not an
+        error.
+
+        Args:
+            key: The saga's key.
+            step: The step, or its name.
+            result: Its result, as JSON (default: None).
+            undo: Whether its compensation is meant (default: False).
+            early: Whether the report is stored until the step begins (default: True).
+            note: Why; it is stored with who and when (default: none).
+
+        Raises:
+            StepNotWaiting: Nobody has to report the step.
+            ConflictingReport: Another outcome was reported first, and counts.
+            NoSuchSaga: No saga has the key.
+            NotSerializable: The result is not JSON.
+            ServiceRefused: The token may not report this step.
+            ServiceUnavailable: No service answered in time. Repeat the call.
+        """
+        self._report(key, step, "complete", {"result": result}, undo, early, note)
+
+    def fail(
+        self, key: str, step: Step[Any] | str, error: str, *, undo: bool = False,
+        early: bool = True, note: str | None = None,
+    ) -> None:  # fmt: skip
+        """Report that a step failed permanently. See `ServiceClient.complete`.
+
+        Args:
+            error: Why it failed, for people.
+
+        Raises:
+            StepNotWaiting: Nobody has to report the step.
+            ConflictingReport: Another outcome was reported first, and counts.
+            NoSuchSaga: No saga has the key.
+            ServiceRefused: The token may not report this step.
+            ServiceUnavailable: No service answered in time. Repeat the call.
+        """
+        arguments.text("error", error, "why it failed")
+        self._report(key, step, "fail", {"error": error}, undo, early, note)
+
+    def _report(
+        self, key: str, step: Step[Any] | str, verb: str, body: dict[str, Any], undo: bool,
+        early: bool, note: str | None,
+    ) -> None:  # fmt: skip
+        words = _given(note=note) | {"undo": undo, "early": early}
+        self._ask(_path(key, "steps", _name("step", step), verb), body | words)
+
+    # -- questions
+
+    def list(
+        self,
+        *,
+        phase: str | None = None,
+        saga: Saga | str | None = None,
+        labels: Labels | None = None,
+        search: str | None = None,
+        started_after: datetime.datetime | float | None = None,
+        started_before: datetime.datetime | float | None = None,
+        error: str | None = None,
+        page_size: int = 100,
+    ) -> Iterator[ServiceSummary]:
+        """List sagas, the newest first. It asks for one page after the other.
+
+        Args:
+            phase: `open`, `completed`, `recovered`, `stuck` or `resolved`; or `undo_failed`, for
+                those recovered sagas of which a compensation failed permanently (default: all).
+            saga: A definition, or its name (default: all).
+            labels: Labels that the sagas have, all of these (default: any).
+            search: What their keys contain (default: anything).
+            started_after: They were started then or later: a datetime with a time zone, or seconds
+                since 1970 (default: any time).
+            started_before: They were started earlier (default: any time).
+            error: What an attempt raised, or a part of that (default: anything).
+            page_size: Sagas of one request, from 1 to 1,000 (default: 100).
+
+        Raises:
+            ValueError: The page size is not valid.
+            TypeError: A time is not valid.
+            InvalidLabel: A label is not valid.
+            ServiceRefused: The service refuses the token, or the filter.
+            ServiceUnavailable: No service answered in time.
+        """
+        query = _given(
+            limit=arguments.count("page_size", page_size), phase=phase, search=search, error=error,
+            definition=None if saga is None else _name("saga", saga),
+            started_after=_moment("started_after", started_after),
+            started_before=_moment("started_before", started_before),
+        )  # fmt: skip
+        pairs = [f"{name}={value}" for name, value in checked(labels).items()]
+        return self._pages({**query, "label": pairs})
+
+    def _pages(self, query: dict[str, Any]) -> Iterator[ServiceSummary]:
+        while True:
+            told = self._ask(f"/v1/sagas?{urllib.parse.urlencode(query, doseq=True)}")
+            yield from map(summary_of, told["sagas"])
+            if told["next"] is None:
+                return
+            query["after"] = told["next"]
+
+    def events(
+        self, *, key: str | None = None, saga: Saga | str | None = None,
+        last_event_id: str | None = None,
+    ) -> ServiceEvents:  # fmt: skip
+        """Follow events, from the moment at which the stream is opened.
+
+        Args:
+            key: Of the saga with this key (default: of all).
+            saga: Of the sagas of this definition, or of this name (default: of all).
+            last_event_id: Go on after the event with this `id` (default: from now on).
+
+        Returns:
+            A stream to loop over; use it by `with`.
+
+        Raises:
+            InvalidKey: The key is not valid.
+        """
+        if key is not None:
+            arguments.key(key)
+        query = _given(key=key, definition=None if saga is None else _name("saga", saga))
+        path = f"/v1/events?{urllib.parse.urlencode(query)}"
+        stream = ServiceEvents(self._service, path, last_event_id, self.timeout)
+        self._streams.add(stream)
+        if self._closed.is_set():
+            stream.close()
+        return stream
+
+    # -- its end
+
+    def close(self) -> None:
+        """Close its connections.
+
+        Calls under way raise `Closed`, and loops over events end. A request under way may have
+        been carried out.
+        """
+        self._closed.set()
+        for stream in builtins.list(self._streams):
+            stream.close()
+        self._service.close()
+
+    def __enter__(self) -> ServiceClient:
+        return self
+
+    def __exit__(
+        self,
+        kind: type[BaseException] | None,
+        error: BaseException | None,
+        trace: TracebackType | None,
+    ) -> None:
+        self.close()
+
+    def _ask(
+        self, path: str, body: dict[str, Any] | None = None, seconds: float = ANSWER,
+        patience: float | None = None,
+    ) -> dict[str, Any]:  # fmt: skip
+        """An answer. Raises the exceptions of a store where the problem is one of them."""
+        try:
+            return self._service.repeated(
+                lambda url, left: self._service.ask(url, path, body, min(seconds, left)),
+                self.timeout if patience is None else patience,
+                self._closed,
+            )
+        except ServiceRefused as refusal:
+            raise error_of(refusal.name, str(refusal)) or refusal from None
+
+
+def _path(key: str, *rest: str) -> str:
+    arguments.key(key)
+    return "/".join(["/v1/sagas", *(urllib.parse.quote(part, safe="") for part in (key, *rest))])
+
+
+def _name(word: str, value: Saga | Step[Any] | str) -> str:
+    name = value.name if isinstance(value, (Saga, Step)) else value
+    arguments.text(word, name, f"the name of a {word}")
+    return name
+
+
+def _given(**words: Any) -> dict[str, Any]:
+    return {word: value for word, value in words.items() if value is not None}
+
+
+def _moment(word: str, value: datetime.datetime | float | None) -> float | None:
+    if isinstance(value, datetime.datetime):
+        if value.tzinfo is None:
+            raise TypeError(f"{word}={value!r}: must have a time zone, for example datetime.UTC")
+        return value.timestamp()
+    return None if value is None else arguments.time(word, value)
+
+
+def _seconds_to(deadline: Deadline | None) -> float | None:
+    """The seconds from now to a deadline; one that has passed is now."""
+    now = time.time() if isinstance(deadline, datetime.datetime) else 0.0
+    at = deadline_at(deadline, now)
+    return None if at is None else max(0.0, at - now)

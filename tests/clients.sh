@@ -1,0 +1,58 @@
+#!/usr/bin/env bash
+# The clients of clients/: their layout, types, packages and own tests, and the suite that each of them passes at a real service.
+set -uo pipefail
+cd "$(dirname "$0")/.." || exit 1
+for it in node,nodejs npm,npm tsc,node-typescript go,golang-go initdb,postgresql python:pytest,python3-pytest python:xdist,python3-pytest-xdist \
+  python:httpx,python3-httpx python:jsonschema,python3-jsonschema python:psycopg,python3-psycopg python:psycopg_pool,python3-psycopg-pool \
+  python:starlette,python3-starlette python:uvicorn,python3-uvicorn python:jinja2,python3-jinja2 python:prometheus_client,python3-prometheus-client; do
+  tests/need "${it%,*}" "${it#*,}" || exit 77
+done
+export SAGAS_PROGRAM PYTHONDONTWRITEBYTECODE=1
+SAGAS_PROGRAM=${SAGAS:-$(tests/program)} || exit 1
+room=$(mktemp -d)
+trap 'chmod -R u+w "$room"; rm -rf "$room"' EXIT
+export GOCACHE=$room/go GOFLAGS=-mod=mod GOPROXY=off npm_config_cache=$room/npm npm_config_update_notifier=false
+wrong=0
+
+# expect WHAT COMMAND ..: the command succeeds; otherwise its output is shown.
+expect() {
+  local what=$1
+  shift
+  if ! "$@" >"$room/out" 2>&1; then
+    wrong=$((wrong + 1))
+    echo "wrong: $what"
+    cat "$room/out"
+  fi
+}
+
+laid_out() { [ -z "$(gofmt -l clients/go | tee /dev/stderr)" ]; }
+
+node_package() {
+  (cd clients/node && node pack.mjs && tsc --project test && node --test test/) || return
+  (cd clients/node && npm pack --dry-run --json --ignore-scripts) >"$room/pack" || return
+  python3 - "$room/pack" <<'END'
+import json, pathlib, sys
+packed = json.load(open(sys.argv[1]))[0]
+names = {one["path"] for one in packed["files"]}
+wanted = {"LICENSE", "README.md", "index.js", "index.d.ts", "planner.js", "planner.d.ts", "wasm/sagas.mjs", "wasm/sagas.wasm", "package.json"}
+lib = {f"lib/{path.name}" for path in pathlib.Path("clients/node/lib").iterdir()}
+version = f'"{packed["version"]}"' in pathlib.Path("crates/saga_tool/src/words.rt").read_text()
+sys.exit(0 if version and names == wanted | lib else f"the package has {sorted(names ^ (wanted | lib))} too much or too little, or another version than the program")
+END
+}
+
+go_module() { (cd clients/go && go vet ./... && go test ./...); }
+
+(
+  expect 'the package of Node' node_package
+  if [ -f clients/go/go.mod ]; then
+    expect 'gofmt -l clients/go' laid_out
+    expect 'the module of Go' go_module
+  fi
+  exit "$wrong"
+) &
+others=$!
+PYTHONPATH=python/src:python/tests:clients/contract timeout --kill-after=10 600 \
+  /usr/bin/python3 -m pytest -q -p no:cacheprovider --tb=short --rootdir=clients/contract -n 2 --dist loadgroup clients/contract || wrong=1
+wait "$others" || wrong=1
+[ "$wrong" = 0 ]
