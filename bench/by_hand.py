@@ -5,6 +5,7 @@ from __future__ import annotations
 
 import asyncio
 import json
+import logging
 import time
 from collections.abc import Awaitable, Callable, Sequence
 from typing import Any
@@ -98,7 +99,7 @@ UNDONE = 1000
 
 class Machine:
     """Runs the steps of a saga one behind the other. Where one raises `LookupError`, those before it are undone, the last one first,
-    by the first one's function, each by a change of its own."""
+    by the first one's function, each by a change of its own, and a line of the log tells of it."""
 
     def __init__(self, store: Each, steps: Sequence[Callable[[Any], Awaitable[Any]]]) -> None:
         self.store, self.steps, self.next = store, steps, 0
@@ -110,7 +111,8 @@ class Machine:
         for number, step in enumerate(self.steps):
             try:
                 value = await step(given)
-            except LookupError:
+            except LookupError as error:
+                logging.getLogger("by hand").warning("step_failed key=%s step=%d detail=%r", key, number, error)
                 await self._back(id, number, given)
                 return
             await self.store.write(None, (id, number, json.dumps(value), time.time(), "ended" if number == len(self.steps) - 1 else "going"))

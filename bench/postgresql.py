@@ -13,6 +13,7 @@ import argparse
 import asyncio
 import collections
 import contextlib
+import logging
 import os
 import pathlib
 import random
@@ -502,6 +503,7 @@ def main() -> None:
     parser.add_argument("--scale", type=float, default=1.0)
     parser.add_argument("--at", type=lambda text: [int(one) for one in text.split(",")], default=[*SIZES], help="of `speed` and `failing`: how many at once, as 1,16")
     words = parser.parse_args()
+    logging.basicConfig(filename=os.devnull)  # what is logged is written, and nobody reads it
     print(f"{os.cpu_count()} processors, load {os.getloadavg()[0]:.1f}")
     with serving({"fsync": "on", "synchronous_commit": "on", "shared_buffers": "256MB"}) as server:
         for part in words.parts or list(parts):

@@ -13,8 +13,8 @@ Three steps in a row, each with a small result, on one SQLite file with durable 
 - `by hand, shared`: the same, and one commit takes all changes that wait.
 
 With `--failing` the third step fails for good, and both others are undone, by two compensations in the package and by hand. The package
-plans that. By hand each is undone by a change of its own, since a program that is killed has to know which ones are. The table also has
-how many transactions the package writes a saga, beside a saga that goes well.
+plans that. By hand each is undone by a change of its own, since a program that is killed has to know which ones are. Both log a line for
+each saga that fails. The table also has how many transactions the package writes a saga, beside a saga that goes well.
 
 Each turn runs them all at each concurrency, so that a slower moment of the machine meets each. The table has the middle turn.
 CPU is that of the Python process, all its threads, a saga; that of the deciding child is not in it.
@@ -31,6 +31,8 @@ import asyncio
 import concurrent.futures
 import dataclasses
 import json
+import logging
+import os
 import pathlib
 import shutil
 import sqlite3
@@ -161,7 +163,8 @@ class ByHand:
         for number, step in enumerate(self.steps):
             try:
                 value = await step(given)
-            except LookupError:
+            except LookupError as error:
+                logging.getLogger("by hand").warning("step_failed key=%s step=%d detail=%r", key, number, error)
                 await self._back(id, number, given)
                 return
             phase = "ended" if number + 1 == len(self.steps) else "going"
@@ -283,12 +286,14 @@ async def with_package(folder: pathlib.Path, saga: sagas.Saga, count: int, toget
     """The package's turn."""
     async with sagas.open(folder / "sagas.db", [saga], concurrency=max(16, together)) as store:
 
+        last: list[sagas.SagaResult] = []
+
         async def one(key: str, given: Any) -> None:
             run = await store.start(saga, key=key, input=given)
-            end = await run.wait()
-            assert end.ok if saga is row else end.states["one"] == "undone", end
+            last[:] = [await run.wait()]  # a result is read when it is looked at, which is no part of this
 
         timing = await timed(one, count, together)
+        assert last[0].ok if saga is row else last[0].states["one"] == "undone", last
         return dataclasses.replace(timing, commits=store.commits / (count + WARM))
 
 
@@ -317,7 +322,7 @@ def turn(way: str, failing: bool, count: int, together: int) -> Timing:
 
 MANY = """
 import asyncio, os, pathlib, signal, sys, time
-import sagas, sagas.kinds
+import sagas, sagas.definition.compiled
 
 path, count, each, again = sys.argv[1], int(sys.argv[2]), int(sys.argv[3]), sys.argv[4] == "again"
 began = time.perf_counter()
@@ -423,6 +428,7 @@ def main() -> int:
     parser.add_argument("--at", default=",".join(map(str, COUNTS)), help="the concurrencies")
     parser.add_argument("--failing", action="store_true", help="the third step fails, and the others are undone")
     words = parser.parse_args()
+    logging.basicConfig(filename=os.devnull)  # what is logged is written, and nobody reads it
     if words.open:
         open_again(words.open, words.each)
     if words.ended:

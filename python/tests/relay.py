@@ -13,8 +13,8 @@ from collections.abc import Iterator
 class Relay:
     """Listens on a port of its own, in a thread of its own. The chances may be changed at any time."""
 
-    def __init__(self, target: int, seed: int = 0) -> None:
-        self.target, self.port = target, 0
+    def __init__(self, target: int, seed: int = 0, host: str = "127.0.0.1") -> None:
+        self.host, self.target, self.port = host, target, 0
         self.before = self.after = self.delay = 0.0
         """Chances: that a statement is cut on its way there; that its answer is, once it was done; that either is late."""
         self.mark: bytes | None = None
@@ -62,7 +62,7 @@ class Relay:
 
     async def _serve(self, reader: asyncio.StreamReader, writer: asyncio.StreamWriter) -> None:
         with contextlib.suppress(OSError):
-            back, forth = await asyncio.open_connection("127.0.0.1", self.target)
+            back, forth = await asyncio.open_connection(self.host, self.target)
             self._links |= {writer, forth}
             marked = asyncio.Event()
             both = [asyncio.create_task(self._pass(reader, forth, "before", marked)), asyncio.create_task(self._pass(back, writer, "after", marked))]
@@ -92,9 +92,9 @@ class Relay:
 
 
 @contextlib.contextmanager
-def relaying(target: int, seed: int = 0) -> Iterator[Relay]:
+def relaying(target: int, seed: int = 0, host: str = "127.0.0.1") -> Iterator[Relay]:
     """A relay, until the block ends."""
-    relay = Relay(target, seed)
+    relay = Relay(target, seed, host)
     relay.start()
     try:
         yield relay

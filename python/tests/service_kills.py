@@ -1,10 +1,11 @@
 """Kills of the service and of its workers at random moments, and the package's judge over the store when all in it is over.
 
-    python3 tests/service_kills.py [--rounds N] [--store sqlite|postgresql] [--sagas N] [--workers N] [--callers N] [--strikes N] [--seed S]
+    python3 tests/service_kills.py [--rounds N] [--store sqlite|postgresql] [--sagas N] [--workers N|mixed] [--callers N] [--strikes N] [--seed S]
 
 A round is one store. Callers start sagas, wait for their ends and approve; workers do the steps. Meanwhile the service is killed with -9 or asked to
 end, workers are killed, or stand still past their leases and go on; reports are sent twice. Over PostgreSQL there are two services, and callers and workers
-are half at one and half at the other; one of them may stand still past its lease, too. Every process that is signalled here was started here.
+are half at one and half at the other; one of them may stand still past its lease, too. With `--workers mixed` one third of ten workers is in Python, one in Node,
+one in Go. Every process that is signalled here was started here.
 """
 
 from __future__ import annotations
@@ -22,14 +23,17 @@ import tempfile
 import threading
 import time
 from collections import Counter
-from collections.abc import Callable, Iterator
+from collections.abc import Callable, Iterator, Sequence
 from typing import Any
 
 import httpx
 
 if __name__ == "__main__":
     sys.path.insert(0, str(pathlib.Path(__file__).resolve().parent.parent / "src"))
+sys.path.insert(0, str(pathlib.Path(__file__).resolve().parents[2] / "clients" / "contract"))
 
+import service_actor
+from harness import commands, languages
 from judge import Verdict, judge
 from server import Server, serving
 from service_worker import texts
@@ -128,7 +132,8 @@ class Callers:
 class Round:
     """One store, its services, workers and callers, and what strikes them."""
 
-    def __init__(self, folder: pathlib.Path, draw: random.Random, sagas: int, workers: int, callers: int, strikes: int, most: float, url: str | None) -> None:
+    def __init__(self, folder: pathlib.Path, draw: random.Random, sagas: int, workers: int, callers: int, strikes: int, most: float, url: str | None, others: Sequence[list[str]] = ()) -> None:
+        self.others = others
         self.folder, self.draw, self.strikes, self.url = folder, draw, strikes, url
         self.services = [self._service(name, url) for name in ("one", "two")] if url else [Served(folder, texts())]
         self.kills: Counter[str] = Counter()
@@ -142,6 +147,10 @@ class Round:
 
     def _worker(self, place: int) -> subprocess.Popen[bytes]:
         service = self.services[place % len(self.services)]
+        language = place % (1 + len(self.others))
+        if language:
+            with open(self.folder / "worker-errors", "ab") as errors:
+                return service_actor.worker(self.others[language - 1], service.url, self.folder / "actor", LEASE, errors)
         words = [sys.executable, str(HERE / "service_worker.py"), service.url, service.store, str(self.folder / "socket")]
         words += [str(service.folder / "definitions"), "--lease", str(LEASE)]
         path = f"{HERE.parent / 'src'}{os.pathsep}{HERE}"
@@ -150,9 +159,13 @@ class Round:
 
     def play(self) -> Verdict:
         """Until all is over; then it is judged."""
-        with witness_at(self.folder / "socket", self.folder / "notes"):
+        with contextlib.ExitStack() as stack:
+            stack.enter_context(witness_at(self.folder / "socket", self.folder / "notes"))
             for service in self.services:
                 service.start()
+            if self.others:
+                first = self.services[0]
+                stack.enter_context(service_actor.acting(self.folder / "actor", self.folder / "socket", first.store, first.folder / "definitions"))
             callers = Callers(self.services, self.folder / "socket", self.sagas, self.callers, self.most)
             try:
                 self.workers = [self._worker(place) for place in range(self.count)]
@@ -206,11 +219,11 @@ class Round:
             service.kill()
 
 
-def play(seed: int, sagas: int, workers: int, callers: int, strikes: int, most: float = 240, server: Server | None = None) -> tuple[Verdict, Counter[str], pathlib.Path | None]:
+def play(seed: int, sagas: int, workers: int, callers: int, strikes: int, most: float = 240, server: Server | None = None, others: Sequence[list[str]] = ()) -> tuple[Verdict, Counter[str], pathlib.Path | None]:
     """One round; its files stay where something was found."""
     folder = pathlib.Path(tempfile.mkdtemp(prefix="sagas-service-"))
     url = server.create() if server else None
-    one = Round(folder, random.Random(seed), sagas, workers, callers, strikes, most, url)
+    one = Round(folder, random.Random(seed), sagas, workers, callers, strikes, most, url, others)
     verdict = one.play()
     if verdict.faults:
         return verdict, one.kills, folder
@@ -226,7 +239,7 @@ def main() -> int:
     parser.add_argument("--rounds", type=int, default=10)
     parser.add_argument("--store", choices=("sqlite", "postgresql"), default="sqlite")
     parser.add_argument("--sagas", type=int, default=200)
-    parser.add_argument("--workers", type=int, default=10)
+    parser.add_argument("--workers", default="10", help="how many in Python, or mixed: ten in all languages")
     parser.add_argument("--callers", type=int, default=20)
     parser.add_argument("--strikes", type=int, default=40)
     parser.add_argument("--seed", type=int, default=random.randrange(10**6))
@@ -236,8 +249,11 @@ def main() -> int:
     bad, began = 0, time.monotonic()
     with contextlib.ExitStack() as stack:
         server = stack.enter_context(serving({"fsync": "on"})) if words.store == "postgresql" else None
+        made = stack.enter_context(commands())
+        others = [made(one) for one in languages() if one != "python"] if words.workers == "mixed" else []
+        workers = 10 if others else int(words.workers)
         for number in range(words.rounds):
-            verdict, struck, folder = play(words.seed + number, words.sagas, words.workers, words.callers, words.strikes, most=900, server=server)
+            verdict, struck, folder = play(words.seed + number, words.sagas, workers, words.callers, words.strikes, most=900, server=server, others=others)
             kills += struck
             figures += verdict.figures
             bad += bool(verdict.faults)

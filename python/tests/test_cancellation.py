@@ -16,7 +16,7 @@ from typing import Any
 import pytest
 from cases import QUICK, Task, run, simple, until
 from driving import program
-from serving import served, start, take
+from serving import report, served, start, take
 from test_command import Shell
 from test_service_workers import working
 from witness import notes_of, witness_at
@@ -304,3 +304,69 @@ def test_a_worker_tells_its_progress_with_its_heartbeat(store: str | None, tmp_p
             assert client.post(path, json={"lease": lease, **wrong}).status_code == 422, wrong
         assert client.post(path, json={"lease": "1.c0ffee", "progress": 0.5}).status_code == 403
         assert client.get("/v1/sagas/other").json()["progress"] == []
+
+
+TWO = """format = 2
+name = "two"
+[[step]]
+name = "a"
+undo = 1
+keep = 5
+[[step]]
+name = "b"
+undo = 1
+keep = 5
+"""
+
+
+def test_a_worker_hears_that_its_task_is_not_wanted(store: str | None, tmp_path: pathlib.Path) -> None:
+    """With its heartbeat, and with a task that is claimed then. An async function is cancelled once
+    where it asks for that; whoever lost its lease hears so, too."""
+    heard, calls = list[Any](), list[Any]()
+    with served(tmp_path, {"two.toml": TWO}, store=store) as service, service.client() as client:
+
+        def beat(task: Any) -> Any:
+            path = f"/v1/tasks/{task['attempt_id']}/heartbeat"
+            return client.post(path, json={"lease": task["lease"]}).json().get("cancelled", "gone")
+
+        start(client, "two", "fails")
+        (a,), (b,) = take(client, "two/a"), take(client, "two/b")
+        assert a["cancelled"] is None and beat(a) is None
+        assert report(client, b, "fail", error="no", final=True).status_code == 200
+        run(until(lambda: beat(a) == "failed"))  # the saga hears of it in the next look
+        client.post("/v1/sagas/fails/abort", json={})
+        assert beat(a) == "aborted"
+        assert report(client, a, "unknown", error="gone").status_code == 200
+        (again,) = take(client, "two/a")
+        assert again["attempt_id"] == a["attempt_id"] and again["cancelled"] == "aborted"
+        assert beat(a) == "gone" and report(client, again, result=1).status_code == 200
+        (undo,) = take(client, "two/a/undo")
+        assert undo["cancelled"] is None and beat(undo) is None
+        assert report(client, undo, result=None).status_code == 200
+        worker = sagas.Worker(service.url, wait=1.0, lease=6)
+
+        @worker.step("two", "a")
+        def plain(task: Task) -> None:
+            calls.append("a")
+            assert task.cancelled.wait(60)
+            heard.append(task.cancelled.reason)
+            raise sagas.Fail("stopped")
+
+        @worker.step("two", "b", cancel_on_abort=True)
+        async def stops(task: Task) -> str:
+            calls.append(str(task.cancelled.reason))
+            if task.cancelled.is_set():
+                return "done"
+            await asyncio.Event().wait()
+            return "never"
+
+        with pytest.raises(sagas.DefinitionError, match="is for async functions"):
+            worker.step("two", "c", cancel_on_abort=True)(plain)
+        worker.compensation("two", "b")(lambda task: None)
+        assert start(client, "two", "hears").status_code == 201
+        with working(worker):
+            run(until(lambda: len(calls) == 2))
+            client.post("/v1/sagas/hears/abort", json={})
+            end = client.get("/v1/sagas/hears/wait?seconds=60").json()
+        assert heard == ["aborted"] and sorted(calls) == ["None", "a", "aborted"]
+        assert end["states"] == {"a": "failed", "b": "undone"}

@@ -493,9 +493,9 @@ def test_reports_go_with_their_log(shop: Shop, tmp_path: pathlib.Path) -> None:
     run(first())
     run(other())
     with sqlite3.connect(path) as db:
-        assert db.execute("SELECT count(*) FROM external_attempts").fetchone() == (0,)
+        assert db.execute("SELECT DISTINCT outcome, value FROM external_attempts").fetchall() == [("settled", None)]
     assert desk.begin(orders[0]) is None
     desk.report(orders[0], done("y"))
     with sqlite3.connect(path) as db:
-        assert db.execute("SELECT count(*) FROM external_attempts").fetchone() == (0,)
+        assert db.execute("SELECT DISTINCT outcome, value FROM external_attempts").fetchall() == [("settled", None)]
     desk.close()

@@ -368,6 +368,7 @@ def test_a_compensation_that_is_never_called(tmp_path: pathlib.Path, caplog: pyt
 
     (warning,) = saga.warnings()
     assert "can never be called" in warning and warning.startswith(f"{__file__}:")
+    assert warning.endswith("(keep=3) costs less than undoing it (undo=5). Set keep= to more than 5, or remove the compensation")
     assert trip().warnings() == []
 
     async def main() -> None:

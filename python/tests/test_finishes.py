@@ -55,11 +55,13 @@ async def teller(stack: AsyncExitStack, who: str, place: str, store: sagas.Store
 def saying(who: sagas.Store | sagas.Client) -> Say:
     """Reports by `complete`, or by `fail` where it is told why."""
 
-    async def say(key: str, step: str, *result: Any, error: str | None = None) -> None:
+    async def say(
+        key: str, step: str, *result: Any, error: str | None = None, early: bool = True
+    ) -> None:
         if error is None:
-            await who.complete(key, step, *result)
+            await who.complete(key, step, *result, early=early)
         else:
-            await who.fail(key, step, error)
+            await who.fail(key, step, error, early=early)
 
     return say
 
@@ -89,7 +91,7 @@ def test_the_same_again_is_one(place: str, who: str) -> None:
             await differs(say, "print", "it has succeeded", {"page": "secret"})
             await differs(say, "print", "it has succeeded", error="secret")
             with pytest.raises(sagas.StepNotWaiting, match="it has not started"):
-                await say("k", "last")
+                await say("k", "last", early=False)
             twice = await asyncio.gather(*(say("k", "sign", error="no") for _ in range(2)))
             assert twice == [None] * 2
             await say("k", "sign", error="no")

@@ -1,4 +1,5 @@
-"""Pictures of many steps: equal parallel ones are one box, and none is lost."""
+"""Pictures and tables of many steps: equal parallel ones are one box, none is lost, and what failed
+comes first."""
 
 from __future__ import annotations
 
@@ -7,9 +8,11 @@ import time
 from hypothesis import given, settings
 from hypothesis import strategies as st
 
-from sagas.inspection import picture
+from sagas.inspection import picture, timeline_picture
 from sagas.inspection.folding import FEW, folded
 from sagas.inspection.picture import Told
+from sagas.inspection.timeline import AttemptTimes, Span
+from sagas.server import table_rows
 
 PLAIN = Told("to do", "", False, "waiting", "waiting")
 FAILED = Told("failed", "", False, "failed", "failed")
@@ -60,3 +63,34 @@ def test_a_thousand_steps_are_drawn() -> None:
     assert "1021 × s0 …" in picture.drawn(
         wide, [FAILED if n == 500 else PLAIN for n in range(1024)], ""
     )
+
+
+def test_what_failed_comes_first() -> None:
+    """In its layer of the picture, in a table of which most rows are folded, and in a timeline."""
+    needs = [[], *([0] for _ in range(5)), [*range(1, 6)]]
+    tolds = [FAILED if number == 4 else PLAIN for number in range(7)]
+    corners = picture.ordered(needs, tolds).corners
+    assert min(range(1, 6), key=lambda step: corners[step][1]) == 4
+    rows = table_rows.folded(range(200), lambda row: (row != 150,))
+    assert rows.shown[0] == 150 and sorted(rows.shown + rows.more) == [*range(200)]
+    assert len(rows.shown) == table_rows.FEW and rows.more == sorted(rows.more)
+    assert table_rows.folded([3, 1, 2], lambda row: (row,)).shown == [3, 1, 2]
+    spans = [Span("queued", "slot", 10.0, 11.0), Span("running", None, 11.0, 12.0)]
+    attempts = [
+        AttemptTimes(f"s{n}", False, 1, 10.0, 11.0, 12.0, "succeeded", None, 0, spans, None)
+        for n in range(300)
+    ]
+    waits = [*spans[:1], Span("waiting", "approval", 11.0, None)]
+    name = "<b>late"
+    attempts[299:] = [
+        AttemptTimes("bad", True, 2, 10.0, 11.0, 12.0, "failed", "no", 0, spans, None),
+        AttemptTimes(name, False, 1, 10.0, 11.0, None, None, None, 0, waits, None),
+    ]
+    text = timeline_picture.drawn(attempts, 10.0, 71.0)
+    assert text.count('class="row"') == timeline_picture.MOST_ROWS
+    assert "bad, compensation, attempt 2: failed after 1 s; queued 1 s, ran 1 s" in text
+    assert '<g class="run undo_failed">' in text and 'class="in-waiting person"' in text
+    assert (
+        "&lt;b&gt;late, action, attempt 1: under way after 1 min; queued 1 s, waited 1 min" in text
+    )
+    assert timeline_picture.drawn([], 10.0, 71.0) == ""

@@ -75,7 +75,10 @@ def test_the_page(folder: pathlib.Path) -> None:
 def test_the_guide_to_steps() -> None:
     """Its fragments declare what it says they do."""
     guide = (PACKAGE.parent / "docs/guides/steps.md").read_text()
-    fragments = [code for code in blocks("python", guide) if "open_sync" not in code]
+    calls = ("open_sync", "await ")  # of a store, which there is none of here
+    fragments = [
+        code for code in blocks("python", guide) if not any(word in code for word in calls)
+    ]
     there: dict[str, object] = {}
     exec("".join(fragments), there)
     trip = there["trip"]

@@ -326,7 +326,7 @@ def test_a_start_feels_no_lock_of_it(url: str) -> None:
             assert link.alone()
             async with sagas.open(url, [kind]) as store:
                 with link.transaction():
-                    assert retention._delete(link, log)
+                    assert retention._delete(link, log, None)
                     async with asyncio.timeout(10):
                         await asyncio.gather(*(ended(store, kind, f"new-{number}") for number in range(10)))
                     assert retention.prune(url, MONTH).other
@@ -371,7 +371,7 @@ def test_a_saga_that_goes_while_it_is_read(url: str, who: str, table: str, ask: 
                     link.changed(f"LOCK TABLE {table} IN ACCESS EXCLUSIVE MODE")
                     asked = asyncio.ensure_future(ASKS[ask](reader))
                     await until(lambda: waits_for_a_lock(url))
-                    assert retention._delete(link, log)
+                    assert retention._delete(link, log, None)
                 with pytest.raises(sagas.NoSuchSaga, match="'k0' was deleted meanwhile"):
                     await asked
 

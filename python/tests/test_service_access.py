@@ -33,8 +33,25 @@ class Guarded:
 def guarded(tmp_path_factory: pytest.TempPathFactory) -> Iterator[Guarded]:
     folder = tmp_path_factory.mktemp("guarded")
     tokens = {role: token(folder, role, role) for role in ROLES}
-    with served(folder, DEFINITIONS, "--token-file", str(folder / "tokens.toml")) as service:
+    with served(folder, DEFINITIONS | LATE, "--token-file", str(folder / "tokens.toml")) as service:
         yield Guarded(service, tokens)
+
+
+LATE = {
+    "late.toml": '''format = 2
+name = "late"
+[[step]]
+name = "pay"
+[[step]]
+name = "sign"
+needs = ["pay"]
+[[step]]
+name = "seal"
+needs = ["pay"]
+''',
+    "late.service.toml": '[step.sign]\nkind = "approval"\n[step.seal]\nkind = "approval"\n',
+}
+"""Approvals that do not begin as long as no worker comes."""
 
 
 ROLES = ("caller", "approver", "worker", "operator", "metrics")
@@ -46,6 +63,7 @@ CALLS: list[tuple[str, str, str, Any, int]] = [
     (LOOK, "GET", "/v1/sagas", None, 200),
     (LOOK, "GET", "/v1/sagas/roles", None, 200),
     (LOOK, "GET", "/v1/sagas/roles/log", None, 200),
+    (LOOK, "GET", "/v1/sagas/roles/timeline", None, 200),
     (LOOK, "GET", "/v1/sagas/roles/picture.svg", None, 200),
     (LOOK, "GET", "/v1/sagas/roles/certificate", None, 404),
     (LOOK, "GET", "/v1/sagas/roles/wait?seconds=0", None, 200),
@@ -58,12 +76,14 @@ CALLS: list[tuple[str, str, str, Any, int]] = [
     (WORK, "POST", "/v1/tasks/x/complete", FORGED, 403),
     (WORK, "POST", "/v1/tasks/x/fail", {**FORGED, "error": "no"}, 403),
     (WORK, "POST", "/v1/tasks/x/unknown", FORGED, 403),
+    (WORK, "POST", "/v1/tasks/report", {"reports": []}, 422),
     (WORK, "GET", "/v1/queues", None, 200),
     (OPERATE, "POST", "/v1/sagas/roles/resolve", {"note": "x"}, 409),
     (LOOK, "GET", "/v1/definitions", None, 200),
     (LOOK, "GET", "/v1/attention", None, 200),
     (LOOK, "POST", "/v1/sagas/roles/what-if", {"abort": True}, 200),
     (OPERATE, "GET", "/v1/webhooks/deliveries", None, 200),
+    (OPERATE, "POST", "/v1/webhooks/deliveries/{id}/redeliver", None, 404),
     (OPERATE, "POST", "/v1/bulk/abort", {"filter": {"search": "nobody"}}, 200),
     (OPERATE, "POST", "/v1/bulk/resolve", {"filter": {"kind": "stuck"}, "note": "x"}, 200),
     (OPERATE, "POST", "/v1/bulk/complete", {"filter": WAITING, "result": 1}, 200),
@@ -264,6 +284,32 @@ def test_who_may_approve(guarded: Guarded) -> None:
             operator.post("/v1/sagas/by-an-operator/steps/flight/complete", json={"result": 1}).status_code
             == 200
         )
+
+
+def test_an_approval_before_it_begins(guarded: Guarded) -> None:
+    """By whoever may approve; of the other step of the saga an approver says nothing. The page of
+    the saga has it, with a form."""
+    with guarded.client("caller") as caller, guarded.client("approver") as approver:
+        start(caller, "late", "ahead")
+        where = "/v1/sagas/ahead/steps"
+        body = {"result": 1}
+        for client, step, status in (
+            (caller, "sign", 403), (approver, "pay", 403), (approver, "sign", 200),
+        ):  # fmt: skip
+            assert client.post(f"{where}/{step}/complete", json=body).status_code == status
+        late = approver.post(f"{where}/seal/fail", json={"error": "no", "early": False})
+        assert (late.status_code, error_of(late)) == (409, "StepNotWaiting")
+        with logged_in(guarded) as page:
+            told = page.get("/ui/sagas/ahead").text
+            assert "its success is reported" in told and "Approve sign before" not in told
+            assert "Approve seal before it begins" in told
+            form = "/ui/sagas/ahead/steps/seal/failed"
+            assert "Refuse seal?" in page.get(form).text
+            sent = {"csrf": csrf_of(page, form), "failed": "too dear"}
+            assert page.post(form, data=sent).status_code == 303
+            assert "its failure is reported" in page.get("/ui/sagas/ahead").text
+        told = {"seal": "fail", "sign": "complete"}
+        assert caller.get("/v1/sagas/ahead").json()["early"] == told
 
 
 @contextlib.contextmanager

@@ -99,7 +99,7 @@ def test_a_saga_through_workers(client: httpx.Client) -> None:
     events = get(client, "/v1/sagas/t%2F1%20%C3%BC/log")["events"]
     assert [event["event"] for event in events if event["step"] == "tour"] == ["start_run", "missed", "start_run", "fail"]
     picture = client.get("/v1/sagas/t%2F1%20%C3%BC/picture.svg")
-    assert picture.headers["content-type"] == "image/svg+xml" and "given back for 5" in picture.text and "t/1 ü" in picture.text
+    assert picture.headers["content-type"] == "image/svg+xml" and "plan: undo, costs 5" in picture.text and "t/1 ü" in picture.text
 
 
 def test_leases(client: httpx.Client) -> None:
@@ -141,7 +141,7 @@ def test_a_deadline(service: Served, client: httpx.Client) -> None:
     assert began + 3599 < told["deadline"] < time.time() + 3601 and told["deadline_at"].endswith("Z")
     (listed,) = get(client, "/v1/sagas?search=timely")["sagas"]
     assert (listed["deadline"], listed["deadline_at"]) == (told["deadline"], told["deadline_at"])
-    assert f'<dt>Deadline</dt><dd><time datetime="{told["deadline_at"][:16]}' in client.get("/ui/sagas/timely").text
+    assert f'<dt>Deadline</dt><dd><time class="exact" datetime="{told["deadline_at"][:16]}' in client.get("/ui/sagas/timely").text
     (flight,) = take(client, "trip/flight")
     assert flight["deadline"] == pytest.approx(told["deadline"], abs=1e-3) and flight["until"] < flight["deadline"]
     assert report(client, flight, result=1).status_code == 200
@@ -209,7 +209,7 @@ def test_a_refund_that_fails(client: httpx.Client) -> None:
     assert (one["key"], one["step"], one["undo"], one["detail"]) == ("refund-1", "a", True, "the bank is closed")
     assert one["calls"] == ["retry", "complete", "fail", "abort"]
     page = client.get("/ui/sagas/refund-1").text
-    assert "Undoing a has used up its attempts" in page and "the bank is closed" in page and "Used up" in client.get("/ui?kind=exhausted").text
+    assert "Undoing a has used up its attempts" in page and "the bank is closed" in page and "Exhausted" in client.get("/ui?kind=exhausted").text
     assert "/steps/a/retry?undo=true" in page and client.get("/ui/sagas/refund-1/steps/a/retry?undo=true").status_code == 200
     wrong = client.post("/v1/sagas/refund-1/steps/b/retry", json={})
     assert (wrong.status_code, error_of(wrong)) == (409, "StepNotWaiting")
@@ -238,8 +238,8 @@ def test_a_compensation_that_failed(client: httpx.Client) -> None:
     assert (told["phase"], told["states"]["car"], told["errors"]) == ("recovered", "undo_failed", {"car": "no", "tour": "full"})
     assert [(one["key"], one["undo_failed"]) for one in get(client, "/v1/sagas?phase=undo_failed")["sagas"]] == [("undo-failed", True)]
     page = client.get("/ui/sagas/undo-failed").text
-    assert "Undoing <b>car</b> failed for good: “no”" in page and "Undo failed" in client.get("/ui/sagas?phase=undo_failed").text
-    assert "car: undo failed, kept for 30" in client.get("/v1/sagas/undo-failed/picture.svg").text
+    assert "Undoing <b>car</b> failed permanently: “no”" in page and "Undo failed" in client.get("/ui/sagas?phase=undo_failed").text
+    assert "car: undo failed, plan: keep, costs 30" in client.get("/v1/sagas/undo-failed/picture.svg").text
     figure = 'sagas_attention_required{reason="undo_failed"} '
     assert measured(client, f"{figure}1.0")
     first = client.get("/ui?kind=undo_failed&search=undo-failed").text
@@ -370,7 +370,7 @@ def test_an_approval(client: httpx.Client) -> None:
     while not get(client, "/v1/sagas/approve-me")["waits"]:
         assert time.monotonic() < deadline
     assert (
-        error_of(client.post("/v1/sagas/approve-me/steps/send/complete", json={"result": 1}))
+        error_of(client.post("/v1/sagas/approve-me/steps/send/complete", json={"result": 1, "early": False}))
         == "StepNotWaiting"
     )
     assert (
@@ -380,6 +380,20 @@ def test_an_approval(client: httpx.Client) -> None:
     assert client.post("/v1/sagas/approve-me/steps/review/fail", json={"error": "no"}).status_code == 409
     all_done(client, "order/send")
     assert get(client, "/v1/sagas/approve-me/wait?seconds=60")["results"]["review"] == {"by": "Ada"}
+
+
+def test_a_report_comes_before_its_step(client: httpx.Client) -> None:
+    """It is stored until the step begins, and no worker gets that; the page of the saga says so."""
+    start(client, "order", "ahead")
+    where = "/v1/sagas/ahead/steps"
+    for _ in range(2):
+        assert client.post(f"{where}/send/complete", json={"result": "sent"}).json()["kept"] is True
+    assert error_of(client.post(f"{where}/send/fail", json={"error": "no"})) == "ConflictingReport"
+    assert get(client, "/v1/sagas/ahead")["early"] == {"send": "complete"}
+    assert "its success is reported" in client.get("/ui/sagas/ahead").text
+    assert client.post(f"{where}/review/complete", json={"result": 1}).status_code == 200
+    end = get(client, "/v1/sagas/ahead/wait?seconds=60")
+    assert end["phase"] == "completed" and end["results"]["send"] == "sent" and end["early"] == {}
 
 
 def test_an_aborted_task_that_nobody_took_is_not_begun(client: httpx.Client) -> None:

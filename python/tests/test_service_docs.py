@@ -68,7 +68,7 @@ def test_the_page(tmp_path: pathlib.Path) -> None:
 def test_each_path_is_described() -> None:
     """The reference has each call of the schema, and no other."""
     words = re.findall(r"`(?:GET|POST|DELETE) (/[^`?\s]*)", PAGE)
-    described = {re.sub(r"KEY|STEP|ATTEMPT_ID|NAME", "{}", path) for path in words}
+    described = {re.sub(r"KEY|STEP|ATTEMPT_ID|ID|NAME", "{}", path) for path in words}
     from sagas.server.app import operations
 
     assert {re.sub(r"\{\w+\}", "{}", one.path) for one in operations()} == described
@@ -100,7 +100,7 @@ def test_metrics_are_described(tmp_path: pathlib.Path) -> None:
     names = {name.removesuffix("_total") if name.endswith("_total") else name for name in names}
     for text in (alerts, shown):
         reasons = set(re.findall(r'reason="(\w+)"', text))
-        assert {"stuck", "undo_failed", "unknown", "cannot_decode"} <= reasons
+        assert {"stuck", "undo_failed", "unknown", "exhausted", "cannot_decode"} <= reasons
     assert len({panel["id"] for panel in board["panels"]}) == len(board["panels"])
     with served(tmp_path) as service, service.client() as client:
         start(client, "trip", "a")

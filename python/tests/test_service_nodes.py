@@ -52,6 +52,20 @@ def both(tmp_path_factory: pytest.TempPathFactory, postgresql: Server) -> Iterat
     postgresql.drop(url)
 
 
+def test_a_worker_hears_of_an_abort_at_either(both: Pair) -> None:
+    """Whichever service drives the saga, and whichever took the abort."""
+    start(both.one, "trip", "off")
+    (flight,) = take(both.two, "trip/flight")
+    path, told = f"/v1/tasks/{flight['attempt_id']}/heartbeat", {"lease": flight["lease"]}
+    for client in (both.one, both.two):
+        assert client.post(path, json=told).json()["cancelled"] is None
+    assert both.two.post("/v1/sagas/off/abort", json={}).json()["aborted"] is True
+    for client in (both.one, both.two):
+        assert client.post(path, json=told).json()["cancelled"] == "aborted"
+    assert report(both.one, flight, "fail", error="stopped").status_code == 200
+    assert both.one.get("/v1/sagas/off/wait?seconds=60").json()["phase"] == "recovered"
+
+
 def test_a_task_goes_through_both(both: Pair) -> None:
     """It is begun at one, taken and beaten for at the other, and reported at the first; each shows all of it."""
     one, two = both.one, both.two

@@ -155,13 +155,13 @@ def test_a_failed_saga_says_what_stands(browser: Browser) -> None:
     """Its picture has each step, what was kept and why, and the price of the plan."""
     browser.go("/ui/sagas/failed-1")
     titles = browser.driver.execute_script("return [...document.querySelectorAll('svg.picture g.step title')].map((t) => t.textContent)")
-    assert titles == ["flight: done, kept", "car: undone, given back for 5", "tour: failed, left out for 10"]
+    assert titles == ["flight: done, plan: keep", "car: undone, plan: undo, costs 5", "tour: failed, plan: skip, costs 10"]
     text = browser.text
     assert "plan of cost 15" in text and "the tour is full" in text and "Timeline" in text
     bars = browser.driver.execute_script("return [...document.querySelectorAll('svg.timeline g.run title')].map((t) => t.textContent)")
     assert len(bars) == 5 and bars[2].startswith("tour, action, attempt 1: failed, will be retried after")
     browser.shot("failed")
-    browser.driver.find_element(By.LINK_TEXT, "Its certificate").click()
+    browser.driver.find_element(By.LINK_TEXT, "the certificate").click()
     browser.has('"cost": 15')
     browser.is_quiet()
 
@@ -196,6 +196,7 @@ def test_an_approval(browser: Browser) -> None:
     browser.click("summary", "order-1")
     browser.click("a.button", "Look at order-1")
     browser.has("review waits to be approved")
+    assert "Start send" in browser.text  # what the answer would do
     browser.click("a.button", "Approve…")
     browser.has("Approve review?")
     browser.type("textarea[name=result]", "yes")
@@ -218,8 +219,10 @@ def test_an_unknown_outcome_and_an_abort(browser: Browser) -> None:
     """A person says that it had no effect, and why; another saga is aborted."""
     browser.go("/ui/sagas/hazy-1")
     browser.has("The outcome of tour is unknown")
-    assert "-tour-run" in browser.text.split("with the same token,")[1].split(".")[0]  # to look for it in the other system
+    assert "-tour-run" in browser.text.split("with the same idempotency key,")[1].split(".")[0]  # to look for it in the other system
+    assert browser.text.count("Undo car, keep flight: costs 15") == 1 and "The saga is completed" in browser.text
     browser.click("a.button", "It had no effect…")
+    browser.has("Now it would: Undo car, keep flight: costs 15.")
     browser.type("input[name=failed]", "they have no booking")
     browser.click("main button", "It had no effect")
     browser.has("they have no booking")
@@ -229,7 +232,7 @@ def test_an_unknown_outcome_and_an_abort(browser: Browser) -> None:
     browser.go("/ui/sagas/order-2")
     browser.click("a.button", "Abort…")
     browser.has("Abort this saga?")
-    browser.has("Now it would: Undo review: costs 0 (if review succeeds)")
+    browser.has("Now it would: Nothing is to be undone: costs 0")
     browser.type("textarea[name=note]", "ordered twice")
     browser.click("main button", "Abort it")
     browser.has("Aborted")
@@ -351,7 +354,7 @@ def test_those_that_ended_by_plan(browser: Browser) -> None:
     browser.click(".tabs a", "Undo failed")
     browser.wait(lambda: [row.text for row in browser.driver.find_elements(By.CSS_SELECTOR, "tbody td .badge")] == ["Undo failed"])
     browser.click("a.key", "fixed-1")
-    browser.has("Undoing car failed for good: “no”. The plan went on with it.")
+    browser.has("Undoing car failed permanently: “no”. Its effect is still there.")
     browser.shot("undo-failed")
     with browser.service.client() as client:
         listed = client.get("/v1/sagas?phase=recovered").json()["sagas"]

@@ -328,7 +328,7 @@ def test_the_dashboard_has_its_definitions(world: World) -> None:
     assert "a-trip" in all_of_it.get("/ui/sagas?search=a-").text
     assert "trip/none" in all_of_it.get("/ui/workers").text
     tabs = re.sub("<[^>]+>", "", page.get("/ui").text)
-    assert re.search(r"Stuck 0\s*Undo failed 0\s*Unknown 0\s*Used up 0\s*Approvals [1-9]", tabs)
+    assert re.search(r"Stuck 0\s*Undo failed 0\s*Unknown 0\s*Exhausted 0\s*Approvals [1-9]", tabs)
     assert "Stuck 1" in re.sub("<[^>]+>", "", all_of_it.get("/ui").text)
 
 

@@ -3,6 +3,7 @@
 from __future__ import annotations
 
 import base64
+import contextlib
 import hashlib
 import hmac
 import http.server
@@ -13,6 +14,7 @@ import time
 from collections.abc import Iterator
 from typing import Any
 
+import httpx
 import pytest
 from serving import DEFINITIONS, LONG, all_done, host, report, served, start, stuck, take, token
 
@@ -32,7 +34,8 @@ class Receiver:
         class Handler(http.server.BaseHTTPRequestHandler):
             def do_POST(self) -> None:
                 body = self.rfile.read(int(self.headers["content-length"]))
-                got.append(({name.lower(): value for name, value in self.headers.items()}, body))
+                headers = {name.lower(): value for name, value in self.headers.items()}
+                got.append((headers | {"came": str(time.time())}, body))
                 self.send_response(left.pop(0) if left else 204)
                 self.send_header("location", "/elsewhere")
                 self.send_header("content-length", "0")
@@ -58,7 +61,7 @@ class Receiver:
             text = f"{headers['webhook-id']}.{headers['webhook-timestamp']}.".encode() + body
             code = hmac.new(b"k" * 32, text, hashlib.sha256).digest()
             assert headers["webhook-signature"] == f"v1,{base64.b64encode(code).decode()}"
-            assert abs(int(headers["webhook-timestamp"]) - time.time()) < LONG
+            assert abs(int(headers["webhook-timestamp"]) - float(headers["came"])) < LONG
         return [json.loads(body) for _, body in self.got]
 
 
@@ -138,6 +141,70 @@ def test_it_is_repeated(tmp_path: pathlib.Path) -> None:
             time.sleep(0.1)
         assert sum(one["attempts"] for one in listed if one["webhook"] == "one") == 4
         assert service.stop() == 0
+
+
+def delivered(client: httpx.Client) -> dict[tuple[str, str, str], dict[str, Any]]:
+    """All deliveries, once each is over, by webhook, type and key."""
+    deadline = time.monotonic() + LONG
+    while True:
+        found: list[dict[str, Any]] = client.get("/v1/webhooks/deliveries").json()["deliveries"]
+        if found and all(one["state"] != "pending" for one in found):
+            return {(one["webhook"], one["type"], one["key"]): one for one in found}
+        assert time.monotonic() < deadline, found
+        time.sleep(0.1)
+
+
+def test_it_survives_a_kill(tmp_path: pathlib.Path, store: str | None) -> None:
+    """What was not posted when the service was killed is posted by the next one, under its id; what was posted before, is not. Over PostgreSQL two services share the
+    posts: each is posted once. A delivery that was given up is posted again where an operator asks for it, and nobody else may."""
+    receiver = Receiver(410, *[500] * 3)
+    words = ("--webhooks", written(tmp_path, table(receiver.url, 'definitions = ["order", "trip"]')))
+    tokens = {role: token(tmp_path, role, role) for role in ("caller", "operator")}
+    words += ("--token-file", str(tmp_path / "tokens.toml"))
+    with served(tmp_path, DEFINITIONS, *words, store=store) as service, service.client(tokens["operator"]) as client:
+        start(client, "order", "given-up")
+        receiver.wait(1)
+        ((_, _, key),) = delivered(client)
+        for count in range(3):
+            start(client, "order", f"held-{count}")
+        receiver.wait(4)
+        service.kill()
+        assert len({headers["webhook-id"] for headers, _ in receiver.got}) == 4
+        service.start()
+        with contextlib.ExitStack() as others:
+            if store:
+                other = tmp_path / "other"
+                other.mkdir()
+                others.enter_context(served(other, DEFINITIONS, *words, store=store))
+            found = delivered(client)
+            assert {one["state"] for one in found.values()} == {"delivered", "failed"}
+            ids = [headers["webhook-id"] for headers, _ in receiver.got]
+            assert ids.count(found["one", "saga.attention", "given-up"]["id"]) == 1
+            assert all(ids.count(found["one", "saga.attention", f"held-{n}"]["id"]) == 2 for n in range(3))
+            before = len(receiver.got)
+            for count in range(12):
+                start(client, "order", f"o-{count}")
+            receiver.wait(before + 12)
+            assert len(delivered(client)) == 16
+            assert len({headers["webhook-id"] for headers, _ in receiver.got[before:]}) == len(receiver.got) - before == 12
+        again = f"/v1/webhooks/deliveries/{found['one', 'saga.attention', 'given-up']['id']}/redeliver"
+        with service.client(tokens["caller"]) as caller:
+            assert caller.post(again, json={}).status_code == 403
+        assert client.post(again.replace("msg_", "msg_x"), json={}).status_code == 404
+        assert client.post(again, json={}).json()["state"] == "pending"
+        receiver.wait(before + 13)
+        assert delivered(client)["one", "saga.attention", "given-up"]["attempts"] == 1
+    receiver.server.shutdown()
+
+
+def test_nothing_is_stored_for_nobody(tmp_path: pathlib.Path) -> None:
+    """Of what no webhook is told there is no row."""
+    words = ("--webhooks", written(tmp_path, table("http://127.0.0.1:9/", 'types = ["saga.stuck"]\ndefinitions = ["licence"]')))
+    with served(tmp_path, DEFINITIONS, *words) as service, service.client() as client:
+        start(client, "order", "asked")
+        start(client, "licence", "good")
+        all_done(client, "licence/server", "licence/licence")
+        assert client.get("/v1/webhooks/deliveries").json() == {"deliveries": []}
 
 
 def test_who_may_look(tmp_path: pathlib.Path) -> None:

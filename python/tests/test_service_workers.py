@@ -17,7 +17,7 @@ from typing import Any
 
 import httpx
 import pytest
-from serving import DEFINITIONS, LONG, Served, all_done, environment, host, served, start, token
+from serving import DEFINITIONS, LONG, Served, all_done, environment, host, report, served, start, take, token
 
 import sagas
 
@@ -314,6 +314,42 @@ def left_open(client: httpx.Client) -> list[str]:
     return [saga["key"] for saga in client.get("/v1/sagas?phase=open").json()["sagas"]]
 
 
+def test_reports_together(ones: tuple[Served, httpx.Client]) -> None:
+    """Each counts as if it was sent alone, and has its own problem; what is not of its shape is refused before anything is kept."""
+    _, client = ones
+    for number in range(6):
+        start(client, "one", f"together-{number}")
+    tasks = take(client, "one/a", most=6)
+    outcomes: list[dict[str, Any]] = [
+        {"outcome": "complete", "result": {"n": 1}}, {"outcome": "complete"}, {"outcome": "fail", "error": "no", "final": True},
+        {"outcome": "unknown", "error": "who knows"}, {"outcome": "complete"}, {"outcome": "complete"},
+    ]  # fmt: skip
+    reports = [{"attempt_id": one["attempt_id"], "lease": one["lease"], **outcome} for one, outcome in zip(tasks, outcomes)]
+    reports[4] |= {"lease": tasks[5]["lease"]}
+    reports[5] |= {"attempt_id": "0-1-a-run-1"}
+
+    def sent(*some: dict[str, Any], **more: Any) -> httpx.Response:
+        return client.post("/v1/tasks/report", json={"reports": some, **more})
+
+    for wrong in (
+        sent(), sent(*reports * 17), sent({**reports[0], "outcome": "done"}), sent(reports[0], {**reports[2], "error": None}),
+        sent(reports[0], next={"steps": ["one"]}),
+    ):  # fmt: skip
+        assert wrong.status_code == 422
+    assert sent(reports[0], {**reports[2], "error": None}).json()["field"] == "reports.1.error"
+    told = sent(*reports, next={"steps": ["one/a"]}).json()
+    assert [one["attempt_id"] for one in told["reports"]] == [one["attempt_id"] for one in reports]
+    assert [one["kept"] for one in told["reports"]] == [True] * 4 + [False] * 2 and told["next"]["unknown_steps"] == []
+    assert [one["problem"]["type"].rpartition(":")[2] for one in told["reports"][4:]] == ["InvalidLease"] * 2
+    again = sent(*reports[:3], {**reports[2], "outcome": "complete"}).json()
+    assert [(one["kept"], one["repeated"]) for one in again["reports"]] == [(True, True)] * 3 + [(False, False)]
+    assert again["next"] is None and again["reports"][3]["problem"]["status"] == 409
+    for one, word in zip(tasks, ("completed", "completed", "recovered")):
+        assert client.get(f"/v1/sagas/{one['key']}/wait").json()["phase"] == word
+    for one in (tasks[4], tasks[5], *take(client, "one/a")):
+        assert report(client, one).status_code == 200
+
+
 def test_a_worker_takes_short_ones_ahead(ones: tuple[Served, httpx.Client]) -> None:
     """As many in one question as it does in a short time, and long ones one at a time."""
     service, client = ones
@@ -336,6 +372,8 @@ def test_a_worker_takes_short_ones_ahead(ones: tuple[Served, httpx.Client]) -> N
 def test_what_a_worker_took_ahead(ones: tuple[Served, httpx.Client]) -> None:
     """Where a function is slow, or the worker is stopped, what stands in its queue is soon another's, long before its lease is over; each is done once."""
     service, client = ones
+    reclaimed = [line for line in client.get("/metrics").text.splitlines() if line.startswith("sagas_tasks_reclaimed_total ")]
+    assert len(reclaimed) == 1
     for stopped in (False, True):
         calls, before = Calls(), service.told().count("/heartbeat 200")
         slow, other = Asking(service.url, concurrency=1, lease=600.0), Asking(service.url)
@@ -355,7 +393,7 @@ def test_what_a_worker_took_ahead(ones: tuple[Served, httpx.Client]) -> None:
                 calls.hold.set()
         assert calls.count("slow") == count and len(set(calls.all)) == 20
         assert service.told().count("/heartbeat 200") - before >= sum(slow.given) - count
-        assert not left_open(client) and "sagas_tasks_reclaimed_total 0.0" in client.get("/metrics").text
+        assert not left_open(client) and reclaimed[0] in client.get("/metrics").text.splitlines()
 
 
 class Workers:

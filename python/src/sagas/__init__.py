@@ -16,13 +16,15 @@
 
 Every step is committed, or undone if that costs least, also if this program dies meanwhile.
 
-- To declare: `Saga`, with `step`, `wait` and `approval`; `Step.compensation`, `Backoff`, `NEVER`.
+- To declare: `Saga`, with `step`, `wait`, `approval` and `child`; `Step.compensation`,
+  `Backoff`, `NEVER`.
 - In a function: `Task` (hand its `idempotency_key` to services), `Fail`, `RetryAfter`,
   `Unknown`; in an approval's, `Approved`, `Rejected`.
 - To run: `open`, `open_sync`; `Store`, with `start`, `wait`, `abort`, `complete`, `fail`,
   `retry`, `list`, `attention`, `resolve`; `Run`, `SagaResult`, `Plan`.
 - To test: `sagas.testing.run`.
-- On other machines: `Client`, `Worker`, `sagas.celery`. Without a store: `plan`, `check`, `audit`.
+- On other machines: `Client`, `ServiceClient`, `Worker`, `sagas.celery`. Without a store: `plan`,
+  `check`, `audit`.
 
 Modules that are not named here are internal.
 """
@@ -37,7 +39,11 @@ if sys.version_info < (3, 11):
 
 from sagas.api.opening import open, open_sync
 from sagas.api.run import Run
+from sagas.api.service_client import ServiceClient
 from sagas.api.service_connection import ServiceRefused
+from sagas.api.service_events import ServiceEvents
+from sagas.api.service_run import ServiceRun
+from sagas.api.service_views import ServiceEvent, ServiceSaga, ServiceSummary
 from sagas.api.store import Store
 from sagas.api.sync_store import SyncRun, SyncStore
 from sagas.api.worker import Worker
@@ -68,6 +74,7 @@ from sagas.base.errors import (
     ResultNotSerializable,
     RetryAfter,
     SagasError,
+    ServiceUnavailable,
     SlotsTaken,
     StepNotWaiting,
     StoreLocked,
@@ -90,15 +97,18 @@ from sagas.core.results import (
     UnknownAttempt,
 )
 from sagas.definition.approvals import Approved, Rejected
+from sagas.definition.blobs import BlobStore
 from sagas.definition.payloads import Codec
 from sagas.definition.saga import Saga
 from sagas.definition.step import NEVER, Backoff, Cost, Step
 from sagas.definition.task import Task
 from sagas.engine.library import InvalidText, Verdict, audit, check, plan
 from sagas.engine.plan import Choice, Plan
-from sagas.runtime.external_queue import LeasedTask, Queue
+from sagas.runtime.external_queue import Heartbeat, LeasedTask, Queue
 from sagas.storage import factory
 from sagas.storage.batches import BatchResult
+from sagas.storage.folder_blobs import FolderBlobStore
+from sagas.storage.postgresql.blob_store import PostgresBlobStore
 from sagas.storage.schedules import Schedule
 
 __version__ = "0.3.0"
@@ -160,6 +170,7 @@ __all__ = [
     "AttentionReason",
     "Backoff",
     "BatchResult",
+    "BlobStore",
     "CannotDecode",
     "Choice",
     "Client",
@@ -175,6 +186,8 @@ __all__ = [
     "EngineNotRunnable",
     "Event",
     "Fail",
+    "FolderBlobStore",
+    "Heartbeat",
     "HistoryEvent",
     "InvalidError",
     "InvalidInput",
@@ -195,6 +208,7 @@ __all__ = [
     "NotSerializable",
     "OwnerUnavailable",
     "Plan",
+    "PostgresBlobStore",
     "Queue",
     "Rejected",
     "ResultNotSerializable",
@@ -204,7 +218,14 @@ __all__ = [
     "SagaResult",
     "SagasError",
     "Schedule",
+    "ServiceClient",
+    "ServiceEvent",
+    "ServiceEvents",
     "ServiceRefused",
+    "ServiceRun",
+    "ServiceSaga",
+    "ServiceSummary",
+    "ServiceUnavailable",
     "SlotsTaken",
     "Step",
     "StepNotWaiting",

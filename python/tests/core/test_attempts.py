@@ -12,12 +12,13 @@ import hypothesis.strategies as st
 import pytest
 
 import sagas
-from sagas.core import outcomes, states
+from sagas.core import early_reports, outcomes, states
 from sagas.core.attempts import LOOK, AttemptMachine, is_asked, is_simple, will_be_asked
 from sagas.core.decisions import CALL, NOTHING, OFFER, REPORT, REPORT_AGAIN, SLEEP, WITHDRAW, Decision, Do
+from sagas.core.early_reports import EarlyReport
 from sagas.core.model import Attempt, SagaInstance
 from sagas.core.outcomes import Outcome
-from sagas.core.states import AttemptState, OutcomeKind, Suspension
+from sagas.core.states import AttemptState, EarlyReason, OutcomeKind, Suspension
 from sagas.core.suspensions import SuspensionRow
 from sagas.definition.compiled import Shelf
 
@@ -511,3 +512,38 @@ def test_whatever_happens_each_decision_fits_the_state(step: str, number: int, d
         assert first and MACHINE.resume(attempt, now) is REPORT_AGAIN
         assert MACHINE.drain(attempt.instance, now) == [] and MACHINE.timer(attempt, now) is NOTHING
         assert attempt.outcome is first
+
+
+def test_what_was_reported_early() -> None:
+    """It is the attempt's outcome, also of one whose saga drains; a compensation takes none, nor
+    one whose step failed for good."""
+    for step in ("sign", "outside"):
+        for aborted in (False, True):
+            attempt = attempt_of(step)
+            instance, word = attempt.instance, attempt.word
+            instance.aborted = instance.draining = aborted
+            EarlyReport(instance, word, Outcome(OutcomeKind.SUCCEEDED, '"yes"')).keep()
+            assert early_reports.stored(instance, word) == Outcome(OutcomeKind.SUCCEEDED, '"yes"')
+            assert MACHINE.begin(attempt, NOW) == REPORT and attempt.has_row
+            assert attempt.outcome == Outcome(OutcomeKind.SUCCEEDED, '"yes"')
+    attempt = attempt_of("sign")
+    EarlyReport(attempt.instance, attempt.word, outcomes.reported(None, "no")).keep()
+    assert MACHINE.begin(attempt, NOW) == REPORT and attempt.word in attempt.instance.rare.final
+    again = Attempt(attempt.instance, attempt.step, "run", 2, True)
+    assert MACHINE.begin(again, NOW) == REPORT and again.outcome and not again.outcome.called
+    undo = attempt_of("outside", kind="undo")
+    undo.instance.rare.early[undo.step, "run"] = (EarlyReason.RESULT, "1")
+    assert MACHINE.begin(undo, NOW) == CALL
+
+
+def test_which_reports_are_taken_early() -> None:
+    """Of approvals and of what is done elsewhere, while the saga goes on."""
+    for step, kind in (("simple", "run"), ("pause", "run"), ("sent", "run"), ("outside", "undo")):
+        instance = attempt_of(step).instance
+        assert early_reports.refusal(instance, KIND.names.index(step), kind)
+    for step in ("sign", "outside"):
+        instance = attempt_of(step).instance
+        place = KIND.names.index(step)
+        assert early_reports.refusal(instance, place, "run") is None
+        instance.draining = True
+        assert "is being undone" in str(early_reports.refusal(instance, place, "run"))

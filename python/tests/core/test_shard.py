@@ -174,24 +174,32 @@ def test_a_refused_commit_makes_it_stale() -> None:
     assert [*shard.unkept()] == [attempt] and shard.fail() == 0
 
 
+def shown(phase: str, answer: object, states: list[str]) -> str:
+    """A reply to `show`."""
+    told = {"aborted": False, "kept": [], "name": "trip", "phase": phase, "saga": 0, "states": states}
+    return json.dumps(told | ({"answer": answer} if answer else {}), separators=(",", ":"), sort_keys=True)
+
+
 def test_a_saga_that_fails_drains_and_its_end_is_asked() -> None:
-    """Once it is over, how it ended goes into the batch of the answer that ends it."""
+    """Once it is over, how it ended goes into the batch of the answer that ends it. It is asked along with what is expected to end it; where
+    that does not, behind the reply that does."""
     shard = driver()
     attempt = begun(shard)
     saga = attempt.instance
     attempt.finish(outcomes.failure("no", final=True), NOW)
     shard.report(attempt)
-    assert '"outcome":"fail"' in shard.requests(8)[0] and saga.odd
-    effects = kept(shard, come(shard, event("fail", "planning"), '{"tasks":[]}'))
+    report, _, look = shard.requests(8)
+    assert '"outcome":"fail"' in report and look == '{"do":"show","saga":0}' and saga.odd
+    effects = kept(shard, come(shard, event("fail", "planning"), '{"tasks":[]}', shown("planning", None, [])))
     assert effects.draining == [saga] and saga.draining and "no" in saga.rare.errors[0]
     shard.requests(8)
     plan = {"answer": {"kind": "plan", "cost": 3}, "phase": "ended", "saga": 0, "task": "plan"}
     (show,) = shard.replies([json.dumps({"settled": True, "tasks": [plan]})], "plan\n", NOW)  # type: ignore[misc]
     assert show == '{"do":"show","saga":0}'
-    told = {"aborted": False, "answer": plan["answer"], "kept": [], "phase": "ended", "states": ["fixed", "waiting"]}
-    effects = kept(shard, come(shard, json.dumps(told), text=""))
+    effects = kept(shard, come(shard, shown("ended", plan["answer"], ["fixed", "waiting"]), text=""))
     assert effects.planned == [saga] and effects.ended == [saga] and effects.batch.text == "plan\n"
-    ((phase, _, recovered, undo_failed, at, id),) = effects.batch.ended
+    ((phase, told, recovered, undo_failed, at, id),) = effects.batch.ended
+    assert told == '{"aborted":false,"answer":{"cost":3,"kind":"plan"},"kept":[],"states":["fixed","waiting"]}'
     assert (phase, recovered, undo_failed, at, id) == ("ended", True, True, NOW, 7000) and not shard.sagas
 
 
@@ -320,11 +328,13 @@ def test_labels_go_with_the_row_of_their_saga() -> None:
 
 
 def test_a_plan_and_what_it_begins_come_by_one_question() -> None:
-    """Of each attempt that did not succeed, a task more is asked for: a plan comes before what it undoes."""
+    """Of each saga that is expected to be planned, a task more is asked for, also beyond the slots: a plan comes before what it undoes."""
     shard = driver()
     one, two = begun(shard, "one"), begun(shard, "two")
     for attempt in (one, two):
+        attempt.attempt = attempt.instance.kind.tries["run"][attempt.step]
         attempt.finish(outcomes.failure("sold out", final=True), NOW)
         shard.report(attempt)
-    assert shard.requests(8)[-1] == '{"do":"next","most":5}'
-    shard.replies((event("fail", "draining"), event("fail", "draining", 1), tasks(settled=True)), "", NOW)
+    assert shard.requests(2)[2] == '{"do":"next","most":4}'
+    shows = [shown("draining", None, []), shown("draining", None, [])]
+    shard.replies((event("fail", "draining"), event("fail", "draining", 1), tasks(settled=True), *shows), "", NOW)

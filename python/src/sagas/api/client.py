@@ -13,12 +13,15 @@ from sagas.api.client_run import ClientRun
 from sagas.api.schedules import Schedules
 from sagas.base.errors import Closed, InvalidStore, NoSuchSaga
 from sagas.base.fork_guard import Opened
+
 from sagas.core import pending  # fmt: skip
 from sagas.core import attention, history, step_reports
 from sagas.core.batch import Known, SagaRow
 from sagas.core.outcomes import Outcome, reported
 from sagas.core.results import HistoryEvent, SagaResult
 from sagas.definition import arguments, payloads, serialization
+from sagas.definition.blobs import LEAST, BlobStore
+from sagas.definition.blobs import check as check_blobs
 from sagas.definition.compiled import Kind, version_of
 from sagas.definition.labels import Labels
 from sagas.definition.payloads import Codec, Payloads
@@ -30,6 +33,7 @@ from sagas.inspection import saga as one_saga
 from sagas.inspection.question import AsyncStoreReader, Question
 from sagas.runtime import operator_commands, retries
 from sagas.storage import operator_requests, queries
+from sagas.storage.blob_layer import Blobs
 from sagas.storage.factory import FORM
 from sagas.storage.postgresql import caller_connection
 from sagas.storage.postgresql import connections as connections_module
@@ -39,7 +43,9 @@ if TYPE_CHECKING:
     from sagas.storage.postgresql.connections import Row
 
 T = TypeVar("T")
-WAITS = "SELECT step, action, reason, until FROM suspensions WHERE id = ? ORDER BY since"
+WAITS = """
+SELECT step, action, reason, until FROM suspensions WHERE id = ? AND number > 0 ORDER BY since
+"""
 LEFT_BY = f"SELECT i.version, {queries.OTHERS} FROM pending_starts i WHERE i.id = %(id)s"
 RESOLVE = f"""
 WITH done AS (
@@ -63,7 +69,10 @@ class Client(Schedules):
         path: The database, without the password.
     """
 
-    def __init__(self, url: str, *, connections: int = 4, codec: Codec | None = None) -> None:
+    def __init__(
+        self, url: str, *, connections: int = 4, codec: Codec | None = None,
+        blobs: BlobStore | None = None,
+    ) -> None:  # fmt: skip
         """Make a client, to be entered by `async with`.
 
         Args:
@@ -71,6 +80,7 @@ class Client(Schedules):
             connections: Maximum number of concurrent statements (default: 4). One more connection
                 listens.
             codec: As of `sagas.open` (default: values are stored as JSON).
+            blobs: As of `sagas.open`: where large results are read (default: in the database).
 
         Raises:
             InvalidStore: It is not a URL of PostgreSQL.
@@ -87,7 +97,9 @@ class Client(Schedules):
         self._opened = Opened("the client")
         self._news: notifications.News | None = None
         self._kinds: dict[str, Kind] = {}
+        check_blobs(blobs, LEAST)
         self._payloads = payloads.checked(codec)
+        self._blobs = Blobs(blobs, LEAST, self._payloads, self.path) if blobs is not None else None
         self._sagas: dict[tuple[str, int], Saga] = {}
         self._starter = client_start.ClientStarter(
             self._asker, self.path, connections, self._payloads
@@ -237,16 +249,18 @@ class Client(Schedules):
         return bool(operator_requests.told(answer))
 
     async def complete(
-        self, key: str, step: Step[Any] | str, result: Any = None, *, undo: bool = False
-    ) -> None:
+        self, key: str, step: Step[Any] | str, result: Any = None, *, undo: bool = False,
+        early: bool = True,
+    ) -> None:  # fmt: skip
         """Report that a step succeeded. See `Store.complete`."""
-        await self._report(key, step, reported(result, None), undo)
+        await self._report(key, step, reported(result, None), undo, early)
 
     async def fail(
-        self, key: str, step: Step[Any] | str, error: str, *, undo: bool = False
-    ) -> None:
+        self, key: str, step: Step[Any] | str, error: str, *, undo: bool = False,
+        early: bool = True,
+    ) -> None:  # fmt: skip
         """Report that a step failed permanently. See `Store.fail`."""
-        await self._report(key, step, reported(None, error), undo)
+        await self._report(key, step, reported(None, error), undo, early)
 
     async def retry(self, key: str, step: Step[Any] | str, *, undo: bool = False) -> None:
         """Attempt a step again whose attempts are used up. See `Store.retry`."""
@@ -259,13 +273,15 @@ class Client(Schedules):
         answer = await saga_requests.ask(self._asker, self._heard, row, "retry", value)
         operator_requests.told(answer)
 
-    async def _report(self, key: str, step: Step[Any] | str, outcome: Outcome, undo: bool) -> None:
+    async def _report(
+        self, key: str, step: Step[Any] | str, outcome: Outcome, undo: bool, early: bool
+    ) -> None:
         row, kind = await self._row(key), "undo" if undo else "run"
         name = step if isinstance(step, str) else step.name
         if row.phase is not None:
             await self._check_kept(row, name, kind, outcome)
             return
-        what, told = operator_commands.report_of(name, kind, outcome, self._payloads)
+        what, told = operator_commands.report_of(name, kind, outcome, early, self._payloads)
         value = serialization.write(told)
         operator_requests.told(await saga_requests.ask(self._asker, self._heard, row, what, value))
 
@@ -338,7 +354,9 @@ class Client(Schedules):
     async def _read(self, query: str, *words: Any) -> builtins.list[Row]:
         """Rows of a question with a `?` for each word."""
         self._heard
-        return await self._asker.rows(queries.for_postgresql(query), *serialization.cleaned(words))
+        text, cells = queries.for_postgresql(query), serialization.cleaned(words)
+        rows = await self._asker.rows(text, *cells)
+        return rows if self._blobs is None else await self._blobs.rows(rows)
 
     async def _find(self, key: str) -> SagaRow | None:
         rows = [

@@ -11,7 +11,7 @@ from weakref import WeakKeyDictionary, WeakSet
 import psycopg
 
 from sagas.base.errors import StoreUnavailable, TooLarge
-from sagas.definition import arguments, capacity, serialization, validation
+from sagas.definition import arguments, capacity, children, serialization, validation
 from sagas.definition.compiled import digest_of
 from sagas.definition.labels import Labels, checked
 from sagas.definition.payloads import Payloads
@@ -123,6 +123,8 @@ class ClientStarter:
         arguments.key(key)
         told = json.dumps(dict(checked(labels)))
         validation.check_given(saga)
+        if saga.has_children:
+            children.check_key(key, saga)
         if saga not in self._digests:  # its definition is whole by now
             self._digests[saga] = digest_of(saga.toml()) if saga.steps else None
         about = {"key": key, "saga": saga.name, "version": saga.version, "of": saga}

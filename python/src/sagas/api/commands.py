@@ -17,11 +17,14 @@ from sagas.base.errors import (
     StepNotWaiting,
     WouldWaitForever,
 )
-from sagas.core import attempts, attention, exhaustion, progress, step_reports
+from sagas.core import attempts, attention, early_reports, exhaustion, progress, step_reports
 from sagas.core.batch import Asked, Batch, SagaRow, Wanted
+from sagas.core.early_reports import EarlyReport
 from sagas.core.model import Attempt, SagaInstance
 from sagas.core.outcomes import Outcome
+from sagas.core.states import Action
 from sagas.definition import serialization
+from sagas.definition.compiled import Word
 from sagas.definition.validation import meant
 from sagas.runtime import current_step, operator_commands
 from sagas.storage import operator_requests
@@ -84,9 +87,9 @@ class Commands:
 
     async def report(
         self, key: str, step: str, outcome: Outcome, undo: bool, request: Wanted,
-        of: int | None = None,
+        of: int | None = None, early: bool = True,
     ) -> None:  # fmt: skip
-        """Says how a step ended, or its compensation."""
+        """Says how a step ended, or its compensation. `early`: also of one that has not begun."""
         kind = "undo" if undo else "run"
         while True:
             live = await self._lookup.live(key)
@@ -97,7 +100,7 @@ class Commands:
                     return
                 if key not in self._access.inside.sagas.by_key:
                     payloads = self._access.inside.shelf.payloads
-                    what, told = operator_commands.report_of(step, kind, outcome, payloads)
+                    what, told = operator_commands.report_of(step, kind, outcome, early, payloads)
                     await self._hand_over(row, what, told, request)
                     return
                 continue
@@ -108,8 +111,10 @@ class Commands:
             _check_is(live, of)
             try:
                 attempt = await self._asked(live, step, kind, outcome)
-                if attempt:
+                if isinstance(attempt, Attempt):
                     await self._report_here(attempt, outcome, request)
+                elif attempt is not None:
+                    await self._report_early(live, attempt, outcome, request, early)
                 return
             except Moved:
                 continue
@@ -178,39 +183,67 @@ class Commands:
 
     async def _asked(
         self, live: SagaInstance, step: str, kind: str, outcome: Outcome
-    ) -> Attempt | None:
-        """The attempt that is under way; None where it was said before that the step ended so."""
+    ) -> Attempt | Word | None:
+        """The attempt that is under way; the step's word where none has begun; None where it was
+        said before that the step ended so. Raises `Moved` where its end is on its way to the
+        store."""
         if step not in live.kind.names:
             raise StepNotWaiting(
                 f"saga {live.key!r} has no step {step!r}{meant(step, live.kind.names)}"
             )
-        inside, place = self._access.inside, live.kind.names.index(step)
-        attempt = live.busy.get((place, kind))
-        if attempt is not None and (place, kind) not in live.rare.final:
+        inside, word = self._access.inside, (live.kind.names.index(step), kind)
+        attempt = live.busy.get(word)
+        if attempt is not None and word not in live.rare.final:
             return attempt
         is_there = live.shard is not None and live.committed
         rows = await inside.store.read(step_reports.RESULTS, live.id) if is_there else []
-        first = step_reports.first_of(rows, place, kind)
+        first = step_reports.first_of(rows, *word)
         if first is None and attempt is not None:
             return attempt
-        why = self._why_not(live, rows, place, kind)
-        if first is None:
-            raise StepNotWaiting(f"saga {live.key!r}, step {step!r}: {why}")
-        step_reports.check(live.key, step, first, outcome, why, live.kind.payloads)
-        return None
+        over = _over(live, rows, word)
+        if first is not None:
+            step_reports.check(live.key, step, first, outcome, over, live.kind.payloads)
+            return None
+        if over is not None:
+            raise StepNotWaiting(f"saga {live.key!r}, step {step!r}: {over}")
+        await self._check_not_begun(live, word)
+        return word
 
-    def _why_not(
-        self, live: SagaInstance, rows: Iterable[tuple[Any, ...]], place: int, kind: str
-    ) -> str:
-        """Why nobody has to say how a step ended of which no attempt is under way: it has not
-        begun, or is over."""
-        over = step_reports.over_by(rows, place, kind)
-        if over is None:
-            return "it has not started. Report it after it starts"
-        undo = live.busy.get((place, "undo")) if kind == "run" else None
-        if undo and attempts.is_asked(undo):
-            over += "; its compensation waits for a report (undo=True, or --undo)"
-        return over
+    async def _check_not_begun(self, live: SagaInstance, word: Word) -> None:
+        """Raises `Moved` where an attempt of it began since the store was read, or its report is
+        on its way there."""
+        inside = self._access.inside
+        unkept = live.shard.unkept() if live.shard else ()
+        attempt = next((one for one in unkept if one.instance is live and one.word == word), None)
+        if attempt is not None:
+            with contextlib.suppress(SagasError):  # it is looked at again
+                await inside.executor.kept.wait(attempt)
+        is_known = word[0] in live.results or word in live.busy or word in live.rare.final
+        is_here = inside.sagas.by_key.get(live.key) is live
+        if attempt is not None or not is_here or (is_known and word[1] == Action.RUN):
+            raise Moved(f"saga {live.key!r}")
+
+    async def _report_early(
+        self, live: SagaInstance, word: Word, outcome: Outcome, request: Wanted, early: bool
+    ) -> None:
+        """Stores a report of a step that has not begun. Raises `StepNotWaiting`, or `Moved` where
+        that is to be looked at again."""
+        inside, key, step = self._access.inside, live.key, live.kind.names[word[0]]
+        why = early_reports.refusal(live, *word) if early else early_reports.NOT_STARTED
+        if why is not None:
+            raise StepNotWaiting(f"saga {key!r}, step {step!r}: {why}")
+        first = early_reports.stored(live, word)
+        if first is not None:
+            told, payloads = early_reports.STORED, live.kind.payloads
+            step_reports.check(key, step, first, outcome, told, payloads)
+            if (kept := inside.executor.early.waiting(live, word)) is not None:
+                await asyncio.shield(kept)
+        elif live.shard is None or not live.committed:
+            with contextlib.suppress(KeyConflict):  # it is another saga's key
+                await inside.sagas.started(live)
+            raise Moved(f"saga {key!r}")
+        else:
+            await inside.executor.early.put(EarlyReport(live, word, outcome, request))
 
     async def resolve(self, key: str, note: str, by: str | None) -> None:
         """Mark a saga as seen to by a person."""
@@ -222,6 +255,7 @@ class Commands:
         batch.more.notes.append((note, row.id))
         batch.answer((key, "resolve", told, inside.clock()), "true")
         await inside.kept(batch)
+        inside.executor.children.look()
 
     async def _check_kept(self, row: SagaRow, step: str, kind: str, outcome: Outcome) -> None:
         """Of a saga that is over: raises `StepNotWaiting` where it was not said before that the
@@ -233,6 +267,15 @@ class Commands:
         if first is None:
             raise step_reports.over(row)
         step_reports.check(row.key, step, first, outcome, payloads=inside.shelf.payloads)
+
+
+def _over(live: SagaInstance, rows: Iterable[tuple[Any, ...]], word: Word) -> str | None:
+    """How a step ended of which no attempt is under way; None where it has not."""
+    over = step_reports.over_by(rows, *word)
+    undo = live.busy.get((word[0], "undo")) if over and word[1] == "run" else None
+    if over and undo and attempts.is_asked(undo):
+        over += "; its compensation waits for a report (undo=True, or --undo)"
+    return over
 
 
 def _check_is(live: SagaInstance, of: int | None) -> None:

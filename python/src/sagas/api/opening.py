@@ -13,6 +13,7 @@ from typing import Any, ParamSpec
 from sagas.api.store import Store
 from sagas.api.sync_store import SyncStore
 from sagas.base.events import Hook
+from sagas.definition.blobs import BlobStore
 from sagas.definition.payloads import Codec
 from sagas.definition.saga import Saga
 from sagas.definition.step import Seconds
@@ -39,6 +40,8 @@ def open(
     archive_dir: str | os.PathLike[str] | None = None,
     context: Any = None,
     codec: Codec | None = None,
+    blobs: BlobStore | None = None,
+    blob_threshold: int = 65_536,
 ) -> Store:
     """Open a store: `async with sagas.open("trips.db", [trip]) as store`.
 
@@ -72,6 +75,8 @@ def open(
             returns a context manager, which is entered with the store and left with it.
         codec: What encodes inputs and results before they are stored, for example to encrypt them
             (default: they are stored as JSON).
+        blobs: Where inputs and results over `blob_threshold` are kept (default: in the database).
+        blob_threshold: Bytes of a value, as it is stored (default: 65,536).
 
     Returns:
         The store, to be entered.

@@ -13,6 +13,7 @@ from sagas.core.outcomes import reported
 from sagas.definition import arguments
 from sagas.definition.payloads import Payloads
 from sagas.definition.step import Step
+from sagas.runtime import operator_commands
 
 
 class Operators(Questions):
@@ -55,24 +56,29 @@ class Operators(Questions):
 
     async def complete(
         self, key: str, step: Step[Any] | str, result: Any = None, *, undo: bool = False,
-        by: str | None = None, note: str | None = None,
+        early: bool = True, by: str | None = None, note: str | None = None,
     ) -> None:  # fmt: skip
         """Report that a step succeeded: an approval, an external or an unknown one.
 
         When it returns, the report is durable. The same report again is not an error, also after
-        the saga has ended.
+        the saga has ended. If an approval or an external step has not begun, its report is stored:
+        the step takes it when it begins, and calls no function. If the saga ends without the
+        step, the report has no effect.
 
         Args:
             key: The saga's key.
             step: The step, or its name.
             result: The step's result, as JSON (default: None).
-            undo: Whether the step's compensation is meant (default: False).
+            undo: Whether the step's compensation is meant (default: False). It is reported once it
+                has begun.
+            early: Whether a step may be reported before it begins (default: True).
             by: Who reports it. If given, the store keeps the command with `note` and the time.
             note: Why.
 
         Raises:
             ConflictingReport: Another outcome was reported first, and that one counts.
-            StepNotWaiting: Nobody has to report this step.
+            StepNotWaiting: Nobody has to report this step; or it has not begun, and `early` is
+                False, the step is neither an approval nor external, or the saga is being undone.
             NoSuchSaga: No saga has the key.
             NotSerializable: The result is not JSON.
             WouldWaitForever: An approval's function reports its own approval.
@@ -83,13 +89,13 @@ class Operators(Questions):
         self._access.here()
         outcome, name = reported(result, None), step if isinstance(step, str) else step.name
         kept = self._access.inside.shelf.payloads.encode_value(json.loads(outcome.value))
-        words = {"step": name, "kind": "undo" if undo else "run", "result": kept}
-        asked = self._commands.noted(key, "complete", by, note, **words)
-        await self._commands.report(key, name, outcome, undo, asked)
+        words = operator_commands.words_of(name, "undo" if undo else "run", early)
+        asked = self._commands.noted(key, "complete", by, note, **words, result=kept)
+        await self._commands.report(key, name, outcome, undo, asked, early=early)
 
     async def fail(
         self, key: str, step: Step[Any] | str, error: str, *, undo: bool = False,
-        by: str | None = None, note: str | None = None,
+        early: bool = True, by: str | None = None, note: str | None = None,
     ) -> None:  # fmt: skip
         """Report that a step failed permanently. See `Store.complete`.
 
@@ -103,9 +109,9 @@ class Operators(Questions):
         """
         self._access.here()
         outcome, name = reported(None, error), step if isinstance(step, str) else step.name
-        words = {"step": name, "kind": "undo" if undo else "run", "error": error}
-        asked = self._commands.noted(key, "fail", by, note, **words)
-        await self._commands.report(key, name, outcome, undo, asked)
+        words = operator_commands.words_of(name, "undo" if undo else "run", early)
+        asked = self._commands.noted(key, "fail", by, note, **words, error=error)
+        await self._commands.report(key, name, outcome, undo, asked, early=early)
 
     async def resolve(self, key: str, note: str, *, by: str | None = None) -> None:
         """Mark a saga as seen to: a stuck one, or one with a failed compensation.

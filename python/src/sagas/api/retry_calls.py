@@ -129,7 +129,9 @@ class RetryCalls(Operators):
                 if outcome is None:
                     await self._commands.retry(*about, one.undo, asked, one.id)
                 else:
-                    await self._commands.report(*about, outcome, one.undo, asked, one.id)
+                    await self._commands.report(
+                        *about, outcome, one.undo, asked, one.id, early=False
+                    )
                 count += 1
             except (StepNotWaiting, ConflictingReport, NoSuchSaga):  # somebody else was faster
                 continue

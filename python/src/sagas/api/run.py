@@ -32,14 +32,16 @@ class Run:
         return await self._store.abort(self.key)
 
     async def complete(
-        self, step: Step[Any] | str, result: Any = None, *, undo: bool = False
+        self, step: Step[Any] | str, result: Any = None, *, undo: bool = False, early: bool = True
     ) -> None:
         """Report that a step succeeded. See `Store.complete`."""
-        await self._store.complete(self.key, step, result, undo=undo)
+        await self._store.complete(self.key, step, result, undo=undo, early=early)
 
-    async def fail(self, step: Step[Any] | str, error: str, *, undo: bool = False) -> None:
+    async def fail(
+        self, step: Step[Any] | str, error: str, *, undo: bool = False, early: bool = True
+    ) -> None:
         """Report that a step failed permanently. See `Store.fail`."""
-        await self._store.fail(self.key, step, error, undo=undo)
+        await self._store.fail(self.key, step, error, undo=undo, early=early)
 
     async def plan(self) -> Plan | None:
         """Return the saga's last plan. See `Store.plan`."""

@@ -8,8 +8,8 @@ from sagas.api.saga_lookup import SagaLookup
 from sagas.api.store_access import StoreAccess
 from sagas.base.errors import Closed, KeyConflict, StoreUnavailable
 from sagas.core.model import SagaInstance
-from sagas.definition import arguments, serialization
-from sagas.definition.compiled import Shelf
+from sagas.definition import arguments, children, serialization
+from sagas.definition.compiled import Kind, Shelf
 from sagas.definition.labels import Labels, checked
 from sagas.definition.saga import Saga
 from sagas.definition.start_options import Deadline, StartOptions, deadline_at
@@ -31,15 +31,29 @@ class Starter:
         self, saga: Saga, key: str, input: Any, labels: Labels | None, deadline: Deadline | None
     ) -> bool:
         """Starts a saga. Whether this start began it."""
-        inside, lookup = self._access.here(), self._lookup
+        inside = self._access.here()
         arguments.key(key)
         kind, text = self._shelf.kind_of(saga), serialization.write(input, "input")
+        if saga.has_children:
+            children.check_key(key, saga)
         time = deadline_at(saga.deadline if deadline is None else deadline, inside.clock())
         options = StartOptions(checked(labels), time)
+        return await self._start(kind, key, input, text, options, self.accepts_new)
+
+    async def start_child(self, saga: Saga, key: str, input: Any, options: StartOptions) -> bool:
+        """Starts a child, also where the store starts no new sagas: its parent is not new."""
+        arguments.key(key)
+        kind, text = self._shelf.kind_of(saga), serialization.write(input, "input")
+        return await self._start(kind, key, input, text, options, accepts=True)
+
+    async def _start(
+        self, kind: Kind, key: str, input: Any, text: str, options: StartOptions, accepts: bool
+    ) -> bool:
+        inside, lookup = self._access.here(), self._lookup
         wrong = kind.misfit(input, text)
         text = kind.payloads.encode(text)
         live = inside.sagas.by_key.get(key)
-        is_sound = wrong is None and self.accepts_new and kind.fits
+        is_sound = wrong is None and accepts and kind.fits
         if live is None and is_sound and lookup.guessing.is_worth():
             # the key is new, as far as the last ones tell
             new = inside.sagas.add(key, text, kind, self._shelf.place(kind), options)
@@ -55,12 +69,12 @@ class Starter:
             error = relocation.conflict(key, kind, text, *there)
             if error and live and not live.committed and not inside.store.shared:
                 # that start may have no right to the key either
-                row = inside.store.find_now(key)
+                row = await inside.store.find(key)
                 if row:
                     error, live = relocation.conflict(key, kind, text, row.saga, row.input), None
             if error:
                 raise error
-        elif not self.accepts_new:
+        elif not accepts:
             raise Closed(
                 f"{self._access.path}: opened with accept_new=False, so it starts no new sagas"
             )

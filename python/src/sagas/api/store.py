@@ -12,6 +12,8 @@ from types import TracebackType
 from typing import TYPE_CHECKING, Any
 
 from sagas.api.batches import beside
+from sagas.api.children import ChildCarrier
+from sagas.api.deliveries import Deliveries
 from sagas.api.retry_calls import RetryCalls
 from sagas.api.run import Run
 from sagas.api.starter import Starter
@@ -25,17 +27,20 @@ from sagas.core.batch import SagaRow
 from sagas.core.model import SagaInstance
 from sagas.core.results import SagaResult
 from sagas.definition import arguments, payloads
+from sagas.definition.blobs import BlobStore
+from sagas.definition.blobs import check as check_blobs
 from sagas.definition.compiled import Shelf
 from sagas.definition.labels import Labels
 from sagas.definition.payloads import Codec
 from sagas.definition.saga import Saga
 from sagas.definition.start_options import Deadline
 from sagas.definition.step import Seconds
-from sagas.runtime import current_step, operator_commands
+from sagas.runtime import blob_sweep, current_step, operator_commands
 from sagas.runtime import retention as retention_module
 from sagas.runtime.coordinator import Coordinator
 from sagas.runtime.scheduler import Scheduler
 from sagas.storage import factory
+from sagas.storage.blob_layer import BlobDatabase
 from sagas.storage.schedules import Schedule, Schedules
 
 
@@ -48,6 +53,7 @@ class Store(RetryCalls):
         leased: Whether workers claim the tasks of steps with `external=True` (default: False). Set
             it before opening. Then such a step starts when it is claimed.
         workers: The tasks for workers.
+        deliveries: What webhooks are told.
     """
 
     def __init__(
@@ -56,7 +62,7 @@ class Store(RetryCalls):
         shutdown_timeout: Seconds | None, idle: Seconds, on_event: Hook | None,
         clock: Callable[[], float], program: str | None, node: str | None, lease: Seconds,
         retention: datetime.timedelta | None, archive_dir: str | os.PathLike[str] | None,
-        context: Any, codec: Codec | None,
+        context: Any, codec: Codec | None, blobs: BlobStore | None, blob_threshold: int,
     ) -> None:  # fmt: skip
         threads = concurrency if threads is None else threads
         counts = {
@@ -74,7 +80,9 @@ class Store(RetryCalls):
         self._name = arguments.path(path)
         self._node, self._lease = node, arguments.time("lease", lease, none=False)
         self._retention, self._archive_dir = retention, archive_dir
-        self._shelf = Shelf(sagas, payloads.checked(codec))
+        check_blobs(blobs, blob_threshold)
+        self._blobs = blobs, blob_threshold
+        self._shelf = Shelf(sagas, payloads.checked(codec, blobs is not None))
         self._words = {**counts, "idle": arguments.time("idle", idle), "clock": clock}
         self._words["context"] = context
         self._shutdown_timeout = (
@@ -89,6 +97,7 @@ class Store(RetryCalls):
         self._starter = Starter(self._access, self._lookup, self._shelf, accept_new)
         self._requests: operator_commands.Requests | None = None
         self.workers = Workers(self._access)
+        self.deliveries = Deliveries(self._access, self._shelf)
         self.leased = False
 
     @property
@@ -125,9 +134,13 @@ class Store(RetryCalls):
         database = factory.make(
             self._name, self._shelf, self._node, self._lease, most, transactions
         )
+        database = BlobDatabase.over(database, *self._blobs, self._shelf.payloads)
         self._access.path = database.path
         words: dict[str, Any] = {"program": where, "teller": self._teller, **self._words}
         coordinator = self._access.coordinator = Coordinator(database, self._shelf, **words)
+        coordinator.executor.children.carrier = ChildCarrier(
+            self._access, self._lookup, self._starter, self._commands
+        )
         coordinator.external.leased = coordinator.executor.machine.leased = self.leased
         try:
             await coordinator.open()
@@ -142,6 +155,8 @@ class Store(RetryCalls):
             coordinator.listeners.append(scheduler.look)
             coordinator.spawn(scheduler.run())
         database.watch(coordinator)
+        if isinstance(database, BlobDatabase):
+            coordinator.spawn(blob_sweep.sweep(database))
         if self._retention is not None:
             seconds = self._retention.total_seconds()
             coordinator.spawn(

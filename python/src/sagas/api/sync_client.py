@@ -12,6 +12,7 @@ from sagas.api.client_run import ClientRun
 from sagas.api.facade import Facade, blocking
 from sagas.api.loop_thread import Loop
 from sagas.core.results import SagaResult
+from sagas.definition.blobs import BlobStore
 from sagas.definition.labels import Labels
 from sagas.definition.payloads import Codec
 from sagas.definition.saga import Saga
@@ -55,9 +56,12 @@ class SyncClient(Facade[Client]):
     `Client`, from any thread.
     """
 
-    def __init__(self, url: str, *, connections: int = 4, codec: Codec | None = None) -> None:
+    def __init__(
+        self, url: str, *, connections: int = 4, codec: Codec | None = None,
+        blobs: BlobStore | None = None,
+    ) -> None:  # fmt: skip
         """Make a client, to be entered by `with`. See `Client`."""
-        client = Client(url, connections=connections, codec=codec)
+        client = Client(url, connections=connections, codec=codec, blobs=blobs)
         remedy = "is not open. Use `with sagas.SyncClient(...) as client`"
         super().__init__(client, Loop(client.path, "the client", remedy))
 

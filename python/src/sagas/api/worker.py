@@ -16,6 +16,7 @@ connection (nobody knows).
 from __future__ import annotations
 
 import dataclasses
+import inspect
 import itertools
 import logging
 import os
@@ -27,7 +28,14 @@ from collections.abc import Callable, Sequence
 from typing import Any
 
 from sagas.api.service_connection import ServiceConnection, ServiceRefused, is_final
-from sagas.api.worker_task import Function, WorkerStep, lifespan, outcome, task_of
+from sagas.api.worker_task import (
+    Function,
+    WorkerStep,
+    lifespan,
+    outcome,
+    task_of,
+    unstorable,
+)
 from sagas.base.errors import DefinitionError
 from sagas.definition import validation
 from sagas.definition.context import Context
@@ -53,6 +61,7 @@ class _Held:
     task: Task[Any]
     until: float
     lost: bool = False
+    unstorable: bool = False
 
 
 class Worker:
@@ -60,7 +69,8 @@ class Worker:
 
     It uses only the standard library. Each task runs in a thread. If the functions are short, one
     request claims up to ten tasks, and returns those that no thread begins within half a second.
-    While a function runs, its lease is renewed three times before it would end.
+    While a function runs, its lease is renewed three times before it would end. By that the worker
+    hears of an abort, and sets `task.cancelled`.
 
     Attributes:
         concurrency: Maximum number of tasks that run at once.
@@ -112,7 +122,7 @@ class Worker:
     # -- what it can do
 
     def step(
-        self, saga: str, step: str, *, unknown: Unknowns = UNKNOWN
+        self, saga: str, step: str, *, unknown: Unknowns = UNKNOWN, cancel_on_abort: bool = False
     ) -> Callable[[Function], Function]:
         """Declare the function that performs a step, by `@worker.step(saga, step)`.
 
@@ -123,11 +133,15 @@ class Worker:
             step: The step's name.
             unknown: Exceptions after which the outcome is unknown (default: `(TimeoutError,
                 ConnectionError)`).
+            cancel_on_abort: Whether an abort raises `asyncio.CancelledError` in the async function
+                (default: False). The worker hears of an abort by its next heartbeat, within a third
+                of `lease`.
 
         Raises:
-            DefinitionError: The step has a function already.
+            DefinitionError: The step has a function already, or `cancel_on_abort` is set for a
+                plain function.
         """
-        return self._declare(f"{saga}/{step}", unknown)
+        return self._declare(f"{saga}/{step}", unknown, cancel_on_abort)
 
     def compensation(
         self, saga: str, step: str, *, unknown: Unknowns = UNKNOWN
@@ -138,8 +152,15 @@ class Worker:
         """
         return self._declare(f"{saga}/{step}/undo", unknown)
 
-    def _declare(self, word: str, unknown: Unknowns) -> Callable[[Function], Function]:
+    def _declare(
+        self, word: str, unknown: Unknowns, cancel_on_abort: bool = False
+    ) -> Callable[[Function], Function]:
         def declare(function: Function) -> Function:
+            if cancel_on_abort and not inspect.iscoroutinefunction(function):
+                raise DefinitionError(
+                    f"{word}: cancel_on_abort is for async functions. A plain function asks "
+                    "task.cancelled"
+                )
             there = self._steps.get(word)
             if there is not None:
                 where = (
@@ -147,7 +168,7 @@ class Worker:
                     f"{validation.place(there.function) or '?'}"
                 )
                 raise DefinitionError(f"{word} is declared twice, at {where}. Remove one of them")
-            self._steps[word] = WorkerStep(function, unknown)
+            self._steps[word] = WorkerStep(function, unknown, cancel_on_abort)
             return function
 
         return declare
@@ -190,6 +211,8 @@ class Worker:
             self.stop()
             with self._rests:
                 self._rests.wait_for(lambda: not self._busy and not self._ahead)
+        finally:
+            self._service.close_idle()
 
     def stop(self) -> None:
         """Claim nothing more; running functions end and are reported.
@@ -307,6 +330,9 @@ class Worker:
                 if refusal.status == 403 and more:
                     return self._report(one, verb, body, {})
                 raise
+            if refusal.status in (413, 422) and verb == "complete" and not one.unstorable:
+                one.unstorable = True  # the effect happened; what it gave cannot be stored
+                return self._report(one, verb, unstorable(str(refusal)), more)
             logger.warning("%s: %s was rejected: %s", one.attempt_id, verb, refusal)
             return None
 
@@ -353,14 +379,14 @@ class Worker:
         url, told = self.url, one.task.news()
         more = {"progress": told.fraction, "detail": told.detail} if told else {}
         try:
-            self._service.ask(
-                url,
-                f"/v1/tasks/{one.attempt_id}/heartbeat",
-                {"lease": one.lease, "seconds": seconds, **more},
-                10.0,
-            )
+            path = f"/v1/tasks/{one.attempt_id}/heartbeat"
+            body = {"lease": one.lease, "seconds": seconds, **more}
+            if reason := self._service.ask(url, path, body, 10.0).get("cancelled"):
+                one.task.cancelled.set(reason)
         except ServiceRefused as refusal:
-            one.lost = refusal.status in (403, 404, 409)
+            if refusal.status in (403, 404, 409):
+                one.lost = True
+                one.task.cancelled.set("lost")
             logger.warning("%s: %s", one.attempt_id, refusal)
         except (OSError, ValueError) as error:
             logger.info("%s: the heartbeat failed: %s", one.attempt_id, error)

@@ -8,7 +8,7 @@ import dataclasses
 import inspect
 import json
 import logging
-from collections.abc import Callable, Iterator
+from collections.abc import Callable, Coroutine, Iterator
 from typing import Any
 
 from sagas.base.errors import NotSerializable
@@ -26,10 +26,13 @@ MOST_TEXT = 4000
 
 @dataclasses.dataclass(frozen=True, slots=True)
 class WorkerStep:
-    """A function, and the exceptions after which nobody knows whether it had its effect."""
+    """A function, the exceptions after which nobody knows whether it had its effect, and whether
+    an abort cancels it.
+    """
 
     function: Function
     unknown: Unknowns
+    cancel_on_abort: bool = False
 
 
 @contextlib.contextmanager
@@ -59,7 +62,7 @@ def task_of(told: dict[str, Any], shared: Context) -> Task[Any]:
     saga_token = told["idempotency_key"].removesuffix(f"-{step}-{'undo' if undo else 'run'}")
     results = {name: serialization.write(value) for name, value in told["results"].items()}
     result = serialization.write(told["result"]) if undo else None
-    return Task(
+    task: Task[Any] = Task(
         Told(
             told["definition"],
             told["key"],
@@ -74,6 +77,21 @@ def task_of(told: dict[str, Any], shared: Context) -> Task[Any]:
             context=shared,
         )
     )
+    if reason := told.get("cancelled"):
+        task.cancelled.set(reason)
+    return task
+
+
+async def _awaited(manner: WorkerStep, task: Task[Any], work: Coroutine[Any, Any, Any]) -> Any:
+    """What an async function returns; it is cancelled where an abort is to end it, once."""
+    if not manner.cancel_on_abort or task.cancelled.reason == "aborted":
+        return await work
+    async with asyncio.TaskGroup() as group:
+        job = group.create_task(work)
+        abort = group.create_task(task.cancelled.aborted())
+        await asyncio.wait((job, abort), return_when=asyncio.FIRST_COMPLETED)
+        (abort if job.done() else job).cancel()
+    return job.result()
 
 
 def outcome(manner: WorkerStep, task: Task[Any]) -> tuple[str, dict[str, Any]]:
@@ -81,7 +99,9 @@ def outcome(manner: WorkerStep, task: Task[Any]) -> tuple[str, dict[str, Any]]:
     try:
         result = manner.function(task)
         if inspect.isawaitable(result):
-            result = asyncio.run(awaitables.whole(result))
+            result = asyncio.run(_awaited(manner, task, awaitables.whole(result)))
+    except asyncio.CancelledError:
+        return "unknown", {"error": "cancelled, since the saga was aborted"}
     except Exception as error:
         kind = outcomes.classify(error, manner.unknown)
         told: dict[str, Any] = {"error": outcomes.described(error)[:MOST_TEXT]}
@@ -92,4 +112,9 @@ def outcome(manner: WorkerStep, task: Task[Any]) -> tuple[str, dict[str, Any]]:
         return "complete", {"result": json.loads(serialization.write(result))}
     except NotSerializable as error:
         logger.warning("a result could not be stored: %s", error)
-        return "complete", {"result": {"unstorable": str(error)[:MOST_TEXT]}}
+        return "complete", unstorable(str(error))
+
+
+def unstorable(why: str) -> dict[str, Any]:
+    """What is told of a result that cannot be stored: the step is done all the same."""
+    return {"result": {"unstorable": why[:MOST_TEXT]}}

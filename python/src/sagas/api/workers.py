@@ -10,7 +10,7 @@ from sagas.api.store_access import StoreAccess
 from sagas.core import outcomes
 from sagas.core.outcomes import reported
 from sagas.definition.control import checked
-from sagas.runtime.external_queue import LeasedTask, Queue, Word
+from sagas.runtime.external_queue import Heartbeat, LeasedTask, Queue, Word
 from sagas.storage.interface import Peers
 
 
@@ -58,7 +58,7 @@ class Workers:
     async def heartbeat(
         self, attempt_id: str, lease: str, seconds: float = 30.0, *, holder: str = "",
         progress: float | None = None, detail: str | None = None,
-    ) -> float:  # fmt: skip
+    ) -> Heartbeat:  # fmt: skip
         """Extend a lease, because the worker still performs the task.
 
         Args:
@@ -70,7 +70,8 @@ class Workers:
             detail: A text with it, for people, of which 200 characters are kept (default: None).
 
         Returns:
-            When the lease ends, in seconds since 1970.
+            When the lease ends, and whether the saga is being undone. The worker still reports how
+            the task ended.
 
         Raises:
             InvalidLease: The lease was not issued for this task to this holder.

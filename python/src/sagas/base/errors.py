@@ -5,6 +5,7 @@ SagasError
 |   |-- StoreLocked           another program has the file
 |   |-- StoreUnavailable      the file or the server does not answer
 |   |-- OwnerUnavailable      the node that drives the saga does not answer
+|   |-- ServiceUnavailable    no HTTP service answers in time
 |   `-- Closed                the store is closed, or is closing
 |-- ConflictError             something else was there first, and counts
 |   |-- KeyConflict           the key has another saga or input
@@ -117,7 +118,7 @@ class NoSuchSaga(SagasError):
 
 
 class StepNotWaiting(ConflictError):
-    """Nobody has to report this step: it has not started, is over, or runs now."""
+    """Nobody has to report this step now: it has not started, is over, or runs."""
 
 
 class NoSuchSchedule(SagasError):
@@ -136,6 +137,13 @@ class OwnerUnavailable(TemporaryError):
     """The node that executes the saga does not answer.
 
     The call may still take effect: look at the saga, then repeat the call.
+    """
+
+
+class ServiceUnavailable(TemporaryError):
+    """No HTTP service answered in time.
+
+    The request may have been carried out: repeat the call, with the same key.
     """
 
 

@@ -8,11 +8,11 @@ import logging
 import os
 import re
 from collections.abc import Callable
-from types import TracebackType
 from typing import Any
 
-from sagas.base.logger import logger
+from sagas.base.logger import Traced, logger
 
+_quoted: Callable[[str], str] = getattr(json.encoder, "encode_basestring")
 PLAIN = re.compile(r'[^\s"=\\]+\Z')
 HERE = os.path.dirname(os.path.dirname(os.path.abspath(__file__))) + os.sep
 
@@ -49,7 +49,8 @@ class Event:
 
 
 Hook = Callable[[Event], object]
-FIELDS = [field.name for field in dataclasses.fields(Event)]
+SAID = ("key", "saga", "step", "undo", "attempt", "detail")
+"""The fields of a log line."""
 
 LEVELS = {
     "step_retrying": logging.WARNING,
@@ -78,15 +79,15 @@ def quoted(value: object) -> str:
     event is one line and each field is told from the next.
     """
     text = str(value)
-    if PLAIN.match(text) and text.isprintable():
-        return text
+    if text.isprintable():
+        return text if PLAIN.match(text) else _quoted(text)
     return "".join(
         one if one.isprintable() else json.dumps(one)[1:-1]
         for one in json.dumps(text, ensure_ascii=False)
     )
 
 
-def traced(error: BaseException) -> tuple[type[BaseException], BaseException, TracebackType | None]:
+def traced(error: BaseException) -> Traced:
     """What a function raised, for a log: its traceback begins in the function."""
     trace = error.__traceback__
     while trace and trace.tb_next and trace.tb_frame.f_code.co_filename.startswith(HERE):
@@ -120,27 +121,15 @@ class Teller:
         """
         if not self.wants(name):
             return
-        event = Event(name, self._clock(), **fields)
+        at = self._clock()
         level = LEVELS.get(name, logging.DEBUG) if level is None else level
         if logger.logger.isEnabledFor(level):
-            # (`dataclasses.asdict` copies each value: most of what an event takes)
-            told = {
-                field: value for field in FIELDS if (value := getattr(event, field)) is not None
-            }
-            words = " ".join(
-                f"{field}={quoted(told[field])}"
-                for field in ("key", "saga", "step", "undo", "attempt", "detail")
-                if told.get(field)
-            )
-            logger.log(
-                level,
-                "%s %s",
-                name,
-                words,
-                extra={"sagas": told},
-                exc_info=traced(error) if error else None,
-            )
+            told = {"name": name, "at": at, "undo": False, **fields}
+            told = {field: value for field, value in told.items() if value is not None}
+            words = [f"{field}={quoted(told[field])}" for field in SAID if told.get(field)]
+            logger.event(level, name, " ".join(words), told, traced(error) if error else None)
         if self._hook is not None:
+            event = Event(name, at, **fields)
             try:
                 self._hook(event)
             except Exception:  # a metric that fails must not stop a saga

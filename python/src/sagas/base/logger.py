@@ -7,7 +7,11 @@ import logging
 import sys
 import traceback
 from collections.abc import MutableMapping
+from types import TracebackType
 from typing import Any
+
+Traced = tuple[type[BaseException], BaseException, "TracebackType | None"]
+"""An exception for a log, with the traceback that is shown."""
 
 
 class Guarded(logging.LoggerAdapter[logging.Logger]):
@@ -24,12 +28,33 @@ class Guarded(logging.LoggerAdapter[logging.Logger]):
         try:
             super().log(level, msg, *args, stacklevel=2, **kwargs)
         except Exception:
-            with contextlib.suppress(Exception):
-                print(
-                    f"sagas: a handler or a filter of the log raised:\n{traceback.format_exc()}",
-                    end="",
-                    file=sys.stderr,
-                )
+            _say()
+
+    def event(
+        self, level: int, name: str, words: str, told: dict[str, Any], error: Traced | None
+    ) -> None:
+        """Log an event with its fields, as `log` would. Where in this package that was, which each
+        line would have to be looked up for, is here for all of them.
+        """
+        inner = self.logger
+        try:
+            record = inner.makeRecord(
+                inner.name, level, __file__, 0, "%s %s", (name, words), error, "event",
+                {"sagas": told},
+            )  # fmt: skip
+            inner.handle(record)
+        except Exception:
+            _say()
+
+
+def _say() -> None:
+    """A handler raised: that goes to standard error."""
+    with contextlib.suppress(Exception):
+        print(
+            f"sagas: a handler or a filter of the log raised:\n{traceback.format_exc()}",
+            end="",
+            file=sys.stderr,
+        )
 
 
 logger = Guarded(logging.getLogger("sagas"), {})

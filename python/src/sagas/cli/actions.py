@@ -15,7 +15,8 @@ from sagas.core.states import EnginePhase, Suspension
 from sagas.definition.serialization import clean
 from sagas.definition.validation import meant
 from sagas.inspection import lists
-from sagas.inspection.lists import step_names
+from sagas.inspection.names import step_names
+from sagas.runtime.operator_commands import words_of
 from sagas.storage import admin, factory
 from sagas.storage.admin import Trouble
 from sagas.storage.operator_requests import reason
@@ -207,5 +208,6 @@ def answer(
 
 def report_of(words: argparse.Namespace) -> Json:
     """Which step is meant, and why."""
-    value: Json = {"step": words.step, "kind": "undo" if words.undo else "run"}
+    early = getattr(words, "early", True) and not words.all  # those of --all are under way
+    value = words_of(words.step, "undo" if words.undo else "run", early)
     return value | ({"note": words.note} if words.note else {})

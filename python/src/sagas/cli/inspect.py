@@ -87,6 +87,8 @@ def show(path: str, words: argparse.Namespace) -> int:
         told = {
             "aborted": view.aborted,
             "input": view.input,
+            "parent": view.parent and view.parent.key,
+            "children": [dataclasses.asdict(one) for one in view.children],
             "end": view.end,
             "steps": [step_json(step) for step in view.steps],
             "held": [held_json(one) for one in view.held],
@@ -102,6 +104,8 @@ def show(path: str, words: argparse.Namespace) -> int:
         ("ended", moment(view.ended)),
         ("deadline", moment(view.summary.deadline)),
         ("labels", labels_text(view.summary)),
+        ("parent", view.parent.key if view.parent else ""),
+        *(("child", f"{one.key} ({one.phase})") for one in view.children),
         ("input", short(view.input, 200)),
         ("resolved", resolved_text(view)),
         ("note", view.note or ""),
@@ -135,6 +139,7 @@ def step_json(step: StepView) -> Json:
         "result": step.said,
         "progress": step.progress and step.progress.fraction,
         "detail": step.progress and step.progress.detail,
+        "early": step.early,
     }
 
 
@@ -151,7 +156,8 @@ def show_steps(view: SagaView) -> None:
     cells = []
     for step in view.steps:
         undo = undos.get(step.name) if step.state == "undo_failed" else None
-        said = "; ".join(filter(None, [str(step.progress or short(step.said)), undo]))
+        early = f"reported early: {step.early}" if step.early else None
+        said = "; ".join(filter(None, [str(step.progress or short(step.said)), undo, early]))
         times = moment(step.began), moment(step.ended)
         state = state_text(step.state, is_over=view.phase != "open")
         cells.append((step.name, state, step.attempts, *times, said))

@@ -168,6 +168,7 @@ def add_asks(add: Add) -> None:
     add_timeout(part)
     part = add("complete", complete)
     add_steps(part, "complete")
+    add_early(part)
     part.add_argument(
         "--result",
         default="null",
@@ -180,6 +181,7 @@ def add_asks(add: Add) -> None:
         "error", metavar="ERROR", nargs="?", help="why it had no effect, or why it is rejected"
     )
     part.add_argument("--error", metavar="TEXT", dest="why", help="with --all: why they failed")
+    add_early(part)
     add_steps(add("retry", retry), "retry")
     part = add("resolve", resolve)
     part.add_argument("key", metavar="KEY", nargs="*", help="the sagas' keys")
@@ -206,6 +208,16 @@ def add_steps(part: argparse.ArgumentParser, what: str) -> None:
     part.add_argument("--undo", action="store_true", help="report the step's compensation")
     add_note(part)
     add_timeout(part)
+
+
+def add_early(part: argparse.ArgumentParser) -> None:
+    """The option that a report is only of a step that waits."""
+    part.add_argument(
+        "--no-early",
+        dest="early",
+        action="store_false",
+        help="refuse a step that has not begun (default: the report is stored until it begins)",
+    )
 
 
 def add_note(part: argparse.ArgumentParser) -> None:

@@ -10,8 +10,10 @@ import datetime
 from typing import Any
 
 from sagas.base.errors import CannotDecode, Fail
+from sagas.core import early_reports
 from sagas.core.decisions import (
     CALL,
+    FOLLOW,
     NOTHING,
     OFFER,
     REPORT,
@@ -22,7 +24,7 @@ from sagas.core.decisions import (
     Do,
 )
 from sagas.core.declared_values import due_time, limit_key
-from sagas.core.exhaustion import FAILED_BEFORE, LEAST_PAUSE, RETRIED, go_on
+from sagas.core.exhaustion import FAILED_BEFORE, LEAST_PAUSE, RETRIED, backoff, go_on, yields
 from sagas.core.model import CLAIMED, FINISHED, QUEUED, RUNNING, SUSPENDED, Attempt, SagaInstance
 from sagas.core.outcomes import MOST_TEXT, Outcome, decided, failure
 from sagas.core.states import Action, OutcomeKind, Suspension
@@ -31,8 +33,6 @@ from sagas.definition.step import Step
 
 LOOK = 30.0
 """Seconds: a clock may jump, so nobody sleeps longer without a look at it."""
-YIELD, MOST_YIELD = 1.0, 60.0
-"""Seconds for which an attempt leaves its place to others whose wait for a saga was given up."""
 COUNTED = frozenset({Suspension.BACKOFF, Suspension.UNKNOWN, Suspension.RETRY})
 """Suspensions of some seconds, which are counted here: to put the clock back does not make them
 more.
@@ -104,9 +104,12 @@ class AttemptMachine:
             return CALL
         if attempt.word in instance.rare.final:
             return self._give_up(attempt, "not called: the step failed permanently", now, True)
+        if instance.has_early and (outcome := early_reports.taken(attempt)):
+            is_read = outcome.kind is not OutcomeKind.CANNOT_DECODE
+            return (self.finish if is_read else self._park)(attempt, outcome, now)
         if instance.draining and self._may_leave(attempt) and attempt.offered != 0:
             return self._give_up(attempt, "not called: the saga is being undone", now)
-        if attempt.attempt > 1 and (pause := self._backoff(attempt, now)) > 0:
+        if attempt.attempt > 1 and (pause := backoff(attempt, now)) > 0:
             attempt.suspend(Suspension.BACKOFF, now + pause)
             return SLEEP
         return self._first(attempt, now)
@@ -132,6 +135,9 @@ class AttemptMachine:
             return NOTHING if attempt.until is None else SLEEP
         if attempt.reason is Suspension.TIMER and attempt.until == 0:
             return CALL
+        if attempt.reason is Suspension.CHILD:
+            attempt.suspend(Suspension.CHILD)
+            return FOLLOW
         if attempt.reason in (Suspension.TIMER, Suspension.APPROVAL):
             attempt.fresh = True
             attempt.suspend(attempt.reason, attempt.until)
@@ -149,27 +155,19 @@ class AttemptMachine:
         step = attempt.declared
         if step.kind == "wait" and attempt.kind == Action.RUN and not step.manner("run").external:
             return self._wait(attempt, step, now)
-        return self._go(attempt)
+        return self._go(attempt, now)
 
-    def _go(self, attempt: Attempt) -> Decision:
-        """It is called here, or done by an external worker."""
+    def _go(self, attempt: Attempt, now: float) -> Decision:
+        """It is called here, or done by an external worker or a child saga."""
+        if attempt.is_child:
+            attempt.since = now
+            attempt.suspend(Suspension.CHILD)
+            return Decision(Do.SUSPEND, SuspensionRow(Suspension.CHILD, None))
         if not attempt.manner.external:
             return CALL
         attempt.fresh = attempt.fresh and self.leased  # else whoever does it may have begun
         attempt.suspend(Suspension.EXTERNAL)
         return OFFER
-
-    def _backoff(self, attempt: Attempt, now: float) -> float:
-        """Seconds until it is called; where the clock jumped back, no more than the pause."""
-        missed = attempt.instance.rare.missed_at.get(attempt.word)
-        if missed is None:
-            return 0.0
-        wanted = attempt.instance.rare.pauses.get(attempt.word)
-        if wanted is None:
-            wanted = attempt.manner.backoff.after(attempt.attempt - 1)
-        else:
-            attempt.rare.pause = wanted
-        return min(wanted, missed + wanted - now)
 
     def _wait(self, attempt: Attempt, step: Step[Any], now: float) -> Decision:
         """It waits for its time, counted from the first attempt that could say it. One that cannot
@@ -263,13 +261,16 @@ class AttemptMachine:
         if row.reason is Suspension.TIMER and row.until == 0:
             return CALL
         event = ("step_suspended", row.reason.value)
+        if row.reason is Suspension.CHILD:
+            attempt.fresh = False
+            return Decision(Do.FOLLOW, event=event)
         return Decision(Do.SUSPEND, timer=row.reason not in PARKED, event=event)
 
     def _again(self, attempt: Attempt, now: float) -> Decision:
         """Behind its back-off: the next attempt, or the same one whose outcome is unknown."""
         if attempt.reason is Suspension.BACKOFF:
             return self._first(attempt, now)
-        return self._go(attempt)
+        return self._go(attempt, now)
 
     # -- outcomes
 
@@ -324,7 +325,7 @@ class AttemptMachine:
             is_spent = now - attempt.since >= most.total_seconds()
         else:
             is_spent = most is not None and rare.count > most
-        rare.pause = max(LEAST_PAUSE, manner.backoff.after(rare.count), self._yields(attempt))
+        rare.pause = max(LEAST_PAUSE, manner.backoff.after(rare.count), yields(attempt))
         until = None if is_spent else now + rare.pause
         times = f"; {rare.count} times so far" if rare.count > 1 else ""
         detail = f"{outcome.value}{times}{'; a person must report it' if is_spent else ''}"
@@ -335,12 +336,6 @@ class AttemptMachine:
             timer=True,
             event=("step_unknown", detail),
         )
-
-    def _yields(self, attempt: Attempt) -> float:
-        """Seconds for which it leaves its place to others behind a wait that was given up."""
-        rare = attempt.rare
-        gave_way, rare.gave_way = rare.gave_way, False
-        return min(MOST_YIELD, YIELD * 2.0 ** min(rare.count - 1, 16)) if gave_way else 0.0
 
     def _park(self, attempt: Attempt, outcome: Outcome, now: float) -> Decision:
         """This program cannot read what is stored for it: it waits for one that can, or for a
@@ -376,6 +371,8 @@ class AttemptMachine:
             elif attempt.state in (SUSPENDED, QUEUED) and self._may_leave(attempt):
                 why = "not called: the saga is being undone"
                 found.append((attempt, self._give_up(attempt, why, now)))
+            elif attempt.reason is Suspension.CHILD and not attempt.pending:
+                found.append((attempt, FOLLOW))  # which aborts the child, where that is meant
             elif attempt.state is not SUSPENDED or attempt.undo:
                 continue
             elif attempt.outcome and attempt.reason in FAILED_BEFORE:

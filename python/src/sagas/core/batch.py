@@ -25,9 +25,17 @@ Freed = tuple[int, int, str, int]
 """id, step, kind, attempt"""
 Advanced = tuple[int, int, str, int, float, Optional[str], float]
 """id, step, kind, attempt, fraction, detail, at: of `progress`"""
-Offer = tuple[str, int, int, int, str, int, str, Optional[int], Optional[int], float]
-"""attempt, shard, id, step, action, number, task, concurrency, lease, offered_at: of
+Delivery = tuple[str, str, str, int, str, str, float]
+"""id, webhook, type, saga, key, body, at: of `webhook_deliveries`"""
+Spans = tuple[int, int, str, int, float, str]
+"""id, step, kind, attempt, at, spans: of `attempt_spans`"""
+Offer = tuple[
+    str, int, int, int, str, int, str, Optional[int], Optional[int], float, Optional[str]
+]  # fmt: skip
+"""attempt, shard, id, step, action, number, task, concurrency, lease, offered_at, cancelled: of
 `external_attempts`"""
+Cancelled = tuple[str, int]
+"""why, id: of a saga that is to be undone"""
 OpenRow = tuple[int, str, int, str, Optional[float]]
 """id, key, def, input, deadline: of a saga that is open"""
 Told = tuple[str, int]
@@ -51,6 +59,8 @@ class Rare:
     held: list[HeldRow] = dataclasses.field(default_factory=list)
     freed: list[Freed] = dataclasses.field(default_factory=list)
     labels: list[Label] = dataclasses.field(default_factory=list)
+    children: list[tuple[int, int]] = dataclasses.field(default_factory=list)
+    """sagas that others started, each with the id of that one"""
     answers: list[Told] = dataclasses.field(default_factory=list)
     asked: list[tuple[Asked, str]] = dataclasses.field(default_factory=list)
     """requests that have no row yet, with their answers"""
@@ -60,6 +70,8 @@ class Rare:
     what was asked of the start; None where its key has another saga"""
     offers: list[Offer] = dataclasses.field(default_factory=list)
     """attempts that others do from now on"""
+    cancelled: list[Cancelled] = dataclasses.field(default_factory=list)
+    """sagas that are to be undone, whose workers are to hear so"""
     suspended: list[tuple[str, int, str]] = dataclasses.field(default_factory=list)
     """of these the attempts of which nobody knows, their shard, and `suspended`, or `person` where
     a person has to say"""
@@ -68,6 +80,9 @@ class Rare:
     of them is taken any more. Where it is None, and a worker has reported a success before,
     nothing of the shard is written: what it did stands"""
     progress: list[Advanced] = dataclasses.field(default_factory=list)
+    deliveries: list[Delivery] = dataclasses.field(default_factory=list)
+    """what webhooks are told"""
+    spans: list[Spans] = dataclasses.field(default_factory=list)
     work: list[Callable[[Any], object]] = dataclasses.field(default_factory=list)
     """what else is done in the transaction of a file, with its connection"""
     closed: tuple[int, str] | None = None

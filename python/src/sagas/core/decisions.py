@@ -18,6 +18,10 @@ class Do(enum.Enum):
     """Offer it to external workers: it is suspended until one of them reports it."""
     WITHDRAW = enum.auto()
     """Take it back from external workers, unless one of them has it."""
+    FOLLOW = enum.auto()
+    """Start its child saga, unless that is there, and report the attempt once the child has ended.
+    If its saga is aborted, abort the child. It may be followed already.
+    """
     SUSPEND = enum.auto()
     """It is suspended: put its row into the store, and set a timer, as the decision says."""
     REPORT = enum.auto()
@@ -47,3 +51,4 @@ NOTHING, CALL, OFFER = Decision(Do.NOTHING), Decision(Do.CALL), Decision(Do.OFFE
 REPORT, REPORT_AGAIN = Decision(Do.REPORT), Decision(Do.REPORT_AGAIN)
 SLEEP = Decision(Do.SUSPEND, timer=True)
 WITHDRAW = Decision(Do.WITHDRAW)
+FOLLOW = Decision(Do.FOLLOW)

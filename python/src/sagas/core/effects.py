@@ -6,6 +6,7 @@ import dataclasses
 from collections.abc import Sequence
 
 from sagas.core.batch import Batch, Wanted
+from sagas.core.early_reports import EarlyReport
 from sagas.core.model import Attempt, SagaInstance
 
 
@@ -39,6 +40,7 @@ class Effects:
         reported: Their reports are kept, each with its `event`.
         suspended: The rows of their suspensions are kept.
         offered: These attempts are offered to external workers.
+        early: These reports of steps that have not begun are stored.
         aborted: These were answered, each with `done`.
         opened: These sagas are started.
         planned: These sagas go by a plan that was adopted, their `answer`.
@@ -58,6 +60,7 @@ class Effects:
     reported: Sequence[Attempt] = ()
     suspended: Sequence[Attempt] = ()
     offered: Sequence[Attempt] = ()
+    early: Sequence[EarlyReport] = ()
     aborted: Sequence[Abort] = ()
     opened: Sequence[SagaInstance] = ()
     planned: list[SagaInstance] = dataclasses.field(default_factory=list)
@@ -75,7 +78,9 @@ class Question:
         aborts: To abort these sagas.
         opens: To open these sagas.
         claims: For so many tasks; 0 if it was not asked for any.
-        plans: So many attempts did not succeed: a plan may be a task before what it begins.
+        plans: So many sagas are expected to be planned: each plan is a task, and takes no slot.
+        looks: How these sagas stand, by their numbers, behind all else: they are expected to be
+            over.
         shows: How these sagas ended, by their numbers. It is asked behind the others' replies.
         effects: What the replies came to so far.
     """
@@ -85,9 +90,11 @@ class Question:
     opens: Sequence[SagaInstance] = ()
     claims: int = 0
     plans: int = 0
+    looks: Sequence[int] = ()
     shows: Sequence[int] = ()
     effects: Effects | None = None
 
     def count(self) -> int:
         """How many replies are to come."""
-        return len(self.reports) + len(self.aborts) + len(self.opens) + bool(self.claims)
+        asked = len(self.reports) + len(self.aborts) + len(self.opens) + bool(self.claims)
+        return asked + len(self.looks)

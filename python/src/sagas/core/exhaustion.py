@@ -1,4 +1,4 @@
-"""What follows the last attempt: a failure, a person, or another call."""
+"""What follows an attempt that failed: a pause, a failure, a person, or another call."""
 
 from __future__ import annotations
 
@@ -12,8 +12,12 @@ from sagas.core.suspensions import SuspensionRow
 
 LEAST_PAUSE = 0.05
 """Seconds between two calls of the same attempt."""
+YIELD, MOST_YIELD = 1.0, 60.0
+"""Seconds for which an attempt leaves its place to others whose wait for a saga was given up."""
 FAILED_BEFORE = frozenset({Suspension.RETRY, Suspension.EXHAUSTED})
 """Suspensions of an attempt whose last call had no effect."""
+COUNTS_FAILURES = FAILED_BEFORE | {Suspension.CHILD}
+"""Suspensions whose row counts failures; others count unknown outcomes."""
 RETRIED = FAILED_BEFORE | {Suspension.UNKNOWN}
 """Suspensions of an attempt that a person may have called again at once."""
 
@@ -51,11 +55,32 @@ def go_on(attempt: Attempt, outcome: Outcome, now: float) -> Decision | None:
     return Decision(Do.SUSPEND, row, timer=True, event=("step_retrying", detail))
 
 
+def backoff(attempt: Attempt, now: float) -> float:
+    """Seconds until it is called; where the clock jumped back, no more than the pause."""
+    missed = attempt.instance.rare.missed_at.get(attempt.word)
+    if missed is None:
+        return 0.0
+    wanted = attempt.instance.rare.pauses.get(attempt.word)
+    if wanted is None:
+        wanted = attempt.manner.backoff.after(attempt.attempt - 1)
+    else:
+        attempt.rare.pause = wanted
+    return min(wanted, missed + wanted - now)
+
+
+def yields(attempt: Attempt) -> float:
+    """Seconds for which it leaves its place to others behind a wait that was given up."""
+    rare = attempt.rare
+    gave_way, rare.gave_way = rare.gave_way, False
+    return min(MOST_YIELD, YIELD * 2.0 ** min(rare.count - 1, 16)) if gave_way else 0.0
+
+
 def retry(attempt: Attempt, now: float) -> Decision:
     """Call one again at once, as a person wants: its number of attempts begins anew."""
     is_unknown = attempt.reason is Suspension.UNKNOWN
     reason = Suspension.UNKNOWN if is_unknown else Suspension.RETRY
-    attempt.rare.failures = attempt.rare.count = 0
+    if attempt.declared.child is None:  # else they number its children
+        attempt.rare.failures = attempt.rare.count = 0
     detail = attempt.outcome.value if attempt.outcome else ""
     if not is_unknown:
         detail = str(json.loads(detail or "{}").get("error", ""))

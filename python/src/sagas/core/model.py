@@ -182,6 +182,12 @@ class Attempt:
         return step is not None and step.kind == "wait" and self.kind == Action.RUN
 
     @property
+    def is_child(self) -> bool:
+        """Whether another saga does it."""
+        step = self.instance.kind.steps[self.step]
+        return step is not None and step.starts_child(self.kind)
+
+    @property
     def is_remote(self) -> bool:
         """Whether its function is called by a worker of a queue."""
         return self.action.is_remote

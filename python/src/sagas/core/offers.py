@@ -18,11 +18,13 @@ def offer(attempt: Attempt, shard: int, now: float) -> Offer:
     One of a queue is offered under a lease at once: a message goes out with it, and no worker
     claims it.
     """
+    instance = attempt.instance
+    why = instance.why_draining if instance.draining and not attempt.undo else None
     if attempt.is_remote:
-        return (attempt.token(), shard, *attempt.row, "", None, int(now * 1000), now)
+        return (attempt.token(), shard, *attempt.row, "", None, int(now * 1000), now, why)
     task = task_name(attempt.saga, attempt.name, attempt.kind)
     bound = attempt.declared.concurrency if attempt.kind == Action.RUN else None
-    return (attempt.token(), shard, *attempt.row, task, bound, None, now)
+    return (attempt.token(), shard, *attempt.row, task, bound, None, now, why)
 
 
 def first_offer(attempt: Attempt, shard: int, now: float) -> Offer:

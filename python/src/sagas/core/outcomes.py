@@ -108,7 +108,7 @@ def failure(
         told["called"] = False
     if retry_after is not None:
         told["retry_after"] = retry_after
-    return Outcome(PERMANENT if final else FAILED, json.dumps(told), called)
+    return Outcome(PERMANENT if final else FAILED, serialization.write(told), called)
 
 
 def unknown(text: str) -> Outcome:

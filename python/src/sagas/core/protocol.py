@@ -20,6 +20,13 @@ TASKS = '"tasks":[{'
 PLAN = '"task":"plan"'
 UNDO = '"task":"undo"'
 FIRST = '"attempt":1'
+ANSWER = ',"answer":{'
+NO_ANSWER = ',"answer":null'
+KEPT = ',"kept":['
+NAME = ',"name":"'
+PHASE = '","phase":"'
+STATES = ',"states":['
+PLANNED = '"kind":"plan"'
 
 
 def open_line(place: int, number: int) -> str:
@@ -85,6 +92,16 @@ def tasks_in(reply: str) -> list[tuple[int, int, str, int]] | None:
             )
         )
     return found
+
+
+def standing(reply: str) -> tuple[str, str]:
+    """Of a reply to `show`: the saga's phase, and how it stands, as the store keeps that."""
+    head, _, rest = reply.rpartition(NAME)  # a quote in a text is not plain
+    _, _, rest = rest.partition(PHASE)
+    phase, _, rest = rest.partition('"')
+    if ANSWER not in head:
+        head = head.replace(KEPT, f"{NO_ANSWER}{KEPT}", 1)
+    return phase, head + rest[rest.index(STATES) :]
 
 
 def number_in(reply: str) -> int:

@@ -20,13 +20,14 @@ from typing import Any
 from sagas.core import protocol
 from sagas.core.attempts import PARKED
 from sagas.core.batch import HeldRow, Loaded, OpenRow
+from sagas.core.early_reports import ATTEMPT
 from sagas.core.effects import Abort, Effects
 from sagas.core.exhaustion import FAILED_BEFORE
 from sagas.core.model import FINISHED, Attempt, SagaInstance
 from sagas.core.outcomes import SUCCEEDED, Outcome, failure
 from sagas.core.replies import Reading
 from sagas.core.shard import ShardDriver
-from sagas.core.states import EnginePhase, OutcomeKind, Suspension
+from sagas.core.states import EarlyReason, EnginePhase, OutcomeKind, Suspension
 from sagas.definition.capacity import SHARD_CAPACITY
 from sagas.definition.start_options import StartOptions
 
@@ -143,7 +144,7 @@ def recover(
     ]
     _put_rows(driver, rows)
     for number, reply in zip(_odd(rows), replies[1:], strict=True):
-        _show(found.effects, driver, number, json.loads(reply))
+        _show(found.effects, driver, number, reply)
     _resume(found, driver, rows, old, json.loads(replies[0])["busy"])
     for abort in aborts:
         _abort_again(found, driver, abort)
@@ -180,7 +181,11 @@ def _put_rows(driver: ShardDriver, rows: Loaded) -> None:
     """Put into the sagas what the store has of their steps."""
     for id, step, kind, _, outcome, value, at in rows.results:
         _put_result(driver.sagas[id % SHARD_CAPACITY], step, kind, outcome, value or "null", at)
-    for id, step, kind, _, why, _, _, until, _ in rows.held:
+    for id, step, kind, number, why, _, _, until, text in rows.held:
+        if number == ATTEMPT:
+            early = driver.sagas[id % SHARD_CAPACITY].rare.early
+            early[step, kind] = (EarlyReason(why), text or "")
+            continue
         reason = Suspension(why)
         if reason is Suspension.CANNOT_DECODE and until is None:
             continue  # it may be a wait that could not say until when
@@ -210,11 +215,11 @@ def _put_result(
             saga.rare.final.add((step, kind))
 
 
-def _show(effects: Effects, driver: ShardDriver, number: int, told: dict[str, Any]) -> None:
-    saga = driver.sagas[number]
+def _show(effects: Effects, driver: ShardDriver, number: int, reply: str) -> None:
+    saga, told = driver.sagas[number], json.loads(reply)
     saga.odd, saga.aborted, saga.answer = True, told["aborted"], told.get("answer")
     saga.draining = told["phase"] in (EnginePhase.DRAINING, EnginePhase.PLANNING)
-    Reading(driver, effects).shown(number, told)
+    Reading(driver, effects).shown(number, reply)
 
 
 def _resume(
@@ -252,10 +257,13 @@ def _put_suspension(attempt: Attempt, row: HeldRow) -> None:
     _, _, _, _, why, count, since, until, error = row
     reason = Suspension(why)
     attempt.reason, attempt.since, attempt.until, attempt.has_row = reason, since, until, True
+    attempt.rare.noted = why
     if reason in FAILED_BEFORE:
         attempt.rare.failures, attempt.outcome = count, failure(error or "")
         return
-    if count:
+    if reason is Suspension.CHILD:
+        attempt.rare.failures = count
+    elif count:
         attempt.rare.count = count
     if reason in PARKED:
         attempt.outcome = Outcome(OutcomeKind(reason.value), error or "")

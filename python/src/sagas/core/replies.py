@@ -4,11 +4,13 @@ from __future__ import annotations
 
 import json
 from collections.abc import Iterator, Sequence
-from typing import TYPE_CHECKING, Any
+from typing import TYPE_CHECKING
 
-from sagas.core import protocol
+from sagas.core import announcements, protocol, spans
 from sagas.core.attempts import PARKED
 from sagas.core.batch import Opened, Result
+from sagas.core.early_reports import ATTEMPT
+from sagas.core.early_reports import stored as stored_report
 from sagas.core.effects import Abort, Effects, Question
 from sagas.core.model import Attempt, SagaInstance
 from sagas.core.offers import first_offer
@@ -64,6 +66,10 @@ class Reading:
             self._opens(asked.opens, left)
         if asked.claims:
             self._next(next(left))
+        for number, reply in zip(asked.looks, left):
+            if number in self._over:
+                del self._over[number]
+                self.shown(number, reply)
         return [*self._over] if self._over else ()
 
     # -- tasks
@@ -100,7 +106,8 @@ class Reading:
 
     def _offer(self, attempt: Attempt) -> None:
         """Who does it elsewhere may have it as soon as it has begun, if that is at once."""
-        if attempt.is_external and attempt.attempt == 1 and not attempt.instance.draining:
+        is_first = attempt.is_external and attempt.attempt == 1 and not attempt.instance.draining
+        if is_first and stored_report(attempt.instance, attempt.word) is None:
             row = first_offer(attempt, self._driver.number, self._batch.at)
             self._batch.more.offers.append(row)
 
@@ -139,9 +146,12 @@ class Reading:
         keeps until when, or that its time is over.
         """
         batch = self._batch
+        if attempt.extras is not None and attempt.extras.spans:
+            batch.more.spans += spans.taken(attempt)
         keeps = attempt.event == "missed" and attempt.is_wait and not attempt.instance.draining
         if attempt.has_row and not keeps:
             batch.more.freed.append(attempt.row)
+            attempt.instance.rare.early.pop(attempt.word, None)
             if attempt.is_wait:
                 attempt.instance.rare.due.pop(attempt.word, None)
         elif attempt.has_row and attempt.reason in PARKED:
@@ -163,6 +173,7 @@ class Reading:
         saga.raised(attempt.step, outcome.value, outcome.called)
         if event in ("fail", "undo_fail"):
             saga.draining = True
+            self._cancel(saga)
             self._effects.draining.append(saga)
         elif outcome.called:
             saga.missed(attempt.word, attempt.at, json.loads(outcome.value))
@@ -174,8 +185,15 @@ class Reading:
             abort.done = reply.startswith(protocol.EVENT)
             if abort.done:
                 abort.saga.odd = abort.saga.aborted = abort.saga.draining = True
+                self._cancel(abort.saga)
             self._batch.answer(abort.command, "true" if abort.done else "false")
         self._effects.aborted = aborts
+
+    def _cancel(self, saga: SagaInstance) -> None:
+        """What workers do of it may not be wanted any more."""
+        if saga.kind.has_external:
+            row = (saga.why_draining, self._driver.number * SHARD_CAPACITY + saga.number)
+            self._batch.more.cancelled.append(row)
 
     # -- opens
 
@@ -200,6 +218,8 @@ class Reading:
                 batch.opened.append(row)
                 if labels:
                     batch.more.labels += [(id, *label) for label in labels.items()]
+                if saga.options.parent is not None:
+                    batch.more.children.append((id, saga.options.parent))
                 there.append(saga)
                 continue
             # those behind one that was passed over have numbers that are not the next ones
@@ -237,16 +257,14 @@ class Reading:
             else:
                 self._end(saga, phase, saga.kind.all_done)
 
-    def shown(self, number: int, told: dict[str, Any]) -> None:
+    def shown(self, number: int, reply: str) -> None:
         """Read how a saga stands: if it is over, the batch says so."""
+        phase, text = protocol.standing(reply)
         saga = self._driver.sagas.get(number)
-        if saga and not saga.over and told["phase"] in (EnginePhase.ENDED, EnginePhase.STUCK):
-            end = {word: told.get(word) for word in ("aborted", "answer", "kept", "states")}
-            text = json.dumps(end, separators=(",", ":"), sort_keys=True)
-            is_plan = (told.get("answer") or {}).get("kind") == "plan"
-            recovered = told["phase"] == EnginePhase.ENDED and is_plan
-            undo_failed = recovered and UNDO_FAILED in told["states"]
-            self._end(saga, told["phase"], text, recovered, undo_failed)
+        if saga and not saga.over and phase in (EnginePhase.ENDED, EnginePhase.STUCK):
+            recovered = phase == EnginePhase.ENDED and protocol.PLANNED in text
+            undo_failed = recovered and f'"{UNDO_FAILED}"' in text
+            self._end(saga, phase, text, recovered, undo_failed)
 
     def _end(
         self, saga: SagaInstance, phase: str, end: str, recovered: bool = False,
@@ -255,7 +273,12 @@ class Reading:
         saga.phase, saga.end = phase, end
         batch, id = self._batch, self._driver.identity.number * SHARD_CAPACITY + saga.number
         batch.ended.append((phase, end, recovered, undo_failed, batch.at, id))
+        if saga.kind.hooks:
+            told = announcements.of_end(saga, id, phase, recovered, batch.at)
+            batch.more.deliveries += told
         if saga.has_due:  # a wait that is retried kept its row for an attempt that never came
             freed = [(id, step, kind, LAST_ATTEMPT) for step, kind in saga.rare.due]
             batch.more.freed += freed
+        if saga.has_early:  # the steps never began
+            batch.more.freed += [(id, *word, ATTEMPT) for word in saga.rare.early]
         self._effects.ended.append(saga)

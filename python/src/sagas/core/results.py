@@ -303,7 +303,8 @@ class ActiveAttempt:
         waits: For what it waits; empty while its function runs. `concurrency`, `fleet_concurrency`
             or `rate_limit` of its step; `slot` (of the store's `concurrency`); `backoff`; `worker`
             (no worker has it yet); `external` (a worker has it); `ordered` (it is in its Celery
-            queue, or a worker has it); `wait` (for its time); `approval`; `unknown`.
+            queue, or a worker has it); `wait` (for its time); `approval`; `unknown`; `child` (for
+            the end of its child saga).
         until: When that ends, in seconds since 1970, or None.
         progress: The fraction that its function reported last (`Task.progress`), or None.
         detail: The text that it reported with it, or None.

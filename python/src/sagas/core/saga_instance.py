@@ -108,6 +108,11 @@ class SagaInstance:
         return self._extras is not None and bool(self._extras.due)
 
     @property
+    def has_early(self) -> bool:
+        """Whether the store has a report of a step that has not begun."""
+        return self._extras is not None and bool(self._extras.early)
+
+    @property
     def id(self) -> int:
         """Its number in the store."""
         assert self.shard

@@ -27,10 +27,9 @@ import json
 from collections import deque
 from collections.abc import Iterable, Sequence
 
-from sagas.core import offers, protocol
+from sagas.core import endings, offers, protocol, suspension_rows
 from sagas.core.batch import Batch, Born, Loaded
 from sagas.core.effects import Abort, Effects, Question
-from sagas.core.exhaustion import FAILED_BEFORE, RETRIED
 from sagas.core.model import Attempt, SagaInstance
 from sagas.core.outcomes import SUCCEEDED
 from sagas.core.replies import Reading
@@ -193,15 +192,7 @@ class ShardDriver:
     def suspended(self, attempt: Attempt, row: SuspensionRow, now: float) -> Effects:
         """Keep why an attempt waits: the batch is its row."""
         effects = self.effects(now)
-        count = attempt.failures if row.reason in FAILED_BEFORE else attempt.count
-        held = (*attempt.row, row.reason.value, count, attempt.since, row.until, row.error)
-        effects.batch.more.held.append(held)
-        if attempt.is_external and row.reason in RETRIED:
-            state = "person" if row.until is None and not attempt.is_remote else "suspended"
-            effects.batch.more.suspended.append((attempt.token(), self.number, state))
-        if attempt.request is not None:
-            effects.batch.answer(attempt.request, "true")
-            attempt.rare.request = None
+        suspension_rows.put(effects.batch, attempt, row, self.number)
         effects.suspended = (attempt,)
         return effects
 
@@ -242,8 +233,10 @@ class ShardDriver:
         if lines:
             self.hungry = True
         if self.hungry and free_slots > 0:
-            asked.claims = min(max(len(lines) + 1 + asked.plans, self._more), free_slots)
+            most = max(len(lines) + 1 + asked.plans, self._more)
+            asked.claims = min(most, free_slots + asked.plans)
             lines.append(protocol.next_line(asked.claims))
+        lines += map(protocol.show_line, asked.looks)
         if not lines:
             self.asked = None
         return lines
@@ -255,6 +248,7 @@ class ShardDriver:
         if len(lot) > MOST_REPORTS:
             lot, self.reports = lot[:MOST_REPORTS], dict.fromkeys(lot[MOST_REPORTS:])
         self.reporting.append(lot)
+        odd: list[Attempt] = []
         for attempt in lot:
             saga, outcome = attempt.instance, attempt.outcome
             assert outcome
@@ -265,10 +259,11 @@ class ShardDriver:
                 )
             )
             saga.busy.pop(attempt.action.word, None)
-            if not is_good:
-                self.asked.plans += 1
-            if not is_good or attempt.kind == "undo":
+            if saga.odd or not is_good or attempt.kind == "undo":
                 saga.odd = True
+                odd.append(attempt)
+        if odd:
+            self.asked.plans, self.asked.looks = endings.expected(odd)
         return lot
 
     def _ask_opens(self, lines: list[str]) -> Sequence[SagaInstance]:
@@ -300,20 +295,15 @@ class ShardDriver:
         asked = self.asked
         assert asked
         if asked.effects is not None:
-            return self._shown(asked, asked.effects, replies)
+            reading = Reading(self, asked.effects)
+            for number, reply in zip(asked.shows, replies, strict=True):
+                reading.shown(number, reply)
+            return self._answered(asked, asked.effects)
         effects = asked.effects = self.effects(now)
         effects.batch.text = log_text
         asked.shows = Reading(self, effects).replies(asked, replies)
         if asked.shows:  # how they ended goes into the same batch
             return [protocol.show_line(number) for number in asked.shows]
-        return self._answered(asked, effects)
-
-    def _shown(
-        self, asked: Question, effects: Effects, replies: Sequence[str]
-    ) -> Effects | list[str]:
-        reading = Reading(self, effects)
-        for number, reply in zip(asked.shows, replies, strict=True):
-            reading.shown(number, json.loads(reply))
         return self._answered(asked, effects)
 
     def _answered(self, asked: Question, effects: Effects) -> Effects:

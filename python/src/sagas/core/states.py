@@ -62,8 +62,17 @@ class Suspension(enum.StrEnum):
     APPROVAL = "approval"
     EXTERNAL = "external"
     """An external worker does it, or will."""
+    CHILD = "child"
+    """Another saga does it, or will."""
     STEP_LIMIT = "limit"
     FLEET_LIMIT = "fleet"
+
+
+class EarlyReason(enum.StrEnum):
+    """How a step was reported that has not begun; the text is stored as the reason of attempt 0."""
+
+    RESULT = "early_result"
+    ERROR = "early_error"
 
 
 class OutcomeKind(enum.StrEnum):
@@ -221,6 +230,7 @@ WAITS_FOR: Mapping[str, str] = {
     Suspension.TIMER: "its time",
     Suspension.APPROVAL: "an approval",
     Suspension.EXTERNAL: "an external worker",
+    Suspension.CHILD: "the end of its child saga",
     Suspension.STEP_LIMIT: "a slot of its concurrency",
     Suspension.FLEET_LIMIT: "its fleet_concurrency or its rate_limit",
     "concurrency": "a slot of its concurrency",

@@ -8,7 +8,7 @@ from typing import Any
 
 from sagas.base.logger import logger
 from sagas.core.batch import Wanted
-from sagas.core.states import Suspension
+from sagas.core.states import EarlyReason, Suspension
 from sagas.definition import serialization
 from sagas.definition.compiled import Word
 from sagas.definition.control import Control
@@ -57,6 +57,12 @@ class AttemptExtras:
     """What its function hears and tells, once one of them was asked for."""
     request: Wanted = None
     """The operator's command that finished it."""
+    spans: list[tuple[str, float, str | None]] = dataclasses.field(default_factory=list)
+    """What was noted of it and is not stored (`core.spans`)."""
+    noted: str = ""
+    """The word that was noted last."""
+    notes: int = 0
+    """How often something was noted."""
 
 
 @dataclasses.dataclass(slots=True)
@@ -73,6 +79,8 @@ class SagaExtras:
     """What each step raised last."""
     due: dict[Word, float] = dataclasses.field(default_factory=dict)
     """Of waits: until when; 0 once that is over."""
+    early: dict[Word, tuple[EarlyReason, str]] = dataclasses.field(default_factory=dict)
+    """What is reported of steps that have not begun: which kind, and its text as it is stored."""
     tenant: str | None = None
     """Whose it is, as JSON; None until that is asked."""
 

@@ -6,13 +6,22 @@ import dataclasses
 import hashlib
 import json
 import re
-from collections.abc import Callable, Iterable, Iterator
+from collections.abc import Callable, Iterable, Iterator, Mapping
 from typing import Any
 
 import tomllib
 
 from sagas.base.errors import CannotDecode, DefinitionError, InvalidInput, TooLarge
-from sagas.definition import capacity, decoders, mismatches, serialization, type_checks, validation
+from sagas.definition import (
+    capacity,
+    children,
+    decoders,
+    mismatches,
+    serialization,
+    type_checks,
+    undo_sagas,
+    validation,
+)
 from sagas.definition.capacity import MOST_DEFINITIONS, SHARD_CAPACITY
 from sagas.definition.context import Context
 from sagas.definition.decoders import Decoder
@@ -108,9 +117,14 @@ def needs_in(steps: list[dict[str, Any]]) -> int:
     return sum(len(step.get("needs", ())) for step in steps)
 
 
+Hooks = Mapping[str, tuple[str, ...]]
+"""The webhooks that are told, by the type of what is told."""
+
+
 class Kind:
     """A definition on a log's shelf. `steps` has None where the program has no such step any
-    more. `context`: what their functions share; `payloads`: how their values are stored.
+    more. `context`: what their functions share; `payloads`: how their values are stored; `hooks`:
+    who is told of its sagas.
     """
 
     def __init__(
@@ -118,6 +132,7 @@ class Kind:
         payloads: Payloads = PLAIN_PAYLOADS,
     ) -> None:  # fmt: skip
         self.payloads = payloads
+        self.hooks: Hooks = {}
         told = tomllib.loads(text)
         listed = told["step"]
         self.text, self.name, self.version = text, str(told["name"]), version_of(text)
@@ -135,12 +150,9 @@ class Kind:
             [[place[need] for need in step.get("needs", ())] for step in listed]
         )
         self.fits = capacity.fits(self.count, needs_in(listed))
-        told_hints = [
-            decoders.hints(step.run.function) if step and step.run.function else (None, None)
-            for step in self.steps
-        ]
+        told_hints = [children.hints(step) for step in self.steps]
         self.inputs = [hint for hint, _ in told_hints]
-        self.undo_inputs = [
+        undo_inputs = [
             decoders.hints(step.undo.function)[0] if step and step.undo.function else None
             for step in self.steps
         ]
@@ -155,7 +167,7 @@ class Kind:
         )
         self.actions = {
             "run": self._actions("run", self.inputs, context or Context()),
-            "undo": self._actions("undo", self.undo_inputs, context or Context()),
+            "undo": self._actions("undo", undo_inputs, context or Context()),
         }
         self.firsts = self._firsts(
             [
@@ -170,9 +182,7 @@ class Kind:
             name: decoder for name, (_, decoder) in zip(self.names, told_hints) if decoder
         }
         # stored values are made into others
-        self.reads = bool(
-            payloads.codec or self.decoders or any(self.inputs) or any(self.undo_inputs)
-        )
+        self.reads = bool(payloads.reads or self.decoders or any(self.inputs) or any(undo_inputs))
 
     @property
     def count(self) -> int:
@@ -251,7 +261,9 @@ class Kind:
             results = {step: self.payloads.decode(told) for step, told in results.items()}
         except CannotDecode as error:
             return str(error)
-        for number, (run, undo) in enumerate(zip(self.inputs, self.undo_inputs)):
+        for number, (run, undo) in enumerate(
+            zip(self.inputs, (one.hint for one in self.actions["undo"]))
+        ):
             for hint in (run, undo):
                 if hint and (fault := _fault(text, hint)):
                     return f"step {self.names[number]!r}: input{fault}"
@@ -299,6 +311,7 @@ class Shelf:
     def __init__(self, sagas: Iterable[Saga], payloads: Payloads = PLAIN_PAYLOADS) -> None:
         self.sagas: dict[tuple[str, int], Saga] = {}
         self.context, self.payloads = Context(), payloads
+        self._hooks: Callable[[str], Hooks] = lambda name: {}
         if isinstance(sagas, Saga) or not isinstance(sagas, Iterable):
             raise DefinitionError(
                 f"expected a list of sagas, got {sagas!r}. Write open(..., [trip])"
@@ -315,6 +328,7 @@ class Shelf:
             self.sagas[name] = saga
         if not self.sagas:
             raise DefinitionError("a store needs at least one saga")
+        self.sagas = undo_sagas.with_undo_sagas(self.sagas)
         self.shelf, self.texts = shelf_of(self.sagas.values())
         self._kinds: dict[str, Kind] = {}
         self.kinds = [self.kind(text) for text in self.texts]
@@ -325,11 +339,13 @@ class Shelf:
         self._sets = dict(self._divided())
 
     def _check_queues(self) -> None:
-        """Raises `DefinitionError` where workers would read stored values without the codec."""
-        for kind in self.kinds if self.payloads.codec else ():
+        """Raises `DefinitionError` where workers would read stored values without the codec or the
+        blobs."""
+        word = "codec" if self.payloads.codec else "blobs"
+        for kind in self.kinds if self.payloads.reads else ():
             for action in (one for of in kind.actions.values() for one in of if one.is_remote):
                 raise DefinitionError(
-                    f"saga {kind.name!r}, step {action.name!r}: a store with codec= cannot "
+                    f"saga {kind.name!r}, step {action.name!r}: a store with {word}= cannot "
                     "have steps with queue=, because their workers read stored values themselves"
                 )
 
@@ -346,8 +362,15 @@ class Shelf:
             name = re.search(r'^name = "(.*)"$', text, re.M)
             assert name
             saga = self.sagas.get((name[1], version_of(text)))
-            self._kinds[text] = Kind(text, saga, self.context, self.payloads)
+            kind = self._kinds[text] = Kind(text, saga, self.context, self.payloads)
+            kind.hooks = self._hooks(kind.name)
         return self._kinds[text]
+
+    def announce(self, hooks: Callable[[str], Hooks]) -> None:
+        """Let webhooks be told of sagas: `hooks` gives them by the name of the saga."""
+        self._hooks = hooks
+        for kind in self._kinds.values():
+            kind.hooks = hooks(kind.name)
 
     def set_of(self, kind: Kind) -> DefinitionSet:
         """The definitions of the logs that take new sagas of this one."""

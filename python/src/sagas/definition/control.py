@@ -56,6 +56,7 @@ class Cancellation:
         self._lock = threading.Lock()
         self._set = threading.Event()
         self._waiting: list[tuple[asyncio.AbstractEventLoop, asyncio.Future[None]]] = []
+        self._for_abort: list[tuple[asyncio.AbstractEventLoop, asyncio.Future[None]]] = []
 
     def is_set(self) -> bool:
         """Return whether it is cancelled."""
@@ -89,13 +90,24 @@ class Cancellation:
         assert self.reason
         return self.reason
 
+    async def aborted(self) -> None:
+        """Wait until somebody has aborted the saga, whatever the first reason was."""
+        loop = asyncio.get_running_loop()
+        with self._lock:
+            if self.reason == "aborted":
+                return
+            self._for_abort.append((loop, future := loop.create_future()))
+        await future
+
     def set(self, reason: str) -> None:
         """Set it. Of a later reason only that somebody aborted the saga takes the first's place."""
         with self._lock:
-            if self.reason is not None:
-                self.reason = reason if reason == "aborted" else self.reason
+            is_abort = reason == "aborted"
+            if self.reason is not None and not is_abort:
                 return
             self.reason, waiting, self._waiting = reason, self._waiting, []
+            if is_abort:
+                waiting, self._for_abort = waiting + self._for_abort, []
         self._set.set()
         for loop, future in waiting:
             with contextlib.suppress(RuntimeError):  # that loop is closed

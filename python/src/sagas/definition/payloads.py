@@ -8,6 +8,7 @@ import re
 from typing import Any, Protocol
 
 from sagas.base.errors import CannotDecode, NotSerializable
+from sagas.definition.blobs import HEAD, Reference
 
 ENVELOPE = re.compile(r'\{"\$codec":"([A-Za-z0-9+/]*={0,2})"\}\Z')
 """A stored value that a codec made. It is JSON, so that programs without the codec can list it."""
@@ -40,15 +41,22 @@ class Payloads:
     one, texts of a time without it can still be read.
     """
 
-    def __init__(self, codec: Codec | None = None) -> None:
-        self.codec = codec
+    def __init__(self, codec: Codec | None = None, has_blobs: bool = False) -> None:
+        self.codec, self.has_blobs = codec, has_blobs
+
+    @property
+    def reads(self) -> bool:
+        """Whether what is stored may be something else than the value."""
+        return self.codec is not None or self.has_blobs
 
     def encode(self, text: str) -> str:
         """Return a text as it is stored; one that is encoded already as it is.
 
         Raises:
-            NotSerializable: The codec failed.
+            NotSerializable: The codec failed, or the text looks as a reference to a blob.
         """
+        if text.startswith(HEAD) and Reference.of(text):
+            raise NotSerializable("it looks as a reference to a blob. Use another key than $blob")
         if self.codec is None or ENVELOPE.match(text):
             return text
         try:
@@ -63,8 +71,11 @@ class Payloads:
         """Return a text as it was before it was stored.
 
         Raises:
-            CannotDecode: The codec failed: the key is not there, say.
+            CannotDecode: The codec failed: the key is not there, say. Or it refers to a blob that
+                is missing.
         """
+        if text.startswith(HEAD) and Reference.of(text):
+            raise CannotDecode("its value is not in the blob store, or no blob store was given")
         if self.codec is None or not (found := ENVELOPE.match(text)):
             return text
         try:
@@ -80,7 +91,7 @@ class Payloads:
         """As `decode`, of a value that is a part of another one."""
         return (
             value
-            if self.codec is None
+            if not self.reads
             else json.loads(self.decode(json.dumps(value, separators=(",", ":"))))
         )
 
@@ -88,8 +99,8 @@ class Payloads:
 PLAIN = Payloads()
 
 
-def checked(codec: Any) -> Payloads:
-    """Return how values are stored, by an argument `codec`.
+def checked(codec: Any, has_blobs: bool = False) -> Payloads:
+    """Return how values are stored, by an argument `codec`, and whether there are blobs.
 
     Raises:
         TypeError: It is no codec.
@@ -101,4 +112,4 @@ def checked(codec: Any) -> Payloads:
                     f"codec={type(codec).__name__}: must have the functions encode and decode, "
                     "each from bytes to bytes"
                 )
-    return PLAIN if codec is None else Payloads(codec)
+    return PLAIN if codec is None and not has_blobs else Payloads(codec, has_blobs)

@@ -11,6 +11,7 @@ from sagas.base import program
 from sagas.base.errors import DefinitionError
 from sagas.base.wording import number
 from sagas.definition import validation, warnings
+from sagas.definition.children import ChildSteps
 from sagas.definition.step import (
     MANY_TRIES,
     NEVER,
@@ -34,7 +35,7 @@ from sagas.definition.step import (
 )
 
 
-class Saga:
+class Saga(ChildSteps):
     """Declare a kind of saga: a name, a version, and its steps in order.
 
     Sagas of an older version go on by its functions, as long as `open` is given both versions.

@@ -23,10 +23,12 @@ class StartOptions:
     Attributes:
         labels: Its labels; the store has them once it is committed.
         deadline: When it is aborted if it has not ended, in seconds of wall time, or None.
+        parent: The id of the saga that starts it, or None; the store has it once it is committed.
     """
 
     labels: Labels = dataclasses.field(default_factory=lambda: labels_module.NONE)
     deadline: float | None = None
+    parent: int | None = None
 
 
 NONE = StartOptions()

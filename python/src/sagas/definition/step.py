@@ -134,13 +134,8 @@ class Decorator:
     def __init__(
         self, saga: Saga, what: str, name: str | None, declare: Callable[[Any], Any]
     ) -> None:
-        self.where, self.what, self.name, self._declare, self._saga = (
-            validation.caller(3),
-            what,
-            name,
-            declare,
-            saga,
-        )
+        self.where, self.what, self.name = validation.caller(3), what, name
+        self._declare, self._saga = declare, saga
         saga.decorators.append(self)
 
     def __call__(self, function: Callable[[Any], Any]) -> Any:
@@ -206,14 +201,14 @@ def nothing(task: Task[Any]) -> None:
 class Step(Generic[R]):
     """Hold a step of a saga, whose function returns `R`.
 
-    Made by `Saga.step`, `Saga.wait` and `Saga.approval`. Call it with a task to call its function
-    in a test.
+    Made by `Saga.step`, `Saga.wait`, `Saga.approval` and `Saga.child`. Call it with a task to call
+    its function in a test.
 
     Attributes:
         saga: The `Saga`.
         name: The step's name.
         where: File and line of the declaration.
-        kind: `step`, `wait` or `approval`.
+        kind: `step`, `wait`, `approval` or `child`.
         run: How the function is called.
         undo: How the compensation is called.
         concurrency: As given to `Saga.step`.
@@ -221,6 +216,7 @@ class Step(Generic[R]):
         bounds: `fleet_concurrency` and `rate_limit`, as given to `Saga.step`.
         until: As given to `Saga.wait`.
         approval_timeout: The `timeout` of `Saga.approval`.
+        child: The definition of `Saga.child`, or None.
     """
 
     def __init__(
@@ -240,6 +236,7 @@ class Step(Generic[R]):
         self.bounds: Bounds | None = None
         self.until: Until | None = None
         self.approval_timeout: datetime.timedelta | None = None
+        self.child: Saga | None = None
         self._costs, self._needs = costs, needs
 
     @property
@@ -259,9 +256,11 @@ class Step(Generic[R]):
             word: `run`, `undo`, `skip` or `keep`.
         """
         given = self._costs[word]
-        if given is None:
-            return 0 if self.has_compensation else NEVER
-        return given
+        if given is not None:
+            return given
+        if self.child is not None and (word == "keep" or self.undo.implied):
+            return self.child.total_cost(word)
+        return 0 if self.has_compensation else NEVER
 
     def manner(self, kind: str) -> Manner:
         """Return how its function or its compensation is called.
@@ -270,6 +269,14 @@ class Step(Generic[R]):
             kind: `run`, or `undo` for the compensation.
         """
         return self.run if kind == "run" else self.undo
+
+    def starts_child(self, kind: str) -> bool:
+        """Return whether another saga does it, or its compensation.
+
+        Args:
+            kind: `run`, or `undo` for the compensation.
+        """
+        return self.child is not None and (kind == "run" or self.undo.implied)
 
     @overload
     def compensation(self, function: Callable[[Any], Any], /) -> Callable[[Any], Any]:

@@ -84,11 +84,15 @@ def _never_called(saga: Saga, stays: dict[str, bool]) -> Iterator[str]:
     for step in _in_order(saga):
         undo, keep = step.cost("undo"), step.cost("keep")
         if isinstance(undo, int) and stays[step.name]:
+            remedy = (
+                f"Set keep= to more than {undo}, or remove the compensation"
+                if keep
+                else "Set keep= to the cost of leaving its effect in place after a failure"
+            )
             yield (
                 f"{step.where}: saga {saga.name!r}, step {step.name!r}: the compensation can "
-                f"never be called, because keeping the step ({keep}) is cheaper than undoing "
-                f"it ({undo}). Set keep= to the cost of leaving its effect in place after a "
-                "failure"
+                f"never be called, because keeping the step (keep={keep}) costs less than "
+                f"undoing it (undo={undo}). {remedy}"
             )
 
 

@@ -9,7 +9,9 @@ from collections.abc import Iterable
 from typing import Any, Optional
 
 from sagas.core.attention import AttentionReason
-from sagas.inspection.lists import DEFINED, Names, chain_of
+from sagas.inspection import names as names_module
+from sagas.inspection.lists import chain_of
+from sagas.inspection.names import OF_SHARD, Names
 from sagas.inspection.question import Query, Question
 from sagas.storage.filters import Filter
 from sagas.storage.queries import PHASES
@@ -22,19 +24,21 @@ CAUSE = """(SELECT x.value FROM attempts x WHERE x.id = s.id AND x.event = 'fail
   ORDER BY x.at DESC, x.step LIMIT 1)"""
 """What the step raised that failed last."""
 STUCK = f"""
-SELECT s.id, -1 AS place, s.key, s.saga, f.texts, s.definition_index, '' AS action, s.outcome,
-  {CAUSE}, s.ended, NULL
-FROM sagas s {DEFINED} WHERE {PHASES["stuck"]}
+SELECT s.id, -1 AS place, s.key, s.saga, l.definition_set, s.definition_index, '' AS action,
+  s.outcome, {CAUSE}, s.ended, NULL
+FROM sagas s {OF_SHARD} WHERE {PHASES["stuck"]}
 """
 UNDO_FAILED = f"""
-SELECT s.id, r.step, s.key, s.saga, f.texts, s.definition_index, 'undo', NULL, r.value, r.at, NULL
-FROM sagas s JOIN attempts r ON r.id = s.id AND r.event = 'undo_fail' {DEFINED}
+SELECT s.id, r.step, s.key, s.saga, l.definition_set, s.definition_index, 'undo', NULL, r.value,
+  r.at, NULL
+FROM sagas s JOIN attempts r ON r.id = s.id AND r.event = 'undo_fail' {OF_SHARD}
 WHERE {PHASES["undo_failed"]}
 """
 HELD = f"""
-SELECT s.id, h.step, s.key, s.saga, f.texts, s.definition_index, h.action, NULL, h.detail, h.since,
-  h.until
-FROM suspensions h JOIN sagas s ON s.id = h.id {DEFINED} WHERE h.reason = """
+SELECT s.id, h.step, s.key, s.saga, l.definition_set, s.definition_index, h.action, NULL, h.detail,
+  h.since, h.until
+FROM suspensions h JOIN sagas s ON s.id = h.id AND s.phase IS NULL {OF_SHARD}
+WHERE h.reason = """
 BY_KIND = {
     "stuck": (STUCK, "-1"),
     "undo_failed": (UNDO_FAILED, "r.step"),
@@ -43,7 +47,6 @@ BY_KIND = {
     "cannot_decode": (f"{HELD} 'cannot_decode'", "h.step"),
     APPROVAL: (f"{HELD} 'approval'", "h.step"),
 }
-PHASE_OF = {"stuck": "stuck", "undo_failed": "undo_failed"}
 NOTHING = Filter()
 NUMBERS = re.compile(r"[0-9a-f]{8,}(?:-[0-9a-f]{4,})*|\d+")
 """What differs between errors of one cause: numbers, and names that are made of them."""
@@ -92,35 +95,33 @@ def entries(
     newest: bool = False,
     most: int = 100,
 ) -> Question[list[Entry]]:
-    """A page of one of `KINDS`, by the age of the sagas."""
+    """A page of one of `KINDS`, by the age of the sagas. `of`: without a phase."""
     text, place = BY_KIND[kind]
-    wheres, words = _among(kind, of)
+    wheres, words = _among(of)
     if after is not None:
         sign = "<" if newest else ">"
-        wheres.append(f"(s.id {sign} ? OR (s.id = ? AND {place} > ?))")
+        wheres.append(f"s.id {sign}= ? AND (s.id <> ? OR {place} > ?)")
         words += [after[0], *after]
     order = f"ORDER BY s.id{' DESC' if newest else ''}{'' if place == '-1' else ', ' + place}"
     wanted = most if step is None else MOST_GROUPED
     query = " AND ".join([text, *wheres]) + f" {order} LIMIT ?"
-    names = Names()
     rows = yield Query(query, (*words, wanted))
-    found = (_entry(kind, names, *row) for row in rows)
+    names = yield from names_module.of_sets(row[4] for row in rows)
+    found = (_entry(kind, names, *row) for row in rows if row[4] in names)
     return [one for one in found if step in (None, one.step)][:most]
 
 
-def _among(kind: str, of: Filter) -> tuple[list[str], list[Any]]:
-    """A condition on the sagas of a filter, and its words."""
-    if of == NOTHING:
-        return [], []
-    where, words = dataclasses.replace(of, phase=PHASE_OF.get(kind, "open")).where()
-    return [f"s.id IN (SELECT s.id FROM sagas s WHERE {where})"], words
+def _among(of: Filter) -> tuple[list[str], list[Any]]:
+    """A condition on the sagas of a filter, and its words. Few sagas need a person."""
+    where, words = of.where(of_few=True)
+    return [where], words
 
 
 def _entry(
-    kind: str, names: Names, id: int, place: int, key: str, saga: str, texts: str, index: int,
+    kind: str, names: Names, id: int, place: int, key: str, saga: str, digest: str, index: int,
     action: str, outcome: str | None, detail: str | None, *times: Any,
 ) -> Entry:  # fmt: skip
-    steps = names.of(texts, index)
+    steps = names.of(digest, index)
     blocking = chain_of(steps, outcome) if kind == AttentionReason.STUCK else []
     if detail is not None and kind in (AttentionReason.STUCK, AttentionReason.UNDO_FAILED):
         detail = str((json.loads(detail) or {}).get("error", ""))
@@ -134,7 +135,7 @@ def count(
     """How many there are of a kind; `by_saga`: of how many sagas."""
     if step is not None:
         return len((yield from entries(kind, of, step, most=MOST_GROUPED)))
-    wheres, words = _among(kind, of)
+    wheres, words = _among(of)
     text = " AND ".join([BY_KIND[kind][0], *wheres])
     what = "DISTINCT c.id" if by_saga else "*"
     rows = yield Query(f"SELECT count({what}) FROM ({text}) c", (*words,))

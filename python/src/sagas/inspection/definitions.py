@@ -6,21 +6,40 @@ import dataclasses
 import json
 from collections import Counter
 
-from sagas.inspection.lists import DEFINED, Names
+from sagas.definition.capacity import SHARD_CAPACITY
+from sagas.inspection import names as names_module
+from sagas.inspection.lists import PERSON, WAITS
 from sagas.inspection.question import Query, Question
+from sagas.storage.queries import PHASES
 
-MOST = 5000
+MOST, MOST_FAILED = 5000, 2000
+"""Sagas that were recovered last: of so many the costs are added, and the failures looked up."""
 DAY = 86400.0
 DAYS = 14
-AT_STEPS = f"""
-SELECT f.texts, s.definition_index, x.step, x.what, count(*) FROM (
-  SELECT id, step, CASE WHEN reason IN ('approval', 'unknown', 'cannot_decode') THEN 'person'
-    ELSE 'waits' END AS what FROM suspensions
-  UNION ALL SELECT id, step, 'worker' FROM external_attempts WHERE outcome IS NULL
-  UNION ALL SELECT id, step, 'failed' FROM attempts WHERE event IN ('fail', 'undo_fail')
-) x JOIN sagas s ON s.id = x.id {DEFINED} WHERE s.saga = ? AND s.note IS NULL
+AT = f"s.id / {SHARD_CAPACITY}, s.definition_index"
+HELD = f"""
+SELECT {AT}, h.step, CASE WHEN {PERSON} THEN 'person' ELSE 'waits' END, count(*)
+FROM suspensions h CROSS JOIN sagas s
+WHERE s.id = h.id AND {WAITS} AND s.saga = ? GROUP BY 1, 2, 3, 4
+"""
+OFFERED = f"""
+SELECT {AT}, e.step, CASE WHEN e.worker IS NULL THEN 'waits' ELSE 'worker' END, count(*)
+FROM external_attempts e CROSS JOIN sagas s
+WHERE s.id = e.id AND e.outcome IS NULL AND s.saga = ?
 GROUP BY 1, 2, 3, 4
 """
+FAILED = f"""
+SELECT {AT}, r.step, 'failed', count(*) FROM (
+  SELECT id, definition_index FROM sagas s
+  WHERE saga = ? AND {{}} ORDER BY id DESC LIMIT {MOST_FAILED}) s
+JOIN attempts r ON r.id = s.id AND r.event IN ('fail', 'undo_fail') GROUP BY 1, 2, 3
+"""
+WITH_FAILURES = (
+    FAILED.format(PHASES["open"]),
+    FAILED.format(PHASES["stuck"]),
+    FAILED.format(PHASES["recovered"]),
+)
+"""The sagas in which a step has failed, by the indexes of their phases."""
 COSTS = """
 SELECT ended, outcome FROM sagas WHERE saga = ? AND recovered AND ended >= ?
 ORDER BY id DESC LIMIT ?
@@ -29,21 +48,32 @@ ORDER BY id DESC LIMIT ?
 
 @dataclasses.dataclass(frozen=True, slots=True)
 class AtStep:
-    """Where sagas of a definition are: attempts that wait for a person, a worker or else at a step,
-    and how often it failed for good."""
+    """What is at a step: attempts that wait for a person, that a worker has, and that wait for
+    something else; and how often the step or its compensation failed permanently: of open and stuck
+    sagas, and of those recovered last, as far as nobody resolved them."""
 
     person: int = 0
     worker: int = 0
     waits: int = 0
     failed: int = 0
 
+    @property
+    def open(self) -> int:
+        """Attempts of the step that are not over."""
+        return self.person + self.worker + self.waits
+
 
 def at_steps(name: str) -> Question[dict[str, AtStep]]:
     """By the names of the steps."""
-    rows = yield Query(AT_STEPS, (name,), is_long=True)
-    names, found = Names(), dict[str, Counter[str]]()
-    for texts, place, step, what, count in rows:
-        found.setdefault(names.of(texts, place)[step], Counter())[what] += count
+    rows = []
+    for text in (HELD, OFFERED, *WITH_FAILURES):
+        rows += yield Query(text, (name,))
+    digests = yield from names_module.of_shards(shard for shard, *_ in rows)
+    names, found = (yield from names_module.of_sets(digests.values())), dict[str, Counter[str]]()
+    for shard, place, step, what, count in rows:
+        if shard in digests and digests[shard] in names:  # else it was let go meanwhile
+            named = names.of(digests[shard], place)[step]
+            found.setdefault(named, Counter())[what] += count
     return {step: AtStep(**counts) for step, counts in found.items()}
 
 
@@ -52,9 +82,12 @@ def costs(name: str, now: float) -> Question[list[tuple[float, int, int]]]:
     first = (now // DAY - DAYS + 1) * DAY
     rows = yield Query(COSTS, (name, first, MOST))
     counts, sums = Counter[float](), Counter[float]()
+    known: dict[str | None, int] = {}  # most ended in one of a few ways
     for ended, outcome in rows:
-        cost = ((json.loads(outcome or "{}").get("answer")) or {}).get("cost")
+        if outcome not in known:
+            answer = json.loads(outcome or "{}").get("answer") or {}
+            known[outcome] = answer.get("cost") or 0
         day = ended // DAY * DAY
         counts[day] += 1
-        sums[day] += cost or 0
+        sums[day] += known[outcome]
     return [(day, counts[day], sums[day]) for day in (first + DAY * n for n in range(DAYS))]

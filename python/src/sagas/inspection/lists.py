@@ -3,10 +3,8 @@
 from __future__ import annotations
 
 import json
-from collections.abc import Callable, Collection, Iterable, Mapping
+from collections.abc import Callable, Collection, Mapping
 from typing import Any, Optional
-
-import tomllib
 
 from sagas.core import states
 from sagas.core.attention import Attention, AttentionReason
@@ -19,6 +17,8 @@ from sagas.definition import tokens, validation
 from sagas.definition.capacity import SHARD_CAPACITY
 from sagas.definition.compiled import Kind, version_of
 from sagas.definition.labels import Labels
+from sagas.inspection import names as names_module
+from sagas.inspection.names import OF_SHARD, Names
 from sagas.inspection.question import Query, Question, Row
 from sagas.inspection.views import Waits
 from sagas.storage import schedules as schedules_module
@@ -34,9 +34,6 @@ SUMMARY = (
     "s.id, s.key, s.saga, s.phase, s.at, s.ended, s.note, s.recovered, s.undo_failed, s.deadline, "
     f"{LABELS}"
 )
-DEFINED = f"""JOIN shards l ON l.shard = s.id / {SHARD_CAPACITY}
-JOIN definition_sets f ON f.definition_set = l.definition_set"""
-"""Beside a saga `s` its shard, and the texts of its shard's definitions."""
 HELD_BADLY = "((reason = 'unknown' AND until IS NULL) OR reason IN ('exhausted', 'cannot_decode'))"
 """The rows of attempts that need a person to say something, or another program. An approval is
 asked for, and no trouble."""
@@ -46,34 +43,29 @@ SAME = (
 )
 SUSPENDED = f"""(
   SELECT u.* FROM suspensions u WHERE NOT (reason IN ('unknown', 'retry') AND EXISTS (
-    SELECT 1 FROM external_attempts e WHERE {SAME.format("e", "u")} AND e.outcome IS NULL))
+    SELECT 1 FROM external_attempts e WHERE {SAME.format("e", "u")} AND e.outcome IS NULL)){{u}}
   UNION ALL SELECT e.id, e.step, e.action, e.number, 'external',
     coalesce((SELECT count FROM suspensions u WHERE {SAME.format("u", "e")}), 0), e.since, e.until,
     e.worker
-  FROM external_attempts e WHERE e.outcome IS NULL AND e.worker IS NOT NULL)"""
-"""What is suspended, and what a worker has; of what is offered again nobody waits for a time."""
+  FROM external_attempts e WHERE e.outcome IS NULL AND e.worker IS NOT NULL{{e}})"""
+"""What is suspended, and what a worker has; of what is offered again nobody waits for a time. With
+a further condition of each."""
+OF_KEY = " AND {}.id = (SELECT id FROM sagas WHERE key = ?)"
 PERSON = f"(reason = 'approval' OR {HELD_BADLY})"
-WAITS = "NOT (reason = 'wait' AND until = 0)"
-"""The row of a wait stays behind its time, so that nobody waits once more."""
+WAITS = "NOT (reason = 'wait' AND until = 0) AND number > 0"
+"""The row of a wait stays behind its time, so that nobody waits once more. Of attempt 0 are the
+reports of steps that have not begun."""
+COUNTS = f"""
+SELECT saga, 'completed', count(*) FROM sagas GROUP BY saga
+UNION ALL SELECT saga, 'open', count(*) FROM sagas s WHERE {PHASES["open"]} GROUP BY saga
+UNION ALL SELECT saga, CASE WHEN note IS NULL THEN 'stuck' ELSE 'resolved' END, count(*) FROM sagas
+  WHERE phase = 'stuck' GROUP BY 1, 2
+UNION ALL SELECT saga, CASE WHEN note IS NULL THEN 'recovered' ELSE 'resolved' END, count(*)
+  FROM sagas WHERE recovered GROUP BY 1, 2
+"""
+"""All sagas of each definition, and those of the phases that have an index: so nothing is sorted
+but names."""
 MOST = 100
-
-
-class Names:
-    """The names of steps, by the texts of a shard's definitions and the place of one."""
-
-    def __init__(self) -> None:
-        self._names: dict[tuple[str, int], list[str]] = {}
-
-    def of(self, texts: str, place: int) -> list[str]:
-        """The names of a definition's steps. A text is read once."""
-        if (texts, place) not in self._names:
-            self._names[texts, place] = step_names(json.loads(texts)[place])
-        return self._names[texts, place]
-
-
-def step_names(definition: str) -> list[str]:
-    """The names of a definition's steps."""
-    return [str(step["name"]) for step in tomllib.loads(definition)["step"]]
 
 
 def check_page(phase: str | None, after: int | None, limit: int) -> None:
@@ -99,9 +91,12 @@ def summary_of(row: Row) -> Summary:
 def counts() -> Question[Counts]:
     """How many sagas there are, by name and phase."""
     found: Counts = {}
-    rows = yield Query(f"SELECT saga, {PHASE}, count(*) FROM sagas GROUP BY 1, 2")
-    for saga, phase, count in rows:
-        found.setdefault(saga, dict.fromkeys(COUNTED, 0))[phase] = count
+    rows = yield Query(COUNTS)
+    for saga, phase, count in sorted(rows, key=lambda row: str(row[1]) != "completed"):
+        of = found.setdefault(saga, dict.fromkeys(COUNTED, 0))
+        of[phase] += count
+        if phase != "completed":  # so far these are all
+            of["completed"] -= count
     return dict(sorted(found.items()))
 
 
@@ -142,12 +137,12 @@ def count(filter: Filter) -> Question[int]:
 
 
 def asked(sagas: Definitions = None) -> Question[dict[str, int]]:
-    """How many things wait for a person: stuck sagas, compensations that failed for good,
-    approvals, and attempts of which nobody knows the outcome or whose stored values cannot be
-    read."""
+    """How many things wait for a person: stuck sagas, sagas of which a compensation failed
+    permanently, approvals, and attempts that are exhausted, whose outcome is unknown, or whose
+    stored values cannot be read."""
     within = ""
     if sagas is not None:
-        within = f" AND id IN (SELECT id FROM sagas WHERE {among(sagas)})"
+        within = f" AND id IN (SELECT id FROM sagas s WHERE {among(sagas)})"
     query = f"SELECT reason, count(*) FROM suspensions WHERE {PERSON}{within} GROUP BY reason"
     rows = yield Query(query, (*(sagas or ()),))
     held = {reason: count for reason, count in rows}
@@ -178,15 +173,16 @@ def page(
     """
     where, words = (of or Filter(phase, saga, labels, search, sagas)).where()
     wheres = [where]
-    for id, condition in ((before, "id < ?"), (after, "id > ?")):
+    for id, condition in ((before, "s.id < ?"), (after, "s.id > ?")):
         if id is not None:
             wheres.append(condition)
             words.append(id)
     order = "DESC" if (after is None if newest is None else newest) else "ASC"
-    query = f"SELECT {SUMMARY} FROM sagas s WHERE {' AND '.join(wheres)} ORDER BY id {order}"
-    if most is not None:
-        query += " LIMIT ?"
-        words.append(most)
+    condition = " AND ".join(wheres)
+    if most is not None:  # of others no labels are put together
+        lot = f"SELECT s.id FROM sagas s WHERE {condition} ORDER BY s.id {order} LIMIT ?"
+        condition, words = f"s.id IN ({lot})", [*words, most]
+    query = f"SELECT {SUMMARY} FROM sagas s WHERE {condition} ORDER BY s.id {order}"
     rows = yield Query(query, (*words,))
     return [summary_of(row) for row in rows]
 
@@ -205,32 +201,38 @@ def waits(
     wheres, words = [WAITS, among(sagas)], list[Any](sagas or ())
     if within is not None:
         condition, more = within.where()
-        wheres.append(f"h.id IN (SELECT id FROM sagas WHERE {condition})")
+        wheres.append(condition)
         words += more
     if person:
         wheres.append(PERSON)
-    for word, condition in ((why, "reason = ?"), (key, "key = ?")):
-        if word is not None:
-            wheres.append(condition)
-            words.append(word)
+    if why is not None:
+        wheres.append("reason = ?")
+        words.append(why)
+    held, keys = "suspensions", list[str]()
+    if key is not None and person:
+        wheres.append(f"h.id = h.id{OF_KEY.format('h')}")
+        words.append(key)
+    elif not person:
+        of = {part: OF_KEY.format(part) if key is not None else "" for part in ("u", "e")}
+        held, keys = SUSPENDED.format(**of), [key, key] if key is not None else []
     rows = yield Query(
         f"""
-        SELECT s.key, s.saga, f.texts, s.definition_index, {HELD}
-        FROM {"suspensions" if person else SUSPENDED} h JOIN sagas s ON s.id = h.id {DEFINED}
+        SELECT s.key, s.saga, l.definition_set, s.definition_index, {HELD}
+        FROM {held} h JOIN sagas s ON s.id = h.id {OF_SHARD}
         WHERE {' AND '.join(wheres)} ORDER BY h.since LIMIT ?
         """,
-        (*words, most),
+        (*keys, *words, most),
     )
-    names = Names()
-    return [_waits(names, *row) for row in rows]
+    names = yield from names_module.of_sets(row[2] for row in rows)
+    return [_waits(names, *row) for row in rows if row[2] in names]
 
 
 def _waits(
-    names: Names, key: str, saga: str, texts: str, place: int,
+    names: Names, key: str, saga: str, digest: str, place: int,
     id: int, step: int, action: str, number: int, why: str, count: int, *times: Any,
 ) -> Waits:  # fmt: skip
     since, until, detail = times
-    name = names.of(texts, place)[step]
+    name = names.of(digest, place)[step]
     told = why, count, since, until, detail
     return Waits(id, key, saga, name, action == "undo", number, *told)
 
@@ -239,15 +241,16 @@ def stuck(most: int = MOST, sagas: Definitions = None) -> Question[list[tuple[Su
     """The stuck sagas that nobody has resolved, with the chain of each, the oldest first."""
     rows = yield Query(
         f"""
-        SELECT {SUMMARY}, f.texts, s.definition_index, s.outcome FROM sagas s {DEFINED}
+        SELECT {SUMMARY}, l.definition_set, s.definition_index, s.outcome FROM sagas s {OF_SHARD}
         WHERE {PHASES["stuck"]} AND {among(sagas)} ORDER BY s.id LIMIT ?
         """,
         (*(sagas or ()), most),
     )
-    names = Names()
+    names = yield from names_module.of_sets(row[-3] for row in rows)
     return [
-        (summary_of((*columns,)), chain_of(names.of(texts, place), end))
-        for *columns, texts, place, end in rows
+        (summary_of((*columns,)), chain_of(names.of(digest, place), end))
+        for *columns, digest, place, end in rows
+        if digest in names
     ]
 
 
@@ -261,32 +264,37 @@ def stuck_results(kind_of: Callable[[str], Kind], most: int) -> Question[list[Sa
     """As `stuck`, with all that is kept of the end of each."""
     rows = yield Query(
         f"""
-        SELECT {SAGA}, texts FROM sagas s {DEFINED}
+        SELECT {SAGA}, l.definition_set FROM sagas s {OF_SHARD}
         WHERE {PHASES["stuck"]} ORDER BY s.id LIMIT ?
         """,
         (most,),
     )
+    names = yield from names_module.of_sets(row[-1] for row in rows)
     found = []
-    for *columns, texts in rows:
+    for *columns, digest in rows:
         row = SagaRow(*columns)
         attempts = yield Query(RESULTS, (row.id,))
-        found.append(end_of(kind_of(json.loads(texts)[row.place]), row, attempts))
+        if digest in names:
+            found.append(end_of(kind_of(names.text(digest, row.place)), row, attempts))
     return found
 
 
 def unknown(most: int) -> Question[list[UnknownAttempt]]:
-    """The attempts of which nobody knows what they did; those that a person has to say first."""
+    """The attempts with an unknown outcome; first those that a person has to report."""
     rows = yield Query(
         f"""
-        SELECT s.key, s.saga, f.texts, s.definition_index, l.name, {HELD}
-        FROM suspensions h JOIN sagas s ON s.id = h.id {DEFINED}
+        SELECT s.key, s.saga, l.definition_set, s.definition_index, l.name, {HELD}
+        FROM suspensions h JOIN sagas s ON s.id = h.id {OF_SHARD}
         WHERE h.reason = 'unknown' ORDER BY h.until IS NOT NULL, h.since LIMIT ?
         """,
         (most,),
     )
-    names, found = Names(), []
-    for key_of, saga, texts, place, log, id, step, action, number, _, *told in rows:
-        name = names.of(texts, place)[step]
+    names = yield from names_module.of_sets(row[2] for row in rows)
+    found = []
+    for key_of, saga, digest, place, log, id, step, action, number, _, *told in rows:
+        if digest not in names:
+            continue
+        name = names.of(digest, place)[step]
         key = tokens.idempotency_key(tokens.saga_token(log, id % SHARD_CAPACITY), name, action)
         token = tokens.attempt_id(key, number)
         found.append(UnknownAttempt(key_of, saga, name, action == "undo", number, token, *told))
@@ -296,13 +304,14 @@ def unknown(most: int) -> Question[list[UnknownAttempt]]:
 def attention(most: int = MOST) -> Question[list[Attention]]:
     """What needs a person, the oldest first."""
     stuck_sagas = f"""
-        SELECT s.key, s.saga, f.texts, s.definition_index, 'stuck', NULL, NULL, s.outcome, s.ended
-        FROM sagas s {DEFINED} WHERE {PHASES["stuck"]} ORDER BY s.id LIMIT ?
+        SELECT s.key, s.saga, l.definition_set, s.definition_index, 'stuck', NULL, NULL, s.outcome,
+          s.ended
+        FROM sagas s {OF_SHARD} WHERE {PHASES["stuck"]} ORDER BY s.id LIMIT ?
         """
     attempts = f"""
-        SELECT s.key, s.saga, f.texts, s.definition_index,
+        SELECT s.key, s.saga, l.definition_set, s.definition_index,
           h.reason, h.step, h.action, h.detail, h.since
-        FROM suspensions h JOIN sagas s ON s.id = h.id {DEFINED}
+        FROM suspensions h JOIN sagas s ON s.id = h.id {OF_SHARD}
         WHERE {HELD_BADLY} ORDER BY h.since LIMIT ?
         """
     raised = f"""
@@ -319,23 +328,23 @@ def attention(most: int = MOST) -> Question[list[Attention]]:
     }
     rows = rows + (yield undone_query(most))
     rows = rows + (yield Query(attempts, (most,)))
-    return _entries(rows, most, errors)
+    return (yield from _entries(rows, most, errors))
 
 
 def undone(most: int = MOST, sagas: Definitions = None) -> Question[list[Attention]]:
-    """The compensations that failed for good of sagas that have ended and that nobody has
+    """The compensations that failed permanently of sagas that have ended and that nobody has
     resolved, the oldest first."""
     rows = yield undone_query(most, sagas)
-    return _entries(rows, most)
+    return (yield from _entries(rows, most))
 
 
 def undone_query(most: int, sagas: Definitions = None) -> Query:
-    """Asks for compensations that failed for good."""
+    """Asks for compensations that failed permanently."""
     return Query(
         f"""
-        SELECT s.key, s.saga, f.texts, s.definition_index,
+        SELECT s.key, s.saga, l.definition_set, s.definition_index,
           'undo_failed', r.step, 'undo', r.value, r.at
-        FROM sagas s JOIN attempts r ON r.id = s.id AND r.event = 'undo_fail' {DEFINED}
+        FROM sagas s JOIN attempts r ON r.id = s.id AND r.event = 'undo_fail' {OF_SHARD}
         WHERE {PHASES["undo_failed"]} AND {among(sagas)} ORDER BY s.id, r.step LIMIT ?
         """,
         (*(sagas or ()), most),
@@ -343,13 +352,16 @@ def undone_query(most: int, sagas: Definitions = None) -> Query:
 
 
 def _entries(
-    rows: Iterable[Row], most: int, errors: Mapping[tuple[str, int], tuple[bool, str]] = {}
-) -> list[Attention]:
+    rows: list[Row], most: int, errors: Mapping[tuple[str, int], tuple[bool, str]] = {}
+) -> Question[list[Attention]]:
     """`errors`: by the key of a stuck saga and a step, what that raised last, and whether its
     compensation did."""
-    names, found = Names(), []
-    for key, saga, texts, place, word, step, action, told, since in rows:
-        why, steps = AttentionReason(word), names.of(texts, place)
+    names = yield from names_module.of_sets(row[2] for row in rows)
+    found = []
+    for key, saga, digest, place, word, step, action, told, since in rows:
+        if digest not in names:
+            continue
+        why, steps = AttentionReason(word), names.of(digest, place)
         name, detail, undo = None if step is None else steps[step], told, action == "undo"
         if why is AttentionReason.STUCK:
             chain = chain_of(steps, told)

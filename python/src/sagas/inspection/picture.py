@@ -1,16 +1,11 @@
-"""Pictures of a saga: its graph and its timeline, as SVG.
-
-A saga as a picture: its steps with their states, what a plan keeps and why, and what it costs;
-and when each attempt ran.
-"""
+"""The graph of a saga as SVG: steps with their states, and a plan with its costs."""
 
 from __future__ import annotations
 
-import time
+import dataclasses
 from html import escape
 from typing import NamedTuple
 
-from sagas.core.history import Stretch
 from sagas.core.outcomes import CANNOT_DECODE
 from sagas.core.states import WAITS_FOR
 from sagas.engine.plan import Choice
@@ -45,7 +40,7 @@ color-scheme:light dark;
 .box{fill:var(--card);stroke:var(--tone);stroke-width:1.5}.bar{fill:var(--tone)}
 .name{fill:var(--text);font-weight:600}.long{font-size:11.5px}
 .state{fill:var(--tone);font-weight:600;font-size:12px}
-.why{fill:var(--soft);font-size:11.5px}.need{fill:none;stroke:var(--line);stroke-width:1.5}
+.why{fill:var(--soft);font-size:11px}.need{fill:none;stroke:var(--line);stroke-width:1.5}
 .icon{fill:none;stroke:var(--tone);stroke-width:2;stroke-linecap:round;stroke-linejoin:round}
 .icon .full{fill:var(--tone);stroke:none}.left .box{stroke-dasharray:5 4}.arrow{fill:var(--line)}
 .waiting{--tone:var(--grey)}.running,.undoing{--tone:var(--blue)}.committed{--tone:var(--green)}
@@ -97,10 +92,12 @@ def told_of(view: SagaView) -> list[Told]:
             if waits
             else "why it is stuck"
             if step.name in chain
-            else decided(choice, over)
+            else decided(choice)
             if choice
             else tried(step.attempts, step.state)
         )
+        if step.early:
+            why = EARLY[step.early]
         left = step.state == "waiting" and (over or bool(choice and not choice.kept))
         state = (
             "not run"
@@ -124,7 +121,13 @@ def told_of(view: SagaView) -> list[Told]:
     return found
 
 
-ASKED = {"approval": "to approve", "unknown": "unknown"}
+EARLY = {"complete": "its success is reported", "fail": "its failure is reported"}
+ASKED = {
+    "approval": "to approve",
+    "unknown": "unknown",
+    "exhausted": "exhausted",
+    "cannot_decode": "unreadable",
+}
 """The state of a step that waits for a person's word."""
 TURNS = {
     "ordered": "in its queue",
@@ -145,7 +148,7 @@ def waiting(held: Waits) -> str:
     if held.why == "worker":
         return held.said or ""
     if held.asks and held.why == "unknown":
-        return "outcome unknown: report it"
+        return "report its outcome"
     if held.why in ("backoff", "retry"):
         return f"retried at {wording.clock(held.until)[11:]}"
     if held.why in SLOTS:
@@ -153,16 +156,11 @@ def waiting(held: Waits) -> str:
     return TURNS.get(held.why) or f"until {wording.clock(held.until)}"
 
 
-def decided(choice: Choice, over: bool) -> str:
+def decided(choice: Choice) -> str:
     """What the plan decided of a step, and what that costs."""
     cost = choice.cost_to_keep if choice.kept else choice.cost_to_drop
-    text = "" if not cost else f" for {cost:,}"
-    return {
-        "stands": f"kept{text}",
-        "is run": f"to be run{text}",
-        "is undone": f"given back{text}",
-        "is left out": f"left out{text}",
-    }[choice.decision]
+    text = f", costs {cost:,}" if cost else ""
+    return f"plan: {wording.DECISIONS[choice.decision]}{text}"
 
 
 def tried(attempts: int, state: str) -> str:
@@ -201,7 +199,7 @@ def boxes(names: list[str], tolds: list[Told], placed: Placed) -> list[str]:
             f'<text class="name{" long" if is_long else ""}" x="15" y="24">{name}</text>'
             f'<g class="icon" transform="translate(21 41) scale(.95)">{ICONS[told.icon]}</g>'
             f'<text class="state" x="33" y="45">{escape(told.state)}</text>'
-            f'<text class="why" x="15" y="62">{escape(cut(told.why, 26))}</text></g>'
+            f'<text class="why" x="15" y="62">{escape(cut(told.why, 28))}</text></g>'
         )
     return found
 
@@ -220,11 +218,27 @@ def spoken(view: SagaView, tolds: list[Told]) -> str:
     return f"{view.saga} {view.key}, {view.phase}: {steps}"
 
 
-def svg(view: SagaView, style: str = "") -> str:
+def svg(view: SagaView, style: str = "", *, tolds: list[Told] | None = None) -> str:
     """The picture; without a style it is for the page, whose style sheet has the same classes."""
-    tolds = told_of(view)
+    tolds = told_of(view) if tolds is None else tolds
     steps = [(step.name, step.needs) for step in view.steps]
     return drawn(steps, tolds, spoken(view, tolds), style)
+
+
+def urgency(told: Told) -> int:
+    """What failed comes first, then what asks a person, then what is under way."""
+    return {"failed": 0, "undo_failed": 0, "person": 1, "running": 2, "undoing": 2}.get(
+        told.tone, 3 if told.tone != "waiting" else 4
+    )
+
+
+def ordered(needs: list[list[int]], tolds: list[Told]) -> Placed:
+    """The places of boxes, the urgent ones of a layer above the others as far as lines allow."""
+    order = sorted(range(len(needs)), key=lambda box: urgency(tolds[box]))
+    number = {box: count for count, box in enumerate(order)}
+    found = place([[number[need] for need in needs[box]] for box in order])
+    corners = [found.corners[number[box]] for box in range(len(needs))]
+    return dataclasses.replace(found, corners=corners)
 
 
 def drawn(
@@ -233,7 +247,7 @@ def drawn(
     """Steps with their needs, what is told of each, and the picture in words."""
     number = {name: place for place, (name, _) in enumerate(steps)}
     some = folded([[number[need] for need in needs] for _, needs in steps], tolds)
-    placed = place([one.needs for one in some])
+    placed = ordered([one.needs for one in some], [tolds[one.steps[0]] for one in some])
     names = [titled([steps[step][0] for step in one.steps]) for one in some]
     needs = [
         f'<path class="need" marker-end="url(#to)" d="{line(points)}"/>'
@@ -258,127 +272,3 @@ def drawn(
 def document(view: SagaView) -> str:
     """The picture as a file of its own."""
     return svg(view, STYLE)
-
-
-# -- when what ran
-
-NAMES, LONG, ROW, TOP = 170, 900, 26, 24
-
-
-def ticks(first: float, last: float) -> list[float]:
-    """Some round moments between two."""
-    span = max(last - first, 1e-6)
-    for step in (
-        0.01,
-        0.02,
-        0.05,
-        0.1,
-        0.2,
-        0.5,
-        1,
-        2,
-        5,
-        10,
-        15,
-        30,
-        60,
-        120,
-        300,
-        600,
-        900,
-        1800,
-        3600,
-        7200,
-        14400,
-        43200,
-        86400,
-        172800,
-        604800,
-        2592000,
-        31536000,
-    ):
-        if span / step <= 6:
-            break
-    return [count * step for count in range(int(span / step) + 1)]
-
-
-def timeline(view: SagaView) -> str:
-    """A bar for each attempt, over the time since the saga was started."""
-    rows = [
-        step.name for step in view.steps if any(one.step == step.name for one in view.stretches)
-    ]
-    if not rows:
-        return ""
-    now = time.time()
-    first = min(view.started, min(one.began for one in view.stretches))
-    last = max([one.ended or now for one in view.stretches] + [view.ended or first, first + 0.001])
-    scale = LONG / (last - first)
-    high = TOP + ROW * len(rows) + 6
-    marks = "".join(
-        f'<line class="tick" x1="{NAMES + at * scale:.1f}" x2="{NAMES + at * scale:.1f}" '
-        f'y1="{TOP - 4}" y2="{high - 4}"/>'
-        f'<text class="at" x="{NAMES + at * scale:.1f}" y="14">{wording.span(at)}</text>'
-        for at in ticks(first, last)
-    )
-    names = "".join(
-        f'<text class="row" x="0" y="{TOP + ROW * row + 16}">{escape(named(name, 20))}</text>'
-        for row, name in enumerate(rows)
-    )
-    bars = "".join(
-        bar(
-            one,
-            does(view, one),
-            NAMES + (one.began - first) * scale,
-            ((one.ended or now) - one.began) * scale,
-            TOP + ROW * rows.index(one.step),
-        )
-        for one in view.stretches
-    )
-    label = (
-        f"when the attempts ran: {len(view.stretches)} bars over {wording.span(last - first)}; the "
-        "table of events has the same in words"
-    )
-    wide = NAMES + LONG + 30
-    return (
-        f'<svg class="timeline" role="img" aria-label="{label}" width="{wide}" height="{high}" '
-        f'viewBox="0 0 {wide} {high}">{marks}{names}{bars}</svg>'
-    )
-
-
-DOES = {
-    "running": "runs",
-    "worker": "waits for a worker",
-    "person": "waits for a person",
-    "waiting": "waits",
-    "begun": "has begun",
-}
-
-
-def does(view: SagaView, one: Stretch) -> str:
-    """What an attempt does that is not over."""
-    held = next(
-        (held for held in view.held if (held.step, held.undo) == (one.step, one.undo)), None
-    )
-    if held is None or held.why in ("external", "ordered"):
-        return "running" if (one.step, one.undo) in view.running else "begun"
-    return "person" if held.asks else "worker" if held.why == "worker" else "waiting"
-
-
-def bar(one: Stretch, now: str, x: float, wide: float, y: float) -> str:
-    """An attempt; `now`: what it does where it is not over."""
-    what = "compensation" if one.undo else "action"
-    said = wording.EVENTS[one.outcome] if one.outcome else DOES[now]
-    now = {"begun": "running", "worker": "waiting"}.get(now, now)
-    took = "" if one.ended is None else f" after {wording.span(one.ended - one.began)}"
-    tone = {
-        "commit": "committed",
-        "undone": "undone",
-        "fail": "failed",
-        "undo_fail": "undo_failed",
-        None: now,
-    }.get(one.outcome, "missed")
-    return (
-        f'<g class="run {tone}">'
-        f"<title>{escape(one.step)}, {what}, attempt {one.attempt}: {said}{took}</title>"
-        f'<rect x="{x:.1f}" y="{y + 4}" width="{max(wide, 4):.1f}" height="{ROW - 10}" rx="4"/></g>'
-    )

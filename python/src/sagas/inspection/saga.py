@@ -26,11 +26,14 @@ from sagas.core.history import (
     was_called,
 )
 from sagas.core.results import HistoryEvent, Summary
+from sagas.core.states import EarlyReason, StepState
 from sagas.definition import tokens
 from sagas.definition.capacity import SHARD_CAPACITY
 from sagas.definition.control import Progress
 from sagas.engine.plan import Plan
-from sagas.inspection.lists import step_names, waits
+from sagas.inspection import families
+from sagas.inspection.lists import waits
+from sagas.inspection.names import step_names
 from sagas.inspection.question import Query, Question
 from sagas.inspection.views import Note, SagaView, StepView
 from sagas.storage import queries
@@ -41,6 +44,12 @@ SELECT {queries.SAGA}, recovered, undo_failed, {queries.LABELS}, deadline
 FROM sagas s WHERE key = ?
 """
 PROGRESS = "SELECT step, action, number, fraction, detail FROM progress WHERE id = ?"
+SPANS = "SELECT step, action, number, spans FROM attempt_spans WHERE id = ? ORDER BY at"
+ELSEWHERE = """
+SELECT step, action, number, offered_at, since, worker, lease FROM external_attempts WHERE id = ?
+"""
+EARLY = "SELECT step, reason FROM suspensions WHERE id = ? AND number = 0"
+SAID = {EarlyReason.RESULT: "complete", EarlyReason.ERROR: "fail"}
 NOTES = (
     "SELECT key, command, at, value, answer FROM operator_commands WHERE key = ? ORDER BY at, id"
 )
@@ -149,7 +158,11 @@ def _view(
     token = yield from _token(row.id)
     history, results = kept.history, results_of(kept.attempts)
     progress = {row[:3]: Progress(*row[3:]) for row in (yield Query(PROGRESS, (row.id,)))}
+    spans = yield Query(SPANS, (row.id,))
+    elsewhere = yield Query(ELSEWHERE, (row.id,))
+    early = {step: SAID[EarlyReason(why)] for step, why in (yield Query(EARLY, (row.id,)))}
     states = zip(kept.names, history.states)
+    parent, children = yield from families.of(row.id, row.key)
     return SagaView(
         summary=Summary(
             row.id,
@@ -167,7 +180,7 @@ def _view(
         input=json.loads(row.input),
         end=json.loads(row.end) if row.end else None,
         results={n: results[n] for n, state in states if state in STANDS and n in results},
-        steps=steps_of(kept.definition, history, kept.attempts, progress),
+        steps=steps_of(kept.definition, history, kept.attempts, progress, early),
         plan=kept.plan,
         held=held,
         events=kept.events,
@@ -177,14 +190,20 @@ def _view(
         notes=done,
         definition=kept.definition,
         token=token,
+        spans=spans,
+        elsewhere=elsewhere,
+        parent=parent,
+        children=children,
     )
 
 
 def steps_of(
     definition: str, history: Projection, attempts: list[Attempted],
-    progress: Mapping[tuple[Any, ...], Progress],
+    progress: Mapping[tuple[Any, ...], Progress], early: Mapping[int, str],
 ) -> list[StepView]:  # fmt: skip
-    """The steps of a saga as they stand. `progress`: by step, action and attempt."""
+    """The steps of a saga as they stand. `progress`: by step, action and attempt; `early`: what was
+    reported of steps before they have begun.
+    """
     now = {(one.step, one.undo): one.attempt for one in history.stretches() if one.ended is None}
     last, done, errors = last_values(attempts), results_of(attempts), errors_of(attempts)
     skipped = Counter(
@@ -205,6 +224,7 @@ def steps_of(
                 errors.get(name) if state in FAILED else None,
                 progress.get((place, "run", now.get((name, False), 0)))
                 or progress.get((place, "undo", now.get((name, True), 0))),
+                early.get(place) if state == StepState.WAITING else None,
             )
         )
     return found

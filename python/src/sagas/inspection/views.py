@@ -4,6 +4,7 @@ from __future__ import annotations
 
 import dataclasses
 from collections import deque
+from collections.abc import Sequence
 from typing import Any
 
 from sagas.core.attention import AttentionReason
@@ -65,12 +66,25 @@ class Note:
 
 
 @dataclasses.dataclass(frozen=True, slots=True)
+class Relative:
+    """A saga that another one started, or that started it. `step`: what the child's key has behind
+    the parent's, the step's name first.
+    """
+
+    key: str
+    saga: str
+    phase: str
+    step: str
+
+
+@dataclasses.dataclass(frozen=True, slots=True)
 class StepView:
     """A step as it stands: its state, its needs, how often its action began, its last result or
     error, and when it began and ended.
 
     `raised`: what it raised last, where it failed, or its compensation did. `progress`: how far
-    its function was that is called now, as it told last.
+    its function was that is called now, as it told last. `early`: `complete` or `fail` where it
+    was reported so before it has begun.
     """
 
     name: str
@@ -82,6 +96,7 @@ class StepView:
     ended: float | None
     raised: str | None = None
     progress: Progress | None = None
+    early: str | None = None
 
 
 @dataclasses.dataclass(frozen=True, slots=True)
@@ -89,8 +104,10 @@ class SagaView:
     """All of a saga, of one moment. `plan` is the last one; `token`: of its shard's name and its
     number there; `end`: what the store keeps of its end.
 
-    `running`: steps, and whether their compensations, of which somebody knows that they are
-    called now; of others that have begun the store alone does not tell.
+    `parent`: the saga that started it; `children`: those that it started. `running`: steps, and
+    whether their compensations, of which somebody knows that they are called now; of others that
+    have begun the store alone does not tell. `spans`: what attempts did that were not simply
+    called; `elsewhere`: those that others did (for `inspection.timeline`).
     """
 
     summary: Summary
@@ -109,6 +126,10 @@ class SagaView:
     definition: str
     token: str
     running: frozenset[tuple[str, bool]] = frozenset()
+    spans: Sequence[tuple[Any, ...]] = ()
+    elsewhere: Sequence[tuple[Any, ...]] = ()
+    parent: Relative | None = None
+    children: list[Relative] = dataclasses.field(default_factory=list)
 
     @property
     def id(self) -> int:

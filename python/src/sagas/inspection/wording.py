@@ -49,6 +49,26 @@ TONES = {
     "abort": "warn",
     "adopt": "plan",
 }
+OUTCOMES = {
+    "succeeded": "succeeded",
+    "failed": "failed",
+    "retried": "failed, will be retried",
+    "not_called": "was not called",
+}
+"""How an attempt ended, by `AttemptTimes.outcome`."""
+WAITS = {
+    "approval": "waits for a decision",
+    "worker": "waits for a worker",
+    "exhausted": "exhausted: a person decides",
+    "person": "unknown: a person reports it",
+    "unknown": "unknown: called again soon",
+    "cannot_decode": "unreadable",
+    "wait": "waits for its time",
+}
+"""For what an attempt waits, by `Span.why`."""
+DECISIONS = {"stands": "keep", "is run": "run", "is undone": "undo", "is left out": "skip"}
+"""What a plan does with a step, by `Choice.decision`, in the words of a definition and of the
+planner page."""
 ACTS = {
     "abort": "aborted the saga",
     "complete": "reported that a step succeeded",
@@ -56,6 +76,13 @@ ACTS = {
     "retry": "retried a step",
     "resolve": "marked it as resolved",
 }
+
+
+def wait(why: str | None, state: str) -> str:
+    """What an attempt that is not over does now, by its last span."""
+    if state == "waiting" and why in WAITS:
+        return WAITS[why]
+    return {"backoff": "backs off", "running": "runs", "queued": "is queued"}.get(state, "waits")
 
 
 def clock(at: float | None) -> str:
@@ -94,11 +121,12 @@ def span(seconds: float) -> str:
 
 
 def ago(seconds: float) -> str:
-    """How long ago, in one unit."""
+    """How long ago, or in how long, in one unit."""
+    long, form = (seconds, "{} {} ago") if seconds > -1 else (-seconds, "in {} {}")
     for length, word in ((86400, "d"), (3600, "h"), (60, "min")):
-        if seconds >= length:
-            return f"{int(seconds // length)} {word} ago"
-    return f"{int(max(0.0, seconds))} s ago"
+        if long >= length:
+            return form.format(int(long // length), word)
+    return form.format(int(max(0.0, long)), "s")
 
 
 def pretty(value: Any, most: int = 20_000) -> str:

@@ -15,7 +15,7 @@ from sagas.base.errors import CannotDecode, Lost
 from sagas.base.events import Teller
 from sagas.base.fork_guard import private
 from sagas.base.logger import logger
-from sagas.core import outcomes
+from sagas.core import outcomes, spans
 from sagas.core.limits import Slots
 from sagas.core.model import QUEUED, RUNNING, Attempt, SagaInstance, finish_all, start_all
 from sagas.core.outcomes import Outcome
@@ -181,6 +181,8 @@ class Calls:
         if private.forks != self._forks:  # a function forked, and its child came back here
             os._exit(FORKED)
         if attempt.state is RUNNING and self._store.holds():
+            if attempt.extras is not None:
+                spans.noted(attempt, self._clock())
             if self._teller.listens:
                 self._ends.tell(attempt, "step_started")
             return True

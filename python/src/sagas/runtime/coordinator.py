@@ -89,6 +89,7 @@ class Coordinator:
         self.deadlines = Deadlines(self.sagas, self.shards.abort, teller, clock)
         self.sagas.driven = self.deadlines.add
         self.waits = Waits(self)
+        self.listeners.append(self.executor.children.look)
         self._lifespan = Lifespan(context, shelf.context)
 
     def starts(self) -> Starts:
@@ -113,6 +114,7 @@ class Coordinator:
         await remote_steps.check(self.store, self.shelf.sagas.values())
         await self._lifespan.enter()
         await self.shards.open(rows)
+        self.executor.children.open()
         self.shards.close_all_over()
         self._timer = self.loop.call_later(1.0, self._tick, 0.0)
 

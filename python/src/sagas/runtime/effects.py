@@ -79,6 +79,8 @@ class EffectHandler:
             self._executor.stored(attempt)
         for attempt in effects.offered:
             self._offers.offered(attempt)
+        for report in effects.early:
+            self._executor.early.stored(report)
         for abort in effects.aborted:
             self._aborted(abort)
         if effects.opened:
@@ -113,6 +115,7 @@ class EffectHandler:
             self._executor.forget(attempt)
         for abort in found.aborted:
             self._sagas.answer_abort(abort)
+        self._executor.early.look_again(found.effects.batch.log)
 
     def resume(self, found: Recovery) -> None:
         """Go on with its attempts."""

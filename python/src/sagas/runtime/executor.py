@@ -5,25 +5,27 @@ from __future__ import annotations
 import asyncio
 import contextlib
 import functools
-import json
 import logging
 from collections.abc import Sequence
 from concurrent.futures import Executor as Threads
 
 from sagas.base.errors import Closed, Lost, SagasError, StepNotWaiting
-from sagas.core import exhaustion, outcomes
+from sagas.core import exhaustion, outcomes, spans
 from sagas.core.attempts import AttemptMachine
 from sagas.core.batch import Wanted
 from sagas.core.decisions import Decision, Do
 from sagas.core.effects import Effects
 from sagas.core.limits import Slots
-from sagas.core.model import FINISHED, SUSPENDED, Attempt, SagaInstance
+from sagas.core.model import CLAIMED, FINISHED, QUEUED, SUSPENDED, Attempt, SagaInstance
 from sagas.core.outcomes import Outcome
 from sagas.core.shard import ShardDriver
 from sagas.core.states import OutcomeKind, Suspension
 from sagas.core.suspensions import SuspensionRow
+from sagas.definition import serialization
 from sagas.runtime import remote_steps
 from sagas.runtime.calls import Calls
+from sagas.runtime.children import Children
+from sagas.runtime.early_reports import EarlyReports
 from sagas.runtime.executor_host import External, Host, Runner
 from sagas.runtime.fleet_limits import Fleet
 from sagas.runtime.waiters import Waiters
@@ -40,8 +42,10 @@ class Executor:
         slots: How many functions may run.
         fleet: The limits over all nodes.
         calls: The functions that run.
+        children: The attempts that wait for child sagas.
         changes: Who waits until an attempt is suspended, or finished.
         kept: Who waits until an attempt's report is in the store.
+        early: The reports of steps that have not begun, on their way to the store.
         closing: Whether nothing begins any more.
     """
 
@@ -57,6 +61,8 @@ class Executor:
         )
         self.changes: Waiters[Attempt] = Waiters(host.loop)
         self.kept: Waiters[Attempt] = Waiters(host.loop)
+        self.children = Children(host, self)
+        self.early = EarlyReports(host, host.clock)
         self._timers: dict[Attempt, asyncio.TimerHandle] = {}
         self._doubted: set[Attempt] = set()  # it is looked for what their workers reported
         self.closing = False
@@ -91,6 +97,8 @@ class Executor:
 
     def resume(self, attempt: Attempt) -> None:
         """Go on with one of a shard that was recovered."""
+        if attempt.state is CLAIMED and not attempt.fresh and not attempt.has_row:
+            spans.called_before(attempt)
         decision = self.machine.resume(attempt, self._clock())
         if decision.do is Do.REPORT_AGAIN:
             self._report_again(attempt)
@@ -99,6 +107,8 @@ class Executor:
 
     def drain(self, instance: SagaInstance) -> None:
         """Let a saga drain: it is about to be planned. Its functions that run hear of it."""
+        if not instance.busy:
+            return
         self.calls.cancel(instance)
         for attempt, decision in self.machine.drain(instance, self._clock()):
             self._drop_timer(attempt)
@@ -120,12 +130,23 @@ class Executor:
             self._external.offer(attempt)
         elif decision.do is Do.WITHDRAW:
             self._external.withdraw(attempt)
+        elif decision.do is Do.FOLLOW:
+            self.changes.tell(attempt)
+            self.children.follow(attempt)
         elif decision.do is Do.SUSPEND:
             if decision.timer:
                 self._set_timer(attempt)
             self.changes.tell(attempt)
+        if attempt.state is SUSPENDED and decision.do is not Do.WITHDRAW:
+            self._note(attempt, decision.row)
         if decision.row:
             self._put(attempt, decision.row)
+
+    def _note(self, attempt: Attempt, row: SuspensionRow | None = None) -> None:
+        """For its history. Of what others do the table of external attempts tells."""
+        is_first = not (attempt.extras and attempt.extras.noted)
+        if not (is_first and attempt.reason is Suspension.EXTERNAL):
+            spans.note(attempt, self._clock(), row.error if row else None)
 
     def _set_timer(self, attempt: Attempt) -> None:
         self._drop_timer(attempt)
@@ -174,6 +195,8 @@ class Executor:
             gate.hold(attempt)
         else:
             self.slots.enter(attempt)
+        if attempt.state in (SUSPENDED, QUEUED):
+            self._note(attempt)
 
     def _start(self, attempt: Attempt) -> None:
         self.calls.start(attempt)
@@ -252,10 +275,16 @@ class Executor:
 
     def _finished(self, attempt: Attempt, at_once: bool) -> None:
         self._drop_timer(attempt)
-        if attempt.is_external:
-            self._external.gone(attempt)
+        self._gone(attempt)
         self.changes.tell(attempt)
         self._report(attempt, at_once)
+
+    def _gone(self, attempt: Attempt) -> None:
+        """Whoever does it elsewhere need not be followed any more."""
+        if attempt.is_external:
+            self._external.gone(attempt)
+        elif attempt.reason is Suspension.CHILD:
+            self.children.gone(attempt)
 
     def _report(self, attempt: Attempt, at_once: bool = False) -> None:
         if runner := self._runner(attempt):
@@ -331,8 +360,10 @@ class Executor:
             return
         name = "step_failed" if final else MISSED.get(attempt.event, "step_failed")
         level = None if outcome.called else logging.INFO
+        if not self._teller.wants(name):
+            return
         doubt = outcomes.doubt(outcome.error, attempt.manner)
-        detail = f"{json.loads(outcome.value).get('error')}{doubt}"
+        detail = f"{serialization.read(outcome.value).get('error')}{doubt}"
         self.tell(attempt, name, detail, level, outcome.error if name == "step_failed" else None)
 
     def tell(
@@ -359,8 +390,7 @@ class Executor:
         has its shard.
         """
         self._drop_timer(attempt)
-        if attempt.is_external:
-            self._external.gone(attempt)
+        self._gone(attempt)
         self.kept.tell(attempt)
         self.changes.tell(attempt)
         attempt.forget()

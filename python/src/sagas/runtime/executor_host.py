@@ -14,6 +14,7 @@ from sagas.core.model import Attempt
 from sagas.core.outcomes import Outcome
 from sagas.core.shard import ShardDriver
 from sagas.core.suspensions import SuspensionRow
+from sagas.definition.compiled import Shelf
 from sagas.runtime.dispatcher import Turns
 from sagas.storage.interface import Database
 
@@ -23,6 +24,7 @@ class Host(Turns, Protocol):
 
     loop: asyncio.AbstractEventLoop
     store: Database
+    shelf: Shelf
     teller: Teller
     clock: Callable[[], float]
     closed: SagasError | None

@@ -65,6 +65,20 @@ class LeasedTask:
 
 
 @dataclasses.dataclass(frozen=True, slots=True)
+class Heartbeat:
+    """Answer a worker's heartbeat.
+
+    Attributes:
+        until: When the lease ends, in seconds since 1970.
+        cancelled: Why the saga is being undone, as `task.cancelled.reason` says it: `aborted` or
+            `failed`; None while it is not.
+    """
+
+    until: float
+    cancelled: str | None
+
+
+@dataclasses.dataclass(frozen=True, slots=True)
 class Queue:
     """Count the tasks of one step that are for workers.
 
@@ -285,6 +299,8 @@ class ExternalQueue(ExternalReports):
             attempt.rare.lease = Lease(claim.lease, worker, now, now + claim.seconds)
             attempt.fresh = False
             task = attempt.task()
+        if claim.cancelled is not None:
+            task.cancelled.set(claim.cancelled)
         self.owner.teller.tell(
             "step_started", key=task.key, saga=task.saga, step=task.step, undo=task.is_compensation,
             attempt=task.attempt,
@@ -303,7 +319,7 @@ class ExternalQueue(ExternalReports):
         }
         token, _, number = claim.attempt.rpartition("-")
         name = kind.names[claim.step]
-        hint = (kind.undo_inputs if undo else kind.inputs)[claim.step]
+        hint = kind.actions[claim.action][claim.step].hint
         told = Told(
             kind.name, key, name, undo, int(number), token.removesuffix(f"-{name}-{claim.action}"),
             text, {kind.names[step]: values.get(step) or "null" for step in kind.below[claim.step]},
@@ -314,7 +330,7 @@ class ExternalQueue(ExternalReports):
 
     async def heartbeat(
         self, token: str, lease: str, holder: str, seconds: float, told: Progress | None
-    ) -> float:
+    ) -> Heartbeat:
         """Keep a worker's lease, and how far it is."""
         number = self._signer.number(token, lease, holder)
         self._raise_if_closed()
@@ -323,13 +339,13 @@ class ExternalQueue(ExternalReports):
             if await self._table.find(token) is None:
                 await self.outcome_of(token)
             raise LeaseLost(f"lease {number} of {token} is not the newest, or has ended")
-        until = self.owner.clock() + holds
+        until = self.owner.clock() + holds.seconds
         if told is not None:
             await self._table.advance(token, *told, self.owner.clock())
         attempt = self.find(token)
         if attempt is not None and attempt.lease and attempt.lease.number == number:
             attempt.lease.until = until
-        return until
+        return Heartbeat(until, holds.cancelled)
 
     async def queues(self) -> list[Queue]:
         """The tasks that wait or are leased, at any node, by step."""

@@ -33,7 +33,7 @@ class Carrier(Protocol):
 
     async def report(
         self, key: str, step: str, outcome: Outcome, undo: bool, request: Wanted,
-        of: int | None = None,
+        of: int | None = None, early: bool = True,
     ) -> None:  # fmt: skip
         """As `Store.complete` and `Store.fail`."""
 
@@ -44,13 +44,19 @@ class Carrier(Protocol):
 
 
 def report_of(
-    step: str, kind: str, outcome: Outcome, payloads: Payloads
+    step: str, kind: str, outcome: Outcome, early: bool, payloads: Payloads
 ) -> tuple[str, dict[str, Any]]:
     """The command that says how a step ended, and what is kept of it."""
-    value = json.loads(outcome.value)
+    told, value = words_of(step, kind, early), json.loads(outcome.value)
     if outcome.kind is OutcomeKind.SUCCEEDED:
-        return "complete", {"step": step, "kind": kind, "result": payloads.encode_value(value)}
-    return "fail", {"step": step, "kind": kind, "error": value["error"]}
+        return "complete", told | {"result": payloads.encode_value(value)}
+    return "fail", told | {"error": value["error"]}
+
+
+def words_of(step: str, kind: str, early: bool) -> dict[str, Any]:
+    """What a command says of a step; whether it may come early, only where it may not."""
+    told: dict[str, Any] = {"step": step, "kind": kind}
+    return told if early else told | {"early": False}
 
 
 class Requests:
@@ -122,8 +128,8 @@ class Requests:
             error = str(told["error"]) if what == "fail" else None
             result = self._owner.shelf.payloads.decode_value(told.get("result"))
             outcome = reported(result, error)
-            undo = told.get("kind") == "undo"
-            await self._carrier.report(key, told["step"], outcome, undo, id, of)
+            undo, early = told.get("kind") == "undo", told.get("early") is not False
+            await self._carrier.report(key, told["step"], outcome, undo, id, of, early)
             return True
         if what == "retry":
             await self._carrier.retry(key, told["step"], told.get("kind") == "undo", id, of)

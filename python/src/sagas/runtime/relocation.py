@@ -11,6 +11,7 @@ from sagas.core.batch import Batch, Loaded, SagaRow
 from sagas.core.model import SagaInstance
 from sagas.core.shard import ShardDriver
 from sagas.definition import input_equality, mismatches
+from sagas.definition.blobs import Reference
 from sagas.definition.payloads import PLAIN, Payloads
 from sagas.runtime.commit_queue import CommitQueue
 from sagas.runtime.executor import Executor
@@ -42,7 +43,12 @@ def conflict(
     if there != text:
         own: Payloads = getattr(kind, "payloads", PLAIN)
         stored = payloads or own
-        text, there = stored.decode(text), stored.decode(there)
+        text = stored.decode(text)
+        if reference := Reference.of(there):
+            if reference.is_of(text):
+                return None
+            return KeyConflict(f"key {key!r} belongs to a saga with another input. Use another key")
+        there = stored.decode(there)
     if there != text and (differ := input_equality.differences(kind, there, text)):
         told = mismatches.told(differ)
         return KeyConflict(
@@ -83,9 +89,16 @@ class Relocation:
         for attempt in saga.busy.values():
             self._executor.changes.tell(attempt)
 
-    def found(self, saga: SagaInstance, row: SagaRow) -> None:
-        """Another shard has the key: that is the saga, or a conflict."""
+    def found(self, saga: SagaInstance, row: SagaRow, is_whole: bool = False) -> None:
+        """Another shard has the key: that is the saga, or a conflict. `is_whole`: a large input was
+        looked for in the blob store.
+        """
         error = conflict(saga.key, saga.kind, saga.text, row.saga, row.input)
+        if (
+            error and Reference.of(row.input) and not is_whole
+        ):  # it may be the same under other types
+            self._spawn(self._move(saga))
+            return
         if saga.start is not None:
             batch = Batch(-1, self._clock())
             batch.more.begun.append((saga.start, None if error else row.id))
@@ -114,6 +127,7 @@ class Relocation:
         for attempt in attempts:
             self._executor.kept.tell(attempt, moved)
             self._executor.forget(attempt)
+        self._executor.early.look_again(driver.number, moved)
         for saga in sagas:
             if saga.committed:
                 self.leave(saga, None)
@@ -125,6 +139,7 @@ class Relocation:
 
     def tell_closed(self, driver: ShardDriver, error: SagasError) -> None:
         """The store is closed: who waits for a step of a shard hears so."""
+        self._executor.early.look_again(driver.number, error)
         for attempt in driver.unkept():
             self._executor.kept.tell(attempt, error)
         for saga in driver.sagas.values():
@@ -139,6 +154,6 @@ class Relocation:
         if self._sagas.by_key.get(saga.key) is not saga:
             return
         if row is not None and (row.id >= 0 or saga.start is None):
-            self.found(saga, row)
+            self.found(saga, row, is_whole=True)
         else:
             self._home.place(saga)

@@ -19,13 +19,13 @@ import pathlib
 import threading
 import time
 from collections.abc import Callable
-from typing import TYPE_CHECKING
+from typing import TYPE_CHECKING, Any
 
 from sagas.base.errors import SagasError
 from sagas.base.logger import logger
 from sagas.base.wording import number
 from sagas.definition.capacity import SHARD_CAPACITY
-from sagas.storage import admin, archive
+from sagas.storage import admin, archive, blob_layer
 from sagas.storage.admin import Source
 from sagas.storage.sqlite.schema import UNDO_FAILED
 
@@ -40,18 +40,28 @@ HOUR, SOON = (
 )  # seconds between two runs: where nothing more was to do, and where there was
 
 WITHIN = f"s.id >= l.shard * {SHARD_CAPACITY} AND s.id < (l.shard + 1) * {SHARD_CAPACITY}"
-NEXT = f"""
-SELECT l.shard, l.name, (SELECT count(*) FROM sagas s WHERE {WITHIN}) FROM shards l
-WHERE l.closed = 1 AND l.shard > ? AND NOT EXISTS (
+OVER = f"""
+l.closed = 1 AND l.shard > ? AND NOT EXISTS (
   SELECT 1 FROM sagas s WHERE {WITHIN} AND (s.phase IS NULL OR s.ended >= ?
     OR (s.note IS NULL AND (s.phase = 'stuck' OR ({UNDO_FAILED})))))
-ORDER BY l.shard LIMIT 1
 """
+NEXT = f"""
+SELECT l.shard, l.name, (SELECT count(*) FROM sagas s WHERE {WITHIN}) FROM shards l
+WHERE {OVER} ORDER BY l.shard LIMIT 1
+"""
+PARENTS = f"""
+SELECT DISTINCT c.id / {SHARD_CAPACITY}, c.parent / {SHARD_CAPACITY}
+FROM children c JOIN sagas p ON p.id = c.parent
+WHERE c.id / {SHARD_CAPACITY} <> c.parent / {SHARD_CAPACITY}
+"""
+"""The shards of children, each with a shard of their parents that is there."""
 OF_SAGAS = (
     "DELETE FROM operator_commands WHERE key IN (SELECT key FROM sagas WHERE id >= ? AND id < ?)",
     "DELETE FROM labels WHERE id >= ? AND id < ?",
+    "DELETE FROM children WHERE id >= ? AND id < ?",
     "DELETE FROM attempts WHERE id >= ? AND id < ?",
     "DELETE FROM suspensions WHERE id >= ? AND id < ?",
+    "DELETE FROM attempt_spans WHERE id >= ? AND id < ?",
     "DELETE FROM progress WHERE id >= ? AND id < ?",
     "DELETE FROM external_attempts WHERE id >= ? AND id < ?",
     "DELETE FROM sagas WHERE id >= ? AND id < ?",
@@ -62,13 +72,14 @@ OF_LOG = ("DELETE FROM event_log WHERE shard = ?",)
 @dataclasses.dataclass
 class Gone:
     """What a run let go: the names of the logs, and how many sagas they had. `more`: there is
-    more, for another run; `other`: that is at work now.
+    more, for another run; `other`: that is at work now; `blobs`: to which no row refers any more.
     """
 
     logs: list[str] = dataclasses.field(default_factory=list)
     sagas: int = 0
     more: bool = False
     other: bool = False
+    blobs: list[str] = dataclasses.field(default_factory=list)
 
 
 def prune(
@@ -77,6 +88,7 @@ def prune(
     export: str | os.PathLike[str] | None = None,
     *,
     most: int = MOST,
+    has_blobs: bool = False,
     clock: Callable[[], float] = time.time,
     stop: threading.Event | None = None,
 ) -> Gone:
@@ -95,15 +107,18 @@ def prune(
             gone.other = True
             return gone
         before = min(clock(), link.now()) - keep
+        kept = _kept_for_parents(link, before)
         while not stop.is_set() and (found := link.ask(NEXT, at, before)):
             ((at, log, sagas),) = found
+            if at in kept:
+                continue
             if gone.sagas + sagas > most:
                 gone.more = True
                 break
             if export is not None:
                 archive.write(link, at, pathlib.Path(export))
             began = time.monotonic()
-            if _delete(link, at):
+            if _delete(link, at, gone.blobs if has_blobs else None):
                 gone.logs.append(log)
                 gone.sagas += sagas
             stop.wait(time.monotonic() - began)
@@ -112,15 +127,37 @@ def prune(
     return gone
 
 
-def _delete(link: Source, log: int) -> bool:
-    """A log with all that is of it. False: another program did."""
+def _kept_for_parents(link: Source, before: float) -> set[int]:
+    """The logs that stay, since a parent of a saga of theirs stays in another one."""
+    pairs = link.ask(PARENTS)
+    if not pairs:
+        return set()
+    go = {log for (log,) in link.ask(f"SELECT l.shard FROM shards l WHERE {OVER}", -1, before)}
+    kept = set[int]()
+    while more := {log for log, parent in pairs if log in go and parent not in go}:
+        kept |= more
+        go -= more
+    return kept
+
+
+def _delete(link: Source, log: int, blobs: list[str] | None) -> bool:
+    """A log with all that is of it, but for the blobs to which it refers. False: another program
+    did."""
+    ids = log * SHARD_CAPACITY, (log + 1) * SHARD_CAPACITY
     with link.transaction():
         if not link.changed("DELETE FROM shards WHERE shard = ? AND closed = 1", log):
             return False
+        left = (
+            []
+            if blobs is None
+            else blob_layer.referred(link.ask(blob_layer.REFERRED, *blob_layer.within(*ids)))
+        )
         for text in OF_SAGAS:
-            link.changed(text, log * SHARD_CAPACITY, (log + 1) * SHARD_CAPACITY)
+            link.changed(text, *ids)
         for text in OF_LOG:
             link.changed(text, log)
+    if blobs is not None:
+        blobs += left
     return True
 
 
@@ -130,13 +167,15 @@ async def keep(
     """Lets go what is over, at the opening and then each hour, or more often where less than a
     day is kept; until it is cancelled.
     """
+    blobs = owner.store.blobs
     while True:
         stop = threading.Event()
-        work = asyncio.ensure_future(
-            asyncio.to_thread(prune, name, seconds, export, clock=owner.clock, stop=stop)
-        )
+        words: dict[str, Any] = {"clock": owner.clock, "stop": stop, "has_blobs": blobs is not None}
+        work = asyncio.ensure_future(asyncio.to_thread(prune, name, seconds, export, **words))
         try:
             gone = await asyncio.shield(work)
+            if blobs is not None:  # behind the rows that referred to them
+                await blobs.delete(gone.blobs)
             if gone.logs:
                 owner.teller.tell(
                     "shards_pruned",

@@ -88,7 +88,7 @@ SUMMARY = Record(
         **time("started", "when it was started"),
         **time("ended", "when it ended, or got stuck", nullable=True),
         **DEADLINE,
-        "undo_failed": Field(Flag(), "a compensation failed for good"),
+        "undo_failed": Field(Flag(), "a compensation failed permanently"),
         "labels": Field(Mapped(Text())),
         "note": Field(MAYBE, "of whoever resolved it"),
     },
@@ -141,6 +141,15 @@ PROGRESS = Record(
         "detail": Field(MAYBE, "what the function says, for people"),
     },
 )
+RELATIVE = Record(
+    "Relative",
+    {
+        "key": Field(Text()),
+        "definition": Field(NAME),
+        "phase": Field(Choice(PHASES)),
+        "step": Field(Text(), "the step that started the child; `STEP:undo`: the child undoes it"),
+    },
+)
 SAGA = Record(
     "Saga",
     {
@@ -154,6 +163,8 @@ SAGA = Record(
         "aborted": Field(Flag()),
         "note": Field(MAYBE, "of whoever resolved it"),
         "labels": Field(Mapped(Text())),
+        "parent": Field(Nullable(RELATIVE), "the saga that started it"),
+        "children": Field(Several(RELATIVE), "the sagas that it started, at most 1,024"),
         "input": Field(Anything()),
         "states": Field(Mapped(Choice(STATES)), "of each step"),
         "results": Field(Mapped(Anything()), "of the steps that are in effect"),
@@ -161,8 +172,10 @@ SAGA = Record(
         "plan": Field(Nullable(PLAN), "the last plan; null: nothing has failed"),
         "waits": Field(Several(WAITING), "the attempts that wait"),
         "progress": Field(Several(PROGRESS), "of functions that run, as they reported it last"),
+        "early": Field(Mapped(Choice(("complete", "fail"))),
+                       "the reports that are stored of steps that have not begun"),
     },
-)
+)  # fmt: skip
 EVENT = Record(
     "SagaEvent",
     {
@@ -188,8 +201,9 @@ WHAT_IF = Record(
         "cost": Field(COST, "null: no plan is feasible, so the saga would be stuck"),
         "plan": Field(PLAN),
         "certificate": Field(CERTIFICATE),
-        "assumed": Field(Mapped(Choice(("committed", "failed", "undone", "undo_failed"))),
-                         "how steps that are under way were taken to end"),
+        "assumed": Field(Mapped(Choice(("waiting", "committed", "failed", "undone",
+                                        "undo_failed"))),
+                         "how steps that are under way were taken to end; waiting: given up"),
     },
     "What would be done. Nothing is changed.",
 )  # fmt: skip
@@ -200,6 +214,8 @@ RESOLVED = Record("Resolved", {"key": Field(Text()), "resolved": Field(Flag())})
 DECIDED = Record(
     "Decided", {"key": Field(Text()), "step": Field(NAME), "kept": Field(Flag(), "it is stored")}
 )
+WHY = Nullable(Choice(("aborted", "failed")))
+CANCELLED = {"cancelled": Field(WHY, "why the saga is being undone; null: it is not")}
 TASK = Record(
     "Task",
     {
@@ -209,6 +225,7 @@ TASK = Record(
         "seconds": Field(Number(least=0), "for how long the lease holds from now"),
         **time("until", "when the lease expires"),
         **DEADLINE,
+        **CANCELLED,
         "definition": Field(NAME),
         "key": Field(Text(), "of the saga"),
         "step": Field(NAME),
@@ -232,13 +249,35 @@ CLAIMED = Record(
         "unknown_steps": Field(Several(Text()), "those that no definition has"),
     },
 )
-HELD = Record("HeartbeatAnswer", time("until", "when the lease expires now"))
+HELD = Record(
+    "HeartbeatAnswer",
+    {
+        **time("until", "when the lease expires now"),
+        **CANCELLED,
+    },
+)
 REPORTED = Record(
     "Reported",
     {
         "kept": Field(Flag(), "it is stored"),
         "repeated": Field(Flag(), "the same report was stored before"),
         "next": Field(Nullable(CLAIMED), "what was claimed with the report"),
+    },
+)
+REPORTED_TASK = Record(
+    "ReportedTask",
+    {
+        "attempt_id": Field(Text()),
+        "kept": Field(Flag(), "it is stored"),
+        "repeated": Field(Flag(), "the same report was stored before"),
+        "problem": Field(Nullable(PROBLEM), "why it is not stored"),
+    },
+)
+REPORTED_TASKS = Record(
+    "ReportedTasks",
+    {
+        "reports": Field(Several(REPORTED_TASK), "in the order of the request"),
+        "next": Field(Nullable(CLAIMED), "what was claimed with the reports"),
     },
 )
 QUEUE = Record(
@@ -257,7 +296,7 @@ STEP = Record(
     "StepDefinition",
     {
         "name": Field(NAME),
-        "kind": Field(Choice(("worker", "approval", "wait", "function")), "who does it"),
+        "kind": Field(Choice(("worker", "approval", "wait", "child", "function")), "who does it"),
         "needs": Field(Several(NAME)),
         **{word: Field(COST, "null: never") for word in ("run", "undo", "skip", "keep")},
         "tries": Field(COUNT),

@@ -17,13 +17,16 @@ from sagas.server.routes import (
     bulk,
     definition_pages,
     definitions,
+    history,
     inbox,
     operators,
     page_forms,
     pages,
+    saga_pages,
     sagas,
     schedules,
     start_form,
+    task_reports,
     tasks,
     webhooks,
 )
@@ -32,7 +35,9 @@ from sagas.server.settings import Settings
 
 API = [
     tasks.routes,
+    task_reports.routes,
     sagas.routes,
+    history.routes,
     attention.routes,
     bulk.routes,
     definitions.routes,
@@ -41,7 +46,14 @@ API = [
     webhooks.routes,
     openapi.routes,
 ]
-PAGES = [inbox.routes, definition_pages.routes, start_form.routes, pages.routes, page_forms.routes]
+PAGES = [
+    inbox.routes,
+    definition_pages.routes,
+    start_form.routes,
+    pages.routes,
+    saga_pages.routes,
+    page_forms.routes,
+]
 
 
 def operations() -> list[Operation]:

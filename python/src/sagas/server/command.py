@@ -16,14 +16,18 @@ import pathlib
 import socket
 import sys
 from collections.abc import Iterable
+from typing import Any
 
 from sagas.api.store import Store
 from sagas.base.errors import DefinitionError, SagasError
+from sagas.definition import payloads
+from sagas.definition.blobs import check as check_blobs
 from sagas.definition.saga import Saga
 from sagas.server import auth, definition_files, log_format
-from sagas.server.settings import LOOPBACK, Network, Settings, is_loopback
+from sagas.server.settings import LOOPBACK, Network, Settings, StoreSettings, is_loopback
 from sagas.server.webhook_file import WebhookFault
 from sagas.storage import factory
+from sagas.storage.folder_blobs import FolderBlobStore
 
 GOOD, NO, USAGE, CANNOT, INTERRUPTED = 0, 1, 2, 4, 130
 GARBAGE = 5000
@@ -107,6 +111,19 @@ def add_sagas(found: argparse.ArgumentParser) -> None:
         help="maximum number of functions of --app that run at once (default: 16)",
     )  # fmt: skip
     found.add_argument(
+        "--codec", metavar="MODULE:NAME",
+        help="codec that encodes stored inputs and results (default: none)",
+    )  # fmt: skip
+    found.add_argument(
+        "--blobs", metavar="DIR|MODULE:NAME",
+        help="where large inputs and results are kept: a directory, or a blob store of a module "
+        "(default: in the database)",
+    )  # fmt: skip
+    found.add_argument(
+        "--blob-threshold", type=int, default=65_536, metavar="BYTES",
+        help="size above which --blobs keeps a value (default: 65536)",
+    )  # fmt: skip
+    found.add_argument(
         "--webhooks", type=pathlib.Path, metavar="FILE",
         help="file that says where to post events of sagas (default: none)",
     )  # fmt: skip
@@ -165,16 +182,29 @@ def listen_of(text: str) -> tuple[str, int]:
     return host.strip("[]") or "127.0.0.1", int(port)
 
 
-def sagas_of(place: str) -> list[Saga]:
-    """The sagas of a module. Raises `Trouble`."""
+def loaded(option: str, place: str) -> Any:
+    """What a module has by a name. Raises `Trouble`."""
     module, _, name = place.partition(":")
     if not name:
-        raise Trouble(f"invalid --app {place!r}: use MODULE:NAME")
-    sys.path.insert(0, "")
+        raise Trouble(f"invalid {option} {place!r}: use MODULE:NAME")
+    if "" not in sys.path:
+        sys.path.insert(0, "")
     try:
-        found = getattr(importlib.import_module(module), name)
+        return getattr(importlib.import_module(module), name)
     except (ImportError, AttributeError) as error:
-        raise Trouble(f"cannot load --app {place}: {error}") from error
+        raise Trouble(f"cannot load {option} {place}: {error}") from error
+
+
+def blobs_of(place: str | None) -> Any:
+    """The blob store of an option: of a module, or a folder. Raises `Trouble`."""
+    if place is None:
+        return None
+    return loaded("--blobs", place) if ":" in place else FolderBlobStore(place)
+
+
+def sagas_of(place: str) -> list[Saga]:
+    """The sagas of a module. Raises `Trouble`."""
+    found = loaded("--app", place)
     if isinstance(found, Store):
         return found.sagas
     some = (
@@ -215,6 +245,13 @@ def settings_of(words: argparse.Namespace) -> Settings:
             raise Trouble(f"{file} is a directory; pass the path of a file")
         if not file.absolute().parent.is_dir():
             raise Trouble(f"directory {file.parent} does not exist; create it first")
+    codec = loaded("--codec", words.codec) if words.codec else None
+    blobs = blobs_of(words.blobs)
+    try:
+        payloads.checked(codec)
+        check_blobs(blobs, words.blob_threshold)
+    except (TypeError, ValueError) as error:
+        raise Trouble(str(error)) from error
     return Settings(
         words.path,
         sagas,
@@ -226,9 +263,8 @@ def settings_of(words: argparse.Namespace) -> Settings:
         most_body=words.most_body,
         most_connections=words.most_connections,
         rate=words.rate,
-        node=words.node,
-        lease=words.lease,
         trusted_proxies=words.trusted_proxies,
+        store=StoreSettings(words.node, words.lease, codec, blobs, words.blob_threshold),
     )  # fmt: skip
 
 

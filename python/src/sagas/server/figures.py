@@ -5,6 +5,7 @@ from __future__ import annotations
 import asyncio
 import dataclasses
 import functools
+import logging
 import time
 from collections.abc import Awaitable, Callable
 
@@ -16,6 +17,10 @@ Definitions = frozenset[str] | None
 """The definitions of which sagas are counted; None: all."""
 Counts = tuple[dict[str, dict[str, int]], dict[str, int]]
 """How many sagas there are by name and phase, and what waits for a person."""
+QUIET = 20.0
+"""Seconds for which figures hold longer where nothing has happened, as far as is known: an
+operator's command in another program makes no event here."""
+logger = logging.getLogger("sagas.server")
 MOST_KEPT = 100
 """Lists of definitions of which the figures are kept."""
 
@@ -44,14 +49,26 @@ class Figures:
     async def of(self, some: Definitions) -> Counts:
         """The figures of the sagas of these definitions."""
         counted = self._kept.get(some)
-        if counted is None or time.monotonic() > counted.until:
-            counting = self._counting.get(some)
-            if counting is None:
-                counting = asyncio.get_running_loop().create_task(self._count(some))
-                self._counting[some] = counting
-                counting.add_done_callback(functools.partial(self._counted, some))
-            counted = await asyncio.shield(counting)
+        if counted is None or time.monotonic() > self._until(counted):
+            counted = await asyncio.shield(self._begin(some))
         return counted.found
+
+    def _until(self, counted: Counted) -> float:
+        """Until when figures hold: longer where no event came since, as far as this service hears
+        of events."""
+        return counted.until + (QUIET if counted.seen == self._hub.count else 0.0)
+
+    def _begin(self, some: Definitions) -> asyncio.Task[Counted]:
+        counting = self._counting.get(some)
+        if counting is None:
+            counting = asyncio.get_running_loop().create_task(self._count(some))
+            self._counting[some] = counting
+            counting.add_done_callback(functools.partial(self._counted, some))
+        return counting
+
+    def prime(self) -> None:
+        """Count all sagas once, so that nobody waits for that: at the start of a service."""
+        self._begin(None)
 
     async def _count(self, some: Definitions) -> Counted:
         began, seen = time.monotonic(), self._hub.count
@@ -71,6 +88,8 @@ class Figures:
 
     def _counted(self, some: Definitions, task: asyncio.Task[Counted]) -> None:
         self._counting.pop(some, None)
+        if not task.cancelled() and task.exception():
+            logger.debug("the sagas could not be counted: %s", type(task.exception()).__name__)
 
     def lag(self, some: Definitions) -> float | None:
         """Seconds until these figures are counted anew, where something has happened since they

@@ -6,9 +6,11 @@ from typing import Any
 
 from sagas.core.results import Summary
 from sagas.engine.plan import Plan
+from sagas.inspection import timeline as timeline_module
 from sagas.inspection.activity import state_of
 from sagas.inspection.attention_pages import Entry
-from sagas.inspection.views import SagaView, Waits
+from sagas.inspection.timeline import AttemptTimes
+from sagas.inspection.views import Relative, SagaView, Waits
 from sagas.inspection.what_if import WhatIf
 from sagas.runtime.external_queue import LeasedTask, Queue
 from sagas.server.responses import times
@@ -58,6 +60,11 @@ def held(one: Waits) -> dict[str, Any]:
     }
 
 
+def relative(one: Relative) -> dict[str, Any]:
+    """A saga's parent, or one of its children."""
+    return {"key": one.key, "definition": one.saga, "phase": one.phase, "step": one.step}
+
+
 def saga(view: SagaView) -> dict[str, Any]:
     """A saga with its steps."""
     return {
@@ -69,6 +76,8 @@ def saga(view: SagaView) -> dict[str, Any]:
         "aborted": view.aborted,
         "note": view.note,
         "labels": view.summary.labels,
+        "parent": view.parent and relative(view.parent),
+        "children": [relative(one) for one in view.children],
         "input": view.input,
         "states": {step.name: state_of(view, step) for step in view.steps},
         "results": view.results,
@@ -80,6 +89,7 @@ def saga(view: SagaView) -> dict[str, Any]:
             for step in view.steps
             if step.progress
         ],
+        "early": {step.name: step.early for step in view.steps if step.early},
     }
 
 
@@ -91,6 +101,46 @@ def log(view: SagaView) -> list[dict[str, Any]]:
 def event(name: str, at: float, step: str | None, value: Any) -> dict[str, Any]:
     """An event of a saga."""
     return {"event": name, **times(at=at), "step": step, "value": value}
+
+
+def timeline(view: SagaView, now: float) -> dict[str, Any]:
+    """What each attempt did, and what people did."""
+    return {
+        "attempts": [attempt_times(one) for one in timeline_module.of(view, now)],
+        "decisions": [{**one, **times(at=one["at"])} for one in timeline_module.decisions(view)],
+    }
+
+
+def attempt_times(one: AttemptTimes) -> dict[str, Any]:
+    """An attempt with its parts."""
+    note = one.decision
+    return {
+        "step": one.step,
+        "undo": one.undo,
+        "attempt": one.attempt,
+        **times(ready=one.ready, began=one.began, ended=one.ended),
+        "outcome": one.outcome,
+        "error": one.error,
+        "unknown_outcomes": one.unknowns,
+        "spans": [
+            {
+                "state": span.state,
+                "why": span.why,
+                **times(began=span.began, ended=span.ended),
+                "worker": span.worker,
+                "lease": span.lease,
+                "detail": span.detail,
+            }
+            for span in one.spans
+        ],
+        "decision": note
+        and {
+            "command": note.what,
+            **times(at=note.at),
+            "by": note.told.get("by"),
+            "note": note.told.get("note"),
+        },
+    }
 
 
 def certificate(one: Plan) -> dict[str, Any]:
@@ -114,6 +164,7 @@ def task(one: LeasedTask, now: float) -> dict[str, Any]:
         "lease": one.lease,
         "seconds": round(max(0.0, one.until - now), 3),
         **times(until=one.until, deadline=deadline),
+        "cancelled": task.cancelled.reason,
         "definition": task.saga,
         "key": task.key,
         "step": task.step,

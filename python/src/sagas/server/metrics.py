@@ -145,8 +145,8 @@ class Metrics:
         yield sagas
         asked = GaugeMetricFamily(
             "sagas_attention_required",
-            "Stuck sagas, compensations that failed for good, unknown outcomes, stored values that "
-            "cannot be read, approvals",
+            "Stuck sagas, compensations that failed permanently, unknown outcomes, exhausted "
+            "attempts, stored values that cannot be read, approvals",
             labels=["reason"],
         )
         for why, count in self.asked.items():

@@ -36,6 +36,7 @@ PROBLEMS = {
     "NotFound": Kind(404, "The path does not exist"),
     "NoSuchSaga": Kind(404, "No saga has this key"),
     "NoSuchTask": Kind(404, "No task has this attempt id"),
+    "NoSuchDelivery": Kind(404, "No delivery has this id"),
     "NoSuchSchedule": Kind(404, "No schedule has this name"),
     "NoSuchDefinition": Kind(404, "The service has no such definition"),
     "NoPlan": Kind(404, "The saga has no plan"),

@@ -22,7 +22,7 @@ from sagas.definition import tokens
 from sagas.definition.compiled import version_of
 from sagas.definition.labels import Labels
 from sagas.definition.saga import Saga
-from sagas.inspection import activity, lists
+from sagas.inspection import activity
 from sagas.inspection import saga as one_saga
 from sagas.inspection.question import Question, StoreReader
 from sagas.inspection.views import SagaView
@@ -73,8 +73,6 @@ class Service:
         self.hub = Hub()
         self.metrics = Metrics(self)
         self.tokens = Tokens(settings.tokens, logger.error) if settings.tokens else None
-        hooks = webhook_file.read(settings.webhooks) if settings.webhooks else []
-        self.webhooks = Webhooks(hooks, self._is_asked)
         self.sessions = Sessions(settings.session_time)
         self.rates = Rates(settings.rate)
         self.refusals = Rates(5.0)
@@ -85,10 +83,15 @@ class Service:
             settings.sagas,
             concurrency=settings.concurrency,
             on_event=self._event,
-            node=settings.node,
-            lease=settings.lease,
+            node=settings.store.node,
+            lease=settings.store.lease,
+            codec=settings.store.codec,
+            blobs=settings.store.blobs,
+            blob_threshold=settings.store.blob_threshold,
         )
         self.store.leased = True
+        hooks = webhook_file.read(settings.webhooks) if settings.webhooks else []
+        self.webhooks = Webhooks(hooks, self.store.deliveries)
         self._peers: Peers | None = None
         self._there: dict[
             str, tuple[float, list[ActiveAttempt]]
@@ -109,6 +112,7 @@ class Service:
         self._lookers: asyncio.Queue[StoreReader] = asyncio.Queue()
         for _ in range(LOOKERS):
             self._lookers.put_nowait(StoreReader(self.store.reader()))
+        self.figures.prime()
 
     @property
     def is_stopping(self) -> bool:
@@ -161,11 +165,6 @@ class Service:
         self.hub.publish(event)
         if self._peers and self._peers.others and not self._peers.tell(told := told_of(event)):
             self._peers.tell({**told, "detail": None})
-
-    async def _is_asked(self, key: str, step: str, undo: bool) -> bool:
-        """Whether a person has to say how an attempt ended."""
-        held = await self.look(lists.waits(key=key))
-        return any((one.step, one.undo, one.asks) == (step, undo, True) for one in held)
 
     def ready(self) -> str | None:
         """None where it takes requests; else why not."""
@@ -279,11 +278,14 @@ class Service:
             row = yield from one_saga.there(key)
             return row.saga, version_of((yield from one_saga.definition(row.id)))
 
-        found = await self.look(question())
-        sagas = [saga for saga in self.settings.sagas if (saga.name, saga.version) == found]
-        return any(
-            one.name == step and one.kind == "approval" for saga in sagas for one in saga.steps
-        )
+        return step in self.approvals(*await self.look(question()))
+
+    def approvals(self, name: str, version: int) -> set[str]:
+        """The steps of a definition that are approvals."""
+        sagas = [
+            saga for saga in self.settings.sagas if (saga.name, saga.version) == (name, version)
+        ]
+        return {one.name for saga in sagas for one in saga.steps if one.kind == "approval"}
 
     async def start(
         self, who: Who, saga: Saga, key: str, given: Any, labels: Labels | None = None,

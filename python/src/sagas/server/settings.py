@@ -7,6 +7,8 @@ import ipaddress
 import pathlib
 from typing import Union
 
+from sagas.definition.blobs import BlobStore
+from sagas.definition.payloads import Codec
 from sagas.definition.saga import Saga
 
 Network = Union[ipaddress.IPv4Network, ipaddress.IPv6Network]
@@ -27,14 +29,24 @@ class StreamSettings:
 
 
 @dataclasses.dataclass(frozen=True, slots=True)
+class StoreSettings:
+    """How the store is opened, as `sagas.open` has it. `node` and `lease` are of PostgreSQL."""
+
+    node: str | None = None
+    lease: float = 10.0
+    codec: Codec | None = None
+    blobs: BlobStore | None = None
+    blob_threshold: int = 65_536
+
+
+@dataclasses.dataclass(frozen=True, slots=True)
 class Settings:
     """`tokens` is None where it listens on the loopback only, and everybody there may do
     everything.
 
     Sizes are in bytes, times in seconds. `rate`: requests a second that each token (without
     tokens: each address) may make on the average; it may save up two seconds' worth.
-    `trusted_proxies`: the networks whose word is taken for whose request it is. `node` and
-    `lease` are of a store in PostgreSQL, as in `sagas.open`.
+    `trusted_proxies`: the networks whose word is taken for whose request it is.
     """
 
     path: str
@@ -55,8 +67,7 @@ class Settings:
     session_time: float = 12 * 3600.0
     shutdown_timeout: float = 20.0
     patience: float = 20.0  # for an answer of another node
-    node: str | None = None
-    lease: float = 10.0
+    store: StoreSettings = StoreSettings()
 
 
 def is_loopback(host: str) -> bool:

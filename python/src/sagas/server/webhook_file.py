@@ -11,7 +11,8 @@ from urllib.parse import urlsplit
 
 import tomllib
 
-TYPES = ("saga.completed", "saga.recovered", "saga.stuck", "saga.attention")
+from sagas.core.announcements import TYPES
+
 KEYS = ("name", "url", "secret", "types", "definitions")
 PREFIX = "whsec_"
 LEAST_SECRET = 24  # bytes

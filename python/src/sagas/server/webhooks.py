@@ -1,7 +1,7 @@
-"""Webhooks: signed posts of what happened, with retries, and a list of deliveries.
+"""Webhooks: signed posts of what happened, with retries.
 
-As Standard Webhooks has them. They are in memory: what was not delivered when the service ends is
-lost, and whoever needs all of it asks for the sagas, too.
+As Standard Webhooks has them. What is to be posted is in the store, from the commit on of what it
+tells of: so it is posted at least once, and after an end of this program by the next one.
 """
 
 from __future__ import annotations
@@ -9,78 +9,42 @@ from __future__ import annotations
 import asyncio
 import base64
 import contextlib
-import dataclasses
-import enum
 import hashlib
-import heapq
 import hmac
 import http.client
-import itertools
-import json
 import logging
 import random
-import secrets
 import time
-from collections import OrderedDict
-from collections.abc import Awaitable, Callable
 from concurrent.futures import ThreadPoolExecutor
-from typing import Any
 from urllib.parse import urlsplit
 
+from sagas.api.deliveries import Deliveries
+from sagas.base.errors import Closed, SagasError
 from sagas.base.events import Event
-from sagas.server.responses import text_of
+from sagas.core.announcements import TYPES
+from sagas.definition.compiled import Hooks
 from sagas.server.webhook_file import Webhook
+from sagas.storage.deliveries import Claimed, DeliveryState, Posted
 
 AT_ONCE, PATIENCE = 4, 10.0
-"""Posts at once, and seconds that each may take."""
+"""Posts at once to a webhook, and seconds that each may take."""
+LEASE = 3 * PATIENCE
+"""Seconds behind which a delivery is posted again whose program has ended."""
 PAUSES = (1.0, 5.0, 25.0, 125.0, 600.0, 600.0, 600.0, 600.0, 600.0)
 """Seconds before each further attempt, at least half of them."""
-KEPT, MOST_PENDING = 1000, 10_000
+LOOK = 5.0
+"""Seconds between two looks for what other programs have left."""
+HOUR, KEPT, KEPT_FAILED = 3600.0, 7 * 86400.0, 30 * 86400.0
+"""Seconds between two deletions, and for which deliveries are kept."""
 GONE = 410
 """The status by which a receiver says that it wants nothing more of this."""
+MOST_SAID = 200
+TOLD = (
+    "saga_ended", "saga_stuck", "saga_undo_failed",
+    "step_suspended", "step_exhausted", "step_unknown", "step_cannot_decode",
+)  # fmt: skip
+"""Events behind whose commits there may be something to post."""
 logger = logging.getLogger("sagas.webhooks")
-Asks = Callable[[str, str, bool], Awaitable[bool]]
-"""Whether a person has to say how an attempt ended: by key, step, and whether it is undone."""
-
-
-class DeliveryState(enum.StrEnum):
-    """Where a delivery stands."""
-
-    PENDING = "pending"
-    DELIVERED = "delivered"
-    FAILED = "failed"
-    """No attempt is left, or the receiver wants none."""
-
-
-@dataclasses.dataclass(slots=True)
-class Delivery:
-    """One post to one webhook. `status`: of the last answer; `error`: why there was none."""
-
-    id: str
-    webhook: Webhook
-    type: str
-    body: bytes
-    at: float
-    key: str
-    state: DeliveryState = DeliveryState.PENDING
-    attempts: int = 0
-    status: int | None = None
-    error: str | None = None
-    due: float | None = None
-
-
-def type_of(event: Event) -> tuple[str, dict[str, Any]] | None:
-    """The type of an event, and what is told beside the saga; None: nobody is told."""
-    at_step: dict[str, Any] = {"step": event.step, "undo": event.undo}
-    if event.name == "saga_ended" and event.detail in ("completed", "recovered"):
-        return f"saga.{event.detail}", {}
-    if event.name == "saga_stuck":
-        return "saga.stuck", {}
-    if event.name == "saga_undo_failed":
-        return "saga.attention", {"kind": "undo_failed", **at_step}
-    if event.name == "step_suspended" and event.detail in ("approval", "unknown", "cannot_decode"):
-        return "saga.attention", {"kind": event.detail, **at_step}
-    return None
 
 
 def signed(secret: bytes, id: str, at: int, body: bytes) -> str:
@@ -89,132 +53,117 @@ def signed(secret: bytes, id: str, at: int, body: bytes) -> str:
     return f"v1,{base64.b64encode(code).decode()}"
 
 
-def post(delivery: Delivery) -> int:
+def post(hook: Webhook, delivery: Claimed) -> int:
     """Posts once; gives the status. Redirects are not followed. Raises `OSError`, or
     `http.client.HTTPException`."""
-    parts, at = urlsplit(delivery.webhook.url), int(time.time())
+    parts, at, body = urlsplit(hook.url), int(time.time()), delivery.body.encode()
     kind = http.client.HTTPSConnection if parts.scheme == "https" else http.client.HTTPConnection
     headers = {
         "Content-Type": "application/json",
         "User-Agent": "sagas",
         "webhook-id": delivery.id,
         "webhook-timestamp": str(at),
-        "webhook-signature": signed(delivery.webhook.secret, delivery.id, at, delivery.body),
+        "webhook-signature": signed(hook.secret, delivery.id, at, body),
     }
     with contextlib.closing(kind(parts.hostname or "", parts.port, timeout=PATIENCE)) as link:
         path = (parts.path or "/") + (f"?{parts.query}" if parts.query else "")
-        link.request("POST", path, delivery.body, headers)
+        link.request("POST", path, body, headers)
         return int(link.getresponse().status)
 
 
 class Webhooks:
-    """The deliveries of a service."""
+    """Posts the deliveries of a store. Each webhook has posts of its own, so that one that does not
+    answer holds up no other."""
 
-    def __init__(self, hooks: list[Webhook], asks: Asks) -> None:
-        self._hooks, self._asks = hooks, asks
-        self._all: OrderedDict[str, Delivery] = OrderedDict()
-        self._due: list[tuple[float, int, Delivery]] = []
-        self._count = itertools.count()
-        self._tasks: set[asyncio.Task[None]] = set()
-        self._pending = 0
+    def __init__(self, hooks: list[Webhook], deliveries: Deliveries) -> None:
+        self._hooks, self._deliveries = hooks, deliveries
+        self._lanes: list[asyncio.Task[None]] = []
+        self._awake: list[asyncio.Event] = []
+        if hooks:
+            deliveries.announce(self._told)
+
+    def _told(self, saga: str) -> Hooks:
+        """The names of the webhooks that are told of a definition, by type."""
+        found = {
+            kind: tuple(hook.name for hook in self._hooks if hook.wants(kind, saga))
+            for kind in TYPES
+        }
+        return {kind: names for kind, names in found.items() if names}
 
     def begin(self) -> None:
-        """Delivers from now on. In the loop."""
-        self._awake = asyncio.Event()
-        self._threads = ThreadPoolExecutor(AT_ONCE, "sagas-webhook")
-        for _ in range(AT_ONCE if self._hooks else 0):
-            self._spawn(self._work())
-
-    def _spawn(self, work: Any) -> None:
-        task = asyncio.get_running_loop().create_task(work)
-        self._tasks.add(task)
-        task.add_done_callback(self._tasks.discard)
+        """Posts from now on. In the loop, with the store open."""
+        if not self._hooks:
+            return
+        loop, most = asyncio.get_running_loop(), AT_ONCE * len(self._hooks)
+        self._threads = ThreadPoolExecutor(min(most, 64), "sagas-webhook")
+        self._awake = [asyncio.Event() for _ in self._hooks]
+        self._lanes = [
+            loop.create_task(self._lane(hook, awake))
+            for hook, awake in zip(self._hooks, self._awake)
+        ]
 
     async def end(self) -> None:
-        """Delivers nothing more."""
-        for task in self._tasks:
-            task.cancel()
-        if self._tasks:
-            await asyncio.wait(self._tasks)
-        self._threads.shutdown(wait=False, cancel_futures=True)
+        """Posts nothing more. What is under way is posted again by the next program."""
+        for lane in self._lanes:
+            lane.cancel()
+        if self._lanes:
+            await asyncio.wait(self._lanes)
+            self._threads.shutdown(wait=False, cancel_futures=True)
 
     def event(self, event: Event) -> None:
-        """Something happened to a saga that this service drives."""
-        told = type_of(event) if self._hooks and event.key and event.saga else None
-        if told is None:
-            return
-        hooks = [one for one in self._hooks if one.wants(told[0], event.saga or "")]
-        if hooks and told[1].get("kind") == "unknown":
-            self._spawn(self._if_asked(hooks, event, *told))
-        else:
-            self._put(hooks, event, *told)
+        """Something happened to a saga that this service executes."""
+        if self._awake and event.name in TOLD:
+            self.look()
 
-    async def _if_asked(
-        self, hooks: list[Webhook], event: Event, kind: str, more: dict[str, Any]
-    ) -> None:
-        """Of an unknown outcome only where no further attempt follows by itself."""
-        if await self._asks(event.key or "", event.step or "", event.undo):
-            self._put(hooks, event, kind, more)
+    def look(self) -> None:
+        """There may be something to post."""
+        for awake in self._awake:
+            awake.set()
 
-    def _put(self, hooks: list[Webhook], event: Event, kind: str, more: dict[str, Any]) -> None:
-        for hook in hooks:
-            if self._pending >= MOST_PENDING:
-                logger.error(
-                    "webhook %s: dropped an event, %d deliveries wait", hook.name, MOST_PENDING
-                )
-                continue
-            data = {"key": event.key, "definition": event.saga, **more}
-            told = {"type": kind, "timestamp": text_of(event.at), "data": data}
-            id = f"msg_{secrets.token_hex(12)}"
-            one = Delivery(id, hook, kind, json.dumps(told).encode(), event.at, event.key or "")
-            self._all[id] = one
-            self._pending += 1
-            self._later(one, 0.0)
-        while len(self._all) > KEPT + self._pending:
-            over = next(one for one in self._all.values() if one.state != DeliveryState.PENDING)
-            del self._all[over.id]
-
-    def _later(self, one: Delivery, seconds: float) -> None:
-        one.due = time.time() + seconds
-        heapq.heappush(self._due, (time.monotonic() + seconds, next(self._count), one))
-        self._awake.set()
-
-    async def _work(self) -> None:
-        loop = asyncio.get_running_loop()
+    async def _lane(self, hook: Webhook, awake: asyncio.Event) -> None:
+        """Posts to one webhook, until it is cancelled."""
+        forgets, loop = 0.0, asyncio.get_running_loop()
         while True:
-            left = self._due[0][0] - time.monotonic() if self._due else None
-            if left is None or left > 0:
-                self._awake.clear()
-                with contextlib.suppress(TimeoutError):
-                    async with asyncio.timeout(left):
-                        await self._awake.wait()
-                continue
-            one = heapq.heappop(self._due)[2]
-            one.attempts, one.due, one.error, one.status = one.attempts + 1, None, None, None
+            awake.clear()
+            pause = LOOK
             try:
-                one.status = await loop.run_in_executor(self._threads, post, one)
-            except (OSError, http.client.HTTPException) as error:
-                one.error = f"{type(error).__name__}: {error}"[:200]
-            self._came_to(one)
+                if loop.time() >= forgets:
+                    forgets = loop.time() + HOUR
+                    await self._deliveries.forget(KEPT, KEPT_FAILED)
+                found = await self._deliveries.claim(hook.name, AT_ONCE, LEASE)
+                if found:
+                    await asyncio.gather(*(self._deliver(hook, one) for one in found))
+                    continue
+                due = await self._deliveries.due(hook.name)
+                pause = LOOK if due is None else min(LOOK, max(0.05, due))
+            except Closed:
+                return
+            except SagasError as error:  # the store does not answer: the next look asks again
+                logger.warning("webhook %s: %s", hook.name, type(error).__name__)
+            with contextlib.suppress(TimeoutError):
+                async with asyncio.timeout(pause):
+                    await awake.wait()
 
-    def _came_to(self, one: Delivery) -> None:
-        """It is over, or there is another attempt."""
-        if one.status is not None and 200 <= one.status < 300:
-            one.state = DeliveryState.DELIVERED
-        elif one.status == GONE or one.attempts > len(PAUSES):
-            one.state = DeliveryState.FAILED
-            logger.error(
-                "webhook %s: %s not delivered, attempt %d was the last",
-                one.webhook.name,
-                one.id,
-                one.attempts,
-            )
-        else:
-            self._later(one, PAUSES[one.attempts - 1] * random.uniform(0.5, 1.0))
-            return
-        self._pending -= 1
+    async def _deliver(self, hook: Webhook, one: Claimed) -> None:
+        """Posts one, and stores how that went. Raises `StoreUnavailable`, `Closed`."""
+        status, error = None, None
+        try:
+            loop = asyncio.get_running_loop()
+            status = await loop.run_in_executor(self._threads, post, hook, one)
+        except (OSError, http.client.HTTPException) as fault:
+            error = f"{type(fault).__name__}: {fault}"[:MOST_SAID]
+        posted = outcome(status, error, one.attempts)
+        is_kept = await self._deliveries.settle(one.id, one.attempts, posted)
+        if is_kept and posted.state is DeliveryState.FAILED:
+            told = "webhook %s: %s not delivered, attempt %d was the last"
+            logger.error(told, hook.name, one.id, one.attempts)
 
-    def deliveries(self, state: str | None, most: int) -> list[Delivery]:
-        """The latest, the newest first."""
-        found = (one for one in reversed(self._all.values()) if state in (None, one.state))
-        return list(itertools.islice(found, most))
+
+def outcome(status: int | None, error: str | None, attempts: int) -> Posted:
+    """What becomes of a delivery by the answer to an attempt."""
+    if status is not None and 200 <= status < 300:
+        return Posted(DeliveryState.DELIVERED, status, None, None)
+    if status == GONE or attempts > len(PAUSES):
+        return Posted(DeliveryState.FAILED, status, error, None)
+    pause = PAUSES[attempts - 1] * random.uniform(0.5, 1.0)
+    return Posted(DeliveryState.PENDING, status, error, pause)

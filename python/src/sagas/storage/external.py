@@ -10,19 +10,23 @@ that into the shard, and settles the row in the same commit, under the shard's e
 
 from __future__ import annotations
 
+import json
 from collections.abc import Awaitable, Callable, Sequence
 from typing import NamedTuple, Protocol
 
 from sagas.core.batch import Batch
+from sagas.core.spans import LEASED_WORD
+from sagas.storage.deliveries import Deliveries
 
-OFFER = "attempt, shard, id, step, action, number, task, concurrency, lease, offered_at"
+OFFER = "attempt, shard, id, step, action, number, task, concurrency, lease, offered_at, cancelled"
 OPEN = "outcome IS NULL"
 REPORTED = "outcome IN ('succeeded', 'failed', 'failed_permanently', 'unknown')"
 OFFERED_AGAIN = """
 lease = CASE WHEN excluded.lease IS NULL THEN e.lease
   ELSE greatest(excluded.lease, coalesce(e.lease, 0) + 1) END,
 offered_at = CASE WHEN e.outcome IS NULL THEN e.offered_at ELSE excluded.offered_at END,
-until = CASE WHEN e.outcome IS NULL THEN e.until END, outcome = NULL
+until = CASE WHEN e.outcome IS NULL THEN e.until END, outcome = NULL,
+cancelled = coalesce(excluded.cancelled, e.cancelled)
 WHERE e.outcome IS NULL OR e.outcome IN ('suspended', 'withdrawn', 'person')
 """
 """One that is offered already keeps its place and its lease; what a worker reported stands."""
@@ -35,9 +39,15 @@ TAKES = """(
 place of a failure that is not settled yet, and *unknown* gives way to it."""
 
 
+def earlier(since: float, worker: str, lease: int, until: float | None) -> str:
+    """The spans of a lease that ended without a report, and of the wait for the next worker."""
+    ended = [] if until is None else [["external", until, None]]
+    return json.dumps([[LEASED_WORD, since, None, worker, lease], *ended])
+
+
 class Claim(NamedTuple):
-    """An attempt that was claimed, for how many seconds, and whether an earlier lease of it had run
-    out."""
+    """An attempt that was claimed, for how many seconds, why its saga is being undone, if it is,
+    and whether an earlier lease of it had run out."""
 
     attempt: str
     lease: int
@@ -45,7 +55,15 @@ class Claim(NamedTuple):
     id: int
     step: int
     action: str
+    cancelled: str | None
     is_takeover: bool
+
+
+class Beat(NamedTuple):
+    """For how many seconds a lease holds, and why the task is to be undone, if it is."""
+
+    seconds: float
+    cancelled: str | None
 
 
 class Row(NamedTuple):
@@ -78,6 +96,9 @@ class Waiting(NamedTuple):
 class ExternalAttempts(Protocol):
     """The table, for a program that has the store open. All raise `StoreUnavailable`."""
 
+    deliveries: Deliveries
+    """What is posted to webhooks."""
+
     def begin(self, write: Callable[[Batch], Awaitable[None]], clock: Callable[[], float]) -> None:
         """`write`: puts a batch into the next transaction."""
 
@@ -87,9 +108,8 @@ class ExternalAttempts(Protocol):
         """Leases of attempts that wait, those first that have waited longest. `limited`: those of
         the tasks that have a concurrency."""
 
-    async def heartbeat(self, attempt: str, lease: int, seconds: float) -> float | None:
-        """Seconds for which the lease holds from now; None where it is not the newest, or is
-        over."""
+    async def heartbeat(self, attempt: str, lease: int, seconds: float) -> Beat | None:
+        """Keeps a lease; None where it is not the newest, or is over."""
 
     async def advance(self, attempt: str, fraction: float, detail: str | None, at: float) -> None:
         """Keeps how far the worker is that has an attempt."""

@@ -39,6 +39,7 @@ if TYPE_CHECKING:
     from sagas.core.outcomes import Outcome
     from sagas.definition.step import Bounds, Manner
     from sagas.definition.task import Task
+    from sagas.storage.blob_layer import Blobs
 
 Then = Callable[[Sequence[Batch], "BaseException | None", frozenset[int]], None]
 """What was given to be written; None, or what kept it from being written (as far as is known);
@@ -195,6 +196,10 @@ class Database(CommitWriter, StoreReader, Protocol):
 
     external: ExternalAttempts
     """Work done elsewhere."""
+
+    @property
+    def blobs(self) -> Blobs | None:
+        """Where large values are, if they are outside."""
 
     @property
     def sought(self) -> int:

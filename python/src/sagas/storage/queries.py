@@ -49,13 +49,13 @@ FIND_MANY = {
 }
 """By how many keys: few numbers, so that their statements are kept."""
 FOUND, MOST_FOUND = [*FIND_MANY], max(FIND_MANY)
-IN_OPEN_LOGS = f""" AND id IN (
+IN_OPEN_LOGS = f""" AND s.id IN (
   SELECT o.id FROM shards CROSS JOIN sagas o
   WHERE closed = 0 AND o.id >= shard * {SHARD_CAPACITY} AND o.id < (shard + 1) * {SHARD_CAPACITY}
   AND o.phase IS NULL)"""
 """How a file, which has no index of open sagas, finds them: a log is closed only when none of
 its sagas is open, so those of closed ones are not looked at. In this order too. PostgreSQL has
-an index, and leaves this out.
+an index, and leaves this out. The table has the name `s`.
 """
 PHASES = {
     "open": f"phase IS NULL{IN_OPEN_LOGS}", "completed": f"phase = 'ended' AND NOT {PLANNED}",

@@ -9,7 +9,10 @@ from __future__ import annotations
 from collections.abc import Callable, Iterable, Mapping
 from typing import Any, Union
 
-from sagas.definition import validation
+from sagas.core import outcomes
+from sagas.core.outcomes import Outcome
+from sagas.core.states import OutcomeKind
+from sagas.definition import children, serialization, validation
 from sagas.definition.arguments import shown
 from sagas.definition.saga import Saga
 from sagas.definition.step import Step
@@ -27,6 +30,46 @@ FORMS = (
 )
 
 
+def part_of(saga: Saga, child: str | None, said: Mapping[Any, Any] | None) -> Any:
+    """What a test says of a saga's own steps, or of those of a child: `stay/room`, or the step
+    `room` itself.
+
+    Args:
+        saga: The saga.
+        child: The name of the step that starts the child, or None for the saga's own steps.
+        said: What the test says, by step. What is no dict is left as it is.
+    """
+    if not isinstance(said, Mapping):
+        return said
+    found = {}
+    for step, value in said.items():
+        heads, rest = _heads(saga, step)
+        if child in heads or (child is None and not heads):
+            found[rest] = value
+    return found
+
+
+def _heads(saga: Saga, step: object) -> tuple[list[str], object]:
+    """The steps of a saga that start the child of which a step is, and how the child calls it; none
+    where it is the saga's own.
+    """
+    if isinstance(step, str) and "/" in step:
+        head, _, rest = step.partition("/")
+        names = [one.name for one, _ in children.children_of(saga)]
+        if head not in names:
+            near = validation.meant(head, names)
+            raise KeyError(f"saga {saga.name!r} has no child step {head!r}{near}")
+        return [head], rest
+    if isinstance(step, Step) and step.saga is not saga:
+        heads = [
+            one.name
+            for one, child in children.children_of(saga)
+            if step.saga is child or step.saga in children.descendants(child)
+        ]
+        return heads, step
+    return [], step
+
+
 def name_of(saga: Saga, step: object) -> str:
     """A step's name; an unknown one is a fault of the test."""
     name = step.name if isinstance(step, Step) else step
@@ -38,14 +81,33 @@ def name_of(saga: Saga, step: object) -> str:
     return name
 
 
-def answers_of(saga: Saga, answers: Answers | None) -> dict[str, Any]:
-    """What is answered, by step."""
+def answers_of(saga: Saga, answers: Answers | None, word: str = "answers") -> dict[str, Any]:
+    """What is answered, by step; `word` is how the test says it."""
     if answers is not None and not isinstance(answers, Mapping):
         raise TypeError(
-            f"answers={shown(answers)}: must be a dict of answers by step: "
-            f'answers={{"{saga.steps[-1].name}": "yes"}}'
+            f"{word}={shown(answers)}: must be a dict of answers by step: "
+            f'{word}={{"{saga.steps[-1].name}": "yes"}}'
         )
     return {name_of(saga, step): answer for step, answer in (answers or {}).items()}
+
+
+def early_of(saga: Saga, early: Answers | None) -> dict[str, Outcome]:
+    """What is reported before the steps begin, by step; a failure by an exception."""
+    found = {}
+    for name, answer in answers_of(saga, early, "early").items():
+        step = next(step for step in saga.steps if step.name == name)
+        if step.kind != "approval" and not step.run.external:
+            raise ValueError(
+                f"early: step {name!r} is neither an approval nor external, so nobody reports it. "
+                "Remove this"
+            )
+        if isinstance(answer, Exception):
+            text = f"{type(answer).__name__}: {answer}"
+            found[name] = outcomes.failure(text, final=True)
+        else:
+            text = serialization.write(answer, f"early[{name!r}]")
+            found[name] = Outcome(OutcomeKind.SUCCEEDED, text)
+    return found
 
 
 def script(saga: Saga, word: str, said: Script | None) -> dict[str, Rule]:
@@ -90,7 +152,7 @@ def _check_compensation(saga: Saga, word: str, name: str) -> None:
             f"{word}: step {name!r} has no compensation, so it is never undone. Declare "
             f"one with @{name}.compensation, or remove this"
         )
-    if step.undo.implied:
+    if step.undo.implied and step.child is None:
         raise ValueError(
             f"{word}: step {name!r} has no compensation, and undoing it does nothing, "
             "which cannot fail. Remove this"

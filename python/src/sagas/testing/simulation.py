@@ -13,10 +13,10 @@ import heapq
 import json
 from collections import Counter
 from collections.abc import Mapping
-from typing import Any
+from typing import Any, Protocol
 
 from sagas.base.errors import CannotDecode, Fail
-from sagas.core import outcomes, protocol
+from sagas.core import early_reports, outcomes, protocol
 from sagas.core.attempts import AttemptMachine
 from sagas.core.decisions import Decision, Do
 from sagas.core.effects import Abort, Effects
@@ -25,7 +25,7 @@ from sagas.core.history import STANDS
 from sagas.core.model import RUNNING, SUSPENDED, Attempt, SagaInstance
 from sagas.core.outcomes import Outcome
 from sagas.core.shard import MOST_CLAIMS, ShardDriver, ShardIdentity
-from sagas.core.states import OutcomeKind, Suspension, saga_phase, step_state
+from sagas.core.states import Action, OutcomeKind, Suspension, saga_phase, step_state
 from sagas.core.suspensions import SuspensionRow
 from sagas.definition import serialization
 from sagas.definition.compiled import Kind
@@ -49,6 +49,8 @@ class Scenario:
         abort: The step after which the saga is aborted.
         connection: What `task.connection` is.
         deadline: When the saga is aborted, by the clock of the simulation.
+        early: What is reported before the steps begin, by step.
+        children: What is to happen to the children, by step.
     """
 
     rules: Mapping[tuple[str, str], Mapping[str, Rule]]
@@ -56,6 +58,19 @@ class Scenario:
     abort: str | None = None
     connection: Any = None
     deadline: float | None = None
+    early: Mapping[str, Outcome] = dataclasses.field(default_factory=dict)
+    children: Mapping[str, Scenario] = dataclasses.field(default_factory=dict)
+
+    def undoing(self) -> Scenario:
+        """Return what is to happen to the saga that undoes this one: the compensations are its
+        steps.
+        """
+        rules = {(outcome, "run"): self.rules[outcome, "undo"] for outcome, _ in self.rules}
+        rules |= {(outcome, "undo"): {} for outcome, _ in self.rules}
+        below = {step: scenario.undoing() for step, scenario in self.children.items()}
+        return dataclasses.replace(
+            self, rules=rules, abort=None, deadline=None, early={}, children=below
+        )
 
     def rule(self, outcome: str, attempt: Attempt, count: int) -> Exception | None:
         """Return the exception by which the `count`-th of an action is to end so, if it is."""
@@ -70,14 +85,27 @@ class Due(enum.Enum):
     TIMER = enum.auto()
     ANSWER = enum.auto()
     """A person, or another program, says how it ended."""
+    CHILD = enum.auto()
+    """A child saga is run."""
+
+
+class Children(Protocol):
+    """Runs the children of a simulation."""
+
+    async def run(self, attempt: Attempt, scenario: Scenario) -> Outcome:
+        """Run the child of an attempt to its end; return what that comes to."""
 
 
 class Simulation:
     """One saga, from its start to its end."""
 
-    def __init__(self, key: str, text: str, kind: Kind, scenario: Scenario, clock: Clock) -> None:
+    def __init__(
+        self, key: str, text: str, kind: Kind, scenario: Scenario, clock: Clock,
+        children: Children, name: str = "test",
+    ) -> None:  # fmt: skip
         self._kind, self._scenario, self._clock = kind, scenario, clock
-        identity = ShardIdentity(0, "test", "", [kind.text], [kind])
+        self._children, self._followed = children, set[Attempt]()
+        identity = ShardIdentity(0, name, "", [kind.text], [kind])
         self._driver, self._machine = ShardDriver.created(identity), AttemptMachine()
         self._saga = SagaInstance(key, text, kind, 0, StartOptions(deadline=scenario.deadline))
         self._began = clock()
@@ -89,9 +117,17 @@ class Simulation:
         self._is_late = False
         self._fault: Exception | None = None  # of the test, found in a step's function
 
+    @property
+    def saga(self) -> SagaInstance:
+        """The saga as it stands."""
+        return self._saga
+
     async def play(self, engine: Engine) -> Trial:
         """Run it."""
         self._driver.open(self._saga)
+        for name, outcome in self._scenario.early.items():
+            word = (self._kind.names.index(name), Action.RUN.value)
+            early_reports.EarlyReport(self._saga, word, outcome).keep()
         self._turn(engine)
         while self._due:
             deadline = self._saga.options.deadline
@@ -133,6 +169,9 @@ class Simulation:
             outcome = outcomes.raised(told, attempt.manner) if told else self._answer(attempt)
             reports = self._machine.ended if told else self._machine.finish
             self._do(attempt, reports(attempt, outcome, now))
+        elif due is Due.CHILD:
+            outcome = await self._child(attempt)
+            self._do(attempt, self._machine.ended(attempt, outcome, self._clock()))
         else:
             outcome = await self._outcome(attempt)
             if outcome.kind is OutcomeKind.UNKNOWN:
@@ -186,6 +225,9 @@ class Simulation:
             self._driver.report(attempt)
         elif decision.do is Do.OFFER:
             self._put(self._clock(), Due.ANSWER, attempt)
+        elif decision.do is Do.FOLLOW and attempt not in self._followed:
+            self._followed.add(attempt)
+            self._put(self._clock(), Due.CHILD, attempt)
         elif decision.do is Do.SUSPEND and decision.timer:
             self._wait(attempt)
         if decision.row:
@@ -201,7 +243,8 @@ class Simulation:
 
     def _stored(self, attempt: Attempt) -> None:
         self._do(attempt, self._machine.stored(attempt))
-        if attempt.state is SUSPENDED and attempt.until is None:
+        is_child = attempt.reason is Suspension.CHILD
+        if attempt.state is SUSPENDED and attempt.until is None and not is_child:
             self._put(self._clock(), Due.ANSWER, attempt)
 
     def _wait(self, attempt: Attempt) -> None:
@@ -212,6 +255,18 @@ class Simulation:
             self._put(max(self._clock(), attempt.until), Due.TIMER, attempt)
 
     # -- a call
+
+    async def _child(self, attempt: Attempt) -> Outcome:
+        """What its child comes to, or what the test says of it."""
+        self._followed.discard(attempt)
+        told = self._scenario.rule("failed", attempt, attempt.attempt + attempt.failures)
+        if told is not None:
+            return outcomes.raised(told, attempt.manner)
+        if self._saga.aborted and not attempt.undo:
+            return outcomes.failure("its child saga was not started: the saga was aborted")
+        scenario = self._scenario.children[attempt.name]
+        scenario = dataclasses.replace(scenario, deadline=self._saga.options.deadline)
+        return await self._children.run(attempt, scenario)
 
     async def _outcome(self, attempt: Attempt) -> Outcome:
         """What a call comes to, or what the test says of it."""

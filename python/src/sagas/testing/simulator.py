@@ -11,19 +11,19 @@ The program `sagas` decides, attempts live as in a store, and the steps' own fun
 from __future__ import annotations
 
 import asyncio
-from typing import Any
+import dataclasses
+from typing import Any, NamedTuple
 
-from sagas.definition import payloads, serialization, validation
-from sagas.definition.compiled import Kind
+from sagas.definition import children, payloads, validation
 from sagas.definition.context import Context
 from sagas.definition.payloads import Codec
 from sagas.definition.saga import Saga
 from sagas.definition.start_options import Deadline, deadline_at
 from sagas.definition.step import Step
 from sagas.runtime.lifespan import Lifespan
-from sagas.testing.engine import Engine
-from sagas.testing.scripts import Answers, Script, answers_of, name_of, script
-from sagas.testing.simulation import Scenario, Simulation
+from sagas.testing.family import Family
+from sagas.testing.scripts import Answers, Script, answers_of, early_of, name_of, part_of, script
+from sagas.testing.simulation import Scenario
 from sagas.testing.trial import Clock, Trial
 
 
@@ -37,6 +37,7 @@ def run(
     unknown: Script | None = None,
     unknown_undo: Script | None = None,
     answers: Answers | None = None,
+    early: Answers | None = None,
     abort: str | Step[Any] | None = None,
     clock: Clock | None = None,
     connection: Any = None,
@@ -47,7 +48,9 @@ def run(
     """Run a whole saga in memory, from its start to its end, in milliseconds.
 
     The program `sagas` decides, and the steps' own functions are called. Waits, backoffs and
-    approvals take no time: the clock advances to them. Name a step by itself or by its name.
+    approvals take no time: the clock advances to them. Child sagas are run, too, one after another.
+    Name a step by itself or by its name; a step of a child as `stay/room`, by the step that starts
+    the child.
 
     Args:
         saga: The definition.
@@ -62,6 +65,8 @@ def run(
         answers: What a person, or another program, answers, by step: for approvals, external steps
             and unknown outcomes. A value completes the step; an exception fails it; a function of
             the task returns or raises either.
+        early: What is reported before the step begins, by step: for approvals and external steps.
+            A value completes the step, and an exception fails it; its function is not called.
         abort: The saga is aborted when this step has committed.
         clock: A `Clock`, for functions that ask for the time (default: a new one).
         connection: `task.connection` of steps with `transaction=True`. You commit it or roll it
@@ -109,6 +114,7 @@ def run(
             unknown=unknown,
             unknown_undo=unknown_undo,
             answers=answers,
+            early=early,
             abort=abort,
             clock=clock,
             connection=connection,
@@ -129,6 +135,7 @@ async def run_async(
     unknown: Script | None = None,
     unknown_undo: Script | None = None,
     answers: Answers | None = None,
+    early: Answers | None = None,
     abort: str | Step[Any] | None = None,
     clock: Clock | None = None,
     connection: Any = None,
@@ -139,27 +146,54 @@ async def run_async(
     """Run a whole saga in memory, in a running event loop. See `testing.run`."""
     validation.check_given(saga)
     saga.check()
-    rules = {
-        ("failed", "run"): script(saga, "fail", fail),
-        ("failed", "undo"): script(saga, "fail_undo", fail_undo),
-        ("unknown", "run"): script(saga, "unknown", unknown),
-        ("unknown", "undo"): script(saga, "unknown_undo", unknown_undo),
-    }
-    said, stop = answers_of(saga, answers), name_of(saga, abort) if abort else None
-    shared = Context()
-    kind = Kind(saga.toml(), saga, shared, payloads.checked(codec))
-    text = serialization.write(input, "input")
-    wrong = kind.misfit(input, text)
-    if wrong:
-        raise wrong
-    clock = clock or Clock()
+    said = Said(fail, fail_undo, unknown, unknown_undo, answers, early, abort)
+    clock, shared = clock or Clock(), Context()
     at = deadline_at(saga.deadline if deadline is None else deadline, clock())
-    text = kind.payloads.encode(text)
-    scenario = Scenario(rules, said, stop, connection, at)
-    with Engine(kind.text) as engine:
-        lifespan = Lifespan(context, shared)
-        await lifespan.enter()
-        try:
-            return await Simulation(key, text, kind, scenario, clock).play(engine)
-        finally:
-            await lifespan.leave()
+    scenario = dataclasses.replace(_scenario(saga, said, connection), deadline=at)
+    family = Family(clock, shared, payloads.checked(codec))
+    lifespan = Lifespan(context, shared)
+    await lifespan.enter()
+    try:
+        trial = await family.play(saga, key, input, scenario)
+    finally:
+        await lifespan.leave()
+    return dataclasses.replace(trial, children=family.trials)
+
+
+class Said(NamedTuple):
+    """What a test says is to happen, as it says it."""
+
+    fail: Script | None
+    fail_undo: Script | None
+    unknown: Script | None
+    unknown_undo: Script | None
+    answers: Answers | None
+    early: Answers | None
+    abort: str | Step[Any] | None
+
+    def part(self, saga: Saga, child: str | None) -> Said:
+        """What of it is of a saga's own steps, or of those of a child."""
+        fail, fail_undo, unknown, unknown_undo, answers, early = (
+            part_of(saga, child, one) for one in self[:6]
+        )
+        stops = part_of(saga, child, {self.abort: True}) if self.abort else {}
+        abort = next(iter(stops), None)
+        return Said(fail, fail_undo, unknown, unknown_undo, answers, early, abort)
+
+
+def _scenario(saga: Saga, said: Said, connection: Any) -> Scenario:
+    """What is to happen to a saga, and to its children."""
+    own = said.part(saga, None)
+    rules = {
+        ("failed", "run"): script(saga, "fail", own.fail),
+        ("failed", "undo"): script(saga, "fail_undo", own.fail_undo),
+        ("unknown", "run"): script(saga, "unknown", own.unknown),
+        ("unknown", "undo"): script(saga, "unknown_undo", own.unknown_undo),
+    }
+    stop = name_of(saga, own.abort) if own.abort else None
+    below = {
+        step.name: _scenario(child, said.part(saga, step.name), connection)
+        for step, child in children.children_of(saga)
+    }
+    answers, early = answers_of(saga, own.answers), early_of(saga, own.early)
+    return Scenario(rules, answers, stop, connection, None, early, below)

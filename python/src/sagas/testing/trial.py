@@ -79,6 +79,7 @@ class Trial(Answering):
         seconds: How long it would have taken.
         saga: The saga's name.
         key: The saga's key.
+        children: How its children ended, and theirs, and the sagas that undid them, by key.
     """
 
     phase: str
@@ -91,6 +92,7 @@ class Trial(Answering):
     seconds: float
     saga: str = ""
     key: str = "test"
+    children: dict[str, Trial] = dataclasses.field(default_factory=dict)
 
     @property
     def errors(self) -> dict[str, str]:

@@ -60,8 +60,9 @@ def pages(
 async def listed(call: Call) -> Response:
     """List what needs a person.
 
-    Stuck sagas, compensations that failed for good, attempts of which nobody knows the outcome or
-    whose stored values cannot be read, and approvals: one kind behind the other."""
+    Stuck sagas, compensations that failed permanently, attempts with an unknown outcome, attempts
+    that are exhausted, stored values that cannot be read, and approvals: one kind after the
+    other."""
     query = call.query
     kind, after = place_of(query["after"])
     kinds = [query["kind"]] if query["kind"] else list(KINDS)

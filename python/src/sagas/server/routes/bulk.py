@@ -192,5 +192,5 @@ complete = declare(
 )  # fmt: skip
 fail = declare(
     "fail", record("FailMany", STEPS, {"error": ERROR, "note": NOTE}), "failed",
-    f"Report that a step of each saga of a filter has failed for good.\n\n{BEHIND}",
+    f"Report that a step of each saga of a filter failed permanently.\n\n{BEHIND}",
 )  # fmt: skip

@@ -16,6 +16,7 @@ from sagas.inspection.question import Question
 from sagas.server.dashboard_session import closed, looker, shows
 from sagas.server.operations import Call, Routes
 from sagas.server.routes import definitions as api
+from sagas.server.table_rows import folded
 
 routes = Routes("pages", is_page=True)
 
@@ -62,7 +63,8 @@ async def one(call: Call) -> Response:
         (api.step_of(step), at.get(step.name, AtStep()), durations_of(call, saga, step.name))
         for step in saga.steps
     ]
-    more: dict[str, Any] = {"saga": saga, "of": of, "steps": steps, "costs": costs}
+    rows = folded(steps, lambda row: (-row[1].person, -row[1].failed, -row[1].open))
+    more: dict[str, Any] = {"saga": saga, "of": of, "rows": rows, "costs": costs}
     more |= {"share": (over - of["completed"]) / over if over else None}
     more |= {"most": max((cost for _, _, cost in costs), default=0)}
     more |= {"picture": await service.in_thread(functools.partial(drawn, saga, at))}
@@ -82,12 +84,12 @@ def drawn(saga: Saga, at: dict[str, AtStep]) -> str:
     boxes = []
     for step in saga.steps:
         here = at.get(step.name, AtStep())
-        waits = here.worker + here.waits
-        state = f"{waits:,} wait" if waits else "nothing waits"
-        why = [f"{here.person:,} for a person"] if here.person else []
-        why += [f"{here.failed:,} failed"] if here.failed else []
-        tone = "person" if here.person else "failed" if here.failed else "running" if waits else ""
-        icon = "failed" if here.failed else "running" if waits else "waiting"
-        boxes.append(picture.Told(state, ", ".join(why), False, tone or "waiting", icon))
+        state = f"{here.open:,} open" if here.open else "none open"
+        state += f", {here.waits:,} wait" if here.waits else ""
+        counts = ((here.person, "for a person"), (here.failed, "failed"))
+        why = ", ".join(f"{count:,} {word}" for count, word in counts if count)
+        tone = "person" if here.person else "failed" if here.failed else ""
+        icon = "running" if here.open else "waiting"
+        boxes.append(picture.Told(state, why, False, tone or icon, icon))
     needs = [(step.name, step.needs) for step in saga.steps]
     return picture.drawn(needs, boxes, f"{saga.name}: its steps, and what is at each")

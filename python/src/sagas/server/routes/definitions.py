@@ -15,7 +15,7 @@ from sagas.server.operations import Answer, Call, Routes
 from sagas.server.responses import Json
 
 routes = Routes("definitions", "/v1")
-KINDS = {"approval": "approval", "wait": "wait"}
+KINDS = {"approval": "approval", "wait": "wait", "child": "child"}
 COSTS = ("run", "undo", "skip", "keep")
 
 

@@ -26,47 +26,47 @@ from sagas.storage.filters import Filter
 routes = Routes("pages", is_page=True)
 SHOWN, MEMBERS, LISTED = 12, 5, 50
 """Groups on a page, sagas of each, and sagas on a page of one group."""
-MOST_GROUPED = 3000
+MOST_GROUPED = 2000
 """Entries that are put into groups."""
 MOST_FIELDS = 1000
 TITLES = {
     "stuck": "Stuck",
     "undo_failed": "Undo failed",
     "unknown": "Unknown",
-    "exhausted": "Used up",
+    "exhausted": "Exhausted",
     "cannot_decode": "Unreadable",
     "approval": "Approvals",
 }
 SAID = {
-    "stuck": "No feasible plan is left. Set right by hand what has to be, then resolve them.",
-    "undo_failed": "A compensation failed for good, and its step is still in effect.",
+    "stuck": "No plan is feasible. Repair by hand what is needed, then resolve them.",
+    "undo_failed": "A compensation failed permanently, and the effect of its step is still there.",
     "unknown": "The outcome of the step is unknown. Check the external system, then report it.",
-    "exhausted": "The attempts of the step are used up. Fix the cause, then attempt it again.",
+    "exhausted": "The attempts of the step are used up. Fix the cause, then retry it.",
     "cannot_decode": "No program can read a stored value. Open the store with a program that can.",
     "approval": "The step waits for a decision.",
 }
-NOBODY_KNOWS = {"done": "They are done…", "failed": "They had no effect…", "abort": "Abort…"}
+REPORTS = {"done": "They are done…", "failed": "They had no effect…", "abort": "Abort…"}
 VERBS: dict[str, dict[str, str]] = {
     "stuck": {"resolve": "Resolve…"},
     "undo_failed": {"resolve": "Resolve…"},
-    "unknown": NOBODY_KNOWS,
-    "exhausted": {"retry": "Attempt again…", **NOBODY_KNOWS},
-    "cannot_decode": NOBODY_KNOWS,
+    "unknown": REPORTS,
+    "exhausted": {"retry": "Retry…", **REPORTS},
+    "cannot_decode": REPORTS,
     "approval": {"done": "Approve…", "failed": "Refuse…", "abort": "Abort…"},
 }
 QUESTIONS = {
-    "resolve": ("Mark {} as resolved?", "Mark as resolved", "Nothing runs by this."),
-    "retry": ("Attempt {} again?", "Attempt them again", "Each is called at once."),
-    "done": ("Say that {} are done?", "They are done", "The sagas go on with it."),
+    "resolve": ("Mark {} as resolved?", "Mark as resolved", "No step runs because of this."),
+    "retry": ("Retry {}?", "Retry them", "Each is called at once, with the same idempotency key."),
+    "done": ("Report that {} are done?", "They are done", "The sagas continue with it."),
     "failed": (
-        "Say that {} have failed?",
+        "Report that {} have failed?",
         "They have failed",
-        "The sagas are planned anew, and what costs least is undone. This cannot be taken back.",
+        "The sagas follow a plan of least cost. This cannot be undone.",
     ),
     "abort": (
         "Abort {}?",
         "Abort them",
-        "No further step of them starts, and what costs least is undone. This cannot be undone.",
+        "No further step starts, and they follow a plan of least cost. This cannot be undone.",
     ),
 }
 KIND = Field(Choice(KINDS), default=None)

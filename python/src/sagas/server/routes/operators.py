@@ -63,7 +63,7 @@ async def metrics(call: Call) -> Response:
 async def resolve(call: Call) -> Response:
     """Mark a saga as resolved.
 
-    One that is stuck, or of which a compensation failed for good."""
+    One that is stuck, or of which a compensation failed permanently."""
     await call.service.check_sees(call.who, call.key)
     await call.service.store.resolve(call.key, call.body["note"], by=call.who.name)
     call.service.figures.forget()

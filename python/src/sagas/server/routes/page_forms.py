@@ -1,8 +1,4 @@
-"""Forms of the dashboard by which operators act on sagas.
-
-The forms of the dashboard by which a person does something to a saga. Each deed is asked again,
-and written down.
-"""
+"""Forms of the dashboard by which operators act on a saga."""
 
 from __future__ import annotations
 
@@ -15,12 +11,11 @@ from starlette.requests import Request
 from starlette.responses import RedirectResponse, Response
 
 from sagas.base.errors import NoSuchSaga, SagasError
-from sagas.inspection import what_if
 from sagas.server.access import service_of
 from sagas.server.auth import Who
 from sagas.server.dashboard_session import closed, looker, sent, shows
 from sagas.server.operations import Call, Routes
-from sagas.server.routes import schedules
+from sagas.server.routes import saga_pages, schedules
 from sagas.server.routes.pages import address_of
 from sagas.server.routes.sagas import kept_of
 from sagas.server.shapes import Choice, Field, Flag
@@ -31,21 +26,21 @@ UNDO = {"undo": Field(Flag(), default=False)}
 ABORT = {
     "title": "Abort this saga?", "verb": "Abort it", "danger": True, "note_title": "Why (a note)",
     "text": (
-        "No step of it begins any more. What is done is undone or kept, whichever costs least by "
-        "its definition's costs. This cannot be taken back."
+        "No further step of it starts. Steps that are done are undone or kept, whichever costs "
+        "least. This cannot be undone."
     ),
 }  # fmt: skip
 FAULTS = {
     "json": "The result is not valid JSON. Write a text in quotation marks, or choose “a text”.",
-    "number": "The result is no number.",
-    "yes": "The result is yes or no.",
+    "number": "The result is not a number.",
+    "yes": "The result must be yes or no.",
 }
 RESOLVE = {
     "title": "Mark it as resolved?", "verb": "Mark as resolved",
     "note_title": "What was done about it (a note)", "note_needed": True,
     "text": (
-        "Nothing runs by this: it says that a person has set right what the saga could not, and "
-        "takes it off the list."
+        "No step runs because of this. It records that a person repaired what the saga could "
+        "not, and takes the saga off the inbox."
     ),
 }  # fmt: skip
 
@@ -67,10 +62,14 @@ def asked(
 
 
 async def is_approval(request: Request, key: str, step: str, undo: bool) -> bool:
-    """Whether a step waits to be approved."""
+    """Whether a step waits to be approved, or is to be once it begins."""
     with contextlib.suppress(NoSuchSaga):
-        view = await kept_of(service_of(request), looker(request), key)
-        return any((one.step, one.undo, one.why) == (step, undo, "approval") for one in view.held)
+        service = service_of(request)
+        view = await kept_of(service, looker(request), key)
+        if any((one.step, one.undo, one.why) == (step, undo, "approval") for one in view.held):
+            return True
+        waits = any((one.name, one.state) == (step, "waiting") for one in view.steps)
+        return waits and not undo and await service.is_approval(key, step)
     return False
 
 
@@ -79,40 +78,41 @@ def step_words(step: str, outcome: str, undo: bool, approval: bool) -> dict[str,
     which = f"undoing {step}" if undo else step
     if outcome == "retry":
         return {
-            "title": f"Attempt {which} again?", "verb": "Attempt it again",
-            "note_title": "What was set right (a note)",
+            "title": f"Retry {which}?", "verb": "Retry it",
+            "note_title": "What was repaired (a note)",
             "text": "It is called at once, with the same idempotency key.",
         }  # fmt: skip
     if approval and outcome == "done":
         return {
             "title": f"Approve {step}?", "verb": "Approve", "note_title": "A note",
             "asks_result": True,
-            "text": "The saga goes on. Steps that need this one are handed its result.",
+            "text": "The saga continues. Steps that need this one get its result.",
         }  # fmt: skip
     if approval:
         return {
             "title": f"Refuse {step}?", "verb": "Refuse", "danger": True, "note_title": "A note",
             "asks_why": True,
             "text": (
-                "The step has failed for good, and the saga is planned anew: what costs least is "
-                "undone. This cannot be taken back."
+                "The step fails permanently, and the saga follows a plan of least cost. This "
+                "cannot be undone."
             ),
         }  # fmt: skip
     if outcome == "done":
         return {
-            "title": f"Say that {which} is done?", "verb": "It is done", "note_title": "A note",
+            "title": f"Report that {which} is done?", "verb": "It is done",
+            "note_title": "A note",
             "asks_result": not undo,
             "text": (
-                "The saga goes on with it. Say so only where its effect is there: it is taken as "
-                "true."
+                "The saga continues with it. Report this only if its effect is there: sagas cannot "
+                "check it."
             ),
         }  # fmt: skip
     return {
-        "title": f"Say that {which} had no effect?", "verb": "It had no effect", "danger": True,
-        "note_title": "A note", "asks_why": True,
+        "title": f"Report that {which} had no effect?", "verb": "It had no effect",
+        "danger": True, "note_title": "A note", "asks_why": True,
         "text": (
-            "The step has failed for good, and the saga is planned anew. Say so only where its "
-            "effect is not there: nothing will undo one that is."
+            "The step fails permanently, and the saga follows a plan of least cost. Report this "
+            "only if its effect is not there: no compensation undoes an effect that you deny."
         ),
     }  # fmt: skip
 
@@ -121,18 +121,18 @@ def step_words(step: str, outcome: str, undo: bool, approval: bool) -> dict[str,
 async def abort_page(call: Call) -> Response:
     if answer := closed(call.request):
         return answer
-    effect = await effect_of(call)
+    effect = await effect_of(call, abort=True)
     return asked(call.request, call.key, ABORT, effect=effect)
 
 
-async def effect_of(call: Call) -> str | None:
-    """What an abort would do now, in words."""
+async def effect_of(call: Call, **words: Any) -> str | None:
+    """What an abort, or the end of a step, would do now, in words."""
     with contextlib.suppress(NoSuchSaga):
         await call.service.check_sees(looker(call.request), call.key)
         view = await call.service.saga(call.key)
-        if view is not None and view.phase == "open":
-            plan = functools.partial(what_if.of, view, abort=True)
-            return what_if.words(await call.service.in_thread(plan))
+        if view is not None:
+            told = functools.partial(saga_pages.effect, view, **words)
+            return await call.service.in_thread(told)
     return None
 
 
@@ -178,7 +178,8 @@ async def step_page(call: Call) -> Response:
     if answer := closed(request):
         return answer
     question = step_words(name, outcome, undo, await is_approval(request, key, name, undo))
-    return asked(request, key, question, given=await given_of(request, key))
+    effect = None if outcome == "retry" else await effect_of(call, **{outcome: name})
+    return asked(request, key, question, given=await given_of(request, key), effect=effect)
 
 
 async def given_of(request: Request, key: str) -> list[tuple[str, Any]]:

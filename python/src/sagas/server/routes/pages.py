@@ -2,9 +2,7 @@
 
 from __future__ import annotations
 
-import contextlib
 import datetime
-import functools
 import logging
 import time
 from typing import Any
@@ -13,15 +11,13 @@ from urllib.parse import quote, urlencode
 from starlette.requests import Request
 from starlette.responses import RedirectResponse, Response
 
-from sagas.base.errors import NoSuchSaga, SagasError
+from sagas.base.errors import SagasError
 from sagas.definition.labels import checked
-from sagas.engine.plan import certificate_text
-from sagas.inspection import lists, picture
+from sagas.inspection import lists
 from sagas.inspection import wording as words
 from sagas.inspection.lists import COUNTED
-from sagas.inspection.views import SagaView, StepView
 from sagas.runtime.external_queue import Queue
-from sagas.server import json_views, renderer
+from sagas.server import renderer
 from sagas.server.access import address, service_of
 from sagas.server.auth import May, Who
 from sagas.server.dashboard_session import (
@@ -40,15 +36,14 @@ from sagas.server.event_stream import Listener
 from sagas.server.operations import Call, Routes
 from sagas.server.problems import Problem
 from sagas.server.routes.filters import CURSOR
-from sagas.server.routes.sagas import kept_of, stream
+from sagas.server.routes.sagas import stream
 from sagas.server.shapes import Field, Text
+from sagas.server.table_rows import FEW, folded
 from sagas.storage.filters import Filter
 
 routes = Routes("pages", is_page=True)
 logger = logging.getLogger("sagas.server")
-LISTED = 50
-MOST_EVENTS = 500
-MOST_DRAWN = 1024  # steps
+LISTED, MOST_CLAIMED = 50, 100
 LATELY = 300.0  # seconds since a worker asked; one that is at a long task asks for none
 
 
@@ -211,76 +206,8 @@ def filter_of(given: dict[str, Any], who: Who) -> Filter:
     )
 
 
-@routes.get("/ui/sagas/{key}")
-async def saga(call: Call) -> Response:
-    """A saga with all that is kept of it."""
-    request, key = call.request, call.key
-    if answer := closed(request):
-        return answer
-    service = service_of(request)
-    since, view = service.hub.now, None
-    with contextlib.suppress(NoSuchSaga):
-        await service.check_sees(looker(request), key)
-        view = await service.saga(key)
-    if view is None:
-        return shows(
-            request,
-            "fault.html",
-            404,
-            title="There is no such saga",
-            text=f"No saga has the key {key}.",
-            back="/ui/sagas",
-        )
-    told = await service.in_thread(functools.partial(told_of, view))
-    return shows(request, "saga.html", since=since, **told)
-
-
-def told_of(view: SagaView) -> dict[str, Any]:
-    """What the template of a saga asks for."""
-    drawn = len(view.steps) <= MOST_DRAWN
-    return {
-        "here": "sagas",
-        "live": f"/ui/events?{urlencode({'key': view.key})}" if view.phase == "open" else None,
-        "saga": view,
-        "base": address_of(view.key),
-        "asks": [one for one in view.held if one.asks],
-        "helds": {one.step: one for one in view.held},
-        "choices": {choice.step: choice for choice in view.plan.choices} if view.plan else {},
-        "failures": failures_of(view),
-        "tolds": picture.told_of(view),
-        "picture": picture.svg(view) if drawn else "",
-        "timeline": picture.timeline(view) if drawn else "",
-        "undo_failed": [step for step in view.steps if step.state == "undo_failed"],
-        "icons": picture.ICONS,
-        "done": sum(step.state in ("committed", "undo_failed") for step in view.steps),
-        "events": view.events[:MOST_EVENTS],
-        "cut_events": len(view.events) > MOST_EVENTS,
-    }
-
-
-def failures_of(view: SagaView) -> list[StepView]:
-    """The steps of the chain that have failed, and said why."""
-    chain = view.plan.blocking_steps if view.plan else []
-    return [
-        step
-        for step in view.steps
-        if step.name in chain and step.state == "failed" and step.said is not None
-    ]
-
-
 def address_of(key: str) -> str:
     return f"/ui/sagas/{quote(key, safe='')}"
-
-
-@routes.get("/ui/sagas/{key}/certificate")
-async def certificate(call: Call) -> Response:
-    """The plan's certificate, as `sagas check` reads it."""
-    if answer := closed(call.request):
-        return answer
-    view = await kept_of(call.service, looker(call.request), call.key)
-    if view.plan is None:
-        raise NoSuchSaga(f"saga {view.key!r} has no plan")
-    return Response(certificate_text(view.plan), media_type="text/plain; charset=utf-8")
 
 
 @routes.get("/ui/workers")
@@ -292,7 +219,7 @@ async def workers(call: Call) -> Response:
     service, who = service_of(request), looker(request)
     since = service.hub.now
     claimed = await service.look(
-        lists.waits(100, person=False, why="external", sagas=who.definitions)
+        lists.waits(MOST_CLAIMED, person=False, why="external", sagas=who.definitions)
     )
     now, seen = time.time(), (await service.seen(who))[:200]
     queues = []
@@ -308,10 +235,12 @@ async def workers(call: Call) -> Response:
         here="workers",
         live="/ui/events",
         since=since,
-        queues=queues,
+        queues=folded(queues, lambda row: (not row[0].ready, bool(row[1]), -row[0].ready)),
         workers=seen,
         strange=strange,
         claimed=claimed,
+        most_claimed=MOST_CLAIMED,
+        few=FEW,
         now=now,
     )
 

@@ -17,7 +17,7 @@ from starlette.responses import PlainTextResponse, Response
 
 from sagas.base.errors import NoSuchSaga
 from sagas.engine.plan import certificate_text
-from sagas.inspection import lists
+from sagas.inspection import families, lists
 from sagas.inspection import picture as picture_module
 from sagas.inspection import what_if as what_if_module
 from sagas.inspection.views import SagaView
@@ -52,7 +52,9 @@ VERSION = Nullable(Number(1, 1_000_000_000, whole=True))
 DEADLINE = Nullable(Number(0.0, 100 * 365.25 * 86_400))
 NOTE = Field(Nullable(Text(most=2000)), "why; it is stored with who and when", default=None)
 UNDO = Field(Flag(), "its compensation is meant", default=False)
+EARLY = Field(Flag(), "until the step begins, the report is stored", default=True)
 ERROR = Field(Text(most=4000), "why, for people", example="too expensive")
+REPORT = {"undo": UNDO, "early": EARLY, "note": NOTE}
 START = Record(
     "StartRequest",
     {
@@ -69,14 +71,10 @@ START = Record(
 )
 COMPLETE = Record(
     "CompleteRequest",
-    {"result": Field(Anything(), "null where there is none"), "undo": UNDO, "note": NOTE},
+    {"result": Field(Anything(), "null where there is none"), **REPORT},
     example={"result": {"by": "Ada"}, "note": "within the limit"},
 )
-FAIL = Record(
-    "FailRequest",
-    {"error": ERROR, "undo": UNDO, "note": NOTE},
-    example={"error": "too expensive"},
-)
+FAIL = Record("FailRequest", {"error": ERROR, **REPORT}, example={"error": "too expensive"})
 RETRY = Record("RetryRequest", {"undo": UNDO, "note": NOTE}, example={"note": "it is open"})
 WHY = Record("AbortRequest", {"note": NOTE}, example={"note": "the customer has left"})
 SUPPOSE = Record(
@@ -97,7 +95,8 @@ async def view_of(call: Call, key: str | None = None) -> SagaView:
     `NoSuchSaga`.
     """
     await call.service.check_sees(call.who, key or call.key)
-    return there(await call.service.saga(key or call.key), key or call.key)
+    view = there(await call.service.saga(key or call.key), key or call.key)
+    return families.seen_by(view, call.who.sees)
 
 
 async def kept_of(service: Any, who: Who, key: str) -> SagaView:
@@ -143,7 +142,8 @@ async def start(call: Call) -> Response:
     "/sagas", "listSagas", may=May.LOOK,
     query=filters.SAGAS | filters.MORE | {
         "phase": Field(Choice((*answers.PHASES, "undo_failed")),
-            "`undo_failed`: recovered ones of which a compensation failed for good", default=None),
+            "`undo_failed`: recovered ones with a compensation that failed permanently",
+            default=None),
         "after": Field(CURSOR, "`next` of the page before", default=None),
         "limit": LIMIT,
     },
@@ -240,7 +240,8 @@ async def abort(call: Call) -> Response:
 async def what_if(call: Call) -> Response:
     """Compute what an abort, or a failure of a step, would cost now.
 
-    Nothing is changed. Steps that are under way are taken to succeed; `assumed` names them."""
+    Nothing is changed. Steps that run are taken to succeed, and steps that wait and were not
+    called are given up; `assumed` has the state of each."""
     suppose, step = call.body, call.body["fail"]
     if suppose["abort"] == (step is not None):
         raise Problem("InvalidRequest", 'give one of {"abort": true} and {"fail": STEP}', "abort")
@@ -254,18 +255,6 @@ async def what_if(call: Call) -> Response:
     except ValueError as error:
         raise Problem("InvalidRequest", f"fail: {error}", "fail") from None
     return Json(json_views.what_if(found))
-
-
-@routes.get(
-    "/sagas/{key}/log", "getHistory", may=May.LOOK, problems=("NoSuchSaga",),
-    answers={200: Answer("Its events, in their order.", answers.HISTORY)},
-)  # fmt: skip
-async def log(call: Call) -> Response:
-    """Get the history of a saga.
-
-    Each event with its time and what came of it, and what people did."""
-    view = await kept_of(call.service, call.who, call.key)
-    return Json({"events": json_views.log(view)})
 
 
 @routes.get(
@@ -318,7 +307,8 @@ async def decided(call: Call, outcome: str, value: Any) -> Response:
     """Says how a step ended."""
     step, body, store = call.path["step"], call.body, call.service.store
     await check_reports(call, call.key, step, body["undo"])
-    words = {"undo": body["undo"], "by": call.who.name, "note": body["note"]}
+    words = {word: body[word] for word in ("undo", "early", "note") if word in body}
+    words["by"] = call.who.name
     deeds: dict[str, Any] = {"complete": store.complete, "fail": store.fail, "retry": store.retry}
     value = () if outcome == "retry" else (value,)
     await call.service.in_time(deeds[outcome](call.key, step, *value, **words))
@@ -333,7 +323,8 @@ async def decided(call: Call, outcome: str, value: Any) -> Response:
 async def complete(call: Call) -> Response:
     """Report that a step is done.
 
-    An approval; for operators also a step with an unknown outcome, or one that nobody takes."""
+    An approval; for operators also a step with an unknown outcome, or one that nobody takes. Of an
+    approval, or a worker's step, that has not begun the report is stored until it begins."""
     return await decided(call, "complete", call.body["result"])
 
 
@@ -342,7 +333,7 @@ async def complete(call: Call) -> Response:
     problems=("NoSuchSaga", "StepNotWaiting", "ConflictingReport", "OwnerUnavailable"),
 )  # fmt: skip
 async def fail(call: Call) -> Response:
-    """Report that a step has failed for good.
+    """Report that a step failed permanently.
 
     As `completeStep`: an approval is refused."""
     return await decided(call, "fail", call.body["error"])

@@ -72,7 +72,7 @@ FAIL = Record(
 UNKNOWN = Record(
     "UnknownTaskRequest",
     LEASE | {"error": Field(Text(most=4000), "why, for people", default="")} | MORE,
-    "Nobody knows whether there was an effect.",
+    "The outcome is unknown: there may have been an effect.",
     EXAMPLE | {"error": "the line went dead"},
 )
 CLAIMED_EXAMPLE = {
@@ -152,14 +152,15 @@ async def claim(call: Call) -> Response:
 async def heartbeat(call: Call) -> Response:
     """Keep a lease.
 
+    `cancelled` says that the saga is being undone: stop if you can, and report how the task ended.
     409 `LeaseLost` where another worker has the task, or its outcome was reported: stop. 403
     `InvalidLease` where this worker was not given the lease."""
     body = call.body
-    until = await call.service.store.workers.heartbeat(
+    kept = await call.service.store.workers.heartbeat(
         call.path["attempt_id"], body["lease"], body["seconds"], holder=call.who.name,
         progress=body["progress"], detail=body["detail"],
     )  # fmt: skip
-    return Json(times(until=until))
+    return Json({**times(until=kept.until), "cancelled": kept.cancelled})
 
 
 async def _report(call: Call, **outcome: Any) -> Response:
@@ -204,8 +205,8 @@ async def fail(call: Call) -> Response:
     problems=(*OWN, "ConflictingReport"),
 )  # fmt: skip
 async def unknown(call: Call) -> Response:
-    """Report that nobody knows.
+    """Report that the outcome is unknown.
 
-    It counts under the newest lease alone; else 409 `LeaseLost`. The same task comes again after
-    its back-off, or a person has to say."""
+    It counts only under the newest lease; else 409 `LeaseLost`. The same task comes again after
+    its back-off, or a person has to report it."""
     return await _report(call, unknown=call.body["error"] or "the worker does not know")

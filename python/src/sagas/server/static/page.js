@@ -2,14 +2,15 @@
 "use strict";
 
 const ago = (seconds) => {
+  const long = seconds > -1 ? seconds : -seconds, form = (text) => (seconds > -1 ? `${text} ago` : `in ${text}`);
   for (const [length, word] of [[86400, "d"], [3600, "h"], [60, "min"]]) {
-    if (seconds >= length) return `${Math.floor(seconds / length)} ${word} ago`;
+    if (long >= length) return form(`${Math.floor(long / length)} ${word}`);
   }
-  return `${Math.max(0, Math.floor(seconds))} s ago`;
+  return form(`${Math.max(0, Math.floor(long))} s`);
 };
 
 const times = () => {
-  for (const time of document.querySelectorAll("main time")) {
+  for (const time of document.querySelectorAll("main time:not(.exact)")) {
     time.textContent = ago((Date.now() - Date.parse(time.dateTime)) / 1000);
   }
 };
@@ -44,9 +45,9 @@ const pictures = () => document.querySelectorAll(".scroll.pad > svg.picture").fo
     scales[number] = scale;
     frame.classList.toggle("fit", scale === 0);
     frame.classList.toggle("zoomed", scale !== 0);
-    map.hidden = scale === 0;
     svg.setAttribute("width", wide * (scale || 1));
     svg.setAttribute("height", high * (scale || 1));
+    map.hidden = scale === 0 || frame.clientHeight < 260;
     const going = svg.querySelector(".step:is(.failed, .person, .running, .undoing)");
     if (going && scale) {
       const place = going.getBoundingClientRect(), around = frame.getBoundingClientRect();
@@ -72,7 +73,7 @@ const pictures = () => document.querySelectorAll(".scroll.pad > svg.picture").fo
     addEventListener("pointermove", move);
     addEventListener("pointerup", stop);
   });
-  zoom(scales[number] ?? (wide > 2.2 * frame.clientWidth ? 1 : 0));
+  zoom(scales[number] ?? (wide > 1.45 * frame.clientWidth ? 1 : 0)); // smaller, nobody could read it
 });
 pictures();
 
@@ -133,7 +134,7 @@ if (live) {
     if (seconds) setTimeout(renew, 1000 * seconds + 100);
   };
   againLater();
-  const names = ["saga_started", "step_started", "step_succeeded", "step_retrying", "step_failed", "step_exhausted", "step_unknown", "step_cannot_decode", "step_suspended", "plan_adopted", "saga_overdue", "saga_aborted", "saga_ended", "saga_stuck", "missed"];
+  const names = ["saga_started", "step_started", "step_succeeded", "step_retrying", "step_failed", "step_exhausted", "step_unknown", "step_cannot_decode", "step_suspended", "plan_adopted", "saga_overdue", "saga_aborted", "saga_ended", "saga_stuck", "saga_resolved", "step_overdue", "lease_expired", "missed"];
   let source = null, since = document.body.dataset.since, later = 0;
   const lapsed = document.getElementById("lapsed");
   const opened = () => { // what happened while there was no stream is on a new page

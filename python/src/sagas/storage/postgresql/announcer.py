@@ -43,6 +43,8 @@ class Announcer:
             self._say(notifications.payloads("ended", ended))
         if any(row[6] for _, rare in commit.rare for row in rare.offers):
             self._say(["tasks"])
+        if any(rare.notes for _, rare in commit.rare):  # parents wait for that
+            self._say(["requests"])
         for _, rare in commit.rare:
             begun = [id for id, _ in rare.begun]
             for what, ids in (("begun", begun), ("answered", [id for _, id in rare.answers])):

@@ -20,7 +20,7 @@ from typing import Any
 from sagas.core.batch import Batch, HeldRow
 from sagas.definition.capacity import SHARD_CAPACITY
 from sagas.definition.serialization import clean
-from sagas.storage import external
+from sagas.storage import deliveries, external
 
 FREE = "(v.shard < 0 OR v.shard IN (SELECT shard FROM mine))"
 """What is of no log, or of one that is still this node's."""
@@ -46,17 +46,24 @@ ROWS = {
     ),
     "freed": "id bigint, step integer, action text, number integer",
     "labels": "id bigint, name text, value text",
+    "children": "id bigint, parent bigint",
     "progress": (
         "id bigint, step integer, action text, number integer, fraction double precision, detail "
         "text, at double precision"
     ),
     "offers": (
         "attempt text, shard bigint, id bigint, step integer, action text, number integer, task "
-        "text, concurrency integer, lease bigint, offered_at double precision"
+        "text, concurrency integer, lease bigint, offered_at double precision, cancelled text"
     ),
+    "cancelled": "cancelled text, id bigint",
     "suspended": "attempt text, shard bigint, outcome text",
     "settled": "attempt text, shard bigint, came text",
-    "emptied": "shard bigint",
+    "deliveries": (
+        "id text, webhook text, type text, saga bigint, key text, body text, at double precision"
+    ),
+    "spans": (
+        "id bigint, step integer, action text, number integer, at double precision, spans text"
+    ),
     "answers": "shard bigint, answer text, id bigint",
     "asked": "shard bigint, key text, command text, value text, at double precision, answer text",
     "begun": "shard bigint, id bigint, saga bigint",
@@ -93,6 +100,7 @@ PARTS = {
     "count = excluded.count, since = excluded.since, until = excluded.until, "
     "detail = excluded.detail",
     "labels": f"INSERT INTO labels SELECT v.* FROM {{rows}} {OF_LOG}",
+    "children": f"INSERT INTO children SELECT v.* FROM {{rows}} {OF_LOG}",
     "freed": (
         f"DELETE FROM suspensions USING {{rows}} {OF_LOG} WHERE suspensions.id = v.id AND "
         "suspensions.step = v.step AND suspensions.action = v.action AND suspensions.number <= "
@@ -103,8 +111,10 @@ PARTS = {
     "detail = excluded.detail, at = excluded.at",
     "offers": f"INSERT INTO external_attempts AS e({external.OFFER}) "
     "SELECT v.attempt, v.shard, v.id, v.step, v.action, v.number, v.task, v.concurrency, v.lease, "
-    "extract(epoch FROM clock_timestamp()) FROM {rows} JOIN mine USING (shard) "
+    "extract(epoch FROM clock_timestamp()), v.cancelled FROM {rows} JOIN mine USING (shard) "
     f"ON CONFLICT (attempt) DO UPDATE SET {external.OFFERED_AGAIN}",
+    "cancelled": f"UPDATE external_attempts e SET cancelled = v.cancelled FROM {{rows}} {OF_LOG} "
+    "WHERE e.id = v.id AND e.action = 'run' AND e.outcome IS NULL",
     "suspended": "UPDATE external_attempts e SET outcome = v.outcome, until = NULL "
     "FROM {rows} JOIN mine USING (shard) WHERE e.attempt = v.attempt AND (e.outcome IS NULL OR "
     "e.outcome IN ('unknown', 'suspended', 'failed', 'failed_permanently'))",
@@ -112,8 +122,11 @@ PARTS = {
     "shard = CASE WHEN e.outcome IS DISTINCT FROM 'succeeded' OR v.came = 'succeeded' "
     "THEN e.shard END "
     "FROM {rows} JOIN mine USING (shard) WHERE e.attempt = v.attempt",
-    "emptied": "DELETE FROM external_attempts e USING {rows} JOIN mine USING (shard) "
-    f"WHERE e.id >= v.shard * {SHARD_CAPACITY} AND e.id < (v.shard + 1) * {SHARD_CAPACITY}",
+    "deliveries": f"INSERT INTO webhook_deliveries({deliveries.COLUMNS}) SELECT v.* FROM {{rows}} "
+    f"JOIN mine ON mine.shard = v.saga / {SHARD_CAPACITY} ON CONFLICT DO NOTHING",
+    "spans": (
+        f"INSERT INTO attempt_spans SELECT v.* FROM {{rows}} {OF_LOG} ON CONFLICT DO NOTHING"
+    ),
     "answers": (
         "UPDATE operator_commands SET answer = v.answer FROM {rows} WHERE operator_commands.id "
         f"= v.id AND operator_commands.answer IS NULL AND {FREE}"
@@ -311,16 +324,25 @@ class Commit:
         yield "shelves", [shelves]  # type: ignore[list-item]
         yield "guessed", ([(batch.log, key) for key in batch.guessed] for batch in self.batches)
         yield "labels", (rare.labels for _, rare in self.rare)
+        yield "children", (rare.children for _, rare in self.rare)
         over = {row[0] for _, rare in self.rare for row in rare.settled}
-        offers = {row[0]: row for _, rare in self.rare for row in rare.offers if row[0] not in over}
+        ended = {id: why for _, rare in self.rare for why, id in rare.cancelled}
+        offers = {
+            row[0]: (*row[:-1], ended[row[2]]) if row[2] in ended and row[4] == "run" else row
+            for _, rare in self.rare
+            for row in rare.offers
+            if row[0] not in over
+        }
         progress = {row[:4]: row for _, rare in self.rare for row in rare.progress}
         yield "progress", [list(progress.values())]
         yield "offers", [list(offers.values())]
+        yield "cancelled", [[(why, id) for id, why in ended.items()]]
         yield "suspended", (
             [row for row in rare.suspended if row[0] not in over] for _, rare in self.rare
         )
         yield "settled", (rare.settled for _, rare in self.rare)
-        yield "emptied", ([(log,)] for log, rare in self.rare if rare.closed)
+        yield "deliveries", (rare.deliveries for _, rare in self.rare)
+        yield "spans", ([(*row[:5], clean(row[5])) for row in rare.spans] for _, rare in self.rare)
         yield "answers", ([(log, *answer) for answer in rare.answers] for log, rare in self.rare)
         yield "asked", (
             [(log, *row, answer) for row, answer in rare.asked] for log, rare in self.rare

@@ -2,12 +2,26 @@
 
 from __future__ import annotations
 
+import contextlib
 from collections.abc import Sequence
 from typing import Any
 
-from sagas.storage.external import OPEN, REPORTED, TAKES, Claim, Report, Row, Waiting
+from sagas.base.errors import StoreUnavailable
+from sagas.storage.deliveries import Deliveries
+from sagas.storage.external import (
+    OPEN,
+    REPORTED,
+    TAKES,
+    Beat,
+    Claim,
+    Report,
+    Row,
+    Waiting,
+    earlier,
+)
 from sagas.storage.postgresql import connections
 from sagas.storage.postgresql.connections import Asker
+from sagas.storage.postgresql.deliveries import PostgreSQLDeliveries
 
 CHANNEL = "sagas_reports"
 CLOCK = "clock AS MATERIALIZED (SELECT extract(epoch FROM clock_timestamp())::float8 AS now)"
@@ -23,7 +37,8 @@ CLAIM = f"""
 WITH {CLOCK},
 found AS MATERIALIZED (
   SELECT x.* FROM unnest(%(tasks)s::text[]) AS w(task), clock, LATERAL (
-    SELECT e.attempt, e.offered_at, e.lease IS NOT NULL AND NOT e.given_back AS is_takeover
+    SELECT e.attempt, e.offered_at, e.lease IS NOT NULL AND NOT e.given_back AS is_takeover,
+      e.since, e.worker, e.lease, e.until
     FROM external_attempts e
     WHERE e.task = w.task AND e.{OPEN} AND (e.until IS NULL OR e.until <= clock.now)
     ORDER BY e.offered_at
@@ -34,9 +49,14 @@ UPDATE external_attempts e SET worker = %(worker)s, since = clock.now, until = c
 %(seconds)s,
   given_back = false, lease = greatest((clock.now * 1000)::bigint, coalesce(e.lease, 0) + 1)
 FROM found, clock WHERE e.attempt = found.attempt
-RETURNING e.attempt, e.lease, e.until - clock.now, e.id, e.step, e.action, found.is_takeover,
-e.offered_at
+RETURNING e.attempt, e.lease, e.until - clock.now, e.id, e.step, e.action, e.cancelled,
+found.is_takeover, e.offered_at, e.number, found.since, found.worker, found.lease, found.until
 """
+EARLIER = """
+INSERT INTO attempt_spans VALUES(%(id)s, %(step)s, %(action)s, %(number)s, %(at)s, %(spans)s)
+ON CONFLICT DO NOTHING RETURNING 1
+"""
+"""What an earlier lease was, whose place is taken: for people alone."""
 LOCK = """
 SELECT pg_advisory_xact_lock(hashtextextended(task, 5777002))
 FROM (SELECT task FROM unnest(%(limited)s::text[]) AS l(task) ORDER BY task) l
@@ -49,7 +69,7 @@ UPDATE external_attempts e SET until = clock.now + %(seconds)s, given_back = clo
 FROM clock WHERE e.attempt = %(attempt)s AND e.lease = %(lease)s AND e.{OPEN}
   AND e.until IS NOT NULL AND (e.until > clock.now OR e.concurrency IS NULL OR
   ({HELD.format("e.task")}) < e.concurrency)
-RETURNING e.until - clock.now
+RETURNING e.until - clock.now, e.cancelled
 """
 REPORT = f"""
 UPDATE external_attempts SET outcome = %(outcome)s, value = %(value)s, reported = %(lease)s
@@ -86,6 +106,7 @@ class PostgreSQLExternalAttempts:
 
     def __init__(self, asker: Asker) -> None:
         self._asker = asker
+        self.deliveries: Deliveries = PostgreSQLDeliveries(asker)
 
     def begin(self, *_: object) -> None:
         """Each call is a statement of its own."""
@@ -95,7 +116,16 @@ class PostgreSQLExternalAttempts:
     ) -> list[Claim]:
         words = {"tasks": list(tasks), "most": most, "seconds": seconds, "worker": worker}
         rows = await self._alone(limited, CLAIM, words)
-        return [Claim(*row[:-1]) for row in sorted(rows, key=lambda row: float(row[-1]))]
+        found = []
+        rows = sorted(rows, key=lambda row: float(row[8]))
+        for *claim, _, number, since, had, lease, until in rows:
+            found.append(Claim(*claim))
+            if since is not None:
+                told = {"at": since, "spans": earlier(since, had, lease, until)}
+                at = {"id": claim[3], "step": claim[4], "action": claim[5], "number": number}
+                with contextlib.suppress(StoreUnavailable):
+                    await self._asker.ask(EARLIER, **at, **told)
+        return found
 
     async def _alone(
         self, limited: Sequence[str], text: str, words: dict[str, Any]
@@ -108,9 +138,9 @@ class PostgreSQLExternalAttempts:
                 await link.execute(LOCK, {"limited": list(limited)})
                 return await (await link.execute(text, words)).fetchall()
 
-    async def heartbeat(self, attempt: str, lease: int, seconds: float) -> float | None:
+    async def heartbeat(self, attempt: str, lease: int, seconds: float) -> Beat | None:
         rows = await self._asker.ask(HEARTBEAT, attempt=attempt, lease=lease, seconds=seconds)
-        return float(rows[0][0]) if rows else None
+        return Beat(float(rows[0][0]), rows[0][1]) if rows else None
 
     async def advance(self, attempt: str, fraction: float, detail: str | None, at: float) -> None:
         words = {"attempt": attempt, "fraction": fraction, "detail": detail, "at": at}

@@ -59,6 +59,10 @@ CREATE TABLE sagas.labels(
   id bigint NOT NULL, name text NOT NULL, value text NOT NULL, PRIMARY KEY(id, name));
 CREATE INDEX labels_value ON sagas.labels(name, value, id);
 
+-- The sagas that others started, each with the id of the one that did.
+CREATE TABLE sagas.children(id bigint PRIMARY KEY, parent bigint NOT NULL);
+CREATE INDEX children_parent ON sagas.children(parent);
+
 -- What attempts came to. action: run or undo; number: of the attempt; event: that the report came
 -- to (commit, missed, fail, undone, undo_missed, undo_fail), or ok while that is to come; value:
 -- the result, or {"error": .., "final": .., "called": ..}.
@@ -69,12 +73,22 @@ CREATE TABLE sagas.attempts(
 
 -- Attempts that are suspended. reason: unknown (count: how often nobody knew; detail: what was
 -- raised; until is null once a person has to say), wait (until when), approval (it was asked for;
--- until when it may be given, or null), cannot_decode (detail: why).
+-- until when it may be given, or null), child (count: how many children did not complete),
+-- cannot_decode (detail: why), or of attempt 0,
+-- which never begins, early_result and early_error: how somebody reported the step before it began
+-- (detail: as the value of an attempt).
 CREATE TABLE sagas.suspensions(
   id bigint NOT NULL, step integer NOT NULL, action text NOT NULL, number integer NOT NULL,
   reason text NOT NULL,
   count integer NOT NULL, since double precision NOT NULL, until double precision, detail text,
   PRIMARY KEY(id, step, action, number));
+
+-- What attempts did that were not simply called: that waited, or were called again. at: of the
+-- first of the spans; spans: a JSON list of [word, since when, what was raised] (core/spans.py).
+-- For people alone.
+CREATE TABLE sagas.attempt_spans(
+  id bigint NOT NULL, step integer NOT NULL, action text NOT NULL, number integer NOT NULL,
+  at double precision NOT NULL, spans text NOT NULL, PRIMARY KEY(id, step, action, number, at));
 
 -- How far the functions of attempts were, as they told last (`Task.progress`): for people alone.
 CREATE TABLE sagas.progress(
@@ -103,13 +117,14 @@ CREATE TABLE sagas.pending_starts(
   labels jsonb NOT NULL DEFAULT '{}', deadline double precision,
   commands jsonb NOT NULL DEFAULT '[]');
 
--- Attempts that are done elsewhere, from the commit that offers them until their shard is closed.
+-- Attempts that are done elsewhere, from the commit that offers them on.
 -- attempt: its id; task: what a worker asks for, saga/step/action, or empty where a message has it;
 -- concurrency: how many leases of the task hold at once, or null; lease: the newest, or null;
 -- until: when it ends, by this server's clock; outcome: null, then as a worker reported it
 -- (OutcomeKind) under the lease `reported`, or what became of it: suspended (nobody
 -- knows, and it is offered again), person (a person has to say), withdrawn (nobody had it) or
--- settled; value: as in attempts.
+-- settled; value: as in attempts; cancelled: why its saga is to be
+-- undone (aborted or failed), which its worker hears with its heartbeat.
 CREATE TABLE sagas.external_attempts(
   attempt text PRIMARY KEY, shard bigint NOT NULL, id bigint NOT NULL, step integer NOT NULL,
   action text NOT NULL,
@@ -117,12 +132,24 @@ CREATE TABLE sagas.external_attempts(
   offered_at double precision NOT NULL, lease bigint,
   worker text, since double precision, until double precision,
   given_back boolean NOT NULL DEFAULT false, outcome text,
-  value text, reported bigint) WITH (fillfactor = 70);
+  value text, reported bigint, cancelled text) WITH (fillfactor = 70);
 CREATE INDEX external_attempts_offered ON sagas.external_attempts(task, offered_at)
   WHERE outcome IS NULL;
 CREATE INDEX external_attempts_reported ON sagas.external_attempts(shard)
   WHERE outcome IN ('succeeded', 'failed', 'failed_permanently', 'unknown');
 CREATE INDEX external_attempts_id ON sagas.external_attempts(id);
+
+-- What webhooks are told, written with what it tells of. state: pending, delivered or failed;
+-- attempts: posts that were begun; status: of the last answer; error: why there was none; due: when
+-- it is posted next, or posted again where the program that posts it ends.
+CREATE TABLE sagas.webhook_deliveries(
+  id text PRIMARY KEY, webhook text NOT NULL, type text NOT NULL, saga bigint NOT NULL,
+  key text NOT NULL, body text NOT NULL, at double precision NOT NULL,
+  state text NOT NULL DEFAULT 'pending', attempts integer NOT NULL DEFAULT 0, status integer,
+  error text, due double precision DEFAULT 0);
+CREATE INDEX webhook_deliveries_due ON sagas.webhook_deliveries(webhook, due)
+  WHERE state = 'pending';
+CREATE INDEX webhook_deliveries_at ON sagas.webhook_deliveries(at);
 
 -- Slots of steps that are limited over all nodes, by saga and step. kind: limit (who is called has
 -- one, as long as the lease of its node holds) or rate (a call takes one until a time, in seconds
@@ -159,13 +186,16 @@ TABLES = (
     "event_log",
     "sagas",
     "labels",
+    "children",
     "attempts",
     "suspensions",
+    "attempt_spans",
     "progress",
     "operator_commands",
     "external_attempts",
     "definition_sets",
     "limit_slots",
+    "webhook_deliveries",
     "schedules",
     "peer_calls",
     "secrets",

@@ -53,6 +53,7 @@ class PostgreSQL(queries.Questions):
     listens, and one answers questions: a slow one holds up no lease, and no saga."""
 
     shared = True
+    blobs = None
 
     def __init__(
         self, url: str, *, node: str | None = None, lease: float = 10.0, sagas: Sequence[str] = (),

@@ -11,7 +11,20 @@ from collections.abc import Awaitable, Callable, Sequence
 from typing import Any
 
 from sagas.core.batch import Batch
-from sagas.storage.external import OPEN, REPORTED, TAKES, Claim, Report, Row, Waiting
+from sagas.storage.deliveries import Deliveries
+from sagas.storage.external import (
+    OPEN,
+    REPORTED,
+    TAKES,
+    Beat,
+    Claim,
+    Report,
+    Row,
+    Waiting,
+    earlier,
+)
+from sagas.storage.sqlite.deliveries import SqliteDeliveries
+from sagas.storage.sqlite.statements import SPANS
 
 HELD = f"SELECT count(*) FROM external_attempts WHERE task = ? AND {OPEN} AND until > ?"
 BOUND = f"""
@@ -19,7 +32,9 @@ SELECT concurrency FROM external_attempts
 WHERE task = ? AND {OPEN} AND concurrency IS NOT NULL LIMIT 1
 """
 FOUND = f"""
-SELECT offered_at, attempt, lease, given_back, id, step, action FROM external_attempts
+SELECT offered_at, attempt, lease, given_back, id, step, action, cancelled, number, worker, since,
+  until
+FROM external_attempts
 WHERE task = ? AND {OPEN} AND (until IS NULL OR until <= ?) ORDER BY offered_at LIMIT ?
 """
 LEASE = """
@@ -27,7 +42,7 @@ UPDATE external_attempts SET worker = ?, since = ?, until = ?, given_back = 0, l
 WHERE attempt = ?
 """
 KEPT = f"""
-SELECT task, concurrency, until FROM external_attempts
+SELECT task, concurrency, until, cancelled FROM external_attempts
 WHERE attempt = ? AND lease = ? AND {OPEN} AND until IS NOT NULL
 """
 LENGTHEN = "UPDATE external_attempts SET until = ?, given_back = ? WHERE attempt = ?"
@@ -58,9 +73,11 @@ class SqliteExternalAttempts:
 
     def __init__(self, rows: Callable[..., list[tuple[Any, ...]]]) -> None:
         self._rows = rows
+        self.deliveries: Deliveries = SqliteDeliveries()
 
     def begin(self, write: Callable[[Batch], Awaitable[None]], clock: Callable[[], float]) -> None:
         self.write, self.clock = write, clock
+        self.deliveries.begin(write, clock)
 
     async def _within(self, work: Callable[[sqlite3.Connection], Any]) -> Any:
         """What this gives, of a transaction that is in the file."""
@@ -87,11 +104,18 @@ class SqliteExternalAttempts:
                     (held,) = db.execute(HELD, (task, now)).fetchone()
                     room = max(0, min(most, bound - held))
                 found += db.execute(FOUND, (task, now, room)).fetchall()
-            for _, attempt, lease, given_back, id, step, action in sorted(found)[:most]:
+            for row in sorted(found, key=lambda row: row[:2])[:most]:
+                _, attempt, lease, given_back, id, step, action, cancelled, *was = row
+                count, had, since, until = was
                 number = max(int(now * 1000), (lease or 0) + 1)
+                if since is not None:
+                    spans = earlier(since, had, lease, until)
+                    db.execute(SPANS, (id, step, action, count, since, spans))
                 db.execute(LEASE, (worker, now, now + seconds, number, attempt))
                 is_takeover = lease is not None and not given_back
-                claims.append(Claim(attempt, number, seconds, id, step, action, is_takeover))
+                claims.append(
+                    Claim(attempt, number, seconds, id, step, action, cancelled, is_takeover)
+                )
             return claims
 
         now = self.clock()
@@ -100,19 +124,19 @@ class SqliteExternalAttempts:
         found: list[Claim] = await self._within(claimed)
         return found
 
-    async def heartbeat(self, attempt: str, lease: int, seconds: float) -> float | None:
-        def kept(db: sqlite3.Connection) -> float | None:
+    async def heartbeat(self, attempt: str, lease: int, seconds: float) -> Beat | None:
+        def kept(db: sqlite3.Connection) -> Beat | None:
             now = self.clock()
-            for task, bound, until in db.execute(KEPT, (attempt, lease)).fetchall():
+            for task, bound, until, cancelled in db.execute(KEPT, (attempt, lease)).fetchall():
                 if bound is not None and until <= now:
                     (held,) = db.execute(HELD, (task, now)).fetchone()
                     if held >= bound:
                         return None
                 db.execute(LENGTHEN, (now + seconds, now + seconds < until, attempt))
-                return seconds
+                return Beat(seconds, cancelled)
             return None
 
-        found: float | None = await self._within(kept)
+        found: Beat | None = await self._within(kept)
         return found
 
     async def advance(self, attempt: str, fraction: float, detail: str | None, at: float) -> None:

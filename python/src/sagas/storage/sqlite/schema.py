@@ -50,6 +50,10 @@ CREATE TABLE labels(
   WITHOUT ROWID;
 CREATE INDEX labels_value ON labels(name, value, id);
 
+-- The sagas that others started, each with the id of the one that did.
+CREATE TABLE children(id INTEGER PRIMARY KEY, parent INTEGER NOT NULL);
+CREATE INDEX children_parent ON children(parent);
+
 -- What attempts came to. action: run or undo; number: of the attempt; event: that the report came
 -- to (commit, missed, fail, undone, undo_missed, undo_fail); value: the result, or {"error": ..,
 -- "final": .., "called": ..}.
@@ -60,12 +64,22 @@ CREATE TABLE attempts(
 
 -- Attempts that are suspended. reason: unknown (count: how often nobody knew; detail: what was
 -- raised; until is null once a person has to say), wait (until when), approval (it was asked for;
--- until when it may be given, or null) or cannot_decode (detail: why).
+-- until when it may be given, or null), child (count: how many children did not complete),
+-- cannot_decode (detail: why), or of attempt 0,
+-- which never begins, early_result and early_error: how somebody reported the step before it began
+-- (detail: as the value of an attempt).
 CREATE TABLE suspensions(
   id INTEGER NOT NULL, step INTEGER NOT NULL, action TEXT NOT NULL, number INTEGER NOT NULL,
   reason TEXT NOT NULL,
   count INTEGER NOT NULL, since REAL NOT NULL, until REAL, detail TEXT, PRIMARY KEY(id, step,
   action, number)) WITHOUT ROWID;
+
+-- What attempts did that were not simply called: that waited, or were called again. at: of the
+-- first of the spans; spans: a JSON list of [word, since when, what was raised] (core/spans.py).
+-- For people alone.
+CREATE TABLE attempt_spans(
+  id INTEGER NOT NULL, step INTEGER NOT NULL, action TEXT NOT NULL, number INTEGER NOT NULL,
+  at REAL NOT NULL, spans TEXT NOT NULL, PRIMARY KEY(id, step, action, number, at)) WITHOUT ROWID;
 
 -- How far the functions of attempts were, as they told last (`Task.progress`): for people alone.
 CREATE TABLE progress(
@@ -81,24 +95,37 @@ CREATE TABLE operator_commands(
 CREATE INDEX operator_commands_open ON operator_commands(id) WHERE answer IS NULL;
 CREATE INDEX operator_commands_key ON operator_commands(key);
 
--- Attempts that are done elsewhere, from the commit that offers them until their shard is closed.
+-- Attempts that are done elsewhere, from the commit that offers them on.
 -- attempt: its id; task: what a worker asks for, saga/step/action, or empty where a message has it;
 -- concurrency: how many leases of the task hold at once, or null; lease: the newest, or null;
 -- until: when it ends; outcome: null, then as a worker reported it (OutcomeKind)
 -- under the lease `reported`, or what became of it: suspended (nobody knows, and it is offered
 -- again), person (a person has to say), withdrawn (nobody had it) or settled; value: as in
--- attempts.
+-- attempts; cancelled: why its saga is to be undone (aborted or failed), which its worker hears
+-- with its heartbeat.
 CREATE TABLE external_attempts(
   attempt TEXT PRIMARY KEY, shard INTEGER NOT NULL, id INTEGER NOT NULL, step INTEGER NOT NULL,
   action TEXT NOT NULL,
   number INTEGER NOT NULL, task TEXT NOT NULL, concurrency INTEGER, offered_at REAL NOT NULL,
   lease INTEGER, worker TEXT,
   since REAL, until REAL, given_back INTEGER NOT NULL DEFAULT 0, outcome TEXT, value TEXT,
-  reported INTEGER) WITHOUT ROWID;
+  reported INTEGER, cancelled TEXT) WITHOUT ROWID;
 CREATE INDEX external_attempts_offered ON external_attempts(task, offered_at) WHERE outcome IS NULL;
 CREATE INDEX external_attempts_reported ON external_attempts(shard)
   WHERE outcome IN ('succeeded', 'failed', 'failed_permanently', 'unknown');
 CREATE INDEX external_attempts_id ON external_attempts(id);
+
+-- What webhooks are told, written with what it tells of. state: pending, delivered or failed;
+-- attempts: posts that were begun; status: of the last answer; error: why there was none; due: when
+-- it is posted next, or posted again where the program that posts it ends.
+CREATE TABLE webhook_deliveries(
+  id TEXT PRIMARY KEY, webhook TEXT NOT NULL, type TEXT NOT NULL, saga INTEGER NOT NULL,
+  key TEXT NOT NULL, body TEXT NOT NULL, at REAL NOT NULL,
+  state TEXT NOT NULL DEFAULT 'pending', attempts INTEGER NOT NULL DEFAULT 0, status INTEGER,
+  error TEXT, due REAL DEFAULT 0) WITHOUT ROWID;
+CREATE INDEX webhook_deliveries_due ON webhook_deliveries(webhook, due)
+  WHERE state = 'pending';
+CREATE INDEX webhook_deliveries_at ON webhook_deliveries(at);
 
 -- Slots of steps with a rate, by saga and step: each is taken until a time (slots with a node are
 -- of PostgreSQL alone).

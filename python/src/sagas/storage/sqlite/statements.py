@@ -13,11 +13,23 @@ ENDED = """
 UPDATE sagas SET phase = ?, outcome = ?, recovered = ?, undo_failed = ?, ended = ? WHERE id IN ({})
 """
 LABELS = "INSERT INTO labels VALUES(?, ?, ?)"
+CHILDREN = "INSERT INTO children VALUES(?, ?)"
 OFFERS = f"""
-INSERT INTO external_attempts AS e({external.OFFER}) VALUES(?, ?, ?, ?, ?, ?, ?, ?, ?, ?)
+INSERT INTO external_attempts AS e({external.OFFER}) VALUES(?, ?, ?, ?, ?, ?, ?, ?, ?, ?, ?)
 ON CONFLICT(attempt) DO UPDATE SET {external.OFFERED_AGAIN.replace("greatest", "max")}
 """
+CANCELLED = """
+UPDATE external_attempts SET cancelled = ? WHERE id = ? AND action = 'run' AND outcome IS NULL
+"""
+OF_PARTS = (
+    (LABELS, "labels"),
+    (CHILDREN, "children"),
+    (OFFERS, "offers"),
+    (CANCELLED, "cancelled"),
+)
+"""Statements of which each row of a part of a batch has just the words."""
 FREED = "DELETE FROM suspensions WHERE id = ? AND step = ? AND action = ? AND number <= ?"
+SPANS = "INSERT OR IGNORE INTO attempt_spans VALUES(?, ?, ?, ?, ?, ?)"
 PROGRESS = "INSERT OR REPLACE INTO progress VALUES(?, ?, ?, ?, ?, ?, ?)"
 SUSPENDED = """
 UPDATE external_attempts SET outcome = ?2, until = NULL

@@ -70,6 +70,7 @@ class Sqlite(queries.Questions, queries.Rows):
     takes = 0.0
     sought = 0
     inside = None
+    blobs = None
 
     def __init__(self, path: str | os.PathLike[str]) -> None:
         self.path = os.fspath(path)

@@ -21,9 +21,9 @@ from typing import Any
 
 from sagas.core.batch import Batch, Ended, Rare
 from sagas.definition.serialization import clean, cleaned
-from sagas.storage import queries
 from sagas.storage.interface import Then
 from sagas.storage.sqlite import statements
+from sagas.storage.sqlite.deliveries import DELIVERIES
 
 BUSY = 5000  # ms: an operator's command may be writing
 CHECKPOINT = 750
@@ -348,18 +348,16 @@ class Writer:
         for _, of in rare:
             for work in of.work:
                 work(self._db)
-        self._many(statements.LABELS, (of.labels for _, of in rare))
-        self._many(statements.OFFERS, (of.offers for _, of in rare))
+        for statement, part in statements.OF_PARTS:
+            self._many(statement, (getattr(of, part) for _, of in rare))
         self._many(
             statements.SUSPENDED, ([(at, came) for at, _, came in of.suspended] for _, of in rare)
         )
         self._many(
             statements.SETTLED, ([(at, came) for at, _, came in of.settled] for _, of in rare)
         )
-        self._many(
-            "DELETE FROM external_attempts WHERE id >= ? AND id < ?",
-            ([queries.bounds(log)] for log, of in rare if of.closed),
-        )
+        self._many(DELIVERIES, ([cleaned(row) for row in of.deliveries] for _, of in rare))
+        self._many(statements.SPANS, ([cleaned(row) for row in of.spans] for _, of in rare))
         self._many(
             "UPDATE operator_commands SET answer = ? WHERE id = ?", (of.answers for _, of in rare)
         )

@@ -1,0 +1,66 @@
+"""Deliveries of webhooks: rows that are written in the commit of their cause.
+
+Where no webhook is told of a definition, nothing is made.
+"""
+
+from __future__ import annotations
+
+import datetime
+import hashlib
+import json
+from typing import TYPE_CHECKING, Any
+
+from sagas.core.batch import Delivery
+from sagas.core.states import EnginePhase, Suspension, undo_failures
+
+if TYPE_CHECKING:
+    from sagas.core.model import Attempt, SagaInstance
+    from sagas.core.suspensions import SuspensionRow
+
+COMPLETED, RECOVERED = "saga.completed", "saga.recovered"
+STUCK, ATTENTION = "saga.stuck", "saga.attention"
+TYPES = (COMPLETED, RECOVERED, STUCK, ATTENTION)
+"""The types of what is told."""
+ASKED = (Suspension.APPROVAL, Suspension.EXHAUSTED, Suspension.CANNOT_DECODE)
+"""Suspensions that always need a person; an unknown outcome does where it has no time."""
+
+
+def of_end(saga: SagaInstance, id: int, phase: str, recovered: bool, at: float) -> list[Delivery]:
+    """What is told of a saga's end: how it ended, and each compensation that failed for good."""
+    kind = RECOVERED if recovered else COMPLETED
+    found = _rows(saga, id, STUCK if phase == EnginePhase.STUCK else kind, {}, at, "end")
+    for step in undo_failures(saga.end) if recovered and saga.kind.hooks.get(ATTENTION) else ():
+        more = {"kind": "undo_failed", "step": saga.kind.names[step], "undo": True}
+        found += _rows(saga, id, ATTENTION, more, at, f"undo_failed {step}")
+    return found
+
+
+def of_suspension(attempt: Attempt, row: SuspensionRow, at: float) -> list[Delivery]:
+    """What is told of an attempt that is suspended, where a person has to do something."""
+    is_parked = row.reason is Suspension.UNKNOWN and row.until is None and not attempt.is_remote
+    if not is_parked and row.reason not in ASKED:
+        return []
+    more = {"kind": row.reason.value, "step": attempt.name, "undo": attempt.undo}
+    name = f"{attempt.token()} {row.reason} {at}"
+    return _rows(attempt.instance, attempt.instance.id, ATTENTION, more, at, name)
+
+
+def _rows(
+    saga: SagaInstance, id: int, type: str, more: dict[str, Any], at: float, name: str
+) -> list[Delivery]:
+    """A row for each webhook that is told; `name`: what is told of, among all of the saga."""
+    hooks = saga.kind.hooks.get(type, ())
+    if not hooks:
+        return []
+    moment = datetime.datetime.fromtimestamp(at, datetime.timezone.utc)
+    told = {
+        "type": type,
+        "timestamp": moment.isoformat(timespec="milliseconds").replace("+00:00", "Z"),
+        "data": {"key": saga.key, "definition": saga.kind.name, **more},
+    }
+    body, shard = json.dumps(told), saga.shard.name if saga.shard else ""
+    found = []
+    for hook in hooks:
+        digest = hashlib.sha256(f"{hook}\n{shard}\n{id}\n{type}\n{name}".encode()).hexdigest()
+        found.append((f"msg_{digest[:24]}", hook, type, id, saga.key, body, at))
+    return found

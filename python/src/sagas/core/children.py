@@ -1,0 +1,75 @@
+"""What a child's end comes to for the step that started it."""
+
+from __future__ import annotations
+
+from collections.abc import Mapping
+from typing import Any
+
+from sagas.core.model import Attempt
+from sagas.core.outcomes import SUCCEEDED, Outcome, failure
+from sagas.core.results import Ended
+from sagas.core.states import SagaPhase
+from sagas.definition import children, serialization
+from sagas.definition.compiled import Kind
+
+
+def key_of(attempt: Attempt) -> str:
+    """Return the key of the saga that an attempt starts: the same whenever it goes on, and another
+    one once it was called again behind a child that did not complete.
+    """
+    number = attempt.attempt + attempt.failures
+    return children.key_of(attempt.key, attempt.name, number, attempt.undo)
+
+
+def child_input(attempt: Attempt) -> Any:
+    """Return the input of a child, as the step's function says it."""
+    function = attempt.declared.run.function
+    assert function
+    return function(attempt.task())
+
+
+def undo_input(key: str, token: str, kind: Kind, text: str, results: Mapping[int, str]) -> Any:
+    """Return the input of the saga that undoes a completed child.
+
+    Args:
+        key: The child's key.
+        token: The child's token, of which the idempotency keys are made.
+        kind: The child's definition.
+        text: The child's input, as it is stored.
+        results: The results of the child's steps, as they are stored, by the steps' numbers.
+    """
+    decode = kind.payloads.decode
+    return {
+        "key": key,
+        "token": token,
+        "input": serialization.read(decode(text)),
+        "results": {
+            kind.names[step]: serialization.read(decode(value)) for step, value in results.items()
+        },
+    }
+
+
+def outcome(end: Ended, kind: Kind, results: Mapping[int, str]) -> Outcome | None:
+    """Return what a child's end comes to.
+
+    Args:
+        end: How it ended.
+        kind: The child's definition.
+        results: As of `undo_input`.
+
+    Returns:
+        None where it is stuck: a person has to look at it first.
+    """
+    if end.phase == SagaPhase.STUCK:
+        return None
+    if end.phase == SagaPhase.COMPLETED:
+        decode = kind.payloads.decode
+        told = {
+            kind.names[step]: serialization.read(decode(value)) for step, value in results.items()
+        }
+        value = {"key": end.key, "phase": end.phase, "results": told}
+        return Outcome(SUCCEEDED, serialization.write(value))
+    aborted = " (aborted)" if end.aborted else ""
+    failed = [f"{step}: {error}" for step, error in end.errors.items()]
+    told_errors = f". {'; '.join(failed)}" if failed else ""
+    return failure(f"child saga {end.key!r} has not completed: {end.phase}{aborted}{told_errors}")

@@ -1,0 +1,121 @@
+"""Reports that come before their step begins: stored with the saga, and used when it begins.
+
+They stand among the suspensions, as of attempt 0, and go away with the report of the attempt that
+takes them.
+"""
+
+from __future__ import annotations
+
+import dataclasses
+from typing import TYPE_CHECKING
+
+from sagas.base.errors import CannotDecode
+from sagas.core.batch import HeldRow, Wanted
+from sagas.core.model import Attempt, SagaInstance
+from sagas.core.outcomes import MOST_TEXT, SUCCEEDED, Outcome
+from sagas.core.states import Action, EarlyReason, OutcomeKind
+from sagas.definition.compiled import Word
+
+if TYPE_CHECKING:
+    from sagas.core.effects import Effects
+    from sagas.core.shard import ShardDriver
+
+ATTEMPT = 0
+"""The number of an attempt that no engine begins."""
+KINDS = {
+    EarlyReason.RESULT: OutcomeKind.SUCCEEDED,
+    EarlyReason.ERROR: OutcomeKind.FAILED_PERMANENTLY,
+}
+STORED = "a report of it is stored, and is used when it begins"
+NOT_STARTED = "it has not started. Report it after it starts"
+
+
+@dataclasses.dataclass(eq=False, slots=True)
+class EarlyReport:
+    """Somebody says how a step ended that has not begun.
+
+    Attributes:
+        saga: The saga, which the store has.
+        word: The step.
+        outcome: What is said of it.
+        request: The operator's command that it is of, which is answered in the commit.
+    """
+
+    saga: SagaInstance
+    word: Word
+    outcome: Outcome
+    request: Wanted = None
+
+    def keep(self) -> tuple[EarlyReason, str]:
+        """Let the saga know it from now on; return what is stored of it.
+
+        Raises:
+            NotSerializable: The codec failed.
+        """
+        is_good, text = self.outcome.kind is SUCCEEDED, self.outcome.value
+        if is_good:
+            text = self.saga.kind.payloads.encode(text)
+        reason = EarlyReason.RESULT if is_good else EarlyReason.ERROR
+        self.saga.rare.early[self.word] = (reason, text)
+        return reason, text
+
+    def row(self, now: float) -> HeldRow:
+        """As `keep`; return its row."""
+        reason, text = self.keep()
+        return (self.saga.id, *self.word, ATTEMPT, reason.value, 0, now, None, text)
+
+
+def refusal(saga: SagaInstance, step: int, kind: str) -> str | None:
+    """Why no report of a step is taken before it begins; None where one is.
+
+    It is one that somebody reports, and it will begin as far as is known.
+    """
+    declared = saga.kind.steps[step]
+    if kind == Action.COMPENSATE or declared is None:
+        return NOT_STARTED
+    if declared.kind != "approval" and not declared.run.external:
+        return "it has not started, and is neither an approval nor external. Nobody reports it"
+    if saga.aborted or saga.draining or saga.answer is not None:
+        return "it has not started, and does not start any more: the saga is being undone"
+    return None
+
+
+def stored(saga: SagaInstance, word: Word) -> Outcome | None:
+    """Return the report that is stored for a step; its value is as the store has it."""
+    if not saga.has_early or word not in saga.rare.early:
+        return None
+    reason, text = saga.rare.early[word]
+    return Outcome(KINDS[reason], text)
+
+
+def taken(attempt: Attempt) -> Outcome | None:
+    """Return how an attempt that begins is over, by what was reported before: its function is not
+    called, and nobody is asked. It counts also where its saga drains by now: the effect is there.
+
+    Returns:
+        None where nothing is stored for it; one of the kind `CANNOT_DECODE` where the codec cannot
+        read it.
+    """
+    found = None if attempt.undo else stored(attempt.instance, attempt.word)
+    if found is None:
+        return None
+    attempt.has_row = True
+    if found.kind is not SUCCEEDED:
+        return found
+    try:
+        return found._replace(value=attempt.instance.kind.payloads.decode(found.value))
+    except CannotDecode as error:
+        return Outcome(OutcomeKind.CANNOT_DECODE, str(error)[:MOST_TEXT])
+
+
+def effects(driver: ShardDriver, report: EarlyReport, now: float) -> Effects:
+    """Keep a report: the batch is its row.
+
+    Raises:
+        NotSerializable: The codec failed.
+    """
+    found = driver.effects(now)
+    found.batch.more.held.append(report.row(now))
+    found.batch.answer(report.request, "true")
+    found.early = (report,)
+    return found

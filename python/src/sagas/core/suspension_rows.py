@@ -1,0 +1,26 @@
+"""The rows of an attempt that is suspended."""
+
+from __future__ import annotations
+
+from sagas.core import announcements, spans
+from sagas.core.batch import Batch
+from sagas.core.exhaustion import COUNTS_FAILURES, RETRIED
+from sagas.core.model import Attempt
+from sagas.core.suspensions import SuspensionRow
+
+
+def put(batch: Batch, attempt: Attempt, row: SuspensionRow, shard: int) -> None:
+    """Put them into a batch: why it waits, what it did before, and who is told of it."""
+    count = attempt.failures if row.reason in COUNTS_FAILURES else attempt.count
+    more = batch.more
+    held = (row.reason.value, count, attempt.since, row.until, row.error)
+    more.held.append((*attempt.row, *held))
+    more.spans += spans.taken(attempt)
+    if attempt.is_external and row.reason in RETRIED:
+        state = "person" if row.until is None and not attempt.is_remote else "suspended"
+        more.suspended.append((attempt.token(), shard, state))
+    if attempt.request is not None:
+        batch.answer(attempt.request, "true")
+        attempt.rare.request = None
+    if attempt.instance.kind.hooks:
+        more.deliveries += announcements.of_suspension(attempt, row, batch.at)

@@ -1,0 +1,246 @@
+"""Child sagas: steps that start another saga, and wait for its end."""
+
+from __future__ import annotations
+
+import inspect
+from collections.abc import Callable, Iterable, Iterator
+from typing import TYPE_CHECKING, Any, Literal, TypedDict, overload
+
+from sagas.base.errors import InvalidKey
+from sagas.definition import arguments, decoders, validation
+from sagas.definition.decoders import Decoder
+from sagas.definition.step import NEVER, Cost, Decorator, Manner, Step
+
+if TYPE_CHECKING:
+    from sagas.definition.saga import Saga
+
+UNDO = ":undo"
+"""What the key of a saga ends with that undoes a child."""
+NUMBERS = 4
+"""Characters of a key that are left for the number of a further child."""
+
+
+class ChildResult(TypedDict):
+    """The result of a step that starts a child saga.
+
+    Attributes:
+        key: The child's key.
+        phase: `completed`.
+        results: The results of the child's steps, by name, as JSON.
+    """
+
+    key: str
+    phase: str
+    results: dict[str, Any]
+
+
+class ChildSteps:
+    """What `Saga` has for child sagas.
+
+    Attributes:
+        name: Its name.
+        steps: Its steps.
+        undoes: The definition whose completed sagas it undoes, or None.
+        has_children: Whether a step starts another saga.
+    """
+
+    name: str
+    steps: list[Step[Any]]
+    undoes: Saga | None = None
+    has_children: bool = False
+
+    @overload
+    def child(
+        self, saga: Saga, *, input: Callable[[Any], Any], name: str | None = None,
+        needs: Iterable[Step[Any] | str] = (), undo: Cost | None = None, skip: Cost = 0,
+        keep: Cost | None = None, on_exhausted: Literal["fail", "ask"] = "fail",
+    ) -> Step[ChildResult]:  # fmt: skip
+        ...
+
+    @overload
+    def child(
+        self, saga: Saga, *, input: None = None, name: str | None = None,
+        needs: Iterable[Step[Any] | str] = (), undo: Cost | None = None, skip: Cost = 0,
+        keep: Cost | None = None, on_exhausted: Literal["fail", "ask"] = "fail",
+    ) -> Callable[[Callable[[Any], Any]], Step[ChildResult]]:  # fmt: skip
+        ...
+
+    def child(
+        self, saga: Saga, *, input: Callable[[Any], Any] | None = None, name: str | None = None,
+        needs: Iterable[Step[Any] | str] = (), undo: Cost | None = None, skip: Cost = 0,
+        keep: Cost | None = None, on_exhausted: Literal["fail", "ask"] = "fail",
+    ) -> Any:  # fmt: skip
+        """Declare a step that starts another saga, and waits for its end.
+
+        The function returns the child's input. It may be called again: the first child that is
+        started counts. The child's key is `KEY/STEP`, by the saga's own key and the step's name.
+        The step succeeds with a `ChildResult` once the child has completed. If the child ends
+        otherwise, the step fails. An abort of the saga aborts the child. The compensation starts a
+        saga of the child's compensations, with the key `KEY/STEP:undo`.
+
+        Args:
+            saga: The child's definition, which the store must have, too.
+            input: The function, if the step is declared without a decorator.
+            name: The step's name (default: the decorated function's, else the child's).
+            undo: Cost of undoing the child (default: the sum of its own; `NEVER` if one is). With
+                another number, child steps that cannot be undone stay in place.
+            keep: Cost of leaving the completed child in place (default: the sum of its own).
+            on_exhausted: What follows if the child does not complete: `fail`, or `ask` (wait for
+                `Store.retry`, which starts another child with the key `KEY/STEP/2`,
+                `Store.complete` or `Store.fail`). An input that the child cannot have fails the
+                step in any case (default: `fail`).
+
+        See `Saga.step` for `needs` and `skip`.
+
+        Returns:
+            The `Step`, or without `input` a decorator that returns it.
+
+        Raises:
+            DefinitionError: An argument is not valid, or the saga would be its own child.
+
+        Example:
+            >>> hotel = sagas.Saga("hotel")
+            >>> @hotel.step(keep=9)
+            ... def room(task):
+            ...     return task.input["nights"]
+            >>> @room.compensation
+            ... def cancel(task):
+            ...     print("cancel", task.result, "nights of", task.key)
+            >>> trip = sagas.Saga("trip")
+            >>> @trip.child(hotel)
+            ... def stay(task):
+            ...     return {"nights": task.input["days"] - 1}
+            >>> @trip.step(needs=[stay])
+            ... def tour(task):
+            ...     return task.result_of(stay)["results"]["room"]
+            >>> sagas.testing.run(trip, {"days": 4}).results["tour"]
+            3
+            >>> sagas.testing.run(trip, {"days": 4}, fail={tour: 1}).states
+            cancel 3 nights of test/stay
+            {'stay': 'undone', 'tour': 'failed'}
+        """
+
+        def declare(function: Callable[[Any], Any]) -> Step[Any]:
+            manner = Manner(function, on_exhausted=on_exhausted)
+            costs: dict[str, Cost | None] = {"run": 0, "undo": undo, "skip": skip, "keep": keep}
+            named = name or (None if input is None else getattr(saga, "name", None))
+            step = self._add(function, named, "child", needs, costs, manner, None)
+            step.child = saga
+            self.has_children = True
+            _check(step, saga)
+            return step
+
+        validation.check_given(saga)
+        if input is not None:
+            return declare(input)
+        of: Any = self
+        return Decorator(of, f"{of.name}.child", name, declare)
+
+    def total_cost(self, word: str) -> Cost:
+        """Return what it costs to undo a completed saga, or to keep it.
+
+        Args:
+            word: `undo` or `keep`.
+        """
+        total = 0
+        for step in self.steps:
+            cost = step.cost(word)
+            if cost is NEVER:
+                return NEVER
+            total += cost
+        return min(total, validation.MOST_COST)
+
+    def _add(
+        self,
+        function: Callable[[Any], Any] | None,
+        name: str | None,
+        kind: str,
+        needs: Iterable[Step[Any] | str],
+        costs: dict[str, Cost | None],
+        manner: Manner,
+        concurrency: int | None,
+    ) -> Step[Any]:
+        raise NotImplementedError
+
+
+def _check(step: Step[Any], child: Saga) -> None:
+    """Raise `DefinitionError` where a step cannot start this child."""
+    function = step.run.function
+    if inspect.iscoroutinefunction(function):
+        raise validation.of_step(
+            step,
+            "its function is async, but what returns a child's input must be a plain function. "
+            "Gather it in a step that this one needs",
+        )
+    if step.run.on_exhausted == "retry":
+        rule = "must be fail or ask, because a child is not repeated without end"
+        raise validation.of_step(step, f"on_exhausted='retry': {rule}")
+    if step.saga is child or step.saga in descendants(child):
+        raise validation.of_step(
+            step, f"saga {step.saga.name!r} would be its own child. Declare another saga"
+        )
+
+
+def children_of(saga: Saga) -> Iterator[tuple[Step[Any], Saga]]:
+    """The steps of a saga that start children, each with the child's definition."""
+    return ((step, step.child) for step in saga.steps if step.child is not None)
+
+
+def descendants(saga: Saga) -> list[Saga]:
+    """The definitions of a saga's children, and of theirs."""
+    found: dict[Saga, None] = {}
+    left = [child for _, child in children_of(saga)]
+    while left:
+        child = left.pop()
+        if child not in found:
+            found[child] = None
+            left += [one for _, one in children_of(child)]
+    return [*found]
+
+
+def hints(step: Step[Any] | None) -> tuple[Decoder | None, Decoder | None]:
+    """How a step's input is read, and its result: what the function of a child step returns is
+    the child's input.
+    """
+    if step is None or step.run.function is None:
+        return None, None
+    input, result = decoders.hints(step.run.function)
+    return input, None if step.child is not None else result
+
+
+# -- keys
+
+
+def key_of(parent: str, step: str, number: int = 1, undo: bool = False) -> str:
+    """Return the key of a child, or of the saga that undoes it.
+
+    Args:
+        parent: The key of the saga that starts it.
+        step: The step's name.
+        number: Greater than 1 for one that an operator had started behind others.
+        undo: Whether the saga is meant that undoes it.
+    """
+    if undo:
+        return f"{parent}/{step}{UNDO}"
+    return f"{parent}/{step}" if number == 1 else f"{parent}/{step}/{number}"
+
+
+def room_of(saga: Saga) -> int:
+    """How many characters the keys of a saga's descendants have more than its own."""
+    return max(
+        (
+            len(step.name) + 1 + max(len(UNDO), NUMBERS) + room_of(child)
+            for step, child in children_of(saga)
+        ),
+        default=0,
+    )
+
+
+def check_key(key: str, saga: Saga) -> None:
+    """Raise `InvalidKey` where a key is too long for the keys of the saga's children."""
+    room = room_of(saga)
+    if len(key) + room > arguments.MOST_KEY:
+        raise InvalidKey(
+            f"key={arguments.shown(key)}: the keys of the saga's children begin with it, so it "
+            f"must have at most {arguments.MOST_KEY - room} characters"
+        )

@@ -1,0 +1,62 @@
+"""Questions about deliveries of webhooks."""
+
+from __future__ import annotations
+
+import dataclasses
+from typing import Any
+
+from sagas.inspection.question import Query, Question
+
+COLUMNS = "id, webhook, type, key, at, state, attempts, status, error, due"
+
+
+@dataclasses.dataclass(frozen=True, slots=True)
+class Delivery:
+    """One thing that one webhook is told.
+
+    Attributes:
+        id: The same for all attempts.
+        webhook: Its name.
+        type: What is told.
+        key: The saga's key.
+        at: When it happened, in seconds since 1970.
+        state: `pending`, `delivered` or `failed`.
+        attempts: How many posts were begun.
+        status: The status of the last answer, or None.
+        error: Why there was no answer, or None.
+        due: When it is posted next, or None.
+    """
+
+    id: str
+    webhook: str
+    type: str
+    key: str
+    at: float
+    state: str
+    attempts: int
+    status: int | None
+    error: str | None
+    due: float | None
+
+
+def listed(state: str | None, webhook: str | None, most: int) -> Question[list[Delivery]]:
+    """The latest, the newest first."""
+    wheres, words = ["1 = 1"], list[object]()
+    for name, word in (("state", state), ("webhook", webhook)):
+        if word is not None:
+            wheres.append(f"{name} = ?")
+            words.append(word)
+    text = f"SELECT {COLUMNS} FROM webhook_deliveries WHERE {' AND '.join(wheres)}"
+    rows = yield Query(f"{text} ORDER BY at DESC, id LIMIT ?", (*words, most))
+    return [_of(*row) for row in rows]
+
+
+def _of(*row: Any) -> Delivery:
+    one = Delivery(*row)
+    return dataclasses.replace(one, due=(one.due or one.at) if one.state == "pending" else None)
+
+
+def one(id: str) -> Question[Delivery | None]:
+    """The delivery with this id."""
+    rows = yield Query(f"SELECT {COLUMNS} FROM webhook_deliveries WHERE id = ?", (id,))
+    return _of(*rows[0]) if rows else None

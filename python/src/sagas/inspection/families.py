@@ -1,0 +1,36 @@
+"""Questions about the parents and children of sagas."""
+
+from __future__ import annotations
+
+import dataclasses
+from collections.abc import Callable
+
+from sagas.inspection.question import Query, Question
+from sagas.inspection.views import Relative, SagaView
+from sagas.storage.queries import PHASE
+
+PARENT = f"""
+SELECT s.key, s.saga, {PHASE} FROM children c JOIN sagas s ON s.id = c.parent WHERE c.id = ?
+"""
+CHILDREN = f"""
+SELECT s.key, s.saga, {PHASE} FROM children c JOIN sagas s ON s.id = c.id
+WHERE c.parent = ? ORDER BY s.at, s.id LIMIT {{most}}
+"""
+MOST = 1024
+"""Children of a saga that are listed."""
+
+
+def seen_by(view: SagaView, sees: Callable[[str], bool]) -> SagaView:
+    """A saga for somebody who may see sagas of some definitions alone."""
+    children = [one for one in view.children if sees(one.saga)]
+    parent = view.parent if view.parent and sees(view.parent.saga) else None
+    return dataclasses.replace(view, parent=parent, children=children)
+
+
+def of(id: int, key: str) -> Question[tuple[Relative | None, list[Relative]]]:
+    """The parent of a saga, if it has one, and its children in the order of their starts."""
+    above = yield Query(PARENT, (id,))
+    below = yield Query(CHILDREN.format(most=MOST), (id,))
+    parent = [Relative(one, saga, phase, key[len(one) + 1 :]) for one, saga, phase in above]
+    children = [Relative(one, saga, phase, one[len(key) + 1 :]) for one, saga, phase in below]
+    return parent[0] if parent else None, children

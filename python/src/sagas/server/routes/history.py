@@ -1,0 +1,38 @@
+"""Routes of what happened to a saga: its events, and what each attempt did."""
+
+from __future__ import annotations
+
+from starlette.responses import Response
+
+from sagas.server import answers, json_views
+from sagas.server.auth import May
+from sagas.server.operations import Answer, Call, Routes
+from sagas.server.responses import Json
+from sagas.server.routes.sagas import kept_of, view_of
+from sagas.server.timeline_answers import TIMELINE
+
+routes = Routes("sagas", "/v1")
+
+
+@routes.get(
+    "/sagas/{key}/log", "getHistory", may=May.LOOK, problems=("NoSuchSaga",),
+    answers={200: Answer("Its events, in their order.", answers.HISTORY)},
+)  # fmt: skip
+async def log(call: Call) -> Response:
+    """Get the history of a saga.
+
+    Each event with its time and what came of it, and what people did."""
+    view = await kept_of(call.service, call.who, call.key)
+    return Json({"events": json_views.log(view)})
+
+
+@routes.get(
+    "/sagas/{key}/timeline", "getTimeline", may=May.LOOK, problems=("NoSuchSaga",),
+    answers={200: Answer("Its attempts, in the order of their begins.", TIMELINE)},
+)  # fmt: skip
+async def timeline(call: Call) -> Response:
+    """Get when each attempt of a saga was queued, ran, waited and backed off.
+
+    With the workers that had it, and with what people decided and why."""
+    view = await view_of(call)
+    return Json(json_views.timeline(view, call.service.store.now()))

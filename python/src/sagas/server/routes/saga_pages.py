@@ -1,0 +1,144 @@
+"""The page of a saga, and its certificate."""
+
+from __future__ import annotations
+
+import contextlib
+import functools
+import time
+from typing import Any
+from urllib.parse import urlencode
+
+from starlette.responses import Response
+
+from sagas.base.errors import NoSuchSaga
+from sagas.definition.compiled import version_of
+from sagas.engine.plan import certificate_text
+from sagas.inspection import families, picture, timeline, timeline_picture, what_if
+from sagas.inspection.timeline import AttemptTimes
+from sagas.inspection.views import SagaView, StepView
+from sagas.server.dashboard_session import closed, looker, shows
+from sagas.server.operations import Call, Routes
+from sagas.server.routes.pages import address_of
+from sagas.server.routes.sagas import kept_of
+from sagas.server.table_rows import FEW, folded
+
+routes = Routes("pages", is_page=True)
+MOST_EVENTS = 500
+MOST_DRAWN = 1024  # steps
+MOST_EFFECTS = 5
+"""Questions to a person whose effects are computed: each takes a plan."""
+
+
+@routes.get("/ui/sagas/{key}")
+async def saga(call: Call) -> Response:
+    """A saga with all that is kept of it."""
+    request, key = call.request, call.key
+    if answer := closed(request):
+        return answer
+    service = call.service
+    since, view = service.hub.now, None
+    with contextlib.suppress(NoSuchSaga):
+        await service.check_sees(looker(request), key)
+        view = await service.saga(key)
+        view = view and families.seen_by(view, looker(request).sees)
+    if view is None:
+        told: dict[str, Any] = {"title": "There is no such saga", "back": "/ui/sagas"}
+        return shows(request, "fault.html", 404, text=f"No saga has the key {key}.", **told)
+    approvals = service.approvals(view.saga, version_of(view.definition))
+    told = await service.in_thread(functools.partial(told_of, view, approvals, time.time()))
+    return shows(request, "saga.html", since=since, **told)
+
+
+def told_of(view: SagaView, approvals: set[str], now: float) -> dict[str, Any]:
+    """What the template of a saga asks for."""
+    drawn, tolds = len(view.steps) <= MOST_DRAWN, picture.told_of(view)
+    asks = [one for one in view.held if one.asks]
+    attempts, events = timeline.of(view, now), view.history
+    goes_on = view.phase == "open" and not view.aborted and view.plan is None
+    return {
+        "here": "sagas",
+        "now": now,
+        "live": f"/ui/events?{urlencode({'key': view.key})}" if view.phase == "open" else None,
+        "saga": view,
+        "base": address_of(view.key),
+        "asks": asks,
+        "helds": {one.step: one for one in view.held},
+        "early": {
+            step.name
+            for step in view.steps
+            if goes_on and step.state == "waiting" and step.name in approvals and not step.early
+        },
+        "choices": {choice.step: choice for choice in view.plan.choices} if view.plan else {},
+        "failures": failures_of(view),
+        "rows": folded([*zip(view.steps, tolds)], lambda row: (picture.urgency(row[1]),)),
+        "picture": picture.svg(view, tolds=tolds) if drawn else "",
+        "timeline": timeline_picture.drawn(attempts, view.started, now),
+        "attempts": folded(attempts, attempt_urgency),
+        "undo_failed": [step for step in view.steps if step.state == "undo_failed"],
+        "icons": picture.ICONS,
+        "done": sum(step.state in ("committed", "undo_failed") for step in view.steps),
+        "events": events[-MOST_EVENTS:],
+        "few": FEW,
+        "all_events": len(events),
+        "abort": effect(view, abort=True),
+        "effects": effects(view, [(one.step, one.undo) for one in asks[:MOST_EFFECTS]]),
+    }
+
+
+ORDER = ("failed", "retried", None, "not_called", "succeeded")
+
+
+def attempt_urgency(one: AttemptTimes) -> tuple[int, ...]:
+    """Attempts that failed come first, then those that are not over."""
+    return (ORDER.index(one.outcome),)
+
+
+def effect(view: SagaView, *, abort: bool = False, **step: str) -> str | None:
+    """What an abort, or the end of a step (`done=`, `failed=`), would come to, in words; None
+    where it would not be accepted."""
+    if view.phase != "open" or (abort and view.aborted):
+        return None
+    for name in step.values():
+        if any((one.name, one.state) == (name, "waiting") for one in view.steps):
+            return f"Store this answer, and use it when {name} starts"
+    try:
+        if abort:
+            return what_if.words(what_if.of(view, abort=True))
+        if "done" in step:
+            return what_if.done_words(view, step["done"])
+        return what_if.words(what_if.of(view, failed=step["failed"]))
+    except (ValueError, KeyError):
+        return None
+
+
+def effects(view: SagaView, steps: list[tuple[str, bool]]) -> dict[tuple[str, bool], Any]:
+    """What would come of each answer to a question, by step and whether it is undone."""
+    return {
+        (step, undo): {
+            "done": effect(view, done=step),
+            "failed": effect(view, failed=step),
+            "retry": f"Call {step} again, with the same idempotency key",
+        }
+        for step, undo in steps
+    }
+
+
+def failures_of(view: SagaView) -> list[StepView]:
+    """The steps of the chain that have failed, and said why."""
+    chain = view.plan.blocking_steps if view.plan else []
+    return [
+        step
+        for step in view.steps
+        if step.name in chain and step.state == "failed" and step.said is not None
+    ]
+
+
+@routes.get("/ui/sagas/{key}/certificate")
+async def certificate(call: Call) -> Response:
+    """The plan's certificate, as `sagas check` reads it."""
+    if answer := closed(call.request):
+        return answer
+    view = await kept_of(call.service, looker(call.request), call.key)
+    if view.plan is None:
+        raise NoSuchSaga(f"saga {view.key!r} has no plan")
+    return Response(certificate_text(view.plan), media_type="text/plain; charset=utf-8")

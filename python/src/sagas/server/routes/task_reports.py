@@ -1,0 +1,87 @@
+"""The route by which a worker reports several tasks at once."""
+
+from __future__ import annotations
+
+import asyncio
+from typing import Any
+
+from starlette.responses import Response
+
+from sagas.base.errors import SagasError
+from sagas.server import answers, problems
+from sagas.server.access import check_steps
+from sagas.server.auth import May
+from sagas.server.operations import Answer, Call, Routes
+from sagas.server.problems import Problem
+from sagas.server.responses import Json
+from sagas.server.routes.tasks import LEASE, MORE, claimed, words_of
+from sagas.server.shapes import Anything, Choice, Field, Flag, Nullable, Record, Several, Text
+
+routes = Routes("workers", "/v1/tasks")
+MOST = 100
+"""How many tasks one request reports at most."""
+REPORT = Record(
+    "TaskReport",
+    {
+        "attempt_id": Field(Text(most=130), "as the task has it"),
+        **LEASE,
+        "outcome": Field(Choice(("complete", "fail", "unknown")), "as the request for one task"),
+        "result": Field(Anything(), "of `complete`: what the step gives", default=None),
+        "error": Field(Nullable(Text(most=4000)), "of `fail` and `unknown`: why", default=None),
+        "final": Field(Flag(), "of `fail`: no further attempt will help", default=False),
+    },
+)
+REPORTS = Record(
+    "TaskReports",
+    {"reports": Field(Several(REPORT, least=1, most=MOST), "each as if sent alone"), **MORE},
+    example={
+        "reports": [
+            {"attempt_id": "c0ffee-1-car-run-1", "lease": "1.c0ffee", "outcome": "complete"}
+        ]
+    },
+)
+
+
+def outcome_of(report: dict[str, Any], place: int) -> dict[str, Any]:
+    """How a task ended, as the store takes it. Raises `Problem`."""
+    outcome, error = report["outcome"], report["error"]
+    if outcome == "complete":
+        return {"result": report["result"]}
+    if outcome == "unknown":
+        return {"unknown": error or "the worker does not know"}
+    if error is None:
+        where = f"reports.{place}.error"
+        raise Problem("InvalidRequest", f"{where}: it is missing", where)
+    return {"error": error, "final": report["final"]}
+
+
+async def _kept(call: Call, report: dict[str, Any], outcome: dict[str, Any]) -> dict[str, Any]:
+    """Keeps one report; gives what is answered of it."""
+    attempt_id = report["attempt_id"]
+    told: dict[str, Any] = {"attempt_id": attempt_id, "kept": True, "repeated": False}
+    try:
+        kept = await call.service.store.workers.report(
+            attempt_id, report["lease"], holder=call.who.name, **outcome
+        )
+    except SagasError as error:
+        return {**told, "kept": False, "problem": problems.body(problems.of(error))}
+    return {**told, "repeated": not kept, "problem": None}
+
+
+@routes.post(
+    "/report", "reportTasks", may=May.WORK, body=REPORTS,
+    answers={200: Answer("Each has its own answer.", answers.REPORTED_TASKS)},
+)  # fmt: skip
+async def report(call: Call) -> Response:
+    """Report several tasks.
+
+    Each report counts as if it was sent alone, and has its own problem if it is not stored. Repeat
+    those whose problem has a status that is worth repeating."""
+    body, more = call.body, call.body["next"]
+    outcomes = [outcome_of(one, place) for place, one in enumerate(body["reports"])]
+    if more is not None:
+        words_of(more["steps"], "next.steps")  # refused before anything is kept
+        check_steps(call.who, more["steps"])
+    told = await asyncio.gather(*(_kept(call, *one) for one in zip(body["reports"], outcomes)))
+    found = None if more is None else await claimed(call, more)
+    return Json({"reports": told, "next": found})

@@ -1,0 +1,260 @@
+"""A database whose large values are in a blob store.
+
+A value is put before the commit of the row that refers to it. Rows that are read have the values
+again, so nothing above this knows of it. A value whose commit was refused is an orphan, which
+`Blobs.sweep` deletes.
+"""
+
+from __future__ import annotations
+
+import asyncio
+import hashlib
+import inspect
+import secrets
+import time
+from collections.abc import Callable, Iterable, Sequence
+from typing import TYPE_CHECKING, Any, cast
+
+from sagas.base.errors import StoreUnavailable
+from sagas.base.logger import logger
+from sagas.core.batch import Batch, Born, Known, Loaded, SagaRow
+from sagas.definition.blobs import HEAD, BlobStore, Reference
+from sagas.definition.payloads import Payloads
+
+if TYPE_CHECKING:
+    from sagas.storage.interface import Database, Then
+
+AT_ONCE = 8
+"""Values that are put, or got, at the same time."""
+AGE = 86_400.0
+"""Seconds after which a value without a row is an orphan: its commit was refused long ago."""
+INPUT, RESULT = 4, 5
+"""The places of the texts in the rows of sagas and attempts."""
+DONE = ("commit", "ok")
+PATTERN = HEAD + "%"
+REFERRED = (
+    "SELECT input FROM sagas WHERE id >= ? AND id < ? AND input LIKE ? "
+    "UNION ALL SELECT value FROM attempts WHERE id >= ? AND id < ? AND value LIKE ?"
+)
+Row = tuple[Any, ...]
+
+
+def referred(rows: Iterable[Row]) -> list[str]:
+    """The keys to which rows of `REFERRED` refer."""
+    found = (Reference.of(text) for (text,) in rows)
+    return [one.key for one in found if one is not None]
+
+
+def within(first: int, end: int) -> tuple[Any, ...]:
+    """The words of `REFERRED` for the sagas of these ids."""
+    return (first, end, PATTERN) * 2
+
+
+class Blobs:
+    """The large values of a store.
+
+    Attributes:
+        prefix: What the keys of this store begin with: others may have theirs in the same place.
+    """
+
+    def __init__(self, store: BlobStore, threshold: int, payloads: Payloads, path: str) -> None:
+        self._store, self._threshold, self._payloads = store, threshold, payloads
+        self._path, self.prefix = path, ""
+        self._places = asyncio.Semaphore(AT_ONCE)
+
+    def name(self, secret: bytes) -> None:
+        """Take the name that is the store's own."""
+        self.prefix = hashlib.sha256(b"blobs" + secret).hexdigest()[:16]
+
+    async def _call(self, function: Callable[..., Any], *words: Any) -> Any:
+        """Raises `KeyError`, and `StoreUnavailable` for anything else that a blob store raises."""
+        try:
+            if inspect.iscoroutinefunction(function):
+                return await function(*words)
+            return await asyncio.to_thread(function, *words)
+        except KeyError:
+            raise
+        except Exception as error:  # it may have the value in its text
+            name = type(error).__name__
+            raise StoreUnavailable(f"{self._path}: the blob store raised {name}") from error
+
+    # -- written
+
+    def is_large(self, text: str | None) -> bool:
+        """Whether a value goes into the blob store; one that looks as a reference always does."""
+        if text is None:
+            return False
+        if 4 * len(text) <= self._threshold:
+            return text.startswith(HEAD)
+        size = len(text.encode("utf-8", "surrogatepass"))
+        return size > self._threshold or text.startswith(HEAD)
+
+    def large_rows(self, batches: Sequence[Batch]) -> list[tuple[list[Any], int, int]]:
+        """Where the large values are: the rows, the place of one, and the place in it."""
+        found: list[tuple[list[Any], int, int]] = []
+        for batch in batches:
+            for place, opened in enumerate(batch.opened):
+                if self.is_large(opened[4]):
+                    found.append((batch.opened, place, INPUT))
+            for place, result in enumerate(batch.results):
+                if result[4] in DONE and self.is_large(result[5]):
+                    found.append((batch.results, place, RESULT))
+        return found
+
+    async def put_all(self, large: Sequence[tuple[list[Any], int, int]]) -> None:
+        """Put values, and references into their rows. Raises `StoreUnavailable`."""
+        texts = [rows[place][cell] for rows, place, cell in large]
+        ids = [rows[place][0] for rows, place, _ in large]
+        references = await asyncio.gather(*map(self._put, ids, texts))
+        for (rows, place, cell), reference in zip(large, references):
+            row = rows[place]
+            rows[place] = (*row[:cell], reference, *row[cell + 1 :])
+
+    async def _put(self, id: int, text: str) -> str:
+        key = f"{self.prefix}/{id:x}/{secrets.token_hex(16)}"
+        data = text.encode("utf-8", "surrogatepass")
+        async with self._places:
+            await self._call(self._store.put, key, data)
+        return str(Reference.to(key, self._payloads.decode(text), len(data)))
+
+    # -- read
+
+    async def text(self, text: str) -> str:
+        """Return a value as it was before it was put; a reference whose value is not there stays.
+        Raises `StoreUnavailable`.
+        """
+        reference = Reference.of(text)
+        if reference is None:
+            return text
+        try:
+            async with self._places:
+                data: bytes = await self._call(self._store.get, reference.key)
+        except KeyError:
+            logger.error("%s: the blob %s is missing", self._path, reference.key)
+            return text
+        return data.decode("utf-8", "surrogatepass")
+
+    async def rows(self, rows: Sequence[Row]) -> list[Row]:
+        """Return rows with their values."""
+        found = list(rows)
+        places = [
+            (number, cell, text)
+            for number, row in enumerate(rows)
+            for cell, text in enumerate(row)
+            if isinstance(text, str) and text.startswith(HEAD)
+        ]
+        texts = await asyncio.gather(*(self.text(text) for _, _, text in places))
+        for (number, cell, _), text in zip(places, texts):
+            row = found[number]
+            found[number] = (*row[:cell], text, *row[cell + 1 :])
+        return found
+
+    # -- deleted
+
+    async def delete(self, keys: Iterable[str]) -> None:
+        """Delete values to which no row refers any more. Raises `StoreUnavailable`."""
+        for key in keys:
+            await self._call(self._store.delete, key)
+
+    async def sweep(self, read: Callable[..., Any]) -> int:
+        """Delete orphans: values that were put long ago, and to which no row refers.
+
+        Args:
+            read: Rows of a query, with their references.
+
+        Returns:
+            How many were deleted.
+        """
+        before = time.time() - AGE
+        by_id: dict[int, list[str]] = {}
+        for key in await self._call(self._store.keys, f"{self.prefix}/", before):
+            by_id.setdefault(int(key.split("/")[1], 16), []).append(key)
+        count = 0
+        for id, keys in by_id.items():
+            there = set(referred(await read(REFERRED, *within(id, id + 1))))
+            orphans = [key for key in keys if key not in there]
+            await self.delete(orphans)
+            count += len(orphans)
+        return count
+
+
+class BlobDatabase:
+    """A database in which no row has a large value; for its callers each has."""
+
+    def __init__(self, inner: Database, blobs: Blobs) -> None:
+        self._inner, self.blobs = inner, blobs
+        self._putting: set[asyncio.Task[None]] = set()
+
+    def __getattr__(self, name: str) -> Any:
+        return getattr(self._inner, name)
+
+    @classmethod
+    def over(
+        cls, inner: Database, store: BlobStore | None, threshold: int, payloads: Payloads
+    ) -> Database:
+        """Return the database, with a blob store if there is one."""
+        if store is None:
+            return inner
+        return cast("Database", cls(inner, Blobs(store, threshold, payloads, inner.path)))
+
+    async def open(self, drives: Any) -> Any:
+        """As of the database; then the blobs of this store have their name."""
+        found = await self._inner.open(drives)
+        self.blobs.name(await self._inner.secret())
+        return found
+
+    def commit(self, batches: Sequence[Batch], then: Then, now: bool) -> None:
+        """As `CommitWriter.commit`. The values are put first; meanwhile nothing else is written."""
+        large = self.blobs.large_rows(batches)
+        if not large:
+            self._inner.commit(batches, then, now)
+            return
+        task = asyncio.get_running_loop().create_task(self._put(large, batches, then))
+        self._putting.add(task)
+        task.add_done_callback(self._putting.discard)
+
+    async def _put(
+        self, large: Sequence[tuple[list[Any], int, int]], batches: Sequence[Batch], then: Then
+    ) -> None:
+        try:
+            await self.blobs.put_all(large)
+        except Exception as error:
+            then(batches, error, frozenset())
+        else:
+            self._inner.commit(batches, then, True)
+
+    async def load(self, log: int, epoch: int, born: Born | None) -> Loaded | None:
+        """As of the database, with the values of open sagas."""
+        loaded = await self._inner.load(log, epoch, born)
+        if loaded is not None:
+            loaded.open = cast(Any, await self.blobs.rows(loaded.open))
+            loaded.results = cast(Any, await self.blobs.rows(loaded.results))
+        return loaded
+
+    async def find(self, key: str) -> SagaRow | None:
+        """As of the database."""
+        row = await self._inner.find(key)
+        return row and row._replace(input=await self.blobs.text(row.input))
+
+    async def known(self, row: SagaRow) -> Known:
+        """As of the database."""
+        return await self._whole(await self._inner.known(row))
+
+    async def history(self, row: SagaRow) -> Known:
+        """As of the database."""
+        return await self._whole(await self._inner.history(row))
+
+    async def _whole(self, known: Known) -> Known:
+        return known._replace(results=cast(Any, await self.blobs.rows(known.results)))
+
+    async def read(self, query: str, *words: Any) -> list[Row]:
+        """As of the database."""
+        return await self.blobs.rows(await self._inner.read(query, *words))
+
+    async def read_long(self, query: str, *words: Any) -> list[Row]:
+        """As of the database."""
+        return await self.blobs.rows(await self._inner.read_long(query, *words))
+
+    async def swept(self) -> int:
+        """Delete what no row refers to; how many that were."""
+        return await self.blobs.sweep(self._inner.read)

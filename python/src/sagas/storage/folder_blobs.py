@@ -1,0 +1,104 @@
+"""A blob store in a folder."""
+
+from __future__ import annotations
+
+import contextlib
+import os
+import pathlib
+import re
+import secrets
+from collections.abc import Iterator
+
+KEY = re.compile(r"[0-9a-f]+(?:/[0-9a-f]+)*")
+PART, TRIES = ".part", 3
+
+
+class FolderBlobStore:
+    """Keep large values as files of a folder, which all nodes and clients reach.
+
+    A value is written under another name, synced, and renamed; then its folder is synced.
+    """
+
+    def __init__(self, path: str | os.PathLike[str]) -> None:
+        """Take a folder, which is made with the first value.
+
+        Args:
+            path: The folder.
+        """
+        self._folder = pathlib.Path(os.path.abspath(path))
+
+    def _path(self, key: str) -> pathlib.Path:
+        if not KEY.fullmatch(key):
+            raise ValueError(f"{key[:80]!r}: is not a key of a blob")
+        return self._folder.joinpath(*key.split("/"))
+
+    def put(self, key: str, data: bytes, /) -> None:
+        """Store a value. See `BlobStore.put`."""
+        path = self._path(key)
+        for is_last in (*(False,) * TRIES, True):
+            try:
+                self._put(path, data)
+                return
+            except FileNotFoundError:  # its folder was empty for a moment, and was deleted
+                if is_last:
+                    raise
+
+    def _put(self, path: pathlib.Path, data: bytes) -> None:
+        self._make(path.parent)
+        part = path.with_name(f"{path.name}.{secrets.token_hex(4)}{PART}")
+        try:
+            with part.open("xb") as file:
+                file.write(data)
+                file.flush()
+                os.fsync(file.fileno())
+            part.rename(path)
+        except BaseException:
+            part.unlink(missing_ok=True)
+            raise
+        _sync(path.parent)
+
+    def _make(self, folder: pathlib.Path) -> None:
+        """Make a folder, so that it survives a crash."""
+        if folder.is_dir():
+            return
+        self._make(folder.parent)
+        folder.mkdir(exist_ok=True)
+        _sync(folder.parent)
+
+    def get(self, key: str, /) -> bytes:
+        """Return a value. See `BlobStore.get`."""
+        try:
+            return self._path(key).read_bytes()
+        except FileNotFoundError:
+            if not self._folder.is_dir():
+                raise  # it is not mounted, say
+            raise KeyError(key) from None
+
+    def delete(self, key: str, /) -> None:
+        """Delete a value. See `BlobStore.delete`."""
+        path = self._path(key)
+        path.unlink(missing_ok=True)
+        with contextlib.suppress(OSError):  # it has other values
+            path.parent.rmdir()
+
+    def keys(self, prefix: str, before: float, /) -> Iterator[str]:
+        """Return the keys of older values. See `BlobStore.keys`."""
+        found = []
+        for folder, _, names in os.walk(self._folder / prefix.rstrip("/")):
+            for name in names:
+                path = pathlib.Path(folder, name)
+                with contextlib.suppress(FileNotFoundError):
+                    if path.stat().st_mtime < before:
+                        if name.endswith(PART):  # of a program that was killed
+                            path.unlink()
+                        else:
+                            found.append(path.relative_to(self._folder).as_posix())
+        return iter(found)
+
+
+def _sync(folder: pathlib.Path) -> None:
+    file = os.open(folder, os.O_RDONLY | os.O_DIRECTORY)
+    try:
+        os.fsync(file)
+    finally:
+        os.close(file)

@@ -1,0 +1,121 @@
+"""A blob store in a table of PostgreSQL."""
+
+from __future__ import annotations
+
+import contextlib
+import re
+import threading
+from collections.abc import Iterator
+from typing import TYPE_CHECKING, Any
+
+from sagas.base.errors import InvalidStore
+
+if TYPE_CHECKING:
+    import psycopg
+
+TABLE = re.compile(r"[a-z_][a-z0-9_]{0,62}")
+
+
+class PostgresBlobStore:
+    """Keep large values in a table of a PostgreSQL database.
+
+    The database may be the store's own. The table has a column of type `bytea`: large objects would
+    need rights on each object, and would be left behind where a row is deleted by hand. A value has
+    at most 1 GB.
+    """
+
+    def __init__(self, url: str, *, table: str = "sagas_blobs") -> None:
+        """Take a database. The table is made with the first value, if it is not there.
+
+        Args:
+            url: The database: `postgresql://user@host/database`.
+            table: The table's name (default: `sagas_blobs`).
+
+        Raises:
+            ValueError: The name is not one of small letters, digits and `_`.
+        """
+        if not TABLE.fullmatch(table):
+            raise ValueError(f"table={table[:80]!r}: must be a name of small letters, digits and _")
+        self._url, self._table = url, table
+        self._idle: list[psycopg.Connection[Any]] = []
+        self._lock, self._is_made = threading.Lock(), False
+
+    @contextlib.contextmanager
+    def _link(self) -> Iterator[psycopg.Connection[Any]]:
+        """A connection, which is kept for the next call unless this one fails."""
+        with self._lock:
+            link = self._idle.pop() if self._idle else None
+        if link is None or link.closed:
+            link = self._connect()
+        try:
+            yield link
+        except BaseException:
+            link.close()
+            raise
+        with self._lock:
+            self._idle.append(link)
+
+    def _connect(self) -> psycopg.Connection[Any]:
+        import psycopg
+
+        link = psycopg.connect(self._url, autocommit=True)
+        with self._lock:
+            if self._is_made:
+                return link
+            there = link.execute("SELECT to_regclass(%s) IS NOT NULL", (self._table,)).fetchone()
+            if there != (True,):
+                try:
+                    link.execute(
+                        f"CREATE TABLE IF NOT EXISTS {self._table}(key text PRIMARY KEY, "
+                        "data bytea NOT NULL, at timestamptz NOT NULL DEFAULT now())"
+                    )
+                except psycopg.errors.InsufficientPrivilege as error:
+                    raise InvalidStore(
+                        f"the table {self._table} is not there, and this role may not create it. "
+                        "Create it as the owner of the database"
+                    ) from error
+            self._is_made = True
+        return link
+
+    def _do(self, text: str, *words: Any) -> list[tuple[Any, ...]]:
+        """A statement; once more over a new connection where the server has ended the old one."""
+        import psycopg
+
+        for is_last in (False, True):
+            try:
+                with self._link() as link:
+                    cursor = link.execute(text.format(self._table), words)
+                    return cursor.fetchall() if cursor.description else []
+            except psycopg.OperationalError:
+                if is_last:
+                    raise
+                self.close()
+        raise AssertionError
+
+    def put(self, key: str, data: bytes, /) -> None:
+        """Store a value. See `BlobStore.put`."""
+        text = "INSERT INTO {}(key, data) VALUES(%s, %s) ON CONFLICT (key) DO NOTHING"
+        self._do(text, key, data)
+
+    def get(self, key: str, /) -> bytes:
+        """Return a value. See `BlobStore.get`."""
+        rows = self._do("SELECT data FROM {} WHERE key = %s", key)
+        if not rows:
+            raise KeyError(key)
+        return bytes(rows[0][0])
+
+    def delete(self, key: str, /) -> None:
+        """Delete a value. See `BlobStore.delete`."""
+        self._do("DELETE FROM {} WHERE key = %s", key)
+
+    def keys(self, prefix: str, before: float, /) -> Iterator[str]:
+        """Return the keys of older values. See `BlobStore.keys`."""
+        text = "SELECT key FROM {} WHERE starts_with(key, %s) AND at < to_timestamp(%s)"
+        return iter([key for (key,) in self._do(text, prefix, before)])
+
+    def close(self) -> None:
+        """Close the connections that nobody uses now."""
+        with self._lock:
+            idle, self._idle = self._idle, []
+        for link in idle:
+            link.close()

@@ -1,0 +1,35 @@
+"""Deliveries of webhooks in the database, by one statement each."""
+
+from __future__ import annotations
+
+import re
+from typing import Any
+
+from sagas.storage.postgresql import connections
+from sagas.storage.postgresql.connections import Asker
+
+NOW = "extract(epoch FROM clock_timestamp())::float8"
+WORD = re.compile(r"(?<!:):([a-z]+)")
+KINDS = {"status": "::integer", "pause": "::float8", "error": "::text", "state": "::text"}
+
+
+class PostgreSQLDeliveries:
+    """As `Deliveries`, by a node's connections."""
+
+    def __init__(self, asker: Asker) -> None:
+        self._asker = asker
+
+    def begin(self, *_: object) -> None:
+        """Each call is a statement of its own."""
+
+    async def change(self, text: str, **words: Any) -> list[connections.Row]:
+        return await self._asker.ask(form(text), **words)
+
+    async def ask(self, text: str, **words: Any) -> list[connections.Row]:
+        return await self._asker.read(form(text), **words)
+
+
+def form(text: str) -> str:
+    """A statement as psycopg takes it."""
+    named = WORD.sub(lambda found: f"%({found[1]})s{KINDS.get(found[1], '')}", text)
+    return named.format(now=NOW, locked=" FOR UPDATE SKIP LOCKED")

@@ -1,0 +1,93 @@
+"""Runs the children of a simulated saga, each to its end."""
+
+from __future__ import annotations
+
+import dataclasses
+from typing import Any
+
+from sagas.base.errors import NotSerializable
+from sagas.core import children, outcomes
+from sagas.core.model import Attempt
+from sagas.core.outcomes import SUCCEEDED, Outcome
+from sagas.core.states import SagaPhase
+from sagas.definition import serialization, tokens, undo_sagas
+from sagas.definition.compiled import Kind
+from sagas.definition.context import Context
+from sagas.definition.payloads import Payloads
+from sagas.definition.saga import Saga
+from sagas.definition.start_options import deadline_at
+from sagas.testing.engine import Engine
+from sagas.testing.simulation import Scenario, Simulation
+from sagas.testing.trial import Clock, Trial
+
+
+class Family:
+    """A saga and its descendants. Children are run one behind the other, each at once.
+
+    Attributes:
+        trials: How the descendants ended, by key.
+    """
+
+    def __init__(self, clock: Clock, context: Context, payloads: Payloads) -> None:
+        self._clock, self._context, self._payloads = clock, context, payloads
+        self._members: dict[str, tuple[Simulation, Kind, str]] = {}
+        self.trials: dict[str, Trial] = {}
+
+    async def play(self, saga: Saga, key: str, given: Any, scenario: Scenario) -> Trial:
+        """Run a saga.
+
+        Raises:
+            InvalidInput: The first steps cannot read the input.
+            NotSerializable: The input is not JSON.
+        """
+        kind = Kind(saga.toml(), saga, self._context, self._payloads)
+        text = serialization.write(given, "input")
+        if wrong := kind.misfit(given, text):
+            raise wrong
+        text = kind.payloads.encode(text)
+        name = f"test{len(self._members) or ''}"
+        simulation = Simulation(key, text, kind, scenario, self._clock, self, name)
+        self._members[key] = simulation, kind, tokens.saga_token(name, 0)
+        with Engine(kind.text) as engine:
+            return await simulation.play(engine)
+
+    async def run(self, attempt: Attempt, scenario: Scenario) -> Outcome:
+        """Run the child of an attempt to its end; return what that comes to."""
+        child = attempt.declared.child
+        assert child
+        saga = undo_sagas.undo_saga(child) if attempt.undo else child
+        if saga is None:
+            return Outcome(SUCCEEDED, "null")
+        if attempt.undo:
+            scenario = scenario.undoing()
+        elif saga.undoes is None:
+            own = deadline_at(saga.deadline, self._clock())
+            times = [at for at in (scenario.deadline, own) if at is not None]
+            scenario = dataclasses.replace(scenario, deadline=min(times, default=None))
+        try:
+            given = self._input(attempt, saga)
+        except Exception as error:  # of the step's function
+            return outcomes.raised(error, attempt.manner)
+        key = children.key_of(attempt)
+        try:
+            trial = self.trials[key] = await self.play(saga, key, given, scenario)
+        except NotSerializable as error:
+            return outcomes.failure(f"{type(error).__name__}: {error}", final=True)
+        simulation, kind, _ = self._members[key]
+        if trial.phase == SagaPhase.STUCK:  # as if a person had seen to it
+            trial = dataclasses.replace(trial, phase=SagaPhase.RESOLVED.value)
+        outcome = children.outcome(trial, kind, simulation.saga.results)
+        assert outcome
+        return Outcome(SUCCEEDED, "null") if attempt.undo and outcome.kind is SUCCEEDED else outcome
+
+    def _input(self, attempt: Attempt, saga: Saga) -> Any:
+        if not attempt.undo:
+            given = children.child_input(attempt)
+            if saga.undoes is None:
+                return given
+            key = str(given)
+        else:
+            key = str(attempt.task().result["key"])
+        simulation, kind, token = self._members[key]
+        saga_instance = simulation.saga
+        return children.undo_input(key, token, kind, saga_instance.text, saga_instance.results)

@@ -1,0 +1,340 @@
+"""Large values in a blob store: there before their rows, gone behind them, over both databases."""
+
+from __future__ import annotations
+
+import asyncio
+import datetime
+import os
+import pathlib
+import signal
+import subprocess
+import sys
+import time
+from collections.abc import Iterable
+from typing import Any
+
+import pytest
+import serving
+from cases import QUICK, Task, run, until
+from driving import program
+from serving import FEW, report, served, start, take
+
+import sagas
+from sagas.definition.blobs import Reference
+from sagas.storage import blob_layer
+
+LARGE, SMALL = "x" * 5000, "y" * 100
+THRESHOLD = 1000
+
+
+class Memory:
+    """A blob store of coroutines, whose machine is this program's."""
+
+    def __init__(self) -> None:
+        self.there: dict[str, bytes] = {}
+        self.fails = False
+
+    async def put(self, key: str, data: bytes) -> None:
+        if self.fails:
+            raise OSError(data.decode())
+        self.there[key] = data
+
+    async def get(self, key: str) -> bytes:
+        return self.there[key]
+
+    async def delete(self, key: str) -> None:
+        self.there.pop(key, None)
+
+    async def keys(self, prefix: str, before: float) -> Iterable[str]:
+        return [key for key in self.there if key.startswith(prefix)]
+
+
+class Reverse:
+    """A codec."""
+
+    def encode(self, data: bytes) -> bytes:
+        return data[::-1]
+
+    def decode(self, data: bytes) -> bytes:
+        return data[::-1]
+
+
+def copy(undone: list[Any] | None = None) -> sagas.Saga:
+    """Steps with large results, each of which reads the one before; and one that waits."""
+    saga = sagas.Saga("copy")
+
+    @saga.step(undo=1, keep=9, backoff=QUICK)
+    def first(task: Task) -> str:
+        return str(task.input) + "1"
+
+    @first.compensation
+    def back(task: Task) -> None:
+        (undone if undone is not None else []).append(task.result)
+
+    sign = saga.approval(name="sign", needs=[first], backoff=QUICK)(lambda task: None)
+
+    @saga.step(needs=[sign], backoff=QUICK)
+    def second(task: Task) -> str:
+        return str(task.results["first"]) + "2"
+
+    return saga
+
+
+def at(place: str, blobs: Any, saga: sagas.Saga, **words: Any) -> sagas.Store:
+    words = {"node": "one", "blob_threshold": THRESHOLD, **words}
+    return sagas.open(place, [saga], blobs=blobs, **words)
+
+
+async def texts(store: sagas.Store) -> list[str]:
+    """What the rows have, without the blob store."""
+    database: Any = store._access.inside.store
+    inner = getattr(database, "_inner", database)
+    query = "SELECT input FROM sagas UNION ALL SELECT value FROM attempts WHERE event = 'commit'"
+    return [text for (text,) in await inner.read(query)]
+
+
+@pytest.fixture(params=["memory", "folder", "table"])
+def blobs(request: pytest.FixtureRequest, tmp_path: pathlib.Path) -> Any:
+    if request.param == "memory":
+        return Memory()
+    if request.param == "folder":
+        return sagas.FolderBlobStore(tmp_path / "blobs")
+    server = request.getfixturevalue("postgresql")
+    return sagas.PostgresBlobStore(request.getfixturevalue("url") if server else "")
+
+
+async def called(found: Any) -> Any:
+    return await found if asyncio.iscoroutine(found) else found
+
+
+def test_a_blob_store_alone(blobs: Any) -> None:
+    """Put twice, got, listed and deleted; what is not there is a `KeyError`."""
+
+    async def main() -> None:
+        for _ in range(2):
+            await called(blobs.put("ab/1/c", b"one"))
+        await called(blobs.put("ab/1/d", b"two"))
+        assert await called(blobs.get("ab/1/c")) == b"one"
+        assert sorted(await called(blobs.keys("ab/", time.time() + 60))) == ["ab/1/c", "ab/1/d"]
+        assert list(await called(blobs.keys("cd/", time.time() + 60))) == []
+        for _ in range(2):
+            await called(blobs.delete("ab/1/c"))
+        with pytest.raises(KeyError):
+            await called(blobs.get("ab/1/c"))
+        if not isinstance(blobs, Memory):
+            assert list(await called(blobs.keys("ab/", time.time() - 600))) == []
+
+    run(main())
+
+
+@pytest.mark.parametrize("codec", [None, Reverse()], ids=["plain", "codec"])
+def test_large_values_are_outside(
+    place: str, tmp_path: pathlib.Path, codec: Any, monkeypatch: pytest.MonkeyPatch
+) -> None:
+    """Rows refer to them; functions, results, histories and other starts of the key have them, also
+    in the next program and in one without the blob store, which parks them. The compensation has
+    its step's, and retention takes all of them behind the rows."""
+    undone, folder = list[Any](), tmp_path / "blobs"
+    saga, blobs = copy(undone), sagas.FolderBlobStore(folder)
+
+    def files() -> list[pathlib.Path]:
+        found = os.walk(folder)  # which passes over what is deleted meanwhile
+        return [pathlib.Path(place, name) for place, _, names in found for name in names]
+
+    async def main() -> None:
+        async with at(place, blobs, saga, codec=codec) as store:
+            large = await store.start(saga, "large", LARGE)
+            await (await store.start(saga, "small", SMALL)).complete("sign")
+            assert (await store.wait("small", 60)).results["second"] == f"{SMALL}12"
+            await until(lambda: [a for a in store.active_attempts("large") if a.step == "sign"])
+            again = await store.start(saga, "large", LARGE)
+            assert not again.new
+            with pytest.raises(sagas.KeyConflict):
+                await store.start(saga, "large", LARGE + "!")
+            rows = await texts(store)
+            references = [found for text in rows if (found := Reference.of(text))]
+            assert len(references) == 2 and all(len(text) < THRESHOLD for text in rows)
+            assert len(files()) == 2 and LARGE not in "".join(rows)
+            data = blobs.get(references[0].key).decode()
+            assert (LARGE in data) is (codec is None) and len(data) == references[0].size
+        async with at(place, None, saga, codec=codec) as store:
+            (one,) = await until(lambda: parked(store, "large"))
+            assert "blob" in str(one.detail)
+        async with at(place, blobs, saga, codec=codec) as store:
+            await store.complete("large", "sign")
+            end = await store.wait("large", 60)
+            assert end.results["second"] == f"{LARGE}12" == (await large_again(store))
+            failed = await store.start(saga, "failed", LARGE)
+            await store.fail("failed", "sign", "no")
+            assert (await failed.wait(60)).states["first"] == "undone" and undone == [f"{LARGE}1"]
+            values = [event.value for event in await store.log("large")]
+            assert f"{LARGE}12" in values
+            with pytest.raises(sagas.KeyConflict):
+                await store.start(saga, "large", LARGE + "!")
+            assert not (await store.start(saga, "large", LARGE)).new
+            blobs.put(f"{prefix(store)}/1/0a", b"an orphan")
+            blobs.put("0123456789abcdef/1/0a", b"another store's")
+            monkeypatch.setattr(blob_layer, "AGE", -60.0)
+            # the orphan, and the values of starts that were refused
+            assert await store._access.inside.store.swept() >= 1  # type: ignore[attr-defined]
+            assert len(files()) == 6
+        del large
+        nothing = datetime.timedelta(0)
+        async with at(place, blobs, saga, codec=codec, retention=nothing) as store:
+            await until(lambda: len(files()) == 1)
+            assert await store.list() == []
+
+    async def large_again(store: sagas.Store) -> Any:
+        return (await store.wait("large", 60)).results["second"]
+
+    async def parked(store: sagas.Store, key: str) -> list[sagas.Attention]:
+        await store.complete(key, "sign")
+        return await store.attention()
+
+    def prefix(store: sagas.Store) -> str:
+        found = store._access.inside.store.blobs
+        assert found is not None
+        return found.prefix
+
+    run(main())
+
+
+def test_it_is_away(place: str) -> None:
+    """A start says so, and writes nothing; a result waits until it is there again. What was put is
+    missing: the attempt is parked. An input that looks as a reference is refused."""
+    memory, saga = Memory(), copy()
+    forged = {"$blob": "ab/1/c", "bytes": 1, "digest": "0" * 64}
+
+    async def main() -> None:
+        async with at(place, memory, saga) as store:
+            memory.fails = True
+            with pytest.raises(sagas.StoreUnavailable) as error:
+                await store.start(saga, "k", LARGE)
+            assert LARGE not in str(error.value)
+            await store.start(saga, "small", SMALL)
+            memory.fails = False
+            assert (await store.start(saga, "k", LARGE)).new
+            await store.complete("k", "sign")
+            assert (await store.wait("k", 60)).results["second"] == f"{LARGE}12"
+            with pytest.raises(sagas.NotSerializable, match="blob"):
+                await store.start(saga, "like", forged)
+            gone = await store.start(saga, "gone", LARGE)
+            await until(lambda: [a for a in store.active_attempts("gone") if a.step == "sign"])
+            assert gone.new
+        memory.there.clear()
+        async with at(place, memory, saga) as store:
+            await store.complete("gone", "sign")
+            (one,) = await until(lambda: store.attention())
+            assert (one.key, one.why) == ("gone", "cannot_decode")
+
+    run(main())
+
+
+def test_a_client_reads_them(url: str) -> None:
+    """With the same blob store; without it, that is an error."""
+    memory, saga = Memory(), copy()
+
+    async def main() -> None:
+        async with at(url, memory, saga) as store:
+            async with sagas.Client(url, blobs=memory) as client, sagas.Client(url) as plain:
+                started = await client.start(saga, "k", LARGE)
+                await started.complete("sign")
+                assert (await started.wait(60)).results["second"] == f"{LARGE}12"
+                assert not (await client.start(saga, "k", LARGE)).new
+                with pytest.raises(sagas.KeyConflict):
+                    await plain.start(saga, "k", LARGE + "!")
+                with pytest.raises(sagas.CannotDecode, match="blob store"):
+                    await plain.wait("k", 60)
+                assert (await store.wait("k")).ok
+
+    run(main())
+
+
+def test_a_service_has_them(tmp_path: pathlib.Path) -> None:
+    """By its options, with a codec of a module: a worker gets the whole input, and its result is
+    outside; a codec that is none is refused."""
+    (tmp_path / "coded.py").write_text(
+        "class Reverse:\n"
+        "    def encode(self, data): return data[::-1]\n"
+        "    def decode(self, data): return data[::-1]\n"
+        "codec = Reverse()\n"
+    )
+    options = ["--blobs", "large", "--blob-threshold", "1000", "--codec", "coded:codec"]
+    files = {"few.toml": FEW, "few.service.toml": ""}
+    with served(tmp_path, files, *options) as service, service.client() as client:
+        start(client, "few", "k", LARGE)
+        (task,) = take(client, "few/a")
+        assert task["input"] == LARGE
+        assert report(client, task, result=LARGE + "1").status_code == 200
+        (task,) = take(client, "few/b")
+        assert task["results"] == {"a": LARGE + "1"}
+        assert report(client, task, result=None).status_code == 200
+        assert client.get("/v1/sagas/k/wait?seconds=60").json()["phase"] == "completed"
+        files_of = (path for path in (tmp_path / "large").rglob("*") if path.is_file())
+        kept = [path.read_bytes() for path in files_of]
+        assert len(kept) == 2 and not any(LARGE.encode() in data for data in kept)
+    for wrong in (["--codec", "os:sep"], ["--codec", "os"], ["--blobs", "os:sep"]):
+        command = [sys.executable, "-m", "sagas", "serve", "x.db", "--definitions", "definitions"]
+        found = subprocess.run(
+            [*command, *wrong], env=serving.environment(), cwd=tmp_path, capture_output=True
+        )
+        assert found.returncode == 2 and wrong[0].strip("-") in found.stderr.decode()
+
+
+def test_what_is_wrong_is_told(place: str) -> None:
+    for words in ({"blobs": object()}, {"blob_threshold": "1"}, {"blob_threshold": True}):
+        with pytest.raises(TypeError):
+            sagas.open(place, [copy()], **words)  # type: ignore[arg-type]
+    with pytest.raises(ValueError):
+        sagas.open(place, [copy()], blob_threshold=1)
+    with pytest.raises(ValueError):
+        sagas.FolderBlobStore(".").get("../x")
+
+
+KILLED = """
+import asyncio, os, sys
+import sagas, test_blobs
+async def main():
+    blobs = sagas.FolderBlobStore(sys.argv[2])
+    saga = test_blobs.copy()
+    async with test_blobs.at(sys.argv[1], blobs, saga) as store:
+        async def one(key):
+            await store.start(saga, key, key * 2000)
+            print(key, flush=True)
+            await store.complete(key, "sign")
+            print(key, "signed", flush=True)
+            await store.wait(key)
+        for lot in range(100):
+            await asyncio.gather(*(one(f"k{lot}-{n}") for n in range(8)))
+asyncio.run(main())
+"""
+
+
+def test_what_was_acknowledged_is_there_after_a_kill(place: str, tmp_path: pathlib.Path) -> None:
+    """A program is killed amid its starts, three times: each saga that was told of is driven to its
+    end by the next one, with its values."""
+    here, folder, saga = pathlib.Path(__file__).parent, tmp_path / "blobs", copy()
+    environment = os.environ | {
+        "PYTHONPATH": f"{here.parent / 'src'}{os.pathsep}{here}",
+        "SAGAS_PROGRAM": program(),
+    }
+    told = list[str]()
+    for kills in range(3):
+        words = [sys.executable, "-c", KILLED.replace('f"k', f'f"k{kills}-'), place, str(folder)]
+        with subprocess.Popen(words, env=environment, stdout=subprocess.PIPE, text=True) as child:
+            assert child.stdout
+            for _ in range(12 + 7 * kills):
+                told.append(child.stdout.readline().split()[0])
+            child.send_signal(signal.SIGKILL)
+            told += [line.split()[0] for line in child.stdout]
+    keys = sorted(set(told))
+    assert len(keys) >= 20
+
+    async def main() -> None:
+        async with at(place, sagas.FolderBlobStore(folder), saga) as store:
+            for key in keys:
+                await store.complete(key, "sign")
+                end = await store.wait(key, 120)
+                assert end.ok and end.results["second"] == f"{key * 2000}12"
+
+    run(main())

@@ -1,0 +1,255 @@
+"""Reports that come before their step begins: stored, used once, and kept over whatever dies."""
+
+from __future__ import annotations
+
+import asyncio
+import os
+import signal
+from typing import Any
+
+import pytest
+from cases import QUICK, Task, run, until
+from test_command import Shell
+
+import sagas
+import sagas.testing
+
+
+def visit(calls: list[str] | None = None) -> sagas.Saga:
+    """An approval that opens the others: one, and a step that is done elsewhere."""
+    saga, said = sagas.Saga("visit"), [] if calls is None else calls
+
+    opened = saga.approval(name="open", backoff=QUICK)(lambda task: None)
+
+    @saga.approval(name="visa", needs=[opened], backoff=QUICK)
+    def visa(task: Task) -> None:
+        said.append("visa")
+
+    flight = saga.step(name="flight", needs=[opened], external=True, tries=3)
+
+    @saga.step(name="pack", needs=[visa, flight])
+    def pack(task: Task) -> list[Any]:
+        return [task.results["visa"], task.results["flight"]]
+
+    return saga
+
+
+async def asks(store: sagas.Store, step: str = "open") -> None:
+    """The step waits for somebody's word."""
+    waits = ("approval", "worker")
+    await until(
+        lambda: [
+            a for a in store.active_attempts("k") if (a.step, a.waits in waits) == (step, True)
+        ]
+    )
+
+
+def test_it_is_stored_and_used(place: str, capsys: pytest.CaptureFixture[str]) -> None:
+    """Of an approval whose function is not called, and of a step that no worker gets; shown before,
+    gone afterwards; the same again is one report, another one conflicts, also at once."""
+    calls, shell = list[str](), Shell(place, capsys)
+    saga = visit(calls)
+
+    async def wrong(told: str, *words: Any, **more: Any) -> None:
+        with pytest.raises(sagas.StepNotWaiting, match=told) as error:
+            await store.complete("k", *words, **more)
+        assert "secret" not in str(error.value)
+
+    async def rows() -> list[Any]:
+        inside = store._access.inside
+        return await inside.store.read("SELECT step, number, reason FROM suspensions ORDER BY step")
+
+    async def main() -> None:
+        nonlocal store
+        async with sagas.open(place, [saga]) as store:
+            trip = await store.start(saga, "k")
+            await asks(store)
+            await wrong("it has not started. Report", "visa", early=False)
+            await wrong("nor external", "pack")
+            await wrong("it has not started. Report", "open", undo=True)
+            await wrong("has no step 'vis'; did you mean 'visa'", "vis")
+            both = (store.complete("k", "visa", n) for n in (1, 2, 1))
+            found = await asyncio.gather(*both, return_exceptions=True)
+            kinds = [type(one).__name__ for one in found]
+            assert kinds == ["NoneType", "ConflictingReport", "NoneType"]
+            await trip.complete("visa", 1)
+            await wrong("a report of it is stored", "visa", "secret")
+            with pytest.raises(sagas.ConflictingReport, match="a report of it is stored"):
+                await trip.fail("visa", "secret")
+            await store.complete("k", "flight", "LH1", by="ada")
+            assert await rows() == [
+                (0, 1, "approval"), (1, 0, "early_result"), (2, 0, "early_result"),
+            ]  # fmt: skip
+            assert "visa    waiting" in (told := await asyncio.to_thread(shell, "show", "k"))
+            assert told.count("reported early: complete") == 2
+            steps = (await asyncio.to_thread(shell.json, "show", "k"))["steps"]
+            assert [step["early"] for step in steps] == [None, "complete", "complete", None]
+            assert len(await asyncio.to_thread(shell.json, "pending")) == 1
+            assert await store.waits_for("k") == ["open waits for an approval"]
+            await store.complete("k", "open")
+            end = await trip.wait(60)
+            assert end.ok and end.results["pack"] == [1, "LH1"] and calls == []
+            assert await rows() == []
+            await store.complete("k", "visa", 1)
+            await wrong("it has succeeded|a different outcome", "visa", 2)
+
+    store: Any = None
+    run(main())
+
+
+def test_a_failure_ends_it_and_an_abort_forgets_it(place: str) -> None:
+    """A failure is permanent: no attempt is made again. A saga that is undone takes no report, and
+    what was stored goes with it."""
+    saga = visit()
+
+    async def main() -> None:
+        async with sagas.open(place, [saga]) as store:
+            run = await store.start(saga, "k")
+            await asks(store)
+            await store.fail("k", "flight", "no seat")
+            await store.complete("k", "open")
+            end = await run.wait(60)
+            assert end.states["flight"] == "failed" and end.errors["flight"] == "no seat"
+            assert end.states["open"] == "undone"
+            gone = await store.start(saga, "gone")
+            await store.complete("gone", "visa")
+            assert await store.abort("gone") and (await gone.wait(60)).aborted
+            read = store._access.inside.store.read
+            assert await read("SELECT 1 FROM suspensions") == []
+            with pytest.raises(sagas.StepNotWaiting, match="has ended"):
+                await store.complete("gone", "visa")
+
+    run(main())
+
+
+def test_it_outlives_a_kill(place: str, capsys: pytest.CaptureFixture[str]) -> None:
+    """The next program, or another node, has it; a report that came by the command, too."""
+    saga, shell = visit(), Shell(place, capsys)
+    if (child := os.fork()) == 0:
+
+        async def first() -> None:
+            async with sagas.open(place, [saga], node="one", lease=1) as store:
+                await store.start(saga, "k")
+                await store.complete("k", "visa", {"by": "ada"})
+                os.kill(os.getpid(), signal.SIGKILL)
+
+        asyncio.run(first())
+    assert os.waitstatus_to_exitcode(os.waitpid(child, 0)[1]) == -signal.SIGKILL
+    assert "requested" in shell("complete", "k", "flight", "--result", '"LH1"', "--timeout", "0")
+
+    async def second() -> None:
+        async with sagas.open(place, [saga], node="two", lease=1) as store:
+            await until(lambda: store.active_attempts("k"))
+            beside = ("complete", "k", "flight", "--result", '"LH2"', "--no-early")
+            told = await asyncio.to_thread(shell, *beside, status=1)
+            assert told == ""  # refused: the first one is stored, or it has not begun
+            await store.complete("k", "open")
+            assert (await store.wait("k", 60)).results["pack"] == [{"by": "ada"}, "LH1"]
+
+    run(second())
+
+
+def test_with_a_codec(place: str) -> None:
+    """What is stored is encoded; a program that cannot decode it leaves the attempt to another."""
+
+    class Codec:
+        def __init__(self, reads: bool = True) -> None:
+            self.reads = reads
+
+        def encode(self, data: bytes) -> bytes:
+            return data[::-1]
+
+        def decode(self, data: bytes) -> bytes:
+            if not self.reads:
+                raise ValueError("secret")
+            return data[::-1]
+
+    saga = visit()
+
+    async def parts(codec: Codec, part: int) -> None:
+        async with sagas.open(place, [saga], codec=codec, node="one") as store:
+            if part == 0:
+                await store.start(saga, "k")
+                await asks(store)
+                await store.complete("k", "visa", "secret")
+                read = store._access.inside.store.read
+                ((text,),) = await read("SELECT detail FROM suspensions WHERE number = 0")
+                assert text.startswith('{"$codec":"') and "secret" not in text
+                return
+            if part == 1:
+                await until(lambda: store.active_attempts("k"))
+                await store.complete("k", "open")
+                (one,) = await until(lambda: store.attention())
+                assert (one.step, one.why) == ("visa", "cannot_decode")
+                return
+            await store.complete("k", "flight")
+            assert (await store.wait("k", 60)).results["pack"] == ["secret", None]
+
+    run(parts(codec := Codec(), 0))
+    run(parts(Codec(reads=False), 1))
+    run(parts(codec, 2))
+
+
+def test_beside_the_beginning(place: str) -> None:
+    """Reports come while their steps begin: each counts, once, wherever its step is by then."""
+    saga = visit()
+
+    async def main() -> None:
+        async with sagas.open(place, [saga]) as store:
+
+            async def one(key: str, pause: int) -> None:
+                await store.complete(key, "open")
+                for _ in range(pause):
+                    await asyncio.sleep(0)
+                says = (store.complete(key, step, key) for step in ("visa", "flight"))
+                await asyncio.gather(*says, store.complete(key, "visa", key))
+
+            keys = [f"k{n}" for n in range(40)]
+            await asyncio.gather(*(store.start(saga, key) for key in keys))
+            await asyncio.gather(*(one(key, 3 * n) for n, key in enumerate(keys)))
+            ends = await asyncio.gather(*(store.wait(key, 60) for key in keys))
+            assert [end.results["pack"] for end in ends] == [[key, key] for key in keys]
+
+    run(main())
+
+
+def test_from_elsewhere(url: str) -> None:
+    """A client's report, before a node has begun its saga, and another node's."""
+    saga = visit()
+
+    async def main() -> None:
+        async with sagas.open(url, [saga]):
+            pass
+        async with sagas.Client(url) as client:
+            trip = await client.start(saga, "k")
+            left = asyncio.create_task(trip.complete("visa", "early"))
+            async with (
+                sagas.open(url, [saga], node="one") as one,
+                sagas.open(url, [saga], node="two") as two,
+            ):
+                await left
+                with pytest.raises(sagas.StepNotWaiting, match="it has not started"):
+                    await trip.complete("flight", early=False)
+                has = one if one.active_attempts("k") else two
+                other = two if has is one else one
+                await other.complete("k", "flight", "LH1", by="ada")
+                await trip.complete("visa", "early")
+                with pytest.raises(sagas.ConflictingReport):
+                    await trip.fail("visa", "no")
+                assert await client.waits_for("k") == ["open waits for an approval"]
+                await trip.complete("open")
+                assert (await trip.wait(60)).results["pack"] == ["early", "LH1"]
+
+    run(main())
+
+
+def test_in_a_simulation() -> None:
+    """`early` of `sagas.testing`: its function is not called."""
+    saga = visit(calls := list[str]())
+    said: dict[str, Any] = {"open": None, "visa": "yes", "flight": 1}
+    trial = sagas.testing.run(saga, early=said)
+    assert trial.results["pack"] == ["yes", 1] and calls == []
+    trial = sagas.testing.run(saga, answers=said, early={"flight": sagas.Fail("full")})
+    assert trial.states["flight"] == "failed" and trial.states["open"] == "undone"
+    with pytest.raises(ValueError, match="neither an approval nor external"):
+        sagas.testing.run(saga, early={"pack": 1})

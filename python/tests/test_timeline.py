@@ -1,0 +1,147 @@
+"""What each attempt did: queued, running at a worker, waiting, backing off; and what people decided of it."""
+
+from __future__ import annotations
+
+import asyncio
+import datetime
+import json
+import pathlib
+import time
+from collections.abc import Iterator
+from typing import Any
+
+import httpx
+import pytest
+from serving import LONG, Served, report, served, start, take
+
+import sagas
+from sagas.inspection import saga as one_saga
+from sagas.inspection import timeline
+from sagas.inspection.question import StoreReader
+
+
+@pytest.fixture(scope="module")
+def service(tmp_path_factory: pytest.TempPathFactory, store: str | None) -> Iterator[Served]:
+    with served(tmp_path_factory.mktemp("service"), store=store) as one:
+        yield one
+
+
+@pytest.fixture
+def client(service: Served) -> Iterator[httpx.Client]:
+    with service.client() as one:
+        yield one
+
+
+def attempts(client: httpx.Client, key: str) -> list[dict[str, Any]]:
+    """The attempts of a saga, whose parts follow one another without gaps."""
+    found: list[dict[str, Any]] = client.get(f"/v1/sagas/{key}/timeline").json()["attempts"]
+    for one in found:
+        spans = one["spans"]
+        assert one["ready"] <= one["began"] and spans[0]["began"] in (one["ready"], one["began"]), one
+        assert all(first["ended"] == then["began"] for first, then in zip(spans, spans[1:])), one
+        assert spans[-1]["ended"] == one["ended"], one
+    return found
+
+
+def told(one: dict[str, Any]) -> list[tuple[str, str | None]]:
+    """The parts from the begin on."""
+    return [(span["state"], span["why"]) for span in one["spans"] if span["state"] != "queued"]
+
+
+def test_workers_people_and_pauses(client: httpx.Client) -> None:
+    """A worker's lease that ends, the next worker, a retry, an unknown outcome, and who reported it and why."""
+    start(client, "trip", "t")
+    words = {"steps": ["trip/flight"], "wait": 30, "limit": 1}
+    first = client.post("/v1/tasks/claim", json={**words, "lease": 600, "worker": "first"}).json()["tasks"][0]
+    (now,) = attempts(client, "t")
+    assert now["outcome"] is None and told(now) == [("waiting", "worker"), ("running", "worker")]
+    assert (now["spans"][-1]["worker"], now["spans"][-1]["ended"]) == ("local/first", None)
+    beat = {"lease": first["lease"], "seconds": 1}
+    assert client.post(f"/v1/tasks/{first['attempt_id']}/heartbeat", json=beat).status_code == 200
+    second = client.post("/v1/tasks/claim", json={**words, "lease": 60, "worker": "second"}).json()["tasks"][0]
+    assert second["attempt_id"] == first["attempt_id"]
+    assert report(client, second, result=1).status_code == 200
+    (flight, *_) = attempts(client, "t")
+    assert told(flight) == [("waiting", "worker"), ("running", "worker"), ("waiting", "worker"), ("running", "worker")]
+    had = [span for span in flight["spans"] if span["state"] == "running"]
+    assert [span["worker"] for span in had] == ["local/first", "local/second"] and had[0]["lease"] < had[1]["lease"]
+    assert (flight["outcome"], flight["unknown_outcomes"], flight["decision"]) == ("succeeded", 0, None)
+    assert report(client, take(client, "trip/car")[0]).status_code == 200
+    assert report(client, take(client, "trip/tour")[0], "fail", error="closed today").status_code == 200
+    assert report(client, take(client, "trip/tour")[0], "unknown", error="the line went dead").status_code == 200
+    deadline = time.monotonic() + LONG
+    while not client.get("/v1/attention?search=t&kind=unknown").json()["entries"]:
+        assert time.monotonic() < deadline
+    body = {"result": "booked", "note": "they say so"}
+    assert client.post("/v1/sagas/t/steps/tour/complete", json=body).status_code == 200
+    assert client.get("/v1/sagas/t/wait").json()["phase"] == "completed"
+    one, two = attempts(client, "t")[-2:]
+    assert (one["attempt"], one["outcome"], one["error"]) == (1, "retried", "closed today")
+    assert (two["attempt"], two["outcome"], two["unknown_outcomes"]) == (2, "succeeded", 1)
+    assert told(two)[-1] == ("waiting", "person")
+    assert ("running", "worker") in told(two) and two["spans"][-1]["detail"] == "the line went dead"
+    assert (two["decision"]["command"], two["decision"]["note"]) == ("complete", "they say so")
+    (done,) = client.get("/v1/sagas/t/timeline").json()["decisions"]
+    assert (done["command"], done["step"], done["accepted"]) == ("complete", "tour", True)
+
+
+def test_an_approval_waits(client: httpx.Client) -> None:
+    """For a decision, which is named with who made it; what follows was ready then. Nobody's saga has no timeline."""
+    start(client, "order", "o")
+    deadline = time.monotonic() + LONG
+    while told(attempts(client, "o")[0])[-1:] != [("waiting", "approval")]:
+        assert time.monotonic() < deadline
+    assert client.post("/v1/sagas/o/steps/review/complete", json={"result": None, "note": "fine"}).status_code == 200
+    report(client, take(client, "order/send")[0])
+    review, send = attempts(client, "o")
+    assert (review["decision"]["note"], review["spans"][-1]["why"]) == ("fine", "approval")
+    assert send["ready"] == review["ended"] and review["ready"] >= client.get("/v1/sagas/o").json()["started"]
+    assert client.get("/v1/sagas/none/timeline").status_code == 404
+
+
+def test_functions(place: str) -> None:
+    """Of one that is called at once nothing is stored. A retry, a limit that lasts, and a program that ended in its midst are told by the next one."""
+    shop = sagas.Saga("shop")
+    held, calls = asyncio.Event(), list[str]()
+
+    @shop.step
+    async def plain(task: sagas.Task[Any]) -> None:
+        ...
+
+    @shop.step(needs=[plain], tries=2, backoff=sagas.Backoff(1.0, 1.0))
+    async def again(task: sagas.Task[Any]) -> None:
+        if task.attempt == 1:
+            raise RuntimeError("not yet")
+
+    @shop.step(needs=[again])
+    async def last(task: sagas.Task[Any]) -> None:
+        calls.append(task.key)
+        if len(calls) == 1:
+            held.set()
+            await asyncio.Event().wait()
+
+    async def first() -> None:
+        async with sagas.open(place, [shop]) as store:
+            await store.start(shop, "one")
+            await held.wait()
+            await store.close(0)
+
+    async def then() -> list[timeline.AttemptTimes]:
+        async with sagas.open(place, [shop]) as store:
+            run = await store.start(shop, "one")
+            assert (await run.wait()).ok
+            reader = StoreReader(store.reader())
+            view = reader.ask(one_saga.view("one"))
+            reader.close()
+            assert view and len(view.spans) == 2
+            return timeline.of(view, store.now())
+
+    asyncio.run(first())
+    found = {(one.step, one.attempt): one for one in asyncio.run(then())}
+    spans = {at: [(span.state, span.why) for span in one.spans if span.state != "queued"] for at, one in found.items()}
+    assert spans == {
+        ("plain", 1): [("running", None)], ("again", 1): [("running", None)], ("again", 2): [("backoff", None), ("running", None)],
+        ("last", 1): [("running", None), ("running", None)],
+    }  # fmt: skip
+    assert found["last", 1].spans[-1].detail == timeline.AGAIN
+    assert found["again", 1].error == "RuntimeError: not yet" and found["again", 2].seconds(0.0)["backoff"] > 0.03
