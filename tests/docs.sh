@@ -5,7 +5,7 @@ set -uo pipefail
 cd "$(dirname "$0")/.." || exit 1
 for it in mkdocs,mkdocs mkdocs-material,mkdocs-material python:mkdocstrings,mkdocstrings python:mkdocstrings_handlers.python,mkdocstrings-python-handlers \
   chromium,chromium chromedriver,chromium-driver python:selenium,python3-selenium python:pytest,python3-pytest \
-  cc,gcc pkg-config,pkg-config node,nodejs \
+  cc,gcc pkg-config,pkg-config node,nodejs npm,npm go,golang-go \
   python:fastapi,python3-fastapi python:httpx,python3-httpx python:django,python3-django; do
   tests/need "${it%,*}" "${it#*,}" || exit 77
 done

@@ -56,7 +56,7 @@ def agrees(found, wanted):
 
 def furnish(folder):
     """Puts into a folder what commands use; gives their environment."""
-    for name in ["examples", "crates", "python", "dist", "docs", "bench"]:
+    for name in ["examples", "crates", "clients", "python", "dist", "docs", "bench"]:
         (folder / name).symlink_to(ROOT / name)
     scripts = {folder / "sagas": f'exec "{ROOT}/sagas" "$@"'}
     (folder / ".bin").mkdir()

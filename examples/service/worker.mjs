@@ -12,7 +12,7 @@ if (!url) {
 const pause = (ms) => new Promise((go) => setTimeout(go, ms));
 
 const LEASE = 10; // seconds
-class Unknown extends Error {} // nobody knows whether it had its effect
+class Unknown extends Error {} // it may have had its effect
 
 async function hotel(method, task) {
   if (!process.env.HOTEL) return;
