@@ -9,7 +9,7 @@ import (
 
 const (
 	ahead       = 100 * time.Millisecond // as many tasks are claimed ahead as are done in this time
-	mostAhead   = 32
+	mostAhead   = 90
 	mostClaim   = 100
 	mostReports = 128                    // functions that have ended, and are not reported yet
 	look        = 500 * time.Millisecond // between looks at what was claimed ahead; the shortest lease
