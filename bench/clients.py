@@ -1,11 +1,14 @@
 #!/usr/bin/env python3
-"""Times the workers of all languages against the same service: tasks a second, and what a task costs the processor on each side.
+"""Times the workers of all languages against the same service.
 
-    PYTHONPATH=python/src:python/tests:clients/contract python3 bench/clients.py [--store sqlite|postgresql] [--count N] [--concurrency N] [--turns N] [--languages ..]
+    PYTHONPATH=python/src:python/tests:clients/contract python3 bench/clients.py
+        [--store sqlite|postgresql] [--count N] [--concurrency N] [--turns N] [--languages ...]
 
-Each turn starts `sagas serve` with its durable defaults, and so many sagas of one step. Then one worker process does all tasks; its function returns at once. A figure
-is the time from the worker's start to the last saga's end. The worker is the driver of the contract suite (clients/contract), so it does what users' workers do.
-Beside tasks a second stand the processor's microseconds for one task, of the worker and of the service. `TMPDIR=/dev/shm` puts SQLite's files into memory.
+Each turn starts `sagas serve` with its durable defaults, and N sagas of one step. Then one worker
+process does all tasks. Its function returns at once. The rate is by the time from the worker's
+start to the last saga's end. The worker is the driver of the contract suite (clients/contract), so
+it does what users' workers do. Beside tasks a second stand the processor's microseconds for one
+task, of the worker and of the service. `TMPDIR=/dev/shm` puts SQLite's files into memory.
 """
 
 from __future__ import annotations

@@ -9,12 +9,11 @@ from starlette.responses import Response
 
 from sagas.base.errors import SagasError
 from sagas.server import answers, problems
-from sagas.server.access import check_steps
 from sagas.server.auth import May
 from sagas.server.operations import Answer, Call, Routes
 from sagas.server.problems import Problem
 from sagas.server.responses import Json
-from sagas.server.routes.tasks import LEASE, MORE, claimed, words_of
+from sagas.server.routes.tasks import LEASE, MORE, check_next, claimed
 from sagas.server.shapes import Anything, Choice, Field, Flag, Nullable, Record, Several, Text
 
 routes = Routes("workers", "/v1/tasks")
@@ -79,9 +78,7 @@ async def report(call: Call) -> Response:
     those whose problem has a status that is worth repeating."""
     body, more = call.body, call.body["next"]
     outcomes = [outcome_of(one, place) for place, one in enumerate(body["reports"])]
-    if more is not None:
-        words_of(more["steps"], "next.steps")  # refused before anything is kept
-        check_steps(call.who, more["steps"])
+    check_next(call, more)
     told = await asyncio.gather(*(_kept(call, *one) for one in zip(body["reports"], outcomes)))
     found = None if more is None else await claimed(call, more)
     return Json({"reports": told, "next": found})

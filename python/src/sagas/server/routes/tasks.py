@@ -163,12 +163,17 @@ async def heartbeat(call: Call) -> Response:
     return Json({**times(until=kept.until), "cancelled": kept.cancelled})
 
 
+def check_next(call: Call, more: dict[str, Any] | None) -> None:
+    """Refuse what may not be claimed next, before a report is kept."""
+    if more is not None:
+        words_of(more["steps"], "next.steps")
+        check_steps(call.who, more["steps"])
+
+
 async def _report(call: Call, **outcome: Any) -> Response:
     """Keeps the report, and then claims what is wanted next."""
     body, more = call.body, call.body["next"]
-    if more is not None:
-        words_of(more["steps"], "next.steps")  # refused before anything is kept
-        check_steps(call.who, more["steps"])
+    check_next(call, more)
     kept = await call.service.store.workers.report(
         call.path["attempt_id"], body["lease"], holder=call.who.name, **outcome
     )
