@@ -1391,7 +1391,7 @@ def refused_once(state, kind, number, error, at_once, cut):
     state.expect(f"{name}: replies before a sync", early, 0)
     note = f"sagas: log: cut line taken away: {len(cut) - cut.rfind(LF) - 1} bytes\n" if cut else ""
     if refusals != 0:
-        state.expect(name, (refusals > 0, status, said_then.removeprefix(note)), (True, 4, refusal(log, kind, number, error)))
+        state.expect(name, (refusals > 0, status, said_then), (True, 4, refusal(log, kind, number, error)))
         if cut and not replies and log.read_bytes() == cut:
             return True
     else:
