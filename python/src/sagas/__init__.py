@@ -76,6 +76,7 @@ from sagas.base.errors import (
     SagasError,
     ServiceUnavailable,
     SlotsTaken,
+    StepFailed,
     StepNotWaiting,
     StoreLocked,
     StoreSchemaTooNew,
@@ -98,6 +99,9 @@ from sagas.core.results import (
 )
 from sagas.definition.approvals import Approved, Rejected
 from sagas.definition.blobs import BlobStore
+from sagas.definition.collection import Collected, collect
+from sagas.definition.item_task import ItemTask
+from sagas.definition.parts import FanOut, FanOutInclusion, Inclusion
 from sagas.definition.payloads import Codec
 from sagas.definition.saga import Saga
 from sagas.definition.step import NEVER, Backoff, Cost, Step
@@ -177,6 +181,7 @@ __all__ = [
     "ClientRun",
     "Closed",
     "Codec",
+    "Collected",
     "ConflictError",
     "ConflictingReport",
     "Cost",
@@ -186,9 +191,12 @@ __all__ = [
     "EngineNotRunnable",
     "Event",
     "Fail",
+    "FanOut",
+    "FanOutInclusion",
     "FolderBlobStore",
     "Heartbeat",
     "HistoryEvent",
+    "Inclusion",
     "InvalidError",
     "InvalidInput",
     "InvalidKey",
@@ -197,6 +205,7 @@ __all__ = [
     "InvalidSchedule",
     "InvalidStore",
     "InvalidText",
+    "ItemTask",
     "KeyConflict",
     "LeasedTask",
     "LeaseLost",
@@ -228,6 +237,7 @@ __all__ = [
     "ServiceUnavailable",
     "SlotsTaken",
     "Step",
+    "StepFailed",
     "StepNotWaiting",
     "Store",
     "StoreLocked",
@@ -249,6 +259,7 @@ __all__ = [
     "WrongStore",
     "audit",
     "check",
+    "collect",
     "open",
     "open_sync",
     "plan",

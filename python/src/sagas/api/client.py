@@ -187,6 +187,7 @@ class Client(Schedules):
         *,
         labels: Labels | None = None,
         deadline: Deadline | None = None,
+        traceparent: str | None = None,
         connection: client_start.Connection | None = None,
     ) -> ClientRun:
         """Start a saga, or return the one with this key. See `Store.start`.
@@ -208,7 +209,7 @@ class Client(Schedules):
         self._heard
         if connection is not None:
             caller_connection.check_kind(connection, plain=False)
-        words = self._starter.words(saga, key, input, labels, deadline)
+        words = self._starter.words(saga, key, input, labels, deadline, traceparent)
         self._sagas[saga.name, saga.version] = saga
         new = await self._starter.start(words, connection)
         return ClientRun(self, key, words, new)
@@ -234,6 +235,7 @@ class Client(Schedules):
                 client_start.check_same(words, [(row.saga, row.input)])
             if row.phase is not None:
                 return await self._end(row)
+            pending.check_refused(row)
             turn, before = (turn + 1 if row.id == before else 0), row.id
             await self._heard.of(row.id, turn)
 
@@ -385,4 +387,5 @@ class Client(Schedules):
 
     async def _end(self, row: SagaRow) -> SagaResult:
         known = await self._known(row)
-        return history.end_of(self._kind(row, known.definition), row, known.results)
+        kind = self._kind(row, known.definition)
+        return history.end_of(kind, row, known.results, known.shape)

@@ -11,11 +11,13 @@ from weakref import WeakKeyDictionary, WeakSet
 import psycopg
 
 from sagas.base.errors import StoreUnavailable, TooLarge
-from sagas.definition import arguments, capacity, children, serialization, validation
+from sagas.definition import arguments, capacity, children, definition_text
+from sagas.definition import serialization, shape_text, tracing, validation
 from sagas.definition.compiled import digest_of
 from sagas.definition.labels import Labels, checked
 from sagas.definition.payloads import Payloads
 from sagas.definition.saga import Saga
+from sagas.definition.shape import Shape
 from sagas.definition.start_options import Deadline, deadline_at
 from sagas.runtime import relocation
 from sagas.storage.postgresql import caller_connection, connections
@@ -29,31 +31,36 @@ AskDatabase = Callable[[Coroutine[Any, Any, list["Row"]]], list["Row"]]
 START = """
 WITH given AS (SELECT %(key)s::text AS key, %(saga)s::text AS saga, %(version)s::integer AS version,
   %(input)s::text AS input, %(digest)s::text AS digest, %(labels)s::jsonb AS labels,
-  %(deadline)s::double precision AS deadline),
+  %(deadline)s::double precision AS deadline, %(traceparent)s::text AS traceparent),
 told AS (SELECT pg_notify('sagas_nodes', 'starts'))
-INSERT INTO sagas.pending_starts(key, saga, version, input, digest, labels, deadline, at)
-SELECT key, saga, version, input, digest, labels, deadline, extract(epoch FROM clock_timestamp())
+INSERT INTO sagas.pending_starts(
+  key, saga, version, input, digest, labels, deadline, traceparent, at)
+SELECT key, saga, version, input, digest, labels, deadline, traceparent,
+  extract(epoch FROM clock_timestamp())
 FROM given, told
 ON CONFLICT (key) DO NOTHING RETURNING id
 """
 THERE = """
 SELECT saga, input, NULL::text FROM sagas.sagas WHERE key = %(key)s
-UNION ALL SELECT saga, input, digest FROM sagas.pending_starts
+UNION ALL SELECT saga, input, CASE WHEN refused IS NULL THEN digest ELSE '' END
+FROM sagas.pending_starts
 WHERE key = %(key)s AND id <> ALL(%(own)s::bigint[])
 """
 RENEW = """
 WITH told AS (SELECT pg_notify('sagas_nodes', 'starts'))
-UPDATE sagas.pending_starts SET digest = %(digest)s FROM told
+UPDATE sagas.pending_starts SET digest = %(digest)s, refused = NULL FROM told
 WHERE key = %(key)s AND version = %(version)s AND node IS NULL RETURNING id
 """
-"""A start that no node has taken has the definition of who starts it last."""
+"""A start that no node has taken has the definition of who starts it last. One that was refused is
+taken again."""
 BACK = "DELETE FROM sagas.pending_starts WHERE id = ANY(%(own)s::bigint[])"
 
 
 def is_renewed(words: dict[str, Any], rows: list[Row]) -> bool:
     """Whether the start that is there is of another definition than this one of the same key."""
     digest = words["digest"]
-    return digest is not None and any(there not in (None, digest) for _, _, there in rows)
+    known = (None, digest) if digest is not None else (None,)
+    return any(there not in known for _, _, there in rows if there == "" or digest is not None)
 
 
 def check_same(words: dict[str, Any], rows: list[Row]) -> None:
@@ -109,15 +116,16 @@ class ClientStarter:
     """Writes starts, in transactions of its own or of the callers."""
 
     def __init__(self, asker: connections.Asker, path: str, most: int, payloads: Payloads) -> None:
-        self._payloads = payloads
+        self._payloads, self._tracer = payloads, tracing.tracer()
         self._asker, self._path, self._most = asker, path, most
         self._digests: WeakKeyDictionary[Saga, str | None] = WeakKeyDictionary()
         self._checked: WeakSet[caller_connection.Given] = WeakSet()
         """connections that were given, and are to the store's database"""
 
     def words(
-        self, saga: Saga, key: str, input: Any, labels: Labels | None, deadline: Deadline | None
-    ) -> dict[str, Any]:
+        self, saga: Saga, key: str, input: Any, labels: Labels | None, deadline: Deadline | None,
+        traceparent: str | None,
+    ) -> dict[str, Any]:  # fmt: skip
         """What a start writes, and of which saga. Of one without steps no digest: it says only
         which saga is meant."""
         arguments.key(key)
@@ -126,10 +134,14 @@ class ClientStarter:
         if saga.has_children:
             children.check_key(key, saga)
         if saga not in self._digests:  # its definition is whole by now
-            self._digests[saga] = digest_of(saga.toml()) if saga.steps else None
+            self._digests[saga] = digest_of(definition_text.declared(saga)) if saga.parts else None
         about = {"key": key, "saga": saga.name, "version": saga.version, "of": saga}
-        text = self._payloads.encode(serialization.write(input, "input"))
+        plain = serialization.write(input, "input")
+        if saga.is_shaped:
+            shape_text.write(Shape(saga, plain))  # what raises here would be refused by the nodes
+        text = self._payloads.encode(plain)
         about["payloads"] = self._payloads
+        about["traceparent"] = tracing.of_start(self._tracer, traceparent)
         at = deadline_at(saga.deadline if deadline is None else deadline, time.time())
         digest = self._digests[saga]
         return about | {"input": text, "digest": digest, "labels": told, "deadline": at}

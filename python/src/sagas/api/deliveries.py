@@ -6,7 +6,8 @@ import builtins
 from collections.abc import Callable
 
 from sagas.api.store_access import StoreAccess
-from sagas.definition.compiled import Hooks, Shelf
+from sagas.definition.compiled import Hooks
+from sagas.definition.shelf import Shelf
 from sagas.storage import deliveries as table
 from sagas.storage.deliveries import Claimed, Posted
 

@@ -87,7 +87,8 @@ class SagaLookup:
     async def _end_of(self, row: SagaRow) -> SagaResult:
         inside = self._access.inside
         known = await inside.store.known(row)
-        return history.end_of(inside.shelf.kind(known.definition), row, known.results)
+        kind = inside.shelf.kind(known.definition)
+        return history.end_of(kind, row, known.results, known.shape)
 
     async def over(self, key: str) -> SagaInstance | SagaRow:
         """Waits until a saga is over: one that was driven here, or its row."""
@@ -98,6 +99,7 @@ class SagaLookup:
                 row = await retries.until_answered(lambda: self.row(key))
                 if row.phase is not None:
                     return row
+                pending.check_refused(row)
                 if key not in self._access.inside.sagas.by_key:
                     await inside.store.news(row.id, turn)
                     turn += 1

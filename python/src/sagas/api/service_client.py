@@ -16,11 +16,11 @@ import threading
 import time
 import urllib.parse
 import weakref
-from collections.abc import Iterator, Sequence
+from collections.abc import Iterator, Mapping, Sequence
 from types import TracebackType
 from typing import Any
 
-from sagas.api.service_connection import ServiceConnection, ServiceRefused
+from sagas.api.service_connection import NO_HEADERS, ServiceConnection, ServiceRefused
 from sagas.api.service_events import ServiceEvents
 from sagas.api.service_run import ServiceRun
 from sagas.api.service_views import (
@@ -33,7 +33,7 @@ from sagas.api.service_views import (
 )
 from sagas.base.errors import NoSuchSaga
 from sagas.core.pending import still_open
-from sagas.definition import arguments
+from sagas.definition import arguments, tracing
 from sagas.definition.labels import Labels, checked
 from sagas.definition.saga import Saga
 from sagas.definition.start_options import Deadline, deadline_at
@@ -74,7 +74,7 @@ class ServiceClient:
             ValueError: The URL is not the address of a service, or the timeout is not valid.
         """
         self.timeout = arguments.time("timeout", timeout, none=False)
-        self._closed = threading.Event()
+        self._closed, self._tracer = threading.Event(), tracing.tracer()
         self._service = ServiceConnection(url, token, self.timeout, self._closed)
         self._streams: weakref.WeakSet[ServiceEvents] = weakref.WeakSet()
 
@@ -94,6 +94,7 @@ class ServiceClient:
         labels: Labels | None = None,
         deadline: Deadline | None = None,
         version: int | None = None,
+        traceparent: str | None = None,
     ) -> ServiceRun:
         """Start a saga, or return the one with this key.
 
@@ -108,6 +109,7 @@ class ServiceClient:
             deadline: Seconds, a timedelta, or a datetime with a time zone, after which it is
                 aborted (default: as its definition says).
             version: The version of the definition (default: the newest).
+            traceparent: The W3C trace context of its start (default: of the current span, if any).
 
         Raises:
             KeyConflict: The key belongs to a saga of another name or input.
@@ -129,7 +131,8 @@ class ServiceClient:
             "version": version,
         }
         body |= {word: value for word, value in words.items() if value is not None}
-        return ServiceRun(self, self._ask("/v1/sagas", body))
+        headers = tracing.headers(self._tracer, traceparent)
+        return ServiceRun(self, self._ask("/v1/sagas", body, headers=headers))
 
     def get(self, key: str) -> ServiceSaga | None:
         """Return the saga with this key as it is now, or None.
@@ -354,12 +357,12 @@ class ServiceClient:
 
     def _ask(
         self, path: str, body: dict[str, Any] | None = None, seconds: float = ANSWER,
-        patience: float | None = None,
+        patience: float | None = None, headers: Mapping[str, str] = NO_HEADERS,
     ) -> dict[str, Any]:  # fmt: skip
         """An answer. Raises the exceptions of a store where the problem is one of them."""
         try:
             return self._service.repeated(
-                lambda url, left: self._service.ask(url, path, body, min(seconds, left)),
+                lambda url, left: self._service.ask(url, path, body, min(seconds, left), headers),
                 self.timeout if patience is None else patience,
                 self._closed,
             )

@@ -15,7 +15,7 @@ import time
 import urllib.parse
 import weakref
 from collections import deque
-from collections.abc import Callable, Sequence
+from collections.abc import Callable, Mapping, Sequence
 from typing import Any, TypeVar
 
 from sagas.base.errors import Closed, SagasError, ServiceUnavailable
@@ -24,6 +24,7 @@ from sagas.definition import serialization
 T = TypeVar("T")
 
 logger = logging.getLogger("sagas.worker")
+NO_HEADERS: Mapping[str, str] = {}
 REPEAT = 408, 429, 500, 502, 503, 504
 """Statuses of requests that are repeated."""
 FIRST_PAUSE, MOST_PAUSE = 0.1, 5.0  # seconds between tries to reach the service
@@ -165,8 +166,9 @@ class ServiceConnection:
         raise Closed("the client is closed. Make another one")
 
     def ask(
-        self, url: str, path: str, body: dict[str, Any] | None, seconds: float
-    ) -> dict[str, Any]:
+        self, url: str, path: str, body: dict[str, Any] | None, seconds: float,
+        headers: Mapping[str, str] = NO_HEADERS,
+    ) -> dict[str, Any]:  # fmt: skip
         """One request, a GET where it has no body, over a connection that is kept; one that the
         service has closed meanwhile is opened anew. Raises `ServiceRefused`, or an `OSError` or a
         `ValueError` where there was no answer.
@@ -174,15 +176,16 @@ class ServiceConnection:
         data = None if body is None else serialization.write(body).encode()
         link, path = self._link(url, seconds), urllib.parse.urlsplit(url).path + path
         was_open = link.sock is not None
-        headers = self._headers | ({} if data is None else {"Content-Type": "application/json"})
+        kind = {} if data is None else {"Content-Type": "application/json"}
+        told = {**self._headers, **kind, **headers}
         try:
             try:
-                status, text = self._answer(link, path, data, headers)
+                status, text = self._answer(link, path, data, told)
             except ConnectionError:
                 if not was_open:
                     raise
                 link.close()
-                status, text = self._answer(link, path, data, headers)
+                status, text = self._answer(link, path, data, told)
         except Exception as error:
             link.close()
             if isinstance(error, (OSError, ValueError)):

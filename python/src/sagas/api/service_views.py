@@ -21,6 +21,7 @@ from sagas.base.errors import (
 from sagas.base.events import Event
 from sagas.core.results import Answering
 from sagas.core.states import WAITS_FOR
+from sagas.definition.fan import FIXED, Fan
 
 ERRORS: dict[str, type[SagasError]] = {
     kind.__name__: kind
@@ -78,6 +79,11 @@ class ServiceSaga(Answering):
     def over(self) -> bool:
         """Whether it is not open."""
         return self.phase != "open"
+
+    @property
+    def fan(self) -> Fan:
+        """Which steps a declared one means: the service names only single steps."""
+        return FIXED
 
     @property
     def cost(self) -> int | None:

@@ -2,6 +2,7 @@
 
 from __future__ import annotations
 
+import dataclasses
 from typing import Any
 
 from sagas.api.saga_lookup import SagaLookup
@@ -9,7 +10,7 @@ from sagas.api.store_access import StoreAccess
 from sagas.base.errors import Closed, KeyConflict, StoreUnavailable
 from sagas.core.model import SagaInstance
 from sagas.definition import arguments, children, serialization
-from sagas.definition.compiled import Kind, Shelf
+from sagas.definition.shelf import Fitted, Shelf
 from sagas.definition.labels import Labels, checked
 from sagas.definition.saga import Saga
 from sagas.definition.start_options import Deadline, StartOptions, deadline_at
@@ -28,35 +29,41 @@ class Starter:
         self.accepts_new = accepts_new
 
     async def start(
-        self, saga: Saga, key: str, input: Any, labels: Labels | None, deadline: Deadline | None
-    ) -> bool:
+        self, saga: Saga, key: str, input: Any, labels: Labels | None, deadline: Deadline | None,
+        traceparent: str | None = None,
+    ) -> bool:  # fmt: skip
         """Starts a saga. Whether this start began it."""
         inside = self._access.here()
         arguments.key(key)
-        kind, text = self._shelf.kind_of(saga), serialization.write(input, "input")
+        text = serialization.write(input, "input")
+        fitted = self._shelf.fit(saga, input, text)
         if saga.has_children:
             children.check_key(key, saga)
         time = deadline_at(saga.deadline if deadline is None else deadline, inside.clock())
-        options = StartOptions(checked(labels), time)
-        return await self._start(kind, key, input, text, options, self.accepts_new)
+        options = StartOptions(checked(labels), time, None, fitted.shape, traceparent)
+        return await self._start(saga, fitted, key, text, options, self.accepts_new)
 
     async def start_child(self, saga: Saga, key: str, input: Any, options: StartOptions) -> bool:
         """Starts a child, also where the store starts no new sagas: its parent is not new."""
         arguments.key(key)
-        kind, text = self._shelf.kind_of(saga), serialization.write(input, "input")
-        return await self._start(kind, key, input, text, options, accepts=True)
+        text = serialization.write(input, "input")
+        fitted = self._shelf.fit(saga, input, text)
+        if fitted.shape is not None:
+            options = dataclasses.replace(options, shape=fitted.shape)
+        return await self._start(saga, fitted, key, text, options, accepts=True)
 
     async def _start(
-        self, kind: Kind, key: str, input: Any, text: str, options: StartOptions, accepts: bool
+        self, saga: Saga, fitted: Fitted, key: str, text: str, options: StartOptions, accepts: bool
     ) -> bool:
-        inside, lookup = self._access.here(), self._lookup
-        wrong = kind.misfit(input, text)
-        text = kind.payloads.encode(text)
+        inside, lookup, payloads = self._access.here(), self._lookup, self._shelf.payloads
+        kind, _, wrong = fitted
+        text = payloads.encode(text)
         live = inside.sagas.by_key.get(key)
-        is_sound = wrong is None and accepts and kind.fits
+        is_sound = wrong is None and accepts
         if live is None and is_sound and lookup.guessing.is_worth():
             # the key is new, as far as the last ones tell
-            new = inside.sagas.add(key, text, kind, self._shelf.place(kind), options)
+            assert kind
+            new = inside.sagas.add(key, text, kind, options)
             return await self._begin(inside, new, guessed=True)
         if live is not None and live.is_doubtful:
             live = await lookup.live(key)
@@ -66,24 +73,25 @@ class Starter:
         live = inside.sagas.by_key.get(key)  # another start of it may have come meanwhile
         there = (live.kind.name, live.text) if live else (row.saga, row.input) if row else None
         if there:
-            error = relocation.conflict(key, kind, text, *there)
+            error = relocation.conflict(key, kind or saga, text, *there, payloads)
             if error and live and not live.committed and not inside.store.shared:
                 # that start may have no right to the key either
                 row = await inside.store.find(key)
                 if row:
-                    error, live = relocation.conflict(key, kind, text, row.saga, row.input), None
+                    there = row.saga, row.input
+                    error = relocation.conflict(key, kind or saga, text, *there, payloads)
+                    live = None
             if error:
                 raise error
         elif not accepts:
             raise Closed(
                 f"{self._access.path}: opened with accept_new=False, so it starts no new sagas"
             )
-        elif not kind.fits:
-            raise kind.too_large()
         elif wrong:
             raise wrong
         else:
-            new = inside.sagas.add(key, text, kind, self._shelf.place(kind), options)
+            assert kind
+            new = inside.sagas.add(key, text, kind, options)
             return await self._begin(inside, new, guessed=False)
         if live and not live.committed:
             await inside.sagas.started(live)

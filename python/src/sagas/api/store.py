@@ -26,10 +26,10 @@ from sagas.base.logger import logger
 from sagas.core.batch import SagaRow
 from sagas.core.model import SagaInstance
 from sagas.core.results import SagaResult
-from sagas.definition import arguments, payloads
+from sagas.definition import arguments, payloads, tracing
 from sagas.definition.blobs import BlobStore
 from sagas.definition.blobs import check as check_blobs
-from sagas.definition.compiled import Shelf
+from sagas.definition.shelf import Shelf
 from sagas.definition.labels import Labels
 from sagas.definition.payloads import Codec
 from sagas.definition.saga import Saga
@@ -84,7 +84,8 @@ class Store(RetryCalls):
         self._blobs = blobs, blob_threshold
         self._shelf = Shelf(sagas, payloads.checked(codec, blobs is not None))
         self._words = {**counts, "idle": arguments.time("idle", idle), "clock": clock}
-        self._words["context"] = context
+        self._tracer = tracing.tracer()
+        self._words |= {"context": context, "tracer": self._tracer}
         self._shutdown_timeout = (
             None
             if shutdown_timeout is None
@@ -233,7 +234,7 @@ class Store(RetryCalls):
 
     async def start(
         self, saga: Saga, key: str, input: Any = None, *, labels: Labels | None = None,
-        deadline: Deadline | None = None,
+        deadline: Deadline | None = None, traceparent: str | None = None,
     ) -> Run:  # fmt: skip
         """Start a saga, or return the one with this key.
 
@@ -251,6 +252,9 @@ class Store(RetryCalls):
             deadline: When the saga is aborted if it has not ended: seconds or a timedelta from now
                 on, or a datetime with a time zone (default: that of `Saga`). That of the first
                 start of a key counts.
+            traceparent: The W3C trace context that the saga is started in (default: of the current
+                span, where `opentelemetry-api` is installed). That of the first start of a key
+                counts.
 
         Returns:
             The saga. `Run.new` says whether this start created it.
@@ -262,17 +266,19 @@ class Store(RetryCalls):
             InvalidKey: The key is not valid.
             InvalidInput: The first steps cannot read the input.
             InvalidLabel: A label is not valid.
-            TypeError: The deadline is not a time.
-            ValueError: The deadline is negative.
+            TypeError: The deadline is not a time, or the trace context not a text.
+            ValueError: The deadline is negative, or the trace context is not valid.
             NotSerializable: The input is not JSON.
             DefinitionError: The store was not opened with the saga.
             Closed: The store is closed, or was opened with `accept_new=False`.
             RuntimeError: The call is made in another event loop.
         """
-        return Run(self, key, await self._starter.start(saga, key, input, labels, deadline))
+        trace = tracing.of_start(self._tracer, traceparent)
+        new = await self._starter.start(saga, key, input, labels, deadline, trace)
+        return Run(self, key, new)
 
     def _check_input(self, saga: Saga, input: Any, text: str) -> None:
-        if wrong := self._shelf.kind_of(saga).misfit(input, text):
+        if wrong := self._shelf.fit(saga, input, text).wrong:
             raise wrong
 
     async def _start_scheduled(self, one: Schedule, key: str) -> None:

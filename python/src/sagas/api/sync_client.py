@@ -108,6 +108,7 @@ class SyncClient(Facade[Client]):
         *,
         labels: Labels | None = None,
         deadline: Deadline | None = None,
+        traceparent: str | None = None,
         connection: psycopg.Connection[Any] | None = None,
     ) -> SyncClientRun:
         """Start a saga, or return the one with this key. See `Client.start`.
@@ -119,11 +120,12 @@ class SyncClient(Facade[Client]):
             TypeError: The connection is not a `psycopg.Connection`.
         """
         if connection is None:
-            start = self._inner.start(saga, key, input, labels=labels, deadline=deadline)
+            more: dict[str, Any] = {"deadline": deadline, "traceparent": traceparent}
+            start = self._inner.start(saga, key, input, labels=labels, **more)
             return SyncClientRun(self, self._loop.do(start))
         caller_connection.check_kind(connection, plain=True)
         starter = self._inner._starter
-        words = starter.words(saga, key, input, labels, deadline)
+        words = starter.words(saga, key, input, labels, deadline, traceparent)
         new = starter.start_now(words, connection, self._loop.do)
         return SyncClientRun(self, ClientRun(self._inner, key, words, new))
 

@@ -115,7 +115,7 @@ class SyncStore(Facade[Store]):
 
     def start(
         self, saga: Saga, key: str, input: Any = None, *, labels: Labels | None = None,
-        deadline: Deadline | None = None,
+        deadline: Deadline | None = None, traceparent: str | None = None,
     ) -> SyncRun:  # fmt: skip
         """Start a saga, or return the one with this key. See `Store.start`.
 
@@ -129,8 +129,8 @@ class SyncStore(Facade[Store]):
             >>> first.new, again.new
             (True, False)
         """
-        start = self._inner.start(saga, key, input, labels=labels, deadline=deadline)
-        return SyncRun(self, self._loop.do(start))
+        words: dict[str, Any] = {"labels": labels, "deadline": deadline, "traceparent": traceparent}
+        return SyncRun(self, self._loop.do(self._inner.start(saga, key, input, **words)))
 
     def get(self, key: str) -> SyncRun | None:
         """Return the saga with this key, or None. See `Store.get`."""

@@ -35,9 +35,10 @@ from sagas.api.worker_task import (
     outcome,
     task_of,
     unstorable,
+    word_of,
 )
 from sagas.base.errors import DefinitionError
-from sagas.definition import validation
+from sagas.definition import tracing, validation
 from sagas.definition.context import Context
 from sagas.definition.step import UNKNOWN, Unknowns
 from sagas.definition.task import Task
@@ -103,6 +104,7 @@ class Worker:
         self.concurrency, self.lease, self.wait = concurrency, lease, wait
         self.name = (name or f"{socket.gethostname()}-{os.getpid()}")[:64]
         self._given, self._context = context, Context(NO_CONTEXT)
+        self._tracer = tracing.tracer()
         self._stop = threading.Event()
         self._service = ServiceConnection(url, token, wait + 40.0, self._stop)
         self._steps: dict[str, WorkerStep] = {}
@@ -308,8 +310,9 @@ class Worker:
         task, began = one.task, time.monotonic()
         try:
             verb, body = outcome(
-                self._steps[f"{task.saga}/{task.step}{'/undo' if task.is_compensation else ''}"],
+                self._steps[word_of(task)],
                 task,
+                self._tracer,
             )
         finally:
             with self._rests:

@@ -13,15 +13,23 @@ from typing import Any
 
 from sagas.base.errors import NotSerializable
 from sagas.core import outcomes
+from sagas.core.states import OutcomeKind
 from sagas.definition import awaitables, context, serialization
+from sagas.definition.about import Told
 from sagas.definition.arguments import shown
 from sagas.definition.context import Context
+from sagas.definition.place import ToldPlace
 from sagas.definition.step import Unknowns
-from sagas.definition.task import Task, Told
+from sagas.definition.task import Task
+from sagas.definition.tracing import Tracer
 
 logger = logging.getLogger("sagas.worker")
 Function = Callable[[Task[Any]], Any]
 MOST_TEXT = 4000
+KINDS = {
+    "complete": OutcomeKind.SUCCEEDED, "fail": OutcomeKind.FAILED, "unknown": OutcomeKind.UNKNOWN
+}  # fmt: skip
+"""What the verb of a report says."""
 
 
 @dataclasses.dataclass(frozen=True, slots=True)
@@ -56,12 +64,20 @@ def lifespan(given: Any, shared: Context) -> Iterator[None]:
         yield
 
 
+def word_of(task: Task[Any]) -> str:
+    """What a worker asks for: `trip/car`, or `trip/car/undo`."""
+    return f"{task.saga}/{task.declared_step}{'/undo' if task.is_compensation else ''}"
+
+
 def task_of(told: dict[str, Any], shared: Context) -> Task[Any]:
     """What a function is handed, of what the service told."""
     undo, step = told["undo"], told["step"]
     saga_token = told["idempotency_key"].removesuffix(f"-{step}-{'undo' if undo else 'run'}")
     results = {name: serialization.write(value) for name, value in told["results"].items()}
     result = serialization.write(told["result"]) if undo else None
+    declared, key = told.get("declared_step", step), told.get("item_key")
+    index = told.get("index") if key is None else key
+    place = None if declared == step else ToldPlace(declared, index, told.get("item"))
     task: Task[Any] = Task(
         Told(
             told["definition"],
@@ -74,7 +90,9 @@ def task_of(told: dict[str, Any], shared: Context) -> Task[Any]:
             results,
             result,
             deadline=told.get("deadline"),
+            traceparent=told.get("traceparent"),
             context=shared,
+            place=place,
         )
     )
     if reason := told.get("cancelled"):
@@ -94,25 +112,40 @@ async def _awaited(manner: WorkerStep, task: Task[Any], work: Coroutine[Any, Any
     return job.result()
 
 
-def outcome(manner: WorkerStep, task: Task[Any]) -> tuple[str, dict[str, Any]]:
+def outcome(
+    manner: WorkerStep, task: Task[Any], tracer: Tracer | None = None
+) -> tuple[str, dict[str, Any]]:
     """Calls the function; gives how it ended, and what is told of that."""
+    if tracer is None:
+        return _outcome(manner, task)[:2]
+    with tracer.attempt(task, manner.function) as span:
+        verb, told, error = _outcome(manner, task)
+        kind = OutcomeKind.FAILED_PERMANENTLY if told.get("final") else KINDS[verb]
+        span.ended(kind.value, told.get("error", ""), error)
+    return verb, told
+
+
+def _outcome(
+    manner: WorkerStep, task: Task[Any]
+) -> tuple[str, dict[str, Any], BaseException | None]:
+    """As `outcome`, with what was raised."""
     try:
         result = manner.function(task)
         if inspect.isawaitable(result):
             result = asyncio.run(_awaited(manner, task, awaitables.whole(result)))
     except asyncio.CancelledError:
-        return "unknown", {"error": "cancelled, since the saga was aborted"}
+        return "unknown", {"error": "cancelled, since the saga was aborted"}, None
     except Exception as error:
         kind = outcomes.classify(error, manner.unknown)
         told: dict[str, Any] = {"error": outcomes.described(error)[:MOST_TEXT]}
         if kind is outcomes.PERMANENT:
             told["final"] = True
-        return ("unknown" if kind is outcomes.UNKNOWN else "fail"), told
+        return ("unknown" if kind is outcomes.UNKNOWN else "fail"), told, error
     try:
-        return "complete", {"result": json.loads(serialization.write(result))}
+        return "complete", {"result": json.loads(serialization.write(result))}, None
     except NotSerializable as error:
         logger.warning("a result could not be stored: %s", error)
-        return "complete", unstorable(str(error))
+        return "complete", unstorable(str(error)), None
 
 
 def unstorable(why: str) -> dict[str, Any]:

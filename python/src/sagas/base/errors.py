@@ -204,6 +204,27 @@ class ResultNotSerializable(NotSerializable):
     """
 
 
+class StepFailed(SagasError):
+    """The result of an item was asked for whose failure was collected.
+
+    See `collect`.
+
+    Attributes:
+        step: The name of the item's step.
+        detail: What it raised.
+    """
+
+    def __init__(self, step: str, detail: str) -> None:
+        super().__init__(
+            f"step {step!r} failed, and its failure was collected: {detail}. Ask for all items by "
+            "sagas.collect"
+        )
+        self.step, self.detail = step, detail
+
+    def __reduce__(self) -> tuple[type[StepFailed], tuple[str, str]]:
+        return type(self), (self.step, self.detail)
+
+
 class CannotDecode(InvalidError):
     """A stored input or result does not fit the type of a hint in this program.
 

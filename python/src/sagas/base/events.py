@@ -28,7 +28,8 @@ class Event:
         at: Wall time, in seconds since 1970.
         key: The saga's key, or None.
         saga: The saga's name, or None.
-        step: The step's name, or None.
+        step: The step's name as it was declared (`ship`, `hotel/room`), or None.
+        index: The number of the step's item, or its key in a dict; None if it has none.
         undo: Whether it is the step's compensation.
         attempt: The attempt's number, from 1, or None.
         seconds: How long the function took; None if it was not called here.
@@ -42,6 +43,7 @@ class Event:
     key: str | None = None
     saga: str | None = None
     step: str | None = None
+    index: int | str | None = None
     undo: bool = False
     attempt: int | None = None
     seconds: float | None = None
@@ -49,7 +51,7 @@ class Event:
 
 
 Hook = Callable[[Event], object]
-SAID = ("key", "saga", "step", "undo", "attempt", "detail")
+SAID = ("key", "saga", "step", "index", "undo", "attempt", "detail")
 """The fields of a log line."""
 
 LEVELS = {
@@ -126,7 +128,11 @@ class Teller:
         if logger.logger.isEnabledFor(level):
             told = {"name": name, "at": at, "undo": False, **fields}
             told = {field: value for field, value in told.items() if value is not None}
-            words = [f"{field}={quoted(told[field])}" for field in SAID if told.get(field)]
+            words = [
+                f"{field}={quoted(told[field])}"
+                for field in SAID
+                if told.get(field) or (field == "index" and field in told)
+            ]
             logger.event(level, name, " ".join(words), told, traced(error) if error else None)
         if self._hook is not None:
             event = Event(name, at, **fields)

@@ -17,7 +17,8 @@ from sagas.celery import store_check, worker
 from sagas.celery.sender import Sender
 from sagas.core.dispatch import Order
 from sagas.definition.saga import Saga
-from sagas.definition.step import Declare, Manner, Step
+from sagas.definition.decorators import Declare
+from sagas.definition.step import Manner, Step
 from sagas.storage.worker_session import Desk, desk_of
 
 if TYPE_CHECKING:
@@ -157,14 +158,8 @@ class Queue:
         Args:
             order: The message.
         """
-        version = "" if order.version == 1 else f"@{order.version}"
         shown = f"({order.key!r}, attempt {order.attempt})"
-        await self._sender.send(
-            f"sagas.{order.saga}{version}.{order.step}.{order.kind}",
-            order.written(),
-            order.token,
-            shown,
-        )
+        await self._sender.send(f"sagas.{order.task}", order.written(), order.token, shown)
 
     def __repr__(self) -> str:
         return f"<queue {self.name or 'by routes'} of app {self.app.main}>"

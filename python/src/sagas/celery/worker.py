@@ -6,26 +6,31 @@ import asyncio
 import functools
 import inspect
 import time
-from collections.abc import Callable
+from collections.abc import Callable, Mapping
 from typing import TYPE_CHECKING, Any, TypeVar
 
 from celery.exceptions import Reject, SoftTimeLimitExceeded
-
 from sagas.base.errors import StoreUnavailable
 from sagas.base.logger import logger
 from sagas.core import outcomes
 from sagas.core.dispatch import Begun, Order, Settled
 from sagas.core.outcomes import Outcome
 from sagas.core.states import OutcomeKind
-from sagas.definition import awaitables, decoders, tokens
+from sagas.definition import awaitables, decoders, tokens, tracing
+from sagas.definition.about import Told
+from sagas.definition.compiled import Kind
+from sagas.definition.place import Place
+from sagas.definition.shape_values import ShapeValues
 from sagas.definition.step import Function, Manner, Step
-from sagas.definition.task import Task, Told
+from sagas.definition.task import Task
 
 if TYPE_CHECKING:
     from sagas.celery import Queue
 
 T = TypeVar("T")
+Decoders = Mapping[str, decoders.Decoder]
 FIRST_PAUSE, MOST_PAUSE = 0.05, 2.0  # seconds
+UNKNOWN = "this worker does not know the saga {!r}. Import the module that declares it"
 
 
 class Work:
@@ -33,12 +38,19 @@ class Work:
 
     def __init__(self, queue: Queue, step: Step[Any], kind: str, manner: Manner) -> None:
         self.queue, self.step, self.kind, self.manner = queue, step, kind, manner
+        self._kind: Kind | None = None
+        """The last definition whose steps come from an input."""
 
     @functools.cached_property
     def hint(self) -> decoders.Decoder | None:
         """How to read the input."""
         assert self.manner.function
         return decoders.hints(self.manner.function)[0]
+
+    @functools.cached_property
+    def tracer(self) -> tracing.Tracer | None:
+        """What makes spans, in each process of the worker its own."""
+        return tracing.tracer()
 
     @functools.cached_property
     def decoders(self) -> dict[str, decoders.Decoder]:
@@ -63,10 +75,16 @@ class Work:
             return
         function = self.manner.function
         assert function
+        if self.step.saga.outer(order.saga, order.version) is None:
+            _surely(
+                queue,
+                lambda: queue.desk().report(order, outcomes.unknown(UNKNOWN.format(order.saga))),
+            )
+            return
         if self.manner.transaction:
             function = queue.desk().within(order, function)
         try:
-            outcome = _call(function, self.manner, self._task(order, begun))
+            outcome = self._outcome(function, self._task(order, begun))
         except Settled:
             logger.info("%s: rolled back a repeated message", order.token)
             return
@@ -75,9 +93,33 @@ class Work:
         ):  # else the report is in the store already
             _surely(queue, lambda: queue.desk().report(order, outcome))
 
+    def _outcome(self, function: Function, task: Task[Any]) -> Outcome:
+        """Calls the function, within a span where there is a tracer. Raises `Settled`."""
+        assert self.manner.function
+        tracer = self.tracer
+        if tracer is None:
+            return _call(function, self.manner, task)
+        with tracer.attempt(task, self.manner.function) as span:
+            outcome = _call(function, self.manner, task)
+            span.ended(outcome.kind.value, outcomes.fault(outcome), outcome.error)
+            return outcome
+
+    def _place(self, order: Order, begun: Begun) -> tuple[Place | None, Decoders]:
+        """Where the step is, if the saga's steps come from its input, and how results are read."""
+        if begun.shape is None:
+            return None, self.decoders
+        text, shape = begun.shape
+        kind = self._kind
+        if kind is None or kind.text != text:
+            root = self.step.saga.outer(order.saga, order.version)
+            kind = self._kind = Kind(text, root)
+        values = ShapeValues() if shape == "null" else ShapeValues.read(shape)
+        return kind.place(order.step, values, begun.input), kind.decoders
+
     def _task(self, order: Order, begun: Begun) -> Task[Any]:
         """What the function is handed."""
         undo, token = self.kind == "undo", tokens.saga_token(order.log, order.number)
+        place, decoders = self._place(order, begun)
         return Task(
             Told(
                 order.saga,
@@ -86,12 +128,14 @@ class Work:
                 undo,
                 order.attempt,
                 token,
-                begun.input,
+                place.input if place else begun.input,
                 begun.results,
                 begun.result,
                 self.hint,
-                self.decoders,
+                decoders,
                 order.deadline,
+                traceparent=order.traceparent,
+                place=place,
             )
         )
 

@@ -86,8 +86,7 @@ def what_is_asked(link: admin.Source, key: str, what: str, value: Any) -> int | 
 
 def check_step(link: admin.Source, key: str, id: int, step: str) -> None:
     """Raises `Trouble` where the saga's definition has no such step: no program would take it."""
-    ((texts, place),) = link.ask(DEFINITION, id)
-    names = step_names(json.loads(texts)[place])
+    names = step_names(str(link.ask(DEFINITION, id)[0][0]))
     if step not in names:
         raise Trouble(f"saga {key!r} has no step {step!r}{meant(step, names)}")
 

@@ -3,7 +3,6 @@
 from __future__ import annotations
 
 import argparse
-import json
 import pathlib
 import subprocess
 import tempfile
@@ -18,10 +17,7 @@ TALLY = """
 SELECT count(*), count(*) FILTER (WHERE phase = 'ended'), count(*) FILTER (WHERE phase = 'stuck')
 FROM sagas WHERE id >= ? AND id < ?
 """
-SHARDS = """
-SELECT shard, name, closed, texts FROM shards JOIN definition_sets USING (definition_set)
-ORDER BY shard
-"""
+SHARDS = "SELECT shard, name, closed FROM shards ORDER BY shard"
 
 
 def audit_of(store: Snapshot, log: int, texts: list[str]) -> tuple[bool, str]:
@@ -57,8 +53,9 @@ def audit(path: str, words: argparse.Namespace) -> int:
     with Snapshot(path) as store:
         logs = store.rows(SHARDS)
         progress = Progress("shards", len(logs))
-        for done, (log, name, closed, texts) in enumerate(logs, 1):
-            good, said = audit_of(store, log, json.loads(texts))
+        for done, (log, name, closed) in enumerate(logs, 1):
+            texts = [text for _, text in store.rows(queries.TEXTS, log, log)]
+            good, said = audit_of(store, log, texts)
             told.append(
                 {"shard": log, "name": name, "closed": bool(closed), "good": good, "audit": said}
             )

@@ -13,7 +13,7 @@ from typing import Any
 import tomllib
 
 from sagas.definition.capacity import SHARD_CAPACITY
-from sagas.definition.compiled import version_of
+from sagas.definition.compiled import name_of, version_of
 from sagas.storage import factory, queries
 from sagas.storage.admin import Base, Trouble
 
@@ -29,16 +29,19 @@ WHERE n.lease > now() OR EXISTS (SELECT 1 FROM shards l WHERE l.owner = n.node A
 ORDER BY n.name, n.since
 """
 LEFT = f"""
-SELECT l.shard, l.name, t.texts, count(s.id)
-FROM shards l JOIN definition_sets t USING (definition_set) LEFT JOIN sagas s ON {OPEN}
+SELECT l.shard, l.name, count(s.id), (
+  SELECT json_agg(text ORDER BY place)::text
+  FROM shard_definitions d JOIN definitions USING (definition) WHERE d.shard = l.shard)
+FROM shards l LEFT JOIN sagas s ON {OPEN}
 WHERE l.closed = 0 AND NOT EXISTS (SELECT 1 FROM nodes n WHERE n.node = l.owner AND n.lease > now())
-GROUP BY l.shard, l.name, t.texts HAVING count(s.id) > 0 ORDER BY l.shard
+GROUP BY l.shard, l.name HAVING count(s.id) > 0 ORDER BY l.shard
 """
 """What has no open saga needs no node: whoever comes closes it."""
 STARTS = f"""
 SELECT saga, version, digest, count(*), extract(epoch FROM now()) - min(at), fits, others
 FROM (SELECT i.*, {queries.FITS} AS fits, {queries.OTHERS} AS others FROM pending_starts i
-  WHERE NOT EXISTS (SELECT 1 FROM nodes n WHERE n.node = i.node AND n.lease > now())) i
+  WHERE i.refused IS NULL
+  AND NOT EXISTS (SELECT 1 FROM nodes n WHERE n.node = i.node AND n.lease > now())) i
 GROUP BY saga, version, digest, fits, others ORDER BY saga, version, digest
 """
 
@@ -69,10 +72,12 @@ def read(name: str) -> dict[str, Any]:
             for node, run, version, since, lease, logs, open in link.ask(NODES)
         ]
         left = []
-        for log, word, texts, open in link.ask(LEFT):
+        for log, word, open, texts in link.ask(LEFT):
             kinds = sorted(
-                f"{tomllib.loads(text)['name']} (version {version_of(text)})"
-                for text in json.loads(texts)
+                {
+                    f"{name_of(text)} (version {version_of(text)})"
+                    for text in json.loads(texts or "[]")
+                }
             )
             left.append({"shard": log, "name": word, "sagas": kinds, "open": open})
         starts = _starts(link)

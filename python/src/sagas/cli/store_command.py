@@ -18,6 +18,7 @@ from sagas.cli.actions import abort, complete, fail, retry
 from sagas.cli.audits import audit
 from sagas.cli.backlog import attention, definitions, pending, stats, stuck
 from sagas.cli.batches import resolve, words_of_filter
+from sagas.cli.deliveries import deliveries, words_of_deliveries
 from sagas.cli.formatting import CANNOT, INTERRUPTED, escape
 from sagas.cli.inspect import draw, export, list_sagas, log, plan, show
 from sagas.cli.maintenance import init, migrate, nodes
@@ -44,6 +45,7 @@ EXAMPLES = {
     "resolve": 'resolve order-1 --note "sent by courier"',
     "export": "export order-1 > order-1.json",
     "schedules": "schedules pause nightly",
+    "deliveries": "deliveries --state failed",
     "prune": "prune --older-than 30d",
     "init": "init --role shop",
 }
@@ -59,6 +61,7 @@ REFUSED = {
     "resolve": "a saga does not exist, or does not need to be resolved",
     "audit": "a shard has an event that was not allowed, or differs from the rows",
     "schedules": "no schedule has the name",
+    "deliveries": "no delivery has the id",
     "prune": "another program is deleting ended sagas of this store",
 }
 """What status 1 means of a command that has it."""
@@ -102,6 +105,7 @@ def parser() -> argparse.ArgumentParser:
     add_looks(add)
     add_asks(add)
     words_of_schedules(add("schedules", schedules))
+    words_of_deliveries(add("deliveries", deliveries))
     add("audit", audit)
     add("nodes", nodes)
     add("migrate", migrate)

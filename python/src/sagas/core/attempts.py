@@ -11,6 +11,7 @@ from typing import Any
 
 from sagas.base.errors import CannotDecode, Fail
 from sagas.core import early_reports
+from sagas.core.collection import collected, has_nothing_to_undo
 from sagas.core.decisions import (
     CALL,
     FOLLOW,
@@ -102,6 +103,8 @@ class AttemptMachine:
         instance = attempt.instance
         if is_simple(attempt):
             return CALL
+        if has_nothing_to_undo(attempt):
+            return self.finish(attempt, Outcome(OutcomeKind.SUCCEEDED, "null"), now)
         if attempt.word in instance.rare.final:
             return self._give_up(attempt, "not called: the step failed permanently", now, True)
         if instance.has_early and (outcome := early_reports.taken(attempt)):
@@ -302,7 +305,7 @@ class AttemptMachine:
 
     def finish(self, attempt: Attempt, outcome: Outcome, now: float) -> Decision:
         """Take an outcome as the attempt's last: somebody reported it, say."""
-        attempt.finish(outcome, now)
+        attempt.finish(collected(attempt, outcome), now)
         return self.report(attempt)
 
     def report(self, attempt: Attempt) -> Decision:

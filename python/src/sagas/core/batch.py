@@ -3,16 +3,18 @@
 from __future__ import annotations
 
 import dataclasses
-from collections.abc import Callable
+from collections.abc import Callable, Sequence
 from typing import Any, NamedTuple, Optional, Union
 
 Key = tuple[int, str, int]
 """A step's number, `run` or `undo`, and the attempt."""
 
-Born = tuple[str, str, str]
-"""name, shelf, texts: of a log"""
-Opened = tuple[int, str, str, int, str, float, Optional[float]]
-"""id, key, saga, def, input, at, deadline"""
+Defined = tuple[int, str, str]
+"""place, digest, text: of a definition of a log"""
+Born = tuple[str, Sequence[Defined]]
+"""name, definitions: of a log"""
+Opened = tuple[int, str, str, int, str, float, Optional[float], Optional[str]]
+"""id, key, saga, def, input, at, deadline, traceparent"""
 Result = tuple[int, int, str, int, str, Optional[str], float]
 """id, step, kind, attempt, outcome, value, at"""
 Ended = tuple[str, str, bool, bool, float, int]
@@ -36,14 +38,16 @@ Offer = tuple[
 `external_attempts`"""
 Cancelled = tuple[str, int]
 """why, id: of a saga that is to be undone"""
-OpenRow = tuple[int, str, int, str, Optional[float]]
-"""id, key, def, input, deadline: of a saga that is open"""
+OpenRow = tuple[int, str, int, str, Optional[float], Optional[str], Optional[str]]
+"""id, key, def, input, deadline, traceparent, shape: of a saga that is open"""
+Shape = tuple[int, str]
+"""id, shape: of a saga whose steps come from its input"""
 Told = tuple[str, int]
 """the answer to a request, as JSON, and the request's id"""
 Request = tuple[int, str, str, Optional[str], Optional[int]]
 """id, key, what, value, and the id of the saga that it is asked of, where that is there"""
-Start = tuple[int, str, str, int, str, dict[str, str], Optional[float]]
-"""id, key, saga, version, input, labels, deadline"""
+Start = tuple[int, str, str, int, str, dict[str, str], Optional[float], Optional[str]]
+"""id, key, saga, version, input, labels, deadline, traceparent"""
 Asked = tuple[str, str, str, float]
 """key, what, value, at: a request that is kept with its answer, in the commit that it came to"""
 Wanted = Union[int, Asked, None]
@@ -59,6 +63,9 @@ class Rare:
     held: list[HeldRow] = dataclasses.field(default_factory=list)
     freed: list[Freed] = dataclasses.field(default_factory=list)
     labels: list[Label] = dataclasses.field(default_factory=list)
+    shapes: list[Shape] = dataclasses.field(default_factory=list)
+    defined: list[Defined] = dataclasses.field(default_factory=list)
+    """further definitions of the log"""
     children: list[tuple[int, int]] = dataclasses.field(default_factory=list)
     """sagas that others started, each with the id of that one"""
     answers: list[Told] = dataclasses.field(default_factory=list)
@@ -146,7 +153,6 @@ class LogRow:
 
     log: int
     name: str
-    shelf: str
     texts: list[str]
     opened: int
     open: int
@@ -168,6 +174,8 @@ class Loaded:
     epoch: int = 0
     line: str = ""
     """the server's timeline as it was read, where that is kept"""
+    definitions: int = 0
+    """how many definitions the log has"""
 
 
 class Known(NamedTuple):
@@ -178,6 +186,8 @@ class Known(NamedTuple):
     """step, kind, attempt, outcome, value, at: of each step its tries, then its compensation's"""
     chunks: list[tuple[float, str]]
     """at, text: those of its log in which it is named, if they were asked for"""
+    shape: Optional[str] = None
+    """what is kept of its shape, where its steps come from its input"""
 
 
 class Grant(NamedTuple):

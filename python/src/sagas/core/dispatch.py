@@ -15,11 +15,22 @@ class Settled(SagasError):
 
 
 class Begun(NamedTuple):
-    """The texts of an attempt, whole: JSON."""
+    """The texts of an attempt, whole: JSON. `shape`: the definition and what is kept of the
+    saga's shape, where its steps come from its input.
+    """
 
     input: str
     results: dict[str, str]
     result: str | None
+    shape: tuple[str, str] | None = None
+
+
+class Declared(NamedTuple):
+    """The saga in which a step was declared, and its name there."""
+
+    saga: str
+    version: int
+    step: str
 
 
 class Position(NamedTuple):
@@ -36,7 +47,8 @@ class Order:
     """An attempt, as it is ordered elsewhere. Texts are JSON; None or a `Position` where they
     are to be fetched.
 
-    `log` and `number` name the saga; `lease`: a greater one each time that it is sent.
+    `log` and `number` name the saga; `lease`: a greater one each time that it is sent;
+    `declared`: where the step was declared, if the saga's steps come from its input.
     """
 
     saga: str
@@ -52,6 +64,14 @@ class Order:
     results: dict[str, str | Position]
     result: str | Position | None
     deadline: float | None = None
+    traceparent: str | None = None
+    declared: Declared | None = None
+
+    @property
+    def task(self) -> str:
+        """The name of what is done, for workers."""
+        saga, version, step = self.declared or (self.saga, self.version, self.step)
+        return f"{saga if version == 1 else f'{saga}@{version}'}.{step}.{self.kind}"
 
     @property
     def token(self) -> str:
@@ -67,7 +87,10 @@ class Order:
     def read(cls, told: Carried) -> Order:
         """What `written` wrote. Raises `KeyError` or `TypeError` where it is no order."""
         results = {name: _of(value) for name, value in told["results"].items()}
-        return cls(**told | {"results": results, "result": _of(told["result"])})
+        declared = told.get("declared")
+        made: Carried = {"results": results, "result": _of(told["result"])}
+        made["declared"] = Declared(*declared) if declared else None
+        return cls(**told | made)
 
 
 def _of(told: Any) -> Any:

@@ -77,6 +77,7 @@ class Question:
         reports: How these attempts ended.
         aborts: To abort these sagas.
         opens: To open these sagas.
+        defines: To know so many further definitions of the shard.
         claims: For so many tasks; 0 if it was not asked for any.
         plans: So many sagas are expected to be planned: each plan is a task, and takes no slot.
         looks: How these sagas stand, by their numbers, behind all else: they are expected to be
@@ -88,6 +89,7 @@ class Question:
     reports: Sequence[Attempt] = ()
     aborts: Sequence[Abort] = ()
     opens: Sequence[SagaInstance] = ()
+    defines: int = 0
     claims: int = 0
     plans: int = 0
     looks: Sequence[int] = ()
@@ -97,4 +99,4 @@ class Question:
     def count(self) -> int:
         """How many replies are to come."""
         asked = len(self.reports) + len(self.aborts) + len(self.opens) + bool(self.claims)
-        return asked + len(self.looks)
+        return asked + self.defines + len(self.looks)

@@ -24,7 +24,7 @@ class Hungry(Protocol):
 def _limit_of(attempt: Attempt) -> tuple[str, str, str]:
     """The limit that counts it: its step's, or that of its key."""
     key = attempt.extras.limit_key if attempt.extras else None
-    return attempt.instance.kind.name, attempt.name, key or ""
+    return *attempt.limit_name, key or ""
 
 
 class Slots:

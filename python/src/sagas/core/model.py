@@ -13,12 +13,14 @@ from sagas.core.saga_instance import SagaInstance as SagaInstance
 from sagas.core.states import ATTEMPT_TRANSITIONS, Action, AttemptState, Check, Suspension, check
 from sagas.core.suspensions import AttemptExtras, Lease, SuspensionRow
 from sagas.definition import tokens
+from sagas.definition.about import whole
 from sagas.definition.compiled import Word
 from sagas.definition.context import Context
 from sagas.definition.control import Control
 from sagas.definition.decoders import Decoder
+from sagas.definition.place import Place
 from sagas.definition.step import Manner, Step
-from sagas.definition.task import Task, whole
+from sagas.definition.task import Task
 
 if TYPE_CHECKING:
     from sagas.core.batch import Wanted
@@ -164,6 +166,27 @@ class Attempt:
         return self.instance.id, self.step, self.kind, self.attempt
 
     @property
+    def declared_name(self) -> str:
+        """The name with which its step was declared: `ship` of `ship-0`."""
+        return self.instance.kind.declared_name(self.step)
+
+    @property
+    def index(self) -> int | str | None:
+        """The number of its item, or the item's key in a dict; None where it has none."""
+        layout = self.instance.kind.layout
+        return None if layout is None else self.instance.shape.key(layout.spots[self.name])
+
+    @property
+    def limit_name(self) -> tuple[str, str]:
+        """The saga and the step whose limits count it: over all items, and wherever the saga is
+        included.
+        """
+        kind = self.instance.kind
+        if kind.layout is None:
+            return kind.name, self.action.name
+        return self.declared.saga.name, self.declared.name
+
+    @property
     def declared(self) -> Step[Any]:
         """Its step, as the program declares it today."""
         step = self.instance.kind.steps[self.step]
@@ -241,7 +264,18 @@ class Attempt:
         return token
 
     @property
+    def place(self) -> Place | None:
+        kind = self.instance.kind
+        if kind.layout is None:
+            return None
+        text = kind.payloads.decode(self.instance.text)
+        return kind.place(self.action.name, self.instance.shape, text)
+
+    @property
     def input(self) -> str:
+        place = self.place
+        if place is not None:
+            return place.input
         return self.instance.kind.payloads.decode(self.instance.text)
 
     @property
@@ -253,6 +287,10 @@ class Attempt:
     @property
     def deadline(self) -> float | None:
         return self.instance.options.deadline
+
+    @property
+    def traceparent(self) -> str | None:
+        return self.instance.options.traceparent
 
     @property
     def own(self) -> str | None:

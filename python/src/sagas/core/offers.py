@@ -22,7 +22,7 @@ def offer(attempt: Attempt, shard: int, now: float) -> Offer:
     why = instance.why_draining if instance.draining and not attempt.undo else None
     if attempt.is_remote:
         return (attempt.token(), shard, *attempt.row, "", None, int(now * 1000), now, why)
-    task = task_name(attempt.saga, attempt.name, attempt.kind)
+    task = task_name(attempt.saga, attempt.declared_name, attempt.kind)
     bound = attempt.declared.concurrency if attempt.kind == Action.RUN else None
     return (attempt.token(), shard, *attempt.row, task, bound, None, now, why)
 

@@ -166,6 +166,15 @@ def _line_of(error: BaseException) -> str:
     return f"{name}: {text}".strip() if text else name
 
 
+def fault(outcome: Outcome) -> str:
+    """Return why an attempt did not succeed, for people; the empty text where it did."""
+    if outcome.kind in (SUCCEEDED, ANSWERED):
+        return ""
+    if outcome.kind in (UNKNOWN, CANNOT_DECODE):
+        return outcome.value
+    return str(serialization.read(outcome.value).get("error"))
+
+
 def doubt(error: BaseException | None, manner: Manner) -> str:
     """Return what the log adds to a failure whose cause leaves open what was done, as clients raise
     their own exceptions from a timeout; else the empty text.

@@ -5,6 +5,8 @@ from __future__ import annotations
 from collections.abc import Iterable, Sequence
 from typing import Any
 
+from sagas.base.errors import InvalidInput
+from sagas.core.batch import SagaRow
 from sagas.core.model import QUEUED, RUNNING, SUSPENDED, SagaInstance
 from sagas.core.states import WAITS_FOR, Action, Suspension
 
@@ -12,6 +14,12 @@ MOST = 5
 """So many waits are named."""
 NOT_BEGUN = "no node has started it yet (run `sagas store URL nodes`)"
 """Of a client's start that no log has yet."""
+
+
+def check_refused(row: SagaRow) -> None:
+    """Raise `InvalidInput` where a node has refused a client's start."""
+    if row.id < 0 and row.note is not None:
+        raise InvalidInput(row.note)
 
 
 def left_by(saga: str, version: int, nodes: Sequence[str]) -> str:

@@ -7,8 +7,12 @@ less for one saga at a time, 11 % less for 16.
 
 from __future__ import annotations
 
+import json
+
 from sagas.definition.capacity import HEADER as HEADER
 
+MOST_REQUEST = 65_536
+"""Bytes."""
 NEXT = '{"do":"next"}'
 BUSY = '{"do":"busy"}'
 EVENT = '{"event":{'
@@ -32,6 +36,19 @@ PLANNED = '"kind":"plan"'
 def open_line(place: int, number: int) -> str:
     """Opens the saga of this number, with the definition at this place."""
     return f'{{"def":{place},"do":"open","saga":{number}}}'
+
+
+def define_line(text: str) -> str | None:
+    """Gives the shard a further definition; None where it is longer than a request may be."""
+    line = f'{{"definition":{json.dumps(text)},"do":"define"}}'
+    return line if len(line) <= MOST_REQUEST else None
+
+
+def is_defined(reply: str, place: int) -> bool:
+    """Whether a definition has this place now. A program that does not know the request, or has no
+    room, says otherwise.
+    """
+    return reply == f'{{"def":{place}}}'
 
 
 def report_line(saga: int, step: int, task: str, attempt: int, ok: bool) -> str:

@@ -163,12 +163,13 @@ def _restore(
     known: Mapping[str, SagaInstance], is_shared: bool,
 ) -> None:  # fmt: skip
     """Take an open saga of the store; the one that this program has, if it is the same."""
-    id, key, place, text, deadline = row
+    id, key, place, text, deadline, traceparent, shape = row
     saga = known.get(key)
     if saga is not None and (saga.shard is driver or not is_shared):
         saga.forget()
     else:
-        options, kind = StartOptions(deadline=deadline), driver.identity.kinds[place]
+        options = StartOptions(deadline=deadline, shape=shape, traceparent=traceparent)
+        kind = driver.identity.definitions.kinds[place]
         other, saga = saga, SagaInstance(key, text, kind, place, options)
         if other is not None:
             found.replaced.append((other, saga))

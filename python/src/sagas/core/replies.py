@@ -9,6 +9,7 @@ from typing import TYPE_CHECKING
 from sagas.core import announcements, protocol, spans
 from sagas.core.attempts import PARKED
 from sagas.core.batch import Opened, Result
+from sagas.core.collection import has_nothing_to_undo
 from sagas.core.early_reports import ATTEMPT
 from sagas.core.early_reports import stored as stored_report
 from sagas.core.effects import Abort, Effects, Question
@@ -64,6 +65,8 @@ class Reading:
             self._reports(asked.reports, left)
         if asked.opens:
             self._opens(asked.opens, left)
+        for _ in range(asked.defines):
+            self._driver.identity.definitions.defined(next(left))
         if asked.claims:
             self._next(next(left))
         for number, reply in zip(asked.looks, left):
@@ -107,6 +110,8 @@ class Reading:
     def _offer(self, attempt: Attempt) -> None:
         """Who does it elsewhere may have it as soon as it has begun, if that is at once."""
         is_first = attempt.is_external and attempt.attempt == 1 and not attempt.instance.draining
+        if has_nothing_to_undo(attempt):
+            return
         if is_first and stored_report(attempt.instance, attempt.word) is None:
             row = first_offer(attempt, self._driver.number, self._batch.at)
             self._batch.more.offers.append(row)
@@ -213,11 +218,14 @@ class Reading:
                 labels, id = saga.options.labels, first + number
                 row: Opened = (
                     id, saga.key, saga.kind.name, saga.place, saga.text, batch.at,
-                    saga.options.deadline,
+                    saga.options.deadline, saga.options.traceparent,
                 )  # fmt: skip
                 batch.opened.append(row)
                 if labels:
                     batch.more.labels += [(id, *label) for label in labels.items()]
+                if saga.options.shape is not None:
+                    batch.more.shapes.append((id, saga.options.shape))
+                    batch.more.defined += driver.identity.definitions.to_store(saga.place)
                 if saga.options.parent is not None:
                     batch.more.children.append((id, saga.options.parent))
                 there.append(saga)

@@ -3,14 +3,18 @@
 from __future__ import annotations
 
 import dataclasses
+import functools
 from collections.abc import Callable
 from typing import TYPE_CHECKING, Any, Protocol, TypeVar, overload
 
 from sagas.core.states import state_text
 from sagas.definition import serialization
+from sagas.definition.collection import Collection, of_names
+from sagas.definition.fan import FIXED, Fan
 
 if TYPE_CHECKING:
-    from sagas.definition.step import Step
+    from sagas.definition.parts import FanOut
+    from sagas.definition.selection import Selection
 
 R = TypeVar("R")
 MOST_SAID = 120
@@ -56,6 +60,22 @@ class Ended(Protocol):
     def errors(self) -> dict[str, str]:
         ...
 
+    @property
+    def fan(self) -> Fan:
+        ...
+
+
+def _result(of: Ended, name: str) -> Any:
+    """The result of one step, by its whole name."""
+    if name not in of.results:
+        there = name in of.states
+        raise KeyError(
+            f"step {name!r} is not committed: it is {of.states[name]}"
+            if there
+            else f"unknown step {name!r}: the steps are {', '.join(of.states)}"
+        )
+    return serialization.stored(of.results[name], name)
+
 
 def _compensations(steps: list[str]) -> str:
     """The compensations of these steps, for a line."""
@@ -74,32 +94,46 @@ class Answering:
         return self.phase in ENDED and all(state == "committed" for state in self.states.values())
 
     @overload
-    def result_of(self: Ended, step: Step[R]) -> R:
+    def result_of(self: Ended, step: Selection[R]) -> R:
         ...
 
     @overload
     def result_of(self: Ended, step: str) -> Any:
         ...
 
-    def result_of(self: Ended, step: Step[Any] | str) -> Any:
+    def result_of(self: Ended, step: Selection[Any] | str) -> Any:
         """Return the result of a committed step.
 
         Args:
-            step: The step, or its name.
+            step: The step, or its name. Of a fan-out: a list, or a dict by the keys of its items;
+                `hotel[room]`: that of an included saga's step.
 
         Raises:
             KeyError: The step is not committed, or does not exist.
             ResultNotSerializable: The result could not be stored.
+            StepFailed: The item failed, and its failure was collected.
         """
-        name = step if isinstance(step, str) else step.name
-        if name not in self.results:
-            there = name in self.states
-            raise KeyError(
-                f"step {name!r} is not committed: it is {self.states[name]}"
-                if there
-                else f"unknown step {name!r}: the steps are {', '.join(self.states)}"
-            )
-        return serialization.stored(self.results[name], name)
+        one = functools.partial(_result, self)
+        if isinstance(step, Collection):
+            return of_names(self.fan.gather(step, str), one)
+        return self.fan.gather(step, one)
+
+    def each(self: Ended, step: FanOut[Any, R]) -> dict[int | str, R]:
+        """Return the results of the items of a fan-out that succeeded, and remain.
+
+        Args:
+            step: The step.
+
+        Returns:
+            The results, by the numbers of the items, or by their keys in a dict.
+        """
+        found = self.fan.gather(step, lambda name: name)
+        items = found.items() if isinstance(found, dict) else enumerate(found)
+        return {
+            key: serialization.stored(self.results[name], name)
+            for key, name in items
+            if name in self.results and serialization.failed(self.results[name]) is None
+        }
 
     def __str__(self: Ended) -> str:
         """A line, and one for each step, with the first line of what that raised."""
@@ -149,6 +183,7 @@ class SagaResult(Answering):
         aborted: Whether it was aborted.
         note: What the person wrote who resolved it, or None.
         errors: What the failed and undo_failed steps raised last, by step.
+        fan: Which steps stand for a declared one.
 
     Example:
         >>> with sagas.open_sync("orders.db", [order]) as store:
@@ -171,17 +206,18 @@ class SagaResult(Answering):
     aborted: bool
     note: str | None
     errors: dict[str, str]
+    fan: Fan = dataclasses.field(default=FIXED, repr=False, compare=False)
 
     def __init__(
         self, key: str, saga: str, phase: str, states: dict[str, str], results: dict[str, Any],
         cost: int | None, blocking_steps: list[str], kept: list[str], aborted: bool,
-        note: str | None = None, errors: dict[str, str] | None = None,
+        note: str | None = None, errors: dict[str, str] | None = None, fan: Fan = FIXED,
     ) -> None:  # fmt: skip
         # at once: a frozen class's own form takes three times as long, and each saga makes one
         vars(self).update(
             key=key, saga=saga, phase=phase, states=states, results=results, cost=cost,
             blocking_steps=blocking_steps,
-            kept=kept, aborted=aborted, note=note, errors=errors or {},
+            kept=kept, aborted=aborted, note=note, errors=errors or {}, fan=fan,
         )  # fmt: skip
 
     @classmethod

@@ -8,6 +8,7 @@ from sagas.core.suspensions import SagaExtras, tenant_of
 from sagas.definition import start_options
 from sagas.definition.capacity import SHARD_CAPACITY
 from sagas.definition.compiled import Kind, Word
+from sagas.definition.shape_values import ShapeValues
 from sagas.definition.start_options import StartOptions
 
 if TYPE_CHECKING:
@@ -31,7 +32,8 @@ class SagaInstance:
         draining: Whether what runs ends, and then the saga is planned.
         answer: The last plan that was adopted.
         committed: Whether the store has it.
-        options: What its start said; of one that another program started its deadline alone.
+        options: What its start said; of one that another program started its deadline and trace
+            context alone.
         guessed: Whether it was begun without a look for its key. Until it is committed, the key
             may be another saga's.
         start: The pending start of a client that it is of.
@@ -81,6 +83,21 @@ class SagaInstance:
         if self._extras is None:
             self._extras = SagaExtras()
         return self._extras
+
+    @property
+    def shape(self) -> ShapeValues:
+        """What is kept of the shape that its input gave it. It is read once.
+
+        Raises:
+            CannotDecode: The codec failed.
+        """
+        if self.rare.shape is None:
+            text = self.options.shape
+            payloads = self.kind.payloads
+            self.rare.shape = (
+                ShapeValues() if text is None else ShapeValues.read(payloads.decode(text))
+            )
+        return self.rare.shape
 
     @property
     def tenant(self) -> str | None:

@@ -23,7 +23,6 @@ from __future__ import annotations
 
 import dataclasses
 import itertools
-import json
 from collections import deque
 from collections.abc import Iterable, Sequence
 
@@ -33,9 +32,9 @@ from sagas.core.effects import Abort, Effects, Question
 from sagas.core.model import Attempt, SagaInstance
 from sagas.core.outcomes import SUCCEEDED
 from sagas.core.replies import Reading
+from sagas.core.shard_definitions import ShardDefinitions
 from sagas.core.states import SHARD_TRANSITIONS, Check, ShardState, Suspension, check
 from sagas.core.suspensions import SuspensionRow
-from sagas.definition.compiled import Kind
 
 MOST_REPORTS = 256
 """So many attempts are reported, or sagas opened, by one question."""
@@ -50,16 +49,12 @@ class ShardIdentity:
     Attributes:
         number: Its number in the store.
         name: Its name, which the idempotency keys of its sagas begin with.
-        definitions: The digest of its definitions.
-        texts: Its definitions, as the engine reads them.
-        kinds: The same definitions with this program's functions, in the same order.
+        definitions: Its definitions.
     """
 
     number: int
     name: str
-    definitions: str
-    texts: list[str]
-    kinds: list[Kind]
+    definitions: ShardDefinitions
 
 
 class ShardDriver:
@@ -121,7 +116,7 @@ class ShardDriver:
         """Make a shard that the store does not have yet. Its first batch holds its row."""
         driver = cls(identity, ShardState.IDLE, epoch=1)
         driver.known = (driver.epoch, timeline)
-        driver.born = (identity.name, identity.definitions, json.dumps(identity.texts))
+        driver.born = identity.name, identity.definitions.all()
         return driver
 
     @property
@@ -172,6 +167,16 @@ class ShardDriver:
         """Open a saga here; it is asked for in the order of these calls."""
         self.reserved += 1
         self.opens.append(saga)
+
+    @property
+    def is_undefined(self) -> bool:
+        """Whether a saga is to be opened whose definition the engine does not know."""
+        return bool(self.opens) and self.opens[0].place >= self.identity.definitions.known
+
+    @property
+    def wants_engine(self) -> bool:
+        """Whether another engine has to be started for that."""
+        return self.is_undefined and self.identity.definitions.is_fixed
 
     def withdraw(self, saga: SagaInstance) -> bool:
         """Do not open a saga here; whether it was not asked for yet."""
@@ -230,6 +235,10 @@ class ShardDriver:
             asked.reports = self._ask_reports(lines)
         if self.opens:
             asked.opens = self._ask_opens(lines)
+        if self.is_undefined:  # its saga is opened by the next question, once the engine knows it
+            defines = self.identity.definitions.define_lines()
+            asked.defines = len(defines)
+            lines += defines
         if lines:
             self.hungry = True
         if self.hungry and free_slots > 0:
@@ -269,7 +278,7 @@ class ShardDriver:
     def _ask_opens(self, lines: list[str]) -> Sequence[SagaInstance]:
         """As many as a question may have."""
         lot: list[SagaInstance] = []
-        while self.opens and len(lines) < MOST_REPORTS:
+        while self.opens and not self.is_undefined and len(lines) < MOST_REPORTS:
             saga = self.opens.popleft()
             self.sent[saga], saga.shard = None, self
             lines.append(protocol.open_line(saga.place, self.opened + len(lot)))
@@ -375,6 +384,7 @@ class ShardDriver:
         self.to(ShardState.ACTIVE)
         self.known = (rows.epoch, rows.line)
         self.events, self.opened = rows.events, rows.opened
+        self.identity.definitions.stored = rows.definitions
         self.reserved = self.opened + len(self.opens)
         self.sagas, self.reports, self.aborts, self.aborting = {}, {}, [], []
         self.reporting.clear()

@@ -12,6 +12,7 @@ from sagas.core.states import EarlyReason, Suspension
 from sagas.definition import serialization
 from sagas.definition.compiled import Word
 from sagas.definition.control import Control
+from sagas.definition.shape_values import ShapeValues
 
 
 @dataclasses.dataclass(slots=True)
@@ -77,6 +78,8 @@ class SagaExtras:
     """The actions that failed permanently."""
     errors: dict[int, str] = dataclasses.field(default_factory=dict)
     """What each step raised last."""
+    shape: ShapeValues | None = None
+    """What is kept of its shape, once it was read."""
     due: dict[Word, float] = dataclasses.field(default_factory=dict)
     """Of waits: until when; 0 once that is over."""
     early: dict[Word, tuple[EarlyReason, str]] = dataclasses.field(default_factory=dict)

@@ -45,6 +45,10 @@ def too_large(saga: str, steps: int, needs: int) -> TooLarge:
 
 
 def unfit(saga: Saga) -> TooLarge | None:
-    """Why a saga cannot be started, where it fits into no log."""
+    """Why a saga cannot be started, where it fits into no log. Of one whose steps come from its
+    input that is seen when there is one.
+    """
+    if saga.is_shaped:
+        return None
     steps, needs = len(saga.steps), sum(len(step.needs) for step in saga.steps)
     return None if fits(steps, needs) else too_large(saga.name, steps, needs)

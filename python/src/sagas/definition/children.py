@@ -9,13 +9,16 @@ from typing import TYPE_CHECKING, Any, Literal, TypedDict, overload
 from sagas.base.errors import InvalidKey
 from sagas.definition import arguments, decoders, validation
 from sagas.definition.decoders import Decoder
-from sagas.definition.step import NEVER, Cost, Decorator, Manner, Step
+from sagas.definition.decorators import Decorator
+from sagas.definition.step import NEVER, Cost, CostOf, Manner, Step
 
 if TYPE_CHECKING:
+    from sagas.definition.parts import ForEach, Need
     from sagas.definition.saga import Saga
 
 UNDO = ":undo"
 """What the key of a saga ends with that undoes a child."""
+MOST_NAME = 32
 NUMBERS = 4
 """Characters of a key that are left for the number of a further child."""
 
@@ -42,17 +45,19 @@ class ChildSteps:
         steps: Its steps.
         undoes: The definition whose completed sagas it undoes, or None.
         has_children: Whether a step starts another saga.
+        is_shaped: Whether its steps come from its input.
     """
 
     name: str
     steps: list[Step[Any]]
     undoes: Saga | None = None
     has_children: bool = False
+    is_shaped: bool
 
     @overload
     def child(
         self, saga: Saga, *, input: Callable[[Any], Any], name: str | None = None,
-        needs: Iterable[Step[Any] | str] = (), undo: Cost | None = None, skip: Cost = 0,
+        needs: Iterable[Need] = (), undo: Cost | None = None, skip: Cost = 0,
         keep: Cost | None = None, on_exhausted: Literal["fail", "ask"] = "fail",
     ) -> Step[ChildResult]:  # fmt: skip
         ...
@@ -60,14 +65,14 @@ class ChildSteps:
     @overload
     def child(
         self, saga: Saga, *, input: None = None, name: str | None = None,
-        needs: Iterable[Step[Any] | str] = (), undo: Cost | None = None, skip: Cost = 0,
+        needs: Iterable[Need] = (), undo: Cost | None = None, skip: Cost = 0,
         keep: Cost | None = None, on_exhausted: Literal["fail", "ask"] = "fail",
     ) -> Callable[[Callable[[Any], Any]], Step[ChildResult]]:  # fmt: skip
         ...
 
     def child(
         self, saga: Saga, *, input: Callable[[Any], Any] | None = None, name: str | None = None,
-        needs: Iterable[Step[Any] | str] = (), undo: Cost | None = None, skip: Cost = 0,
+        needs: Iterable[Need] = (), undo: Cost | None = None, skip: Cost = 0,
         keep: Cost | None = None, on_exhausted: Literal["fail", "ask"] = "fail",
     ) -> Any:  # fmt: skip
         """Declare a step that starts another saga, and waits for its end.
@@ -122,7 +127,7 @@ class ChildSteps:
 
         def declare(function: Callable[[Any], Any]) -> Step[Any]:
             manner = Manner(function, on_exhausted=on_exhausted)
-            costs: dict[str, Cost | None] = {"run": 0, "undo": undo, "skip": skip, "keep": keep}
+            costs: dict[str, CostOf | None] = {"run": 0, "undo": undo, "skip": skip, "keep": keep}
             named = name or (None if input is None else getattr(saga, "name", None))
             step = self._add(function, named, "child", needs, costs, manner, None)
             step.child = saga
@@ -142,6 +147,13 @@ class ChildSteps:
         Args:
             word: `undo` or `keep`.
         """
+        if self.is_shaped:
+            of: Any = self
+            raise validation.of_saga(
+                of,
+                "its steps come from its input, so its costs as a child are not known. Set keep=, "
+                "and undo= with a compensation or undo=sagas.NEVER, for the step that starts it",
+            )
         total = 0
         for step in self.steps:
             cost = step.cost(word)
@@ -155,10 +167,12 @@ class ChildSteps:
         function: Callable[[Any], Any] | None,
         name: str | None,
         kind: str,
-        needs: Iterable[Step[Any] | str],
-        costs: dict[str, Cost | None],
+        needs: Iterable[Need],
+        costs: dict[str, CostOf | None],
         manner: Manner,
         concurrency: int | None,
+        for_each: ForEach | None = None,
+        when: Callable[[Any], Any] | None = None,
     ) -> Step[Any]:
         raise NotImplementedError
 
@@ -183,7 +197,7 @@ def _check(step: Step[Any], child: Saga) -> None:
 
 def children_of(saga: Saga) -> Iterator[tuple[Step[Any], Saga]]:
     """The steps of a saga that start children, each with the child's definition."""
-    return ((step, step.child) for step in saga.steps if step.child is not None)
+    return ((step, step.child) for step in saga.all_steps if step.child is not None)
 
 
 def descendants(saga: Saga) -> list[Saga]:
@@ -229,7 +243,10 @@ def room_of(saga: Saga) -> int:
     """How many characters the keys of a saga's descendants have more than its own."""
     return max(
         (
-            len(step.name) + 1 + max(len(UNDO), NUMBERS) + room_of(child)
+            (MOST_NAME if saga.is_shaped else len(step.name))
+            + 1
+            + max(len(UNDO), NUMBERS)
+            + room_of(child)
             for step, child in children_of(saga)
         ),
         default=0,

@@ -6,45 +6,37 @@ import dataclasses
 import hashlib
 import json
 import re
-from collections.abc import Callable, Iterable, Iterator, Mapping
+from collections.abc import Callable, Mapping
 from typing import Any
 
 import tomllib
 
-from sagas.base.errors import CannotDecode, DefinitionError, InvalidInput, TooLarge
+from sagas.base.errors import CannotDecode, InvalidInput, TooLarge
 from sagas.definition import (
     capacity,
-    children,
     decoders,
     mismatches,
     serialization,
+    shape_text,
+    shape_validation,
     type_checks,
-    undo_sagas,
-    validation,
 )
-from sagas.definition.capacity import MOST_DEFINITIONS, SHARD_CAPACITY
 from sagas.definition.context import Context
+from sagas.definition.declared import Declared
 from sagas.definition.decoders import Decoder
+from sagas.definition.layout import Layout
 from sagas.definition.payloads import PLAIN as PLAIN_PAYLOADS
 from sagas.definition.payloads import Payloads
+from sagas.definition.place import Place
 from sagas.definition.saga import Saga
+from sagas.definition.shape_values import ShapeValues
 from sagas.definition.step import Function, Step
 
 Word = tuple[int, str]
 """A step's number, and `run` or `undo`."""
 PLAIN = (dict, list, tuple, str, int, float, bool, type(None))
 VERSION = re.compile(r"# version (\d+)\n")
-
-
-def shelf_of(sagas: Iterable[Saga]) -> tuple[str, list[str]]:
-    """The definitions' texts, sorted by name, and the digest that names them."""
-    texts = [saga.toml() for saga in sorted(sagas, key=lambda saga: (saga.name, saga.version))]
-    return digest_of_texts(texts), texts
-
-
-def digest_of_texts(texts: list[str]) -> str:
-    """The digest of a set of definitions."""
-    return hashlib.sha256(json.dumps(texts).encode()).hexdigest()[:16]
+NAME = re.compile(r'^name = "(.*)"$', re.M)
 
 
 def digest_of(text: str) -> str:
@@ -57,11 +49,18 @@ def version_of(text: str) -> int:
     return int(found[1]) if found else 1
 
 
+def name_of(text: str) -> str:
+    """The name of the saga that a definition is of."""
+    found = NAME.search(text)
+    assert found
+    return found[1]
+
+
 def _simple(step: Step[Any] | None, word: str) -> Function | None:
     """The function of a step that begins at once and is awaited here, and has no limit; of
     others None.
     """
-    if step is None or step.saga.fair_by is not None:
+    if step is None or step.saga.fair_by is not None or step.is_collected:
         return None
     if word == "run" and (step.kind != "step" or step.concurrency is not None or step.bounds):
         return None
@@ -129,18 +128,18 @@ class Kind:
 
     def __init__(
         self, text: str, saga: Saga | None, context: Context | None = None,
-        payloads: Payloads = PLAIN_PAYLOADS,
+        payloads: Payloads = PLAIN_PAYLOADS, declared: Declared | None = None,
     ) -> None:  # fmt: skip
         self.payloads = payloads
         self.hooks: Hooks = {}
-        told = tomllib.loads(text)
-        listed = told["step"]
-        self.text, self.name, self.version = text, str(told["name"]), version_of(text)
-        today = {step.name: step for step in saga.steps} if saga else {}
+        self.declared = declared or Declared(saga)
+        is_shaped = shape_text.is_shaped(text)
+        listed = shape_text.steps(text) if is_shaped else tomllib.loads(text)["step"]
+        self.layout: Layout | None = shape_text.layout(listed) if is_shaped else None
+        self.text, self.name = text, name_of(text)
         self.names: list[str] = [step["name"] for step in listed]
         self.heads = [f'"{name}":' for name in self.names]
-        self.steps: list[Step[Any] | None] = [today.get(name) for name in self.names]
-        self.saga = saga
+        self.steps: list[Step[Any] | None] = self._declared_steps(saga)
         self.tries = {
             kind: [int(step.get(word, 1)) for step in listed]
             for kind, word in (("run", "tries"), ("undo", "undo_tries"))
@@ -150,12 +149,9 @@ class Kind:
             [[place[need] for need in step.get("needs", ())] for step in listed]
         )
         self.fits = capacity.fits(self.count, needs_in(listed))
-        told_hints = [children.hints(step) for step in self.steps]
-        self.inputs = [hint for hint, _ in told_hints]
-        undo_inputs = [
-            decoders.hints(step.undo.function)[0] if step and step.undo.function else None
-            for step in self.steps
-        ]
+        told_hints = [self.declared.hints(step) for step in self.steps]
+        self.inputs = [hint for hint, _, _ in told_hints]
+        undo_inputs = [hint for _, _, hint in told_hints]
         self.all_done = json.dumps(
             {
                 "aborted": False,
@@ -173,16 +169,46 @@ class Kind:
             [
                 number
                 for number, step in enumerate(listed)
-                if not step.get("needs") and self.inputs[number]
+                if not step.get("needs") and self.inputs[number] and "/" not in step.get("of", "")
             ]
         )
         self.has_bounds = any(step and step.bounds for step in self.steps)
         self.has_external = any(one.is_external for of in self.actions.values() for one in of)
         self.decoders = {
-            name: decoder for name, (_, decoder) in zip(self.names, told_hints) if decoder
+            name: decoder for name, (_, decoder, _) in zip(self.names, told_hints) if decoder
         }
         # stored values are made into others
         self.reads = bool(payloads.reads or self.decoders or any(self.inputs) or any(undo_inputs))
+
+    def _declared_steps(self, saga: Saga | None) -> list[Step[Any] | None]:
+        """The steps as the program has them."""
+        if self.layout is not None:
+            return [self.declared.step(spot) for spot in self.layout.spots.values()]
+        plain = shape_validation.plain_steps(saga) if saga else {}
+        return [plain.get(name) for name in self.names]
+
+    def place(self, step: str, values: ShapeValues, input: str) -> Place | None:
+        """Where a step of a saga is, by the step's name, what is kept of the saga's shape, and its
+        input; None where its steps do not come from the input.
+        """
+        if self.layout is None:
+            return None
+        return Place(self.layout.spots[step], self.layout, values, self.declared, input)
+
+    def declared_name(self, step: int) -> str:
+        """The name with which a step was declared, by its number: `hotel/room`."""
+        name = self.names[step]
+        return name if self.layout is None else self.layout.spots[name].declared
+
+    @property
+    def saga(self) -> Saga | None:
+        """The saga that the program has of its name and version."""
+        return self.declared.root
+
+    @property
+    def version(self) -> int:
+        """The saga's version."""
+        return version_of(self.text)
 
     @property
     def count(self) -> int:
@@ -271,7 +297,7 @@ class Kind:
             hint = self.decoders.get(self.names[number])
             if (
                 hint
-                and serialization.unstorable(serialization.read(text)) is None
+                and not serialization.is_plain(serialization.read(text))
                 and (fault := _fault(text, hint))
             ):
                 return f"step {self.names[number]!r}: result{fault}"
@@ -287,6 +313,13 @@ class Kind:
         """
         if self.saga is None:
             return "this program did not open the store with that saga"
+        for path, (name, version) in shape_text.included(self.text).items():
+            inner = self.declared.included(path)
+            if inner is None or (inner.name, inner.version) != (name, version):
+                has = f"version {inner.version}" if inner else "none"
+                return (
+                    f"it includes saga {name!r} (version {version}) as {path!r}, and here is {has}"
+                )
         for listed, step in zip(tomllib.loads(self.text)["step"], self.steps):
             name = listed["name"]
             if step is None:
@@ -294,101 +327,3 @@ class Kind:
             if listed.get("undo", 0) != "never" and not step.has_compensation:
                 return f"step {name!r} has no compensation in this program"
         return None
-
-
-@dataclasses.dataclass(frozen=True, slots=True)
-class DefinitionSet:
-    """The definitions of a log, by their places there."""
-
-    digest: str
-    texts: list[str]
-    kinds: list[Kind]
-
-
-class Shelf:
-    """The sagas that a store was opened with, and the definitions of older logs by them."""
-
-    def __init__(self, sagas: Iterable[Saga], payloads: Payloads = PLAIN_PAYLOADS) -> None:
-        self.sagas: dict[tuple[str, int], Saga] = {}
-        self.context, self.payloads = Context(), payloads
-        self._hooks: Callable[[str], Hooks] = lambda name: {}
-        if isinstance(sagas, Saga) or not isinstance(sagas, Iterable):
-            raise DefinitionError(
-                f"expected a list of sagas, got {sagas!r}. Write open(..., [trip])"
-            )
-        for saga in sagas:
-            if not isinstance(saga, Saga):
-                raise DefinitionError(f"expected a sagas.Saga, got {saga!r}")
-            name = (saga.name, saga.version)
-            if name in self.sagas:
-                raise DefinitionError(
-                    f"{saga.where}: saga {saga.name!r}: another saga has this name and version, "
-                    f"at {self.sagas[name].where}. Change one of them"
-                )
-            self.sagas[name] = saga
-        if not self.sagas:
-            raise DefinitionError("a store needs at least one saga")
-        self.sagas = undo_sagas.with_undo_sagas(self.sagas)
-        self.shelf, self.texts = shelf_of(self.sagas.values())
-        self._kinds: dict[str, Kind] = {}
-        self.kinds = [self.kind(text) for text in self.texts]
-        self._check_queues()
-        self.room = SHARD_CAPACITY  # how many sagas a log takes, where they are small
-        self.by_name = {(kind.name, kind.version): kind for kind in self.kinds}
-        self._by_saga = {saga: self.by_name[name] for name, saga in self.sagas.items()}
-        self._sets = dict(self._divided())
-
-    def _check_queues(self) -> None:
-        """Raises `DefinitionError` where workers would read stored values without the codec or the
-        blobs."""
-        word = "codec" if self.payloads.codec else "blobs"
-        for kind in self.kinds if self.payloads.reads else ():
-            for action in (one for of in kind.actions.values() for one in of if one.is_remote):
-                raise DefinitionError(
-                    f"saga {kind.name!r}, step {action.name!r}: a store with {word}= cannot "
-                    "have steps with queue=, because their workers read stored values themselves"
-                )
-
-    def _divided(self) -> Iterator[tuple[Kind, tuple[DefinitionSet, int]]]:
-        """Each definition with its set, of as many as a log has, and its place there."""
-        for first in range(0, len(self.kinds), MOST_DEFINITIONS):
-            kinds = self.kinds[first : first + MOST_DEFINITIONS]
-            texts = [kind.text for kind in kinds]
-            found = DefinitionSet(digest_of_texts(texts), texts, kinds)
-            yield from ((kind, (found, place)) for place, kind in enumerate(kinds))
-
-    def kind(self, text: str) -> Kind:
-        if text not in self._kinds:
-            name = re.search(r'^name = "(.*)"$', text, re.M)
-            assert name
-            saga = self.sagas.get((name[1], version_of(text)))
-            kind = self._kinds[text] = Kind(text, saga, self.context, self.payloads)
-            kind.hooks = self._hooks(kind.name)
-        return self._kinds[text]
-
-    def announce(self, hooks: Callable[[str], Hooks]) -> None:
-        """Let webhooks be told of sagas: `hooks` gives them by the name of the saga."""
-        self._hooks = hooks
-        for kind in self._kinds.values():
-            kind.hooks = hooks(kind.name)
-
-    def set_of(self, kind: Kind) -> DefinitionSet:
-        """The definitions of the logs that take new sagas of this one."""
-        return self._sets[kind][0]
-
-    def place(self, kind: Kind) -> int:
-        """Where it stands among these."""
-        return self._sets[kind][1]
-
-    def kind_of(self, saga: Saga) -> Kind:
-        """Its definition; raises `DefinitionError` where the store was not opened with this very
-        saga.
-        """
-        validation.check_given(saga)
-        kind = self._by_saga.get(saga)
-        if kind is None:
-            raise DefinitionError(
-                f"{saga.where}: saga {saga.name!r}: the store was not opened with it. Add it "
-                "to open(..., [...])"
-            )
-        return kind

@@ -4,23 +4,30 @@ from __future__ import annotations
 
 import datetime
 import sys
-from collections.abc import Awaitable, Callable, Iterable
-from typing import Any, Literal, overload
+from collections.abc import Awaitable, Callable, Iterable, Mapping, Sequence
+from typing import Any, Literal, TypeVar, overload
 
 from sagas.base import program
 from sagas.base.errors import DefinitionError
 from sagas.base.wording import number
-from sagas.definition import validation, warnings
-from sagas.definition.children import ChildSteps
+from sagas.definition import (
+    collection,
+    definition_text,
+    serialization,
+    shape,
+    shape_text,
+    validation,
+    warnings,
+)
+from sagas.definition.decorators import Declare, Decorator
+from sagas.definition.inclusions import Inclusions
+from sagas.definition.parts import DeclareEach, DeclareKeyed, FanOut, ForEach, Need, Part
 from sagas.definition.step import (
-    MANY_TRIES,
     NEVER,
     UNKNOWN,
     Backoff,
     Bounds,
-    Cost,
-    Declare,
-    Decorator,
+    CostOf,
     Manner,
     OnExhausted,
     R,
@@ -28,14 +35,16 @@ from sagas.definition.step import (
     Seconds,
     Step,
     Unknowns,
-    Until,
     _rate,
     nothing,
     seconds,
 )
+from sagas.definition.waits import WaitSteps
+
+T = TypeVar("T")
 
 
-class Saga(ChildSteps):
+class Saga(WaitSteps, Inclusions):
     """Declare a kind of saga: a name, a version, and its steps in order.
 
     Sagas of an older version go on by its functions, as long as `open` is given both versions.
@@ -47,6 +56,8 @@ class Saga(ChildSteps):
             has not ended (default: none). `Store.start` may say another one.
         fair_by: A function of the input, as JSON has it, whose result names a tenant. The slots of
             `open(concurrency=...)` are shared among tenants in turn (default: None).
+        input: The type of the input, for the functions that make steps and costs of it (default:
+            the hint of the first step that has one).
 
     Attributes:
         name: The name.
@@ -54,7 +65,10 @@ class Saga(ChildSteps):
         deadline: The deadline.
         where: File and line of the declaration.
         fair_by: The function that names the tenant, or None.
-        steps: The steps, in the order of their declaration.
+        input_type: As given.
+        parts: The steps and the inclusions, in the order of their declaration.
+        steps: The steps.
+        outers: The sagas that include it.
         decorators: Decorators that no function has yet.
 
     Raises:
@@ -76,11 +90,14 @@ class Saga(ChildSteps):
 
     def __init__(
         self, name: str, *, version: int = 1, deadline: Seconds | None = None,
-        fair_by: Callable[[Any], Any] | None = None,
+        fair_by: Callable[[Any], Any] | None = None, input: Any = None,
     ) -> None:  # fmt: skip
         self.name, self.version, self.where = name, version, validation.caller(2)
         self.deadline, self.fair_by = deadline, fair_by
+        self.input_type = input
+        self.parts: list[Part] = []
         self.steps: list[Step[Any]] = []
+        self.outers: list[Saga] = []
         self.decorators: list[Decorator] = []
         validation.check_name(self)
         validation.check_key(fair_by, f"{self.where}: saga {name!r}: fair_by")
@@ -98,10 +115,11 @@ class Saga(ChildSteps):
         self,
         function: None = None,
         /,
-        *, external: Literal[True], name: str, needs: Iterable[Step[Any] | str] = (),
-        run: Cost = 0, undo: Cost | None = None, skip: Cost = 0, keep: Cost = 0,
+        *, external: Literal[True], name: str, needs: Iterable[Need] = (),
+        run: CostOf = 0, undo: CostOf | None = None, skip: CostOf = 0, keep: CostOf = 0,
         tries: int = 1, backoff: Backoff = Backoff(), concurrency: int | None = None,
         on_exhausted: OnExhausted = "fail", max_attempts: int | None = None,
+        for_each: None = None, when: Callable[[Any], Any] | None = None,
     ) -> Step[Any]:  # fmt: skip
         ...
 
@@ -110,27 +128,99 @@ class Saga(ChildSteps):
         self,
         function: None = None,
         /,
-        *, name: str | None = None, needs: Iterable[Step[Any] | str] = (), run: Cost = 0,
-        undo: Cost | None = None, skip: Cost = 0, keep: Cost = 0, tries: int = 1,
+        *, external: Literal[True], name: str, for_each: ForEach, needs: Iterable[Need] = (),
+        run: CostOf = 0, undo: CostOf | None = None, skip: CostOf = 0, keep: CostOf = 0,
+        tries: int = 1, backoff: Backoff = Backoff(), concurrency: int | None = None,
+        on_exhausted: OnExhausted = "fail", max_attempts: int | None = None,
+        when: Callable[[Any], Any] | None = None,
+    ) -> FanOut[Any, Any]:  # fmt: skip
+        ...
+
+    @overload
+    def step(
+        self,
+        function: None = None,
+        /,
+        *, for_each: Callable[[Any], Mapping[str, T]], name: str | None = None,
+        needs: Iterable[Need] = (), run: CostOf = 0,
+        undo: CostOf | None = None, skip: CostOf = 0,
+        keep: CostOf = 0, tries: int = 1,
         timeout: Seconds | None = None, backoff: Backoff = Backoff(), unknown: Unknowns = UNKNOWN,
         max_unknown: int | datetime.timedelta | None = None, concurrency: int | None = None,
         transaction: bool = False, queue: RemoteQueue | None = None,
         fleet_concurrency: int | None = None, rate_limit: tuple[int, Seconds] | None = None,
         on_exhausted: OnExhausted = "fail", max_attempts: int | None = None,
         cancel_on_abort: bool = False, concurrency_by: Callable[[Any], Any] | None = None,
+        when: Callable[[Any], Any] | None = None,
+    ) -> DeclareKeyed[T]:  # fmt: skip
+        ...
+
+    @overload
+    def step(
+        self,
+        function: None = None,
+        /,
+        *, for_each: str, name: str | None = None, needs: Iterable[Need] = (),
+        run: CostOf = 0, undo: CostOf | None = None, skip: CostOf = 0, keep: CostOf = 0,
+        tries: int = 1,
+        timeout: Seconds | None = None, backoff: Backoff = Backoff(), unknown: Unknowns = UNKNOWN,
+        max_unknown: int | datetime.timedelta | None = None, concurrency: int | None = None,
+        transaction: bool = False, queue: RemoteQueue | None = None,
+        fleet_concurrency: int | None = None, rate_limit: tuple[int, Seconds] | None = None,
+        on_exhausted: OnExhausted = "fail", max_attempts: int | None = None,
+        cancel_on_abort: bool = False, concurrency_by: Callable[[Any], Any] | None = None,
+        when: Callable[[Any], Any] | None = None,
+    ) -> DeclareEach[Any]:  # fmt: skip
+        ...
+
+    @overload
+    def step(
+        self,
+        function: None = None,
+        /,
+        *, for_each: Callable[[Any], Sequence[T]], name: str | None = None,
+        needs: Iterable[Need] = (), run: CostOf = 0,
+        undo: CostOf | None = None, skip: CostOf = 0,
+        keep: CostOf = 0, tries: int = 1,
+        timeout: Seconds | None = None, backoff: Backoff = Backoff(), unknown: Unknowns = UNKNOWN,
+        max_unknown: int | datetime.timedelta | None = None, concurrency: int | None = None,
+        transaction: bool = False, queue: RemoteQueue | None = None,
+        fleet_concurrency: int | None = None, rate_limit: tuple[int, Seconds] | None = None,
+        on_exhausted: OnExhausted = "fail", max_attempts: int | None = None,
+        cancel_on_abort: bool = False, concurrency_by: Callable[[Any], Any] | None = None,
+        when: Callable[[Any], Any] | None = None,
+    ) -> DeclareEach[T]:  # fmt: skip
+        ...
+
+    @overload
+    def step(
+        self,
+        function: None = None,
+        /,
+        *, name: str | None = None, needs: Iterable[Need] = (), run: CostOf = 0,
+        undo: CostOf | None = None, skip: CostOf = 0, keep: CostOf = 0, tries: int = 1,
+        timeout: Seconds | None = None, backoff: Backoff = Backoff(), unknown: Unknowns = UNKNOWN,
+        max_unknown: int | datetime.timedelta | None = None, concurrency: int | None = None,
+        transaction: bool = False, queue: RemoteQueue | None = None,
+        fleet_concurrency: int | None = None, rate_limit: tuple[int, Seconds] | None = None,
+        on_exhausted: OnExhausted = "fail", max_attempts: int | None = None,
+        cancel_on_abort: bool = False, concurrency_by: Callable[[Any], Any] | None = None,
+        when: Callable[[Any], Any] | None = None,
     ) -> Declare:  # fmt: skip
         ...
 
     def step(
         self, function: Callable[[Any], Any] | None = None, /, *,
-        name: str | None = None, needs: Iterable[Step[Any] | str] = (), run: Cost = 0,
-        undo: Cost | None = None, skip: Cost = 0, keep: Cost = 0, tries: int = 1,
+        name: str | None = None, needs: Iterable[Need] = (), run: CostOf = 0,
+        undo: CostOf | None = None, skip: CostOf = 0, keep: CostOf = 0, tries: int = 1,
         timeout: Seconds | None = None, backoff: Backoff = Backoff(), unknown: Unknowns = UNKNOWN,
         max_unknown: int | datetime.timedelta | None = None, concurrency: int | None = None,
         transaction: bool = False, external: bool = False, queue: RemoteQueue | None = None,
         fleet_concurrency: int | None = None, rate_limit: tuple[int, Seconds] | None = None,
         on_exhausted: OnExhausted = "fail", max_attempts: int | None = None,
         cancel_on_abort: bool = False, concurrency_by: Callable[[Any], Any] | None = None,
+        when: Callable[[Any], Any] | None = None,
+        for_each: ForEach | None = None,
     ) -> Any:  # fmt: skip
         """Declare a function as a step, by `@saga.step` or `@saga.step(...)`.
 
@@ -143,7 +233,8 @@ class Saga(ChildSteps):
             function: The function, if no option is given.
             name: The step's name, as a saga's (default: the function's).
             needs: Steps, or their names, to commit first. A step is undone before those it needs.
-            run: Cost of running it, if a plan finds it not started (default: 0).
+            run: Cost of running it, if a plan finds it not started (default: 0). Each of the costs
+                may be a function of the input that returns it, when the saga is started.
             undo: Cost of undoing it (default: 0 with a compensation, else `NEVER`). With `NEVER`,
                 neither it nor what it needs is undone; 0 alone: there is nothing to undo.
             skip: Cost of ending without it (default: 0). `NEVER`: it is mandatory.
@@ -171,6 +262,13 @@ class Saga(ChildSteps):
             max_attempts: Number of attempts, where 9 are too few (default: `tries`).
             concurrency_by: A function of the input. `concurrency` and `fleet_concurrency` then hold
                 for each of its results by itself: an account, say (default: None).
+            for_each: The name of a list or a dict in the input, or a function of the input that
+                returns one: the step is there once for each item (default: once). Then
+                `task.item` and `task.index` are there, costs may be functions of the item, and
+                `needs=[ship.each]` of another step with the same `for_each` means that of the same
+                item. For a type checker a name means a list.
+            when: A function of the input: the step is there if it returns true (default: always).
+                What needs a step that is not there needs what that one needs.
             cancel_on_abort: Whether an abort raises `asyncio.CancelledError` in the async function
                 (default: False). Unhandled, the outcome is unknown, and the attempt repeats.
 
@@ -192,8 +290,10 @@ class Saga(ChildSteps):
                 max_unknown, function is None, transaction, queue=queue, on_exhausted=on_exhausted,
                 max_attempts=max_attempts, cancel_on_abort=cancel_on_abort,
             )  # fmt: skip
-            costs = {"run": run, "undo": undo, "skip": skip, "keep": keep}
-            step = self._add(function, name, "step", needs, costs, manner, concurrency)
+            costs: dict[str, CostOf | None] = {"run": run, "undo": undo, "skip": skip, "keep": keep}
+            step = self._add(
+                function, name, "step", needs, costs, manner, concurrency, for_each, when
+            )
             step.concurrency_by = concurrency_by
             if fleet_concurrency is not None or rate_limit is not None:
                 rate, is_keyed = _rate(rate_limit), concurrency_by is not None
@@ -208,137 +308,30 @@ class Saga(ChildSteps):
             else Decorator(self, f"{self.name}.step", name, declare)
         )
 
-    def wait(
-        self,
-        *,
-        until: Until,
-        name: str | None = None,
-        needs: Iterable[Step[Any] | str] = (),
-        undo: Cost | None = None,
-        skip: Cost = 0,
-        keep: Cost = 0,
-        tries: int = MANY_TRIES,
-        timeout: Seconds | None = None,
-        backoff: Backoff = Backoff(),
-        concurrency: int | None = None,
-    ) -> Declare:  # fmt: skip
-        """Declare a function that is called when a time has come, by `@saga.wait(...)`.
-
-        Until then the step takes no slot. A saga that is undone meanwhile does not wait for it.
-
-        Args:
-            until: A timedelta from when the needs are committed, a datetime with a time zone, or a
-                plain function of the task that returns either.
-            undo: As of `step` (default: 0). `NEVER`: its function's effect cannot be undone.
-            tries: As of `step` (default: 9). Being undone while it waits uses one.
-
-        See `Saga.step` for `name`, `needs`, `skip`, `keep`, `timeout`, `backoff`, `concurrency`.
-
-        Returns:
-            A decorator that returns the `Step`.
-
-        Raises:
-            DefinitionError: An argument is not valid.
-        """
-
-        def declare(function: Callable[[Any], Any]) -> Step[Any]:
-            manner = Manner(
-                function, tries, timeout if timeout is None else seconds(timeout), backoff
-            )
-            costs: dict[str, Cost | None] = {"run": 0, "undo": undo, "skip": skip, "keep": keep}
-            step = self._add(function, name, "wait", needs, costs, manner, concurrency)
-            step.until = until
-            validation.check_until(step, until)
-            return step
-
-        return Decorator(self, f"{self.name}.wait", name, declare)
-
-    @overload
-    def approval(self, function: Callable[[Any], Any], /) -> Step[Any]:
-        ...
-
-    @overload
-    def approval(
-        self,
-        function: None = None,
-        /,
-        *, name: str | None = None, needs: Iterable[Step[Any] | str] = (),
-        undo: Cost | None = None, skip: Cost = 0, timeout: Seconds | None = None,
-        tries: int = MANY_TRIES, call_timeout: Seconds | None = None, backoff: Backoff = Backoff(),
-    ) -> Callable[[Callable[[Any], Any]], Step[Any]]:  # fmt: skip
-        ...
-
-    def approval(
-        self,
-        function: Callable[[Any], Any] | None = None,
-        /,
-        *, name: str | None = None, needs: Iterable[Step[Any] | str] = (),
-        undo: Cost | None = None, skip: Cost = 0, timeout: Seconds | None = None,
-        tries: int = MANY_TRIES, call_timeout: Seconds | None = None, backoff: Backoff = Backoff(),
-    ) -> Any:  # fmt: skip
-        """Declare a step that a person decides, by `@saga.approval`.
-
-        The function asks for the decision, for example by mail, and returns None. `Store.complete`
-        or `Store.fail` gives it. Or the function decides: it returns `Approved` or `Rejected`.
-
-        Args:
-            undo: As of `step` (default: 0). `NEVER`: the approval cannot be taken back.
-            timeout: Seconds, or a timedelta, after which the step has failed (default: none).
-            tries: As of `step` (default: 9). Being undone while it waits uses one.
-            call_timeout: As `timeout` of `step`: for the function itself (default: none).
-
-        See `Saga.step` for `function`, `name`, `needs`, `skip`, `backoff`.
-
-        Returns:
-            The `Step`, or a decorator that returns it.
-
-        Raises:
-            DefinitionError: An argument is not valid.
-        """
-
-        def declare(function: Callable[[Any], Any]) -> Step[Any]:
-            manner = Manner(
-                function, tries, None if call_timeout is None else seconds(call_timeout), backoff
-            )
-            manner.asks = True
-            step = self._add(
-                function,
-                name,
-                "approval",
-                needs,
-                {"run": 0, "undo": undo, "skip": skip, "keep": 0},
-                manner,
-                None,
-            )
-            step.approval_timeout = validation.approval_timeout(step, timeout)
-            return step
-
-        return (
-            Decorator(self, f"{self.name}.approval", name, declare)
-            if function is None
-            else declare(function)
-        )
-
     def _add(
         self,
         function: Callable[[Any], Any] | None,
         name: str | None,
         kind: str,
-        needs: Iterable[Step[Any] | str],
-        costs: dict[str, Cost | None],
+        needs: Iterable[Need],
+        costs: dict[str, CostOf | None],
         manner: Manner,
         concurrency: int | None,
+        for_each: ForEach | None = None,
+        when: Callable[[Any], Any] | None = None,
     ) -> Step[Any]:
         where = validation.place(function) or validation.caller(4)
         named = name or str(getattr(function, "__name__", "?"))
-        step: Step[Any] = Step(
-            self, named, where, kind, validation.listed(needs, self, named, where), costs, manner
-        )
+        needed = validation.listed(needs, self, named, where)
+        make: type[Step[Any]] = Step if for_each is None else FanOut
+        step = make(self, named, where, kind, needed, costs, manner, for_each, when)
         step.concurrency = concurrency
         if costs["undo"] is not NEVER and (kind != "step" or costs["undo"] == 0):
             step.undo = Manner(nothing, implied=True)
         validation.check_step(step)
+        collection.mark(needed)
         self.steps.append(step)
+        self.parts.append(step)
         if manner.queue:
             manner.queue.declare(step, "run", manner)
         return step
@@ -358,39 +351,35 @@ class Saga(ChildSteps):
         """
         return warnings.warnings(self)
 
-    def toml(self) -> str:
+    def toml(self, input: Any = None) -> str:
         """Return the definition in the format of a definition file.
 
+        Args:
+            input: The input, of a saga whose steps or costs come from it (default: None).
+
         Raises:
             DefinitionError: As `check`.
+            InvalidInput: The input gives the saga no shape.
+            TooLarge: It gives it too many steps, or needs.
+            NotSerializable: The input is not JSON.
         """
         self.check()
-        lines = [f"# version {self.version}"] if self.version != 1 else []
-        lines += ["format = 2", f'name = "{self.name}"']
-        for step in self.steps:
-            lines += ["", "[[step]]", f'name = "{step.name}"']
-            if step.needs:
-                lines.append("needs = [" + ", ".join(f'"{need}"' for need in step.needs) + "]")
-            for word in ("run", "undo", "skip", "keep"):
-                cost = step.cost(word)
-                if cost is NEVER:
-                    lines.append(f'{word} = "never"')
-                elif cost:
-                    lines.append(f"{word} = {cost}")
-            if step.run.tries != 1:
-                lines.append(f"tries = {step.run.tries}")
-            if step.undo.tries != 1:
-                lines.append(f"undo_tries = {step.undo.tries}")
-        return "\n".join(lines) + "\n"
+        if not self.is_shaped:
+            return definition_text.fixed(self)
+        text = serialization.write(input, "input")
+        return shape_text.write(shape.Shape(self, text))
 
-    def draw(self) -> str:
+    def draw(self, input: Any = None) -> str:
         """Return the saga as text for Graphviz, for example for `dot -Tsvg`.
 
+        Args:
+            input: As of `toml` (default: None).
+
         Raises:
-            DefinitionError: As `check`.
+            DefinitionError: As `check`. For what else see `toml`.
             EngineError: The program `sagas` cannot be run.
         """
-        return program.draw(self.toml())
+        return program.draw(self.toml(input))
 
     def __repr__(self) -> str:
         return f"<saga {self.name}, version {self.version}, {number(len(self.steps), 'step')}>"

@@ -12,11 +12,13 @@ import uuid
 from collections.abc import Callable, Iterable
 from typing import Any
 
-from sagas.base.errors import NotSerializable, ResultNotSerializable
+from sagas.base.errors import NotSerializable, ResultNotSerializable, StepFailed
 from sagas.definition.decoders import Decoder, is_old_model
 
 NUMBERS = {int, float, bool}
 UNSTORABLE = "unstorable"
+FAILED = "$failed"
+"""The only word of what is kept of an item whose failure was collected."""
 MOST_DEEP = 16
 
 
@@ -171,9 +173,22 @@ def unstorable(value: Any) -> str | None:
     return said if isinstance(said, str) else None
 
 
+def failed(value: Any) -> str | None:
+    """Of what is kept of an item whose failure was collected, what it raised."""
+    said = value.get(FAILED) if type(value) is dict and len(value) == 1 else None
+    return said if isinstance(said, str) else None
+
+
+def is_plain(value: Any) -> bool:
+    """Whether it is no result, so that it has no type."""
+    return unstorable(value) is not None or failed(value) is not None
+
+
 def stored(value: Any, step: str) -> Any:
     """What a step returned, as it is kept. Raises `ResultNotSerializable` where it could not be
-    stored."""
+    stored, and `StepFailed` where the step failed."""
+    if (detail := failed(value)) is not None:
+        raise StepFailed(step, detail)
     said = unstorable(value)
     if said is not None:
         raise ResultNotSerializable(f"step {step!r} returned a value that is not JSON: {said}")
@@ -190,7 +205,7 @@ def returned(text: str, decoder: Decoder | None, step: str) -> Any:
 def kept(text: str, decoder: Decoder | None) -> Any:
     """As `read`, of what a step returned; what could not be stored is as it is kept."""
     value = _decode(text)
-    return value if decoder is None or unstorable(value) is not None else decoder(value)
+    return value if decoder is None or is_plain(value) else decoder(value)
 
 
 def fitting(text: str, decoder: Decoder | None) -> Any:
@@ -202,7 +217,7 @@ def fitting(text: str, decoder: Decoder | None) -> Any:
 
 def fitted(value: Any, decoder: Decoder | None) -> Any:
     """As `fitting`, of a value that was read."""
-    if decoder is None or unstorable(value) is not None:
+    if decoder is None or is_plain(value):
         return value
     try:
         return decoder(value)

@@ -24,11 +24,15 @@ class StartOptions:
         labels: Its labels; the store has them once it is committed.
         deadline: When it is aborted if it has not ended, in seconds of wall time, or None.
         parent: The id of the saga that starts it, or None; the store has it once it is committed.
+        shape: What is kept of the shape that its input gave it, as it is stored, or None.
+        traceparent: The W3C trace context that it is started in, or None.
     """
 
     labels: Labels = dataclasses.field(default_factory=lambda: labels_module.NONE)
     deadline: float | None = None
     parent: int | None = None
+    shape: str | None = None
+    traceparent: str | None = None
 
 
 NONE = StartOptions()

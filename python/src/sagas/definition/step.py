@@ -8,13 +8,16 @@ import enum
 import inspect
 import random
 import types
-from collections.abc import Awaitable, Callable, Iterable
-from typing import TYPE_CHECKING, Any, Generic, Literal, Protocol, TypeVar, Union, overload
+from collections.abc import Callable, Iterable
+from typing import TYPE_CHECKING, Any, Literal, Protocol, TypeVar, Union, overload
 
 from sagas.definition import validation
+from sagas.definition.decorators import Decorator
+from sagas.definition.selection import Selection
 from sagas.definition.task import Task
 
 if TYPE_CHECKING:
+    from sagas.definition.parts import ForEach, Need
     from sagas.definition.saga import Saga
 
 R = TypeVar("R")
@@ -32,6 +35,9 @@ NEVER: Literal[_Never.NEVER] = _Never.NEVER
 
 Cost = Union[int, Literal[_Never.NEVER]]
 """A whole number from 0 to 1,000,000,000, in whatever unit; or `NEVER`."""
+
+CostOf = Union[Cost, Callable[[Any], Any]]
+"""A cost, or a function of the input that returns one (with `for_each`: of the item)."""
 
 Function = Callable[[Task[Any]], Any]
 Until = Union[
@@ -126,36 +132,6 @@ class RemoteQueue(Protocol):
         """Hands an order over. Raises where it could not be."""
 
 
-class Decorator:
-    """What `saga.step(..)`, `saga.wait(..)`, `saga.approval(..)` and `step.compensation(..)`
-    give, until it is put on a function.
-    """
-
-    def __init__(
-        self, saga: Saga, what: str, name: str | None, declare: Callable[[Any], Any]
-    ) -> None:
-        self.where, self.what, self.name = validation.caller(3), what, name
-        self._declare, self._saga = declare, saga
-        saga.decorators.append(self)
-
-    def __call__(self, function: Callable[[Any], Any]) -> Any:
-        if self in self._saga.decorators:
-            self._saga.decorators.remove(self)
-        return self._declare(function)
-
-
-class Declare(Protocol):
-    """What `saga.step(..)` gives: a decorator that makes a step of a function."""
-
-    @overload
-    def __call__(self, function: Callable[[Any], Awaitable[R]], /) -> Step[R]:
-        ...
-
-    @overload
-    def __call__(self, function: Callable[[Any], R], /) -> Step[R]:
-        ...
-
-
 @dataclasses.dataclass(slots=True)
 class Manner:
     """How a step's function, or its compensation, is called."""
@@ -198,7 +174,7 @@ def nothing(task: Task[Any]) -> None:
     """Undoes what had no effect."""
 
 
-class Step(Generic[R]):
+class Step(Selection[R]):
     """Hold a step of a saga, whose function returns `R`.
 
     Made by `Saga.step`, `Saga.wait`, `Saga.approval` and `Saga.child`. Call it with a task to call
@@ -217,6 +193,9 @@ class Step(Generic[R]):
         until: As given to `Saga.wait`.
         approval_timeout: The `timeout` of `Saga.approval`.
         child: The definition of `Saga.child`, or None.
+        is_collected: Whether a step needs it by `collect`.
+        for_each: As given to `Saga.step`.
+        when: As given to `Saga.step`.
     """
 
     def __init__(
@@ -225,9 +204,11 @@ class Step(Generic[R]):
         name: str,
         where: str,
         kind: str,
-        needs: tuple[Step[Any] | str, ...],
-        costs: dict[str, Cost | None],
+        needs: tuple[Need, ...],
+        costs: dict[str, CostOf | None],
         run: Manner,
+        for_each: ForEach | None = None,
+        when: Callable[[Any], Any] | None = None,
     ) -> None:
         self.saga, self.name, self.where, self.kind = saga, name, where, kind
         self.run, self.undo = run, Manner()
@@ -237,7 +218,13 @@ class Step(Generic[R]):
         self.until: Until | None = None
         self.approval_timeout: datetime.timedelta | None = None
         self.child: Saga | None = None
+        self.is_collected, self.for_each, self.when = False, for_each, when
         self._costs, self._needs = costs, needs
+
+    @property
+    def path(self) -> tuple[str, ...]:
+        """As of `Selection`."""
+        return (self.name,)
 
     @property
     def needs(self) -> list[str]:
@@ -254,13 +241,26 @@ class Step(Generic[R]):
 
         Args:
             word: `run`, `undo`, `skip` or `keep`.
+
+        Raises:
+            DefinitionError: It comes from the input.
         """
         given = self._costs[word]
+        if callable(given):
+            raise validation.of_step(self, f"{word}= is a function, so it comes from the input")
         if given is not None:
             return given
         if self.child is not None and (word == "keep" or self.undo.implied):
             return self.child.total_cost(word)
         return 0 if self.has_compensation else NEVER
+
+    def declared_cost(self, word: str) -> CostOf | None:
+        """Return one of the step's costs as it was declared.
+
+        Args:
+            word: As of `cost`.
+        """
+        return self._costs[word]
 
     def manner(self, kind: str) -> Manner:
         """Return how its function or its compensation is called.

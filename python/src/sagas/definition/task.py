@@ -2,116 +2,22 @@
 
 from __future__ import annotations
 
-import dataclasses
 import datetime
 from collections.abc import Callable, Mapping
-from typing import TYPE_CHECKING, Any, Generic, Protocol, TypeVar, overload
+from typing import Any, Generic, TypeVar, overload
 
-from sagas.base.errors import CannotDecode, ResultNotSerializable
+from sagas.base.errors import CannotDecode, ResultNotSerializable, StepFailed
 from sagas.definition import mismatches, serialization, tokens
-from sagas.definition.context import ELSEWHERE, Context
-from sagas.definition.control import Cancellation, Control, Progress
-from sagas.definition.decoders import Decoder
-
-if TYPE_CHECKING:
-    from sagas.definition.step import Step
+from sagas.definition.about import About as About
+from sagas.definition.about import Told as Told
+from sagas.definition.about import whole as whole
+from sagas.definition.collection import Collection, of_names
+from sagas.definition.control import Cancellation, Progress
+from sagas.definition.place import NO_ITEM, Place
+from sagas.definition.selection import Selection
 
 I = TypeVar("I")
 R = TypeVar("R")
-
-
-class About(Protocol):
-    """What a task is asked for: looked up only then, since most functions ask for little. Inputs
-    and results are JSON texts.
-
-    `saga_token` begins its tokens. `given`: the results of the steps that it needs, by name;
-    `own`: in a compensation that of its step.
-    """
-
-    @property
-    def saga(self) -> str:
-        ...
-
-    @property
-    def key(self) -> str:
-        ...
-
-    @property
-    def name(self) -> str:
-        ...
-
-    @property
-    def undo(self) -> bool:
-        ...
-
-    @property
-    def attempt(self) -> int:
-        ...
-
-    @property
-    def saga_token(self) -> str:
-        ...
-
-    @property
-    def input(self) -> str:
-        ...
-
-    @property
-    def given(self) -> Mapping[str, str]:
-        ...
-
-    @property
-    def own(self) -> str | None:
-        ...
-
-    @property
-    def hint(self) -> Decoder | None:
-        ...
-
-    @property
-    def decoders(self) -> Mapping[str, Decoder]:
-        ...
-
-    @property
-    def deadline(self) -> float | None:
-        ...
-
-    @property
-    def context(self) -> Context:
-        ...
-
-    @property
-    def control(self) -> Control:
-        ...
-
-
-@dataclasses.dataclass(frozen=True, slots=True)
-class Told:
-    """All of it at once, for a task of which nothing else is here."""
-
-    saga: str
-    key: str
-    name: str
-    undo: bool
-    attempt: int
-    saga_token: str
-    input: str
-    given: Mapping[str, str]
-    own: str | None
-    hint: Decoder | None = None
-    decoders: Mapping[str, Decoder] = dataclasses.field(default_factory=dict)
-    deadline: float | None = None
-    context: Context = dataclasses.field(default_factory=lambda: Context(ELSEWHERE))
-    control: Control = dataclasses.field(default_factory=Control)
-
-
-def whole(about: About) -> Told:
-    """As it is now, whatever becomes of it."""
-    return Told(
-        about.saga, about.key, about.name, about.undo, about.attempt, about.saga_token, about.input,
-        about.given, about.own, about.hint, about.decoders, about.deadline, about.context,
-        about.control,
-    )  # fmt: skip
 
 
 class Task(Generic[I]):
@@ -167,6 +73,15 @@ class Task(Generic[I]):
         """When the saga is aborted if it has not ended, or None. It has a time zone."""
         at = self._about.deadline
         return None if at is None else datetime.datetime.fromtimestamp(at, datetime.timezone.utc)
+
+    @property
+    def traceparent(self) -> str | None:
+        """The W3C trace context that the saga was started in, or None.
+
+        Hand it on as the header `traceparent`. Where `opentelemetry-api` is installed, the span of
+        this attempt is a child of it, and is current while the function runs.
+        """
+        return self._about.traceparent
 
     def __reduce__(self) -> tuple[type[Task[Any]], tuple[Told]]:
         """A copy, or one for another process, knows all of it, and has no connection and no
@@ -306,7 +221,10 @@ class Task(Generic[I]):
         Raises:
             CannotDecode: A stored result does not fit its step's type.
         """
-        return {name: self._kept(name, text) for name, text in self._texts.items()}
+        texts, place = self._texts, self._about.place
+        if place is None:
+            return {name: self._kept(name, text) for name, text in texts.items()}
+        return {name: self._kept(step, texts[step]) for name, step in place.visible(texts)}
 
     def _kept(self, name: str, text: str) -> Any:
         """A step's result. Raises `CannotDecode`."""
@@ -337,13 +255,16 @@ class Task(Generic[I]):
 
     @property
     def plain(self) -> dict[str, Any]:
-        """`input`, `results` and `result` as JSON values, for a worker elsewhere."""
-        about = self._about
-        result = None if about.own is None else serialization.read(about.own)
+        """`input`, `item`, `results` and `result` as JSON values, for a worker elsewhere."""
+        about, texts, place = self._about, self._texts, self._about.place
+        names = place.visible(texts) if place else ((name, name) for name in texts)
+        results = {name: serialization.read(texts[step]) for name, step in names}
         return {
+            "declared_step": self.declared_step,
+            **(place.plain if place else NO_ITEM),
             "input": serialization.read(about.input),
-            "results": {name: serialization.read(text) for name, text in self._texts.items()},
-            "result": result,
+            "results": results | dict(place.groups(texts)) if place else results,
+            "result": None if about.own is None else serialization.read(about.own),
         }
 
     @property
@@ -361,25 +282,35 @@ class Task(Generic[I]):
         return told | {"input": about.input, "results": self._texts, "result": about.own}
 
     @overload
-    def result_of(self, step: Step[R]) -> R:
+    def result_of(self, step: Selection[R]) -> R:
         ...
 
     @overload
     def result_of(self, step: str) -> Any:
         ...
 
-    def result_of(self, step: Step[Any] | str) -> Any:
+    def result_of(self, step: Selection[Any] | str) -> Any:
         """Return the result of a step that this one needs, directly or not.
 
         Args:
-            step: The step, or its name.
+            step: The step, or its name. Of a fan-out: a list, or a dict by the keys of its items;
+                `ship.each`: that of the same item; `hotel[room]`: that of an included saga's step.
 
         Raises:
-            KeyError: This step does not need it.
+            KeyError: This step does not need it, or it is not there for this input.
             ResultNotSerializable: The result could not be stored.
+            StepFailed: The item failed, and its failure was collected.
             CannotDecode: The stored result does not fit the step's type.
         """
-        name = step if isinstance(step, str) else step.name
+        place = self._about.place
+        if place is None:
+            return self._result(step if isinstance(step, str) else step.path[0])
+        if isinstance(step, Collection):
+            return of_names(place.gather(step, str), self._result)
+        return place.gather(step, self._result)
+
+    def _result(self, name: str) -> Any:
+        """The result of one step, by its whole name."""
         about = self._about
         text = self._texts.get(name)
         if text is None:
@@ -389,10 +320,70 @@ class Task(Generic[I]):
                 raise KeyError(f"step {about.name!r} does not need {name!r}. Add it to needs=")
         try:
             return serialization.returned(text, about.decoders.get(name), name)
-        except ResultNotSerializable:
+        except (ResultNotSerializable, StepFailed):
             raise
         except Exception as error:  # of the type's own code
             raise self._unread(f"result of {name!r}", error) from None
+
+    # -- of an item
+
+    @property
+    def has_item(self) -> bool:
+        """Whether its step has an item: it was declared with `for_each=`."""
+        place = self._about.place
+        return place is not None and place.spot.number is not None
+
+    def _placed(self) -> Place:
+        place = self._about.place
+        if place is None or not self.has_item:
+            raise RuntimeError(f"step {self.step!r} has no item. Declare it with for_each=")
+        return place
+
+    @property
+    def item(self) -> Any:
+        """The item of a step with `for_each=`: a new object at each access.
+
+        Raises:
+            RuntimeError: The step has no item.
+            CannotDecode: The stored item does not fit the type of the hint.
+        """
+        place = self._placed()
+        try:
+            return place.item()
+        except Exception as error:  # of the type's own code
+            raise self._unread("item", error) from None
+
+    @property
+    def index(self) -> int | str:
+        """The number of its item in the list, from 0, or the item's key in the dict.
+
+        Raises:
+            RuntimeError: The step has no item.
+        """
+        index = self._placed().index
+        assert index is not None
+        return index
+
+    @property
+    def declared_step(self) -> str:
+        """The name with which the step was declared.
+
+        `ship` of `ship-0`; `hotel/room` of a step of an included saga.
+        """
+        place = self._about.place
+        return self.step if place is None else place.spot.declared
+
+    @property
+    def given(self) -> Any:
+        """What `given=` of `Saga.include` returns for this task.
+
+        None in a saga that is not included.
+
+        Raises:
+            Exception: Whatever that function raises.
+        """
+        place = self._about.place
+        return None if place is None else place.given(self._about)
 
     def __repr__(self) -> str:
         return f"<task {self.attempt_id} of {self.key!r}>"

@@ -11,9 +11,10 @@ from typing import TYPE_CHECKING, Any
 
 from sagas.base.errors import DefinitionError
 from sagas.definition import children, decoders, validation
+from sagas.definition.about import Told
 from sagas.definition.saga import Saga
-from sagas.definition.step import NEVER, Cost, Step
-from sagas.definition.task import Task, Told
+from sagas.definition.step import NEVER, CostOf, Step
+from sagas.definition.task import Task
 
 if TYPE_CHECKING:
     from sagas.definition.decoders import Decoder
@@ -43,6 +44,12 @@ def undo_saga(child: Saga) -> Saga | None:
     Raises:
         DefinitionError: The workers of a queue call a compensation: they do not know this saga.
     """
+    if child.is_shaped:
+        raise validation.of_saga(
+            child,
+            "its steps come from its input, so no saga can undo it as a child. Give the step that "
+            "starts it a compensation of its own, or undo=sagas.NEVER",
+        )
     undone = {step.name: step for step in _undone(child)}
     if not undone:
         return None
@@ -127,7 +134,7 @@ def _declare(saga: Saga, step: Step[Any], needs: list[str], below: set[str]) -> 
     manner = dataclasses.replace(
         step.undo, function=function and _undoing(function, step, below), implied=False
     )
-    costs: dict[str, Cost | None] = {
+    costs: dict[str, CostOf | None] = {
         "run": step.cost("undo"),
         "undo": NEVER,
         "skip": skip,

@@ -7,19 +7,20 @@ import difflib
 import inspect
 import re
 import sys
-from collections.abc import Iterable, Iterator
+from collections.abc import Iterable, Iterator, Sequence
 from typing import TYPE_CHECKING, Any
 
 from sagas.base.errors import DefinitionError
 
 if TYPE_CHECKING:
+    from sagas.definition.parts import Part
     from sagas.definition.saga import Saga
     from sagas.definition.step import Bounds, Manner, Step
 
 NAME = re.compile(r"[a-z][a-z0-9_-]{0,31}\Z")
 NAMES = "invalid name: use 1 to 32 characters a-z, 0-9, _ or -, starting with a letter"
 MOST_TOLD = 8  # steps
-MOST_PLACES, MOST_SECONDS, MOST_WITHIN = 10_000, 31 * 86400, 1e11
+MOST_PLACES, MOST_SECONDS = 10_000, 31 * 86400
 ON_EXHAUSTED = ("fail", "ask", "retry")
 MOST_STEPS, MOST_NEEDS, MOST_COST, MOST_TRIES = 1024, 8192, 1_000_000_000, 9
 
@@ -40,7 +41,7 @@ def of_saga(saga: Saga, text: str) -> DefinitionError:
     return DefinitionError(f"{saga.where}: saga {saga.name!r}: {text}")
 
 
-def of_step(step: Step[Any], text: str, where: str | None = None) -> DefinitionError:
+def of_step(step: Part, text: str, where: str | None = None) -> DefinitionError:
     return DefinitionError(
         f"{where or step.where}: saga {step.saga.name!r}, step {step.name!r}: {text}"
     )
@@ -74,24 +75,23 @@ def check_name(saga: Saga) -> None:
 
 def check_step(step: Step[Any]) -> None:
     """What can be seen when the step is declared."""
-    from sagas.definition.step import NEVER
+    from sagas.definition import shape_validation
 
-    if not isinstance(step.name, str) or not NAME.match(step.name):
-        raise of_step(step, f"{NAMES}. Set name=")
-    if any(other.name == step.name for other in step.saga.steps):
-        raise of_step(step, "another step has this name. Set another name=")
-    for word, cost in step._costs.items():
-        if cost is None or cost is NEVER:
-            continue
-        if not is_count(cost) or not 0 <= cost <= MOST_COST:
-            raise of_step(
-                step,
-                f"{word}={cost!r}: must be an integer from 0 to {MOST_COST:,}, or sagas.NEVER",
-            )
+    check_part_name(step)
+    shape_validation.check_costs(step)
+    shape_validation.check_part(step)
     if step.concurrency is not None and (not is_count(step.concurrency) or step.concurrency < 1):
         raise of_step(step, f"concurrency={step.concurrency!r}: must be an integer >= 1")
-    _check_needs(step)
+    check_needs(step)
     check_manner(step, step.run, "function", step.where)
+
+
+def check_part_name(part: Part) -> None:
+    """The name of a step, or of an inclusion."""
+    if not isinstance(part.name, str) or not NAME.match(part.name):
+        raise of_step(part, f"{NAMES}. Set name=")
+    if any(other.name == part.name for other in part.saga.parts):
+        raise of_step(part, "another step has this name. Set another name=")
 
 
 def check_key(by: object, where: str) -> None:
@@ -157,8 +157,12 @@ def check_bounds(step: Step[Any], bounds: Bounds) -> None:
         )
 
 
-def _check_needs(step: Step[Any]) -> None:
-    from sagas.definition.step import Decorator, Step
+def check_needs(step: Part) -> None:
+    """What a step, or an inclusion, needs."""
+    from sagas.definition.collection import Collection
+    from sagas.definition.decorators import Decorator
+    from sagas.definition.parts import Each, Inclusion
+    from sagas.definition.step import Step
 
     seen = set()
     for need in step._needs:
@@ -168,13 +172,13 @@ def _check_needs(step: Step[Any]) -> None:
                 f"needs {need.what}(...) of {need.where}, which is a decorator. Apply it to a "
                 "function, and need the step that this makes",
             )
-        if isinstance(need, Step) and need.saga is not step.saga:
+        if isinstance(need, (Step, Each, Inclusion, Collection)) and need.saga is not step.saga:
             raise of_step(
                 step,
                 f"needs {need.name!r} of saga {need.saga.name!r}. A step can need only steps "
                 "of its own saga",
             )
-        if not isinstance(need, (Step, str)):
+        if not isinstance(need, (Step, Each, Inclusion, Collection, str)):
             remedy = f". Declare it with @{step.saga.name}.step" if inspect.isfunction(need) else ""
             raise of_step(step, f"needs {need!r}, which is not a step or a step's name{remedy}")
         name = need if isinstance(need, str) else need.name
@@ -285,28 +289,13 @@ def _function_faults(manner: Manner, what: str) -> Iterator[str]:
         yield f"its {what} is a generator, {rule}"
 
 
-def check_until(step: Step[Any], until: object) -> None:
-    if isinstance(until, datetime.datetime):
-        if until.tzinfo is None:
-            raise of_step(
-                step,
-                f"until={until!r}: it has no time zone. Give one, for example "
-                "datetime.timezone.utc",
-            )
-    elif not isinstance(until, datetime.timedelta) and (
-        not callable(until) or inspect.iscoroutinefunction(until)
-    ):
-        raise of_step(
-            step,
-            f"until={until!r}: must be a timedelta, a datetime, or a plain function of "
-            "the task that returns one",
-        )
-
-
 def check_saga(saga: Saga) -> None:
     """What can be seen only once all steps are there."""
-    from sagas.definition.step import NEVER
+    if saga.is_shaped:
+        from sagas.definition import shape_validation
 
+        shape_validation.check_shaped(saga)
+        return
     for left in saga.decorators:
         named = f", step {left.name!r}" if left.name else ""
         raise DefinitionError(
@@ -331,16 +320,24 @@ def check_saga(saga: Saga) -> None:
         for need in step.needs:
             if need not in names:
                 raise of_step(step, f"needs unknown step {need!r}{meant(need, names)}")
-        undo = step._costs["undo"]
-        if undo is not None and undo is not NEVER and not step.has_compensation:
-            remedy = f"Declare @{step.name}.compensation, or set undo=0 if there is nothing to undo"
-            raise of_step(step, f"undo={undo!r}, but it has no compensation. {remedy}")
-    _check_cycles(saga)
+        check_compensation(step)
+    check_cycles(saga.steps)
 
 
-def _check_cycles(saga: Saga) -> None:
+def check_compensation(step: Step[Any]) -> None:
+    """A step that costs something to undo has what undoes it."""
+    from sagas.definition.step import NEVER
+
+    undo = step._costs["undo"]
+    if undo is not None and undo is not NEVER and not step.has_compensation:
+        remedy = f"Declare @{step.name}.compensation, or set undo=0 if there is nothing to undo"
+        raise of_step(step, f"undo={undo!r}, but it has no compensation. {remedy}")
+
+
+def check_cycles(parts: Sequence[Part]) -> None:
+    """No step needs itself, directly or not."""
     done: set[str] = set()
-    left = list(saga.steps)
+    left = list(parts)
     while left:
         still = [step for step in left if not all(need in done for need in step.needs)]
         if len(still) == len(left):
@@ -356,7 +353,7 @@ def _check_cycles(saga: Saga) -> None:
         left = still
 
 
-def _cycle(steps: list[Step[Any]]) -> list[Step[Any]]:
+def _cycle(steps: list[Part]) -> list[Part]:
     """A cycle among steps each of which needs one of them, from a step to that step again."""
     left = {step.name: step for step in steps}
     way = [steps[0]]
@@ -371,19 +368,3 @@ def meant(name: str, names: Iterable[str]) -> str:
     """The name that is most like it, for a name that was probably misspelt."""
     near = difflib.get_close_matches(name, names, 1)
     return f"; did you mean {near[0]!r}?" if near else ""
-
-
-def approval_timeout(step: Step[Any], timeout: object) -> datetime.timedelta | None:
-    """How long an approval waits."""
-    time = (
-        datetime.timedelta(seconds=timeout)
-        if isinstance(timeout, (int, float))
-        and not isinstance(timeout, bool)
-        and abs(timeout) < MOST_WITHIN
-        else timeout
-    )
-    if time is not None and not (
-        isinstance(time, datetime.timedelta) and time > datetime.timedelta(0)
-    ):
-        raise of_step(step, f"timeout={timeout!r}: must be seconds or a timedelta, > 0")
-    return time

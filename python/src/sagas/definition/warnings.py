@@ -16,6 +16,8 @@ if TYPE_CHECKING:
 def warnings(saga: Saga) -> list[str]:
     """What is sound and probably not meant, each by file and line."""
     check_saga(saga)
+    if saga.is_shaped:  # what else may be meant otherwise depends on the input
+        return [*_unread(saga), *_short(saga), *_left_out(saga)]
     unfit = capacity.unfit(saga)
     found = [f"{saga.where}: {unfit}"] if unfit else []
     stays = _stays(saga)
@@ -28,9 +30,24 @@ def warnings(saga: Saga) -> list[str]:
     ]
 
 
+def _left_out(saga: Saga) -> Iterator[str]:
+    """Fan-outs of which a failure leaves out what has not begun, so that timing decides."""
+    for step in saga.steps:
+        run, skip = step.declared_cost("run"), step.declared_cost("skip")
+        is_known = isinstance(run, int) and isinstance(skip, int)
+        is_fan_out = step.for_each is not None and not step.is_collected
+        if is_fan_out and is_known and skip <= run:  # type: ignore[operator]
+            yield (
+                f"{step.where}: saga {saga.name!r}, step {step.name!r}: if something fails, items "
+                f"that have not begun are left out, because skip={skip} is not more than "
+                f"run={run}. How many that are depends on timing. Set skip= to more to have all "
+                "items done, or need sagas.collect(...) to go on with those that succeed"
+            )
+
+
 def _short(saga: Saga) -> Iterator[str]:
     """Pauses that are shorter than they are said to be, since nobody said what is the longest."""
-    for step in saga.steps:
+    for step in saga.all_steps:
         for what, manner in (("function", step.run), ("compensation", step.undo)):
             first, most = manner.backoff.initial, manner.backoff.maximum
             if manner.tries > 1 and first > most:
@@ -43,7 +60,7 @@ def _short(saga: Saga) -> Iterator[str]:
 
 def _unread(saga: Saga) -> Iterator[str]:
     """Type hints that cannot be read, of names that are there for the checker alone."""
-    for step in saga.steps:
+    for step in saga.all_steps:
         for function in (step.run.function, step.undo.function):
             unread = decoders.unread(function) if function else None
             if unread:

@@ -24,18 +24,18 @@ CAUSE = """(SELECT x.value FROM attempts x WHERE x.id = s.id AND x.event = 'fail
   ORDER BY x.at DESC, x.step LIMIT 1)"""
 """What the step raised that failed last."""
 STUCK = f"""
-SELECT s.id, -1 AS place, s.key, s.saga, l.definition_set, s.definition_index, '' AS action,
+SELECT s.id, -1 AS place, s.key, s.saga, d.definition, '' AS action,
   s.outcome, {CAUSE}, s.ended, NULL
 FROM sagas s {OF_SHARD} WHERE {PHASES["stuck"]}
 """
 UNDO_FAILED = f"""
-SELECT s.id, r.step, s.key, s.saga, l.definition_set, s.definition_index, 'undo', NULL, r.value,
+SELECT s.id, r.step, s.key, s.saga, d.definition, 'undo', NULL, r.value,
   r.at, NULL
 FROM sagas s JOIN attempts r ON r.id = s.id AND r.event = 'undo_fail' {OF_SHARD}
 WHERE {PHASES["undo_failed"]}
 """
 HELD = f"""
-SELECT s.id, h.step, s.key, s.saga, l.definition_set, s.definition_index, h.action, NULL, h.detail,
+SELECT s.id, h.step, s.key, s.saga, d.definition, h.action, NULL, h.detail,
   h.since, h.until
 FROM suspensions h JOIN sagas s ON s.id = h.id AND s.phase IS NULL {OF_SHARD}
 WHERE h.reason = """
@@ -106,7 +106,7 @@ def entries(
     wanted = most if step is None else MOST_GROUPED
     query = " AND ".join([text, *wheres]) + f" {order} LIMIT ?"
     rows = yield Query(query, (*words, wanted))
-    names = yield from names_module.of_sets(row[4] for row in rows)
+    names = yield from names_module.of_digests(row[4] for row in rows)
     found = (_entry(kind, names, *row) for row in rows if row[4] in names)
     return [one for one in found if step in (None, one.step)][:most]
 
@@ -118,10 +118,10 @@ def _among(of: Filter) -> tuple[list[str], list[Any]]:
 
 
 def _entry(
-    kind: str, names: Names, id: int, place: int, key: str, saga: str, digest: str, index: int,
+    kind: str, names: Names, id: int, place: int, key: str, saga: str, digest: str,
     action: str, outcome: str | None, detail: str | None, *times: Any,
 ) -> Entry:  # fmt: skip
-    steps = names.of(digest, index)
+    steps = names.of(digest)
     blocking = chain_of(steps, outcome) if kind == AttentionReason.STUCK else []
     if detail is not None and kind in (AttentionReason.STUCK, AttentionReason.UNDO_FAILED):
         detail = str((json.loads(detail) or {}).get("error", ""))

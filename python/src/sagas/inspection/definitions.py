@@ -6,9 +6,9 @@ import dataclasses
 import json
 from collections import Counter
 
-from sagas.definition.capacity import SHARD_CAPACITY
 from sagas.inspection import names as names_module
 from sagas.inspection.lists import PERSON, WAITS
+from sagas.inspection.names import OF_SHARD
 from sagas.inspection.question import Query, Question
 from sagas.storage.queries import PHASES
 
@@ -16,23 +16,23 @@ MOST, MOST_FAILED = 5000, 2000
 """Sagas that were recovered last: of so many the costs are added, and the failures looked up."""
 DAY = 86400.0
 DAYS = 14
-AT = f"s.id / {SHARD_CAPACITY}, s.definition_index"
+AT = "d.definition"
 HELD = f"""
 SELECT {AT}, h.step, CASE WHEN {PERSON} THEN 'person' ELSE 'waits' END, count(*)
-FROM suspensions h CROSS JOIN sagas s
-WHERE s.id = h.id AND {WAITS} AND s.saga = ? GROUP BY 1, 2, 3, 4
+FROM suspensions h CROSS JOIN sagas s {OF_SHARD}
+WHERE s.id = h.id AND {WAITS} AND s.saga = ? GROUP BY 1, 2, 3
 """
 OFFERED = f"""
 SELECT {AT}, e.step, CASE WHEN e.worker IS NULL THEN 'waits' ELSE 'worker' END, count(*)
-FROM external_attempts e CROSS JOIN sagas s
+FROM external_attempts e CROSS JOIN sagas s {OF_SHARD}
 WHERE s.id = e.id AND e.outcome IS NULL AND s.saga = ?
-GROUP BY 1, 2, 3, 4
+GROUP BY 1, 2, 3
 """
 FAILED = f"""
 SELECT {AT}, r.step, 'failed', count(*) FROM (
   SELECT id, definition_index FROM sagas s
   WHERE saga = ? AND {{}} ORDER BY id DESC LIMIT {MOST_FAILED}) s
-JOIN attempts r ON r.id = s.id AND r.event IN ('fail', 'undo_fail') GROUP BY 1, 2, 3
+{OF_SHARD} JOIN attempts r ON r.id = s.id AND r.event IN ('fail', 'undo_fail') GROUP BY 1, 2
 """
 WITH_FAILURES = (
     FAILED.format(PHASES["open"]),
@@ -68,11 +68,11 @@ def at_steps(name: str) -> Question[dict[str, AtStep]]:
     rows = []
     for text in (HELD, OFFERED, *WITH_FAILURES):
         rows += yield Query(text, (name,))
-    digests = yield from names_module.of_shards(shard for shard, *_ in rows)
-    names, found = (yield from names_module.of_sets(digests.values())), dict[str, Counter[str]]()
-    for shard, place, step, what, count in rows:
-        if shard in digests and digests[shard] in names:  # else it was let go meanwhile
-            named = names.of(digests[shard], place)[step]
+    names = yield from names_module.of_digests(digest for digest, *_ in rows)
+    found = dict[str, Counter[str]]()
+    for digest, step, what, count in rows:
+        if digest in names:  # else it was let go meanwhile
+            named = names.of(digest)[step]
             found.setdefault(named, Counter())[what] += count
     return {step: AtStep(**counts) for step, counts in found.items()}
 

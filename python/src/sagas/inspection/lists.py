@@ -100,24 +100,24 @@ def counts() -> Question[Counts]:
     return dict(sorted(found.items()))
 
 
+HEADS = "SELECT definition, substr(text, 1, 40) FROM definitions"
+"""Of each definition as much as its version stands in."""
+
+
 def definitions() -> Question[list[DefinitionCount]]:
     """How many sagas there are of each version of each definition, by name and version."""
-    texts = dict[str, list[str]]()
-    rows = yield Query("SELECT definition_set, texts FROM definition_sets")
-    for digest, told in rows:
-        texts[digest] = json.loads(told)
     rows = yield Query(
         f"""
-        SELECT l.definition_set, s.saga, s.definition_index, count(*),
-          count(CASE WHEN s.phase IS NULL THEN 1 END)
-        FROM sagas s JOIN shards l ON l.shard = s.id / {SHARD_CAPACITY} GROUP BY 1, 2, 3
+        SELECT d.definition, s.saga, count(*), count(CASE WHEN s.phase IS NULL THEN 1 END)
+        FROM sagas s {OF_SHARD} GROUP BY 1, 2
         """,
         is_long=True,
     )
+    heads: dict[str, str] = {digest: head for digest, head in (yield Query(HEADS, is_long=True))}
     found = dict[tuple[str, int], tuple[int, int]]()
-    for digest, saga, place, total, open in rows:
-        if digest in texts:  # else it was let go meanwhile
-            name = saga, version_of(texts[digest][place])
+    for digest, saga, total, open in rows:
+        if digest in heads:  # else it was let go meanwhile
+            name = saga, version_of(heads[digest])
             before = found.get(name, (0, 0))
             found[name] = open + before[0], total + before[1]
     return [DefinitionCount(*name, *counts) for name, counts in sorted(found.items())]
@@ -217,22 +217,22 @@ def waits(
         held, keys = SUSPENDED.format(**of), [key, key] if key is not None else []
     rows = yield Query(
         f"""
-        SELECT s.key, s.saga, l.definition_set, s.definition_index, {HELD}
+        SELECT s.key, s.saga, d.definition, {HELD}
         FROM {held} h JOIN sagas s ON s.id = h.id {OF_SHARD}
         WHERE {' AND '.join(wheres)} ORDER BY h.since LIMIT ?
         """,
         (*keys, *words, most),
     )
-    names = yield from names_module.of_sets(row[2] for row in rows)
+    names = yield from names_module.of_digests(row[2] for row in rows)
     return [_waits(names, *row) for row in rows if row[2] in names]
 
 
 def _waits(
-    names: Names, key: str, saga: str, digest: str, place: int,
+    names: Names, key: str, saga: str, digest: str,
     id: int, step: int, action: str, number: int, why: str, count: int, *times: Any,
 ) -> Waits:  # fmt: skip
     since, until, detail = times
-    name = names.of(digest, place)[step]
+    name = names.of(digest)[step]
     told = why, count, since, until, detail
     return Waits(id, key, saga, name, action == "undo", number, *told)
 
@@ -241,15 +241,15 @@ def stuck(most: int = MOST, sagas: Definitions = None) -> Question[list[tuple[Su
     """The stuck sagas that nobody has resolved, with the chain of each, the oldest first."""
     rows = yield Query(
         f"""
-        SELECT {SUMMARY}, l.definition_set, s.definition_index, s.outcome FROM sagas s {OF_SHARD}
+        SELECT {SUMMARY}, d.definition, s.outcome FROM sagas s {OF_SHARD}
         WHERE {PHASES["stuck"]} AND {among(sagas)} ORDER BY s.id LIMIT ?
         """,
         (*(sagas or ()), most),
     )
-    names = yield from names_module.of_sets(row[-3] for row in rows)
+    names = yield from names_module.of_digests(row[-2] for row in rows)
     return [
-        (summary_of((*columns,)), chain_of(names.of(digest, place), end))
-        for *columns, digest, place, end in rows
+        (summary_of((*columns,)), chain_of(names.of(digest), end))
+        for *columns, digest, end in rows
         if digest in names
     ]
 
@@ -264,18 +264,18 @@ def stuck_results(kind_of: Callable[[str], Kind], most: int) -> Question[list[Sa
     """As `stuck`, with all that is kept of the end of each."""
     rows = yield Query(
         f"""
-        SELECT {SAGA}, l.definition_set FROM sagas s {OF_SHARD}
+        SELECT {SAGA}, d.definition FROM sagas s {OF_SHARD}
         WHERE {PHASES["stuck"]} ORDER BY s.id LIMIT ?
         """,
         (most,),
     )
-    names = yield from names_module.of_sets(row[-1] for row in rows)
+    names = yield from names_module.of_digests(row[-1] for row in rows)
     found = []
     for *columns, digest in rows:
         row = SagaRow(*columns)
         attempts = yield Query(RESULTS, (row.id,))
         if digest in names:
-            found.append(end_of(kind_of(names.text(digest, row.place)), row, attempts))
+            found.append(end_of(kind_of(names.text(digest)), row, attempts))
     return found
 
 
@@ -283,18 +283,19 @@ def unknown(most: int) -> Question[list[UnknownAttempt]]:
     """The attempts with an unknown outcome; first those that a person has to report."""
     rows = yield Query(
         f"""
-        SELECT s.key, s.saga, l.definition_set, s.definition_index, l.name, {HELD}
+        SELECT s.key, s.saga, d.definition, l.name, {HELD}
         FROM suspensions h JOIN sagas s ON s.id = h.id {OF_SHARD}
-        WHERE h.reason = 'unknown' ORDER BY h.until IS NOT NULL, h.since LIMIT ?
+        JOIN shards l ON l.shard = d.shard WHERE h.reason = 'unknown'
+        ORDER BY h.until IS NOT NULL, h.since LIMIT ?
         """,
         (most,),
     )
-    names = yield from names_module.of_sets(row[2] for row in rows)
+    names = yield from names_module.of_digests(row[2] for row in rows)
     found = []
-    for key_of, saga, digest, place, log, id, step, action, number, _, *told in rows:
+    for key_of, saga, digest, log, id, step, action, number, _, *told in rows:
         if digest not in names:
             continue
-        name = names.of(digest, place)[step]
+        name = names.of(digest)[step]
         key = tokens.idempotency_key(tokens.saga_token(log, id % SHARD_CAPACITY), name, action)
         token = tokens.attempt_id(key, number)
         found.append(UnknownAttempt(key_of, saga, name, action == "undo", number, token, *told))
@@ -304,12 +305,12 @@ def unknown(most: int) -> Question[list[UnknownAttempt]]:
 def attention(most: int = MOST) -> Question[list[Attention]]:
     """What needs a person, the oldest first."""
     stuck_sagas = f"""
-        SELECT s.key, s.saga, l.definition_set, s.definition_index, 'stuck', NULL, NULL, s.outcome,
+        SELECT s.key, s.saga, d.definition, 'stuck', NULL, NULL, s.outcome,
           s.ended
         FROM sagas s {OF_SHARD} WHERE {PHASES["stuck"]} ORDER BY s.id LIMIT ?
         """
     attempts = f"""
-        SELECT s.key, s.saga, l.definition_set, s.definition_index,
+        SELECT s.key, s.saga, d.definition,
           h.reason, h.step, h.action, h.detail, h.since
         FROM suspensions h JOIN sagas s ON s.id = h.id {OF_SHARD}
         WHERE {HELD_BADLY} ORDER BY h.since LIMIT ?
@@ -342,7 +343,7 @@ def undone_query(most: int, sagas: Definitions = None) -> Query:
     """Asks for compensations that failed permanently."""
     return Query(
         f"""
-        SELECT s.key, s.saga, l.definition_set, s.definition_index,
+        SELECT s.key, s.saga, d.definition,
           'undo_failed', r.step, 'undo', r.value, r.at
         FROM sagas s JOIN attempts r ON r.id = s.id AND r.event = 'undo_fail' {OF_SHARD}
         WHERE {PHASES["undo_failed"]} AND {among(sagas)} ORDER BY s.id, r.step LIMIT ?
@@ -356,12 +357,12 @@ def _entries(
 ) -> Question[list[Attention]]:
     """`errors`: by the key of a stuck saga and a step, what that raised last, and whether its
     compensation did."""
-    names = yield from names_module.of_sets(row[2] for row in rows)
+    names = yield from names_module.of_digests(row[2] for row in rows)
     found = []
-    for key, saga, digest, place, word, step, action, told, since in rows:
+    for key, saga, digest, word, step, action, told, since in rows:
         if digest not in names:
             continue
-        why, steps = AttentionReason(word), names.of(digest, place)
+        why, steps = AttentionReason(word), names.of(digest)
         name, detail, undo = None if step is None else steps[step], told, action == "undo"
         if why is AttentionReason.STUCK:
             chain = chain_of(steps, told)

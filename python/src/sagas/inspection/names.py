@@ -2,39 +2,38 @@
 
 from __future__ import annotations
 
-import json
 from collections.abc import Iterable
 
 import tomllib
 
-from sagas.definition.capacity import SHARD_CAPACITY
 from sagas.inspection.question import Query, Question
+from sagas.storage.queries import OF_SHARD as OF_SHARD
 
-OF_SHARD = f"JOIN shards l ON l.shard = s.id / {SHARD_CAPACITY}"
-"""Beside a saga `s` its shard, which names the set of its definitions."""
+MANY = 500
+"""Definitions that are asked for at once."""
 
 
 class Names:
-    """The names of steps, by the digest of a shard's definitions and the place of one.
+    """The names of steps, by the digest of a definition.
 
-    A set that was let go meanwhile has none: its sagas are gone with it."""
+    One that was let go meanwhile has none: its sagas are gone with it."""
 
-    def __init__(self, texts: dict[str, list[str]]) -> None:
+    def __init__(self, texts: dict[str, str]) -> None:
         self._texts = texts
-        self._names: dict[tuple[str, int], list[str]] = {}
+        self._names: dict[str, list[str]] = {}
 
     def __contains__(self, digest: str) -> bool:
         return digest in self._texts
 
-    def text(self, digest: str, place: int) -> str:
+    def text(self, digest: str) -> str:
         """A definition."""
-        return self._texts[digest][place]
+        return self._texts[digest]
 
-    def of(self, digest: str, place: int) -> list[str]:
+    def of(self, digest: str) -> list[str]:
         """The names of a definition's steps. A text is read once."""
-        if (digest, place) not in self._names:
-            self._names[digest, place] = step_names(self.text(digest, place))
-        return self._names[digest, place]
+        if digest not in self._names:
+            self._names[digest] = step_names(self.text(digest))
+        return self._names[digest]
 
 
 def step_names(definition: str) -> list[str]:
@@ -42,22 +41,13 @@ def step_names(definition: str) -> list[str]:
     return [str(step["name"]) for step in tomllib.loads(definition)["step"]]
 
 
-def of_sets(digests: Iterable[str]) -> Question[Names]:
-    """The definitions of these sets."""
-    some = sorted(set(digests))
-    if not some:
-        return Names({})
-    marks = ", ".join("?" * len(some))
-    text = f"SELECT definition_set, texts FROM definition_sets WHERE definition_set IN ({marks})"
-    rows = yield Query(text, (*some,))
-    return Names({digest: json.loads(texts) for digest, texts in rows})
-
-
-def of_shards(shards: Iterable[int]) -> Question[dict[int, str]]:
-    """The digest of each shard's definitions."""
-    some = sorted(set(shards))
-    if not some:
-        return {}
-    text = "SELECT shard, definition_set FROM shards WHERE shard >= ? AND shard <= ?"
-    rows = yield Query(text, (some[0], some[-1]))
-    return {shard: digest for shard, digest in rows}
+def of_digests(digests: Iterable[str]) -> Question[Names]:
+    """The definitions with these digests."""
+    some, found = sorted(set(digests)), dict[str, str]()
+    for place in range(0, len(some), MANY):
+        lot = some[place : place + MANY]
+        marks = ", ".join("?" * len(lot))
+        text = f"SELECT definition, text FROM definitions WHERE definition IN ({marks})"
+        rows = yield Query(text, (*lot,))
+        found |= dict(rows)  # type: ignore[arg-type]
+    return Names(found)

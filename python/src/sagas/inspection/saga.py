@@ -74,8 +74,7 @@ def definition(id: int) -> Question[str]:
     rows = yield Query(queries.DEFINITION, (id,))
     if not rows:
         raise NoSuchSaga(f"the saga {id} is not kept any more")
-    ((texts, place),) = rows
-    return str(json.loads(texts)[place])
+    return str(rows[0][0])
 
 
 def _token(id: int) -> Question[str]:

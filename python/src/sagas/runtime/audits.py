@@ -3,7 +3,6 @@
 from __future__ import annotations
 
 import asyncio
-import json
 from collections.abc import Callable
 
 from sagas.base import program
@@ -13,12 +12,10 @@ from sagas.core import protocol
 from sagas.core.batch import Batch
 from sagas.core.shard import ShardDriver
 from sagas.runtime.commit_queue import CommitQueue
+from sagas.storage import queries
 from sagas.storage.interface import Database
 
-EACH = (
-    "SELECT shard, name, texts FROM shards JOIN definition_sets USING (definition_set) "
-    "ORDER BY shard"
-)
+EACH = "SELECT shard, name FROM shards ORDER BY shard"
 FIRST_PAUSE, MOST_PAUSE = 1.0, 300.0
 """Seconds until a shard is closed again that could not be."""
 
@@ -80,7 +77,7 @@ class Auditor:
     async def _close(self, driver: ShardDriver) -> None:
         async with self._turn:
             text = await self._store.text(driver.number)
-            is_good, said = await verdict(self._program, text, driver.identity.texts)
+            is_good, said = await verdict(self._program, text, driver.identity.definitions.texts)
         if not is_good:
             self._teller.tell("audit_failed", detail=f"shard {driver.name}: {said}")
         batch = Batch(driver.number, self._clock(), epoch=driver.epoch)
@@ -90,7 +87,8 @@ class Auditor:
     async def all_shards(self) -> dict[str, str]:
         """Return the verdict of each shard by its name."""
         found = {}
-        for number, name, texts in await self._store.read(EACH):
+        for number, name in await self._store.read(EACH):
             text = await self._store.text(number)
-            _, found[name] = await verdict(self._program, text, json.loads(texts))
+            texts = [one for _, one in await self._store.read(queries.TEXTS, number, number)]
+            _, found[name] = await verdict(self._program, text, texts)
         return found

@@ -12,7 +12,6 @@ from concurrent.futures import Executor as Threads
 from typing import Any, Protocol
 
 from sagas.base.errors import CannotDecode, Lost
-from sagas.base.events import Teller
 from sagas.base.fork_guard import private
 from sagas.base.logger import logger
 from sagas.core import outcomes, spans
@@ -21,11 +20,12 @@ from sagas.core.model import QUEUED, RUNNING, Attempt, SagaInstance, finish_all,
 from sagas.core.outcomes import Outcome
 from sagas.definition import awaitables
 from sagas.definition.step import Manner
+from sagas.definition.tracing import Tracer
 from sagas.runtime import invocation
 from sagas.runtime.current_step import CALLED
-from sagas.runtime.dispatcher import Dispatcher, Turns
+from sagas.runtime.dispatcher import Dispatcher
+from sagas.runtime.executor_host import Host
 from sagas.runtime.fleet_limits import Fleet, Gate
-from sagas.storage.interface import Database
 
 QUIET = 1.0
 """Seconds that closing may wait before it says for what."""
@@ -66,15 +66,16 @@ class Calls:
     """
 
     def __init__(
-        self, ends: Ends, store: Database, slots: Slots, fleet: Fleet, threads: Threads,
-        remote: Remote, teller: Teller, clock: Callable[[], float], turns: Turns,
+        self, ends: Ends, host: Host, slots: Slots, fleet: Fleet, threads: Threads, remote: Remote,
+        tracer: Tracer | None,
     ) -> None:  # fmt: skip
-        self._ends, self._store, self._slots, self._fleet = ends, store, slots, fleet
-        self._threads, self._remote, self._teller, self._clock = threads, remote, teller, clock
-        self._forks = private.forks
+        self._ends, self._store, self._slots, self._fleet = ends, host.store, slots, fleet
+        self._threads, self._remote = threads, remote
+        self._teller, self._clock = host.teller, host.clock
+        self._forks, self._tracer = private.forks, tracer
         self.running: dict[Attempt, asyncio.Task[None] | None] = {}
-        self._alone = Dispatcher(self, turns, self.running)
-        self._inside = Dispatcher(self, turns, self.running, store.inside)
+        self._alone = Dispatcher(self, host, self.running)
+        self._inside = Dispatcher(self, host, self.running, host.store.inside)
         self._holders: set[tuple[str, str, str]] = set()  # told that they held the loop
 
     def coming(self) -> int:
@@ -90,7 +91,7 @@ class Calls:
 
     def start(self, attempt: Attempt) -> None:
         """Call its function; it has a slot."""
-        if attempt.action.simple:
+        if attempt.action.simple and self._tracer is None:
             self.start_simple([attempt])
             return
         gate = self._fleet.gate(attempt)
@@ -104,6 +105,10 @@ class Calls:
 
     def start_simple(self, attempts: Sequence[Attempt]) -> None:
         """Call simple functions; each has a slot."""
+        if self._tracer is not None:  # each has a span, and so a task of its own
+            for attempt in attempts:
+                self.start(attempt)
+            return
         self.running.update(dict.fromkeys(attempts))
         start_all(attempts)
         inside = [attempt for attempt in attempts if attempt.action.inside]
@@ -148,7 +153,13 @@ class Calls:
             task = attempt.task()
         except CannotDecode as error:  # by the store's codec
             return outcomes.raised(error, manner)
-        return await call(attempt, manner, task, self._threads, late)
+        if self._tracer is None or manner.function is None:
+            return await call(attempt, manner, task, self._threads, late)
+        with self._tracer.attempt(task, manner.function) as span:
+            outcome = await call(attempt, manner, task, self._threads, late)
+            if outcome is not None:
+                span.ended(outcome.kind.value, outcomes.fault(outcome), outcome.error)
+            return outcome
 
     async def end(self, timeout: float | None) -> set[asyncio.Task[None]]:
         """Wait for the functions that run; return the tasks of those that are not over in time.
@@ -207,7 +218,7 @@ class Calls:
 
     def held_loop(self, attempt: Attempt, seconds: float) -> None:
         """A function held up everything else: that is told once of each."""
-        word = attempt.saga, attempt.name, attempt.kind
+        word = attempt.saga, attempt.declared_name, attempt.kind
         if word not in self._holders:
             self._holders.add(word)
             whose = "the compensation of step" if attempt.undo else "step"

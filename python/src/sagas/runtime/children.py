@@ -233,14 +233,17 @@ class Children:
         return children.undo_input(key, token, ended.kind, ended.text, ended.results)
 
     async def _options(self, attempt: Attempt, saga: Saga) -> StartOptions:
-        """The labels of the parent, and the earlier deadline; what undoes a child has none."""
+        """Labels and trace context of the parent, and the earlier deadline; what undoes a child has
+        no deadline.
+        """
         parent, now = attempt.instance, self._host.clock()
         rows = await self._host.store.read(LABELS, parent.id)
         labels: dict[str, str] = {name: value for name, value in rows}
         times = [parent.options.deadline, deadline_at(saga.deadline, now)]
         is_undoing = attempt.undo or saga.undoes is not None
         known = [] if is_undoing else [at for at in times if at is not None]
-        return StartOptions(labels, min(known, default=None), parent.id)
+        deadline = min(known, default=None)
+        return StartOptions(labels, deadline, parent.id, traceparent=parent.options.traceparent)
 
     # -- aborted
 

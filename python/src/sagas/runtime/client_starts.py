@@ -10,7 +10,7 @@ from sagas.base.errors import SagasError, StoreUnavailable
 from sagas.base.logger import logger
 from sagas.core.batch import Batch, Start
 from sagas.core.model import SagaInstance
-from sagas.definition.compiled import Shelf
+from sagas.definition.shelf import Shelf
 from sagas.definition.start_options import StartOptions
 from sagas.runtime.commit_queue import CommitQueue
 from sagas.runtime.instances import Instances
@@ -106,7 +106,7 @@ class Starts:
         return [saga.start for saga in self._sagas.by_key.values() if saga.start is not None]
 
     async def _open(self, row: Start) -> None:
-        id, key, saga, version, text, labels, deadline = row
+        id, key, saga, version, text, labels, deadline, traceparent = row
         by_key = self._sagas.by_key
         if key in by_key and by_key[key].start == id:
             return
@@ -117,16 +117,22 @@ class Starts:
             # begun here too, and not in the store yet: should that fail, this start counts
             self._doubt.doubt()
             return
-        kind = self._definitions.by_name[saga, version]
+        declared, payloads = self._definitions.sagas[saga, version], self._definitions.payloads
         if there and there.id >= 0:
             batch = Batch(-1, self._clock())
-            is_same = conflict(key, kind, text, there.saga, there.input) is None
-            batch.more.begun.append((id, there.id if is_same else None))
+            error = conflict(key, declared, text, there.saga, there.input, payloads)
+            batch.more.begun.append((id, there.id if error is None else None))
             self._commits.put_alone(batch)
+            return
+        value = payloads.decode(text)
+        kind, shape, wrong = self._definitions.fit(declared, None, value)
+        if kind is None:
+            assert wrong
+            await self._store.refuse(id, str(wrong))
             return
         if not kind.fits:  # it waits, as one of a saga that no node has
             return
-        place = self._definitions.place(kind)
-        instance = self._sagas.add(key, text, kind, place, StartOptions(labels, deadline))
+        options = StartOptions(labels, deadline, shape=shape, traceparent=traceparent)
+        instance = self._sagas.add(key, text, kind, options)
         instance.start = id
         self._place(instance)

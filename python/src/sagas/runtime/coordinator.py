@@ -15,7 +15,8 @@ from sagas.base.logger import logger
 from sagas.core.batch import Batch, LogRow
 from sagas.core.limits import Slots
 from sagas.core.shard import ShardDriver
-from sagas.definition.compiled import Shelf
+from sagas.definition.shelf import Shelf
+from sagas.definition.tracing import Tracer
 from sagas.runtime import decode_check, remote_steps
 from sagas.runtime.client_starts import Starts
 from sagas.runtime.commit_queue import CommitQueue
@@ -67,6 +68,7 @@ class Coordinator:
         teller: Teller,
         clock: Callable[[], float],
         context: Any = None,
+        tracer: Tracer | None = None,
     ) -> None:
         self.store, self.shelf, self.teller, self.clock = store, shelf, teller, clock
         self.loop = asyncio.get_running_loop()
@@ -79,7 +81,7 @@ class Coordinator:
         self._timer: asyncio.TimerHandle | None = None
         self.external = ExternalQueue(self)
         self.sagas = Instances(self.loop)
-        self.executor = Executor(self, self.external, concurrency, self._threads)
+        self.executor = Executor(self, self.external, concurrency, self._threads, tracer)
         self.executor.slots.is_fair = any(saga.fair_by for saga in shelf.sagas.values())
         self.commits = CommitQueue(store, self, teller, self.loop)
         self.shards = Shards(

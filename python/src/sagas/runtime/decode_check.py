@@ -37,7 +37,7 @@ async def faults(kinds: Sequence[Kind], rows: Loaded) -> AsyncIterator[str]:
     for id, step, word, _, outcome, value, _ in rows.results:
         if outcome in ("commit", "ok") and word == "run":
             results.setdefault(id, {})[step] = value or "null"
-    for count, (id, key, place, text, _) in enumerate(rows.open):
+    for count, (id, key, place, text, *_) in enumerate(rows.open):
         kind = kinds[place]
         if count % MANY == MANY - 1:
             await asyncio.sleep(0)
@@ -50,7 +50,7 @@ async def is_left(shard: Checked, rows: Loaded, store: Database) -> bool:
     what this one cannot. Else that is told, once.
     """
     driver = shard.driver
-    found = [fault async for fault in faults(driver.identity.kinds, rows)]
+    found = [fault async for fault in faults(driver.identity.definitions.kinds, rows)]
     if not found:
         return False
     if not is_at_work(driver) and await store.spare(driver.number):

@@ -21,7 +21,7 @@ from sagas.core.outcomes import Outcome
 from sagas.core.shard import ShardDriver
 from sagas.core.states import OutcomeKind, Suspension
 from sagas.core.suspensions import SuspensionRow
-from sagas.definition import serialization
+from sagas.definition.tracing import Tracer
 from sagas.runtime import remote_steps
 from sagas.runtime.calls import Calls
 from sagas.runtime.children import Children
@@ -49,16 +49,17 @@ class Executor:
         closing: Whether nothing begins any more.
     """
 
-    def __init__(self, host: Host, external: External, concurrency: int, threads: Threads) -> None:
+    def __init__(
+        self, host: Host, external: External, concurrency: int, threads: Threads,
+        tracer: Tracer | None = None,
+    ) -> None:  # fmt: skip
         self._host, self._external = host, external
         self._loop, self._clock, self._teller = host.loop, host.clock, host.teller
         self.machine = AttemptMachine()
         self.slots = Slots(concurrency, self._start, host.feed)
         self.fleet = Fleet(host, self.slots.enter)
         remote = functools.partial(remote_steps.call, external)
-        self.calls = Calls(
-            self, host.store, self.slots, self.fleet, threads, remote, host.teller, host.clock, host
-        )
+        self.calls = Calls(self, host, self.slots, self.fleet, threads, remote, tracer)
         self.changes: Waiters[Attempt] = Waiters(host.loop)
         self.kept: Waiters[Attempt] = Waiters(host.loop)
         self.children = Children(host, self)
@@ -363,7 +364,7 @@ class Executor:
         if not self._teller.wants(name):
             return
         doubt = outcomes.doubt(outcome.error, attempt.manner)
-        detail = f"{serialization.read(outcome.value).get('error')}{doubt}"
+        detail = f"{outcomes.fault(outcome)}{doubt}"
         self.tell(attempt, name, detail, level, outcome.error if name == "step_failed" else None)
 
     def tell(
@@ -374,7 +375,8 @@ class Executor:
         took = None if attempt.took is None else round(attempt.took, 6)
         self._teller.tell(
             name, level=level, error=error, seconds=took, key=attempt.key, saga=attempt.saga,
-            step=attempt.name, undo=attempt.undo, attempt=attempt.attempt, detail=detail,
+            step=attempt.declared_name, index=attempt.index, undo=attempt.undo,
+            attempt=attempt.attempt, detail=detail,
         )  # fmt: skip
 
     def planned(self, instance: SagaInstance) -> None:

@@ -14,7 +14,7 @@ from sagas.core.model import Attempt
 from sagas.core.outcomes import Outcome
 from sagas.core.shard import ShardDriver
 from sagas.core.suspensions import SuspensionRow
-from sagas.definition.compiled import Shelf
+from sagas.definition.shelf import Shelf
 from sagas.runtime.dispatcher import Turns
 from sagas.storage.interface import Database
 

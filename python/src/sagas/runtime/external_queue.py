@@ -9,7 +9,6 @@ from __future__ import annotations
 import asyncio
 import contextlib
 import dataclasses
-import json
 from collections.abc import Sequence
 from typing import TYPE_CHECKING, Any
 
@@ -21,9 +20,13 @@ from sagas.core.suspensions import Lease
 from sagas.definition.capacity import SHARD_CAPACITY
 from sagas.definition.compiled import Kind
 from sagas.definition.control import Progress
-from sagas.definition.task import Task, Told
+from sagas.definition import shape_validation
+from sagas.definition.about import Told
+from sagas.definition.shape_values import ShapeValues
+from sagas.definition.task import Task
 from sagas.runtime.external_reports import ExternalReports
 from sagas.runtime.retries import until_answered
+from sagas.storage import queries
 from sagas.storage.external import Claim
 
 if TYPE_CHECKING:
@@ -40,9 +43,9 @@ LOOK_AT_FILE = 0.02
 """Seconds between two looks at a file: a worker of a queue writes there, and its commit makes no
 event here."""
 OF_SAGA = (
-    "SELECT s.key, s.input, s.definition_index, s.deadline, h.texts FROM sagas s "
-    f"JOIN shards l ON l.shard = s.id / {SHARD_CAPACITY} "
-    "JOIN definition_sets h USING (definition_set) WHERE s.id = ?"
+    "SELECT s.key, s.input, s.deadline, s.traceparent, text, "
+    "(SELECT p.shape FROM shapes p WHERE p.id = s.id) "
+    f"FROM {queries.DEFINED} WHERE s.id = ?"
 )
 RESULTS = "SELECT step, value FROM attempts WHERE id = ? AND action = 'run' AND event = 'commit'"
 
@@ -123,9 +126,10 @@ class ExternalQueue(ExternalReports):
     async def open(self) -> None:
         """Reads the secret by which leases are signed. Raises `StoreUnavailable`."""
         for saga in self.owner.shelf.sagas.values():
-            for step in saga.steps:
+            for one in shape_validation.patterns(saga):
+                step = one.step
                 if step.concurrency is not None:
-                    self._limited.add(task_name(saga.name, step.name, "run"))
+                    self._limited.add(task_name(saga.name, one.path, "run"))
                 for manner in (step.run, step.undo):
                     self._has_any |= manner.external or manner.queue is not None
                     if manner.queue is not None and not self.owner.store.shared:
@@ -169,7 +173,7 @@ class ExternalQueue(ExternalReports):
             return
         if attempt.instance.draining:
             self.owner.executor.drain(attempt.instance)
-        self.wake(task_name(attempt.saga, attempt.name, attempt.kind))
+        self.wake(task_name(attempt.saga, attempt.declared_name, attempt.kind))
 
     def withdraw(self, attempt: Attempt) -> None:
         """Its saga is being undone: it is taken back, unless a worker has it."""
@@ -302,7 +306,8 @@ class ExternalQueue(ExternalReports):
         if claim.cancelled is not None:
             task.cancelled.set(claim.cancelled)
         self.owner.teller.tell(
-            "step_started", key=task.key, saga=task.saga, step=task.step, undo=task.is_compensation,
+            "step_started", key=task.key, saga=task.saga, step=task.declared_step,
+            index=task.index if task.has_item else None, undo=task.is_compensation,
             attempt=task.attempt,
         )  # fmt: skip
         lease = self._signer.issue(claim.attempt, claim.lease, holder)
@@ -311,20 +316,24 @@ class ExternalQueue(ExternalReports):
     async def _task(self, claim: Claim) -> Task[Any]:
         """What a worker is handed of an attempt that another node drives."""
         read, undo = self.owner.store.read, claim.action == "undo"
-        ((key, text, place, deadline, texts),) = await read(OF_SAGA, claim.id)
-        kind: Kind = self.owner.shelf.kind(json.loads(texts)[place])
+        rows = await read(OF_SAGA, claim.id)
+        ((key, text, deadline, traceparent, definition, shape),) = rows
+        kind: Kind = self.owner.shelf.kind(definition)
         decode, text = kind.payloads.decode, kind.payloads.decode(text)
-        values: dict[int, str] = {
+        results: dict[int, str] = {
             step: decode(value or "null") for step, value in await read(RESULTS, claim.id)
         }
         token, _, number = claim.attempt.rpartition("-")
         name = kind.names[claim.step]
+        values = ShapeValues() if shape is None else ShapeValues.read(decode(shape))
+        place = kind.place(name, values, text)
         hint = kind.actions[claim.action][claim.step].hint
         told = Told(
             kind.name, key, name, undo, int(number), token.removesuffix(f"-{name}-{claim.action}"),
-            text, {kind.names[step]: values.get(step) or "null" for step in kind.below[claim.step]},
-            values.get(claim.step) if undo else None, hint, kind.decoders, deadline,
-            kind.actions[claim.action][claim.step].context,
+            place.input if place else text,
+            {kind.names[step]: results.get(step) or "null" for step in kind.below[claim.step]},
+            results.get(claim.step) if undo else None, hint, kind.decoders, deadline,
+            kind.actions[claim.action][claim.step].context, traceparent=traceparent, place=place,
         )  # fmt: skip
         return Task(told)
 
@@ -351,7 +360,8 @@ class ExternalQueue(ExternalReports):
         """The tasks that wait or are leased, at any node, by step."""
         found = []
         for task, ready, oldest, claimed in await self._table.waiting():
-            saga, step, action = task.split("/")
+            saga, _, named = task.partition("/")
+            step, _, action = named.rpartition("/")
             found.append(Queue(saga, step, action == "undo", ready, oldest, claimed))
         return found
 

@@ -9,7 +9,6 @@ from __future__ import annotations
 
 import asyncio
 import contextlib
-import json
 import secrets
 from collections.abc import Iterator
 from typing import TYPE_CHECKING
@@ -30,6 +29,7 @@ from sagas.core.states import OutcomeKind, Suspension
 from sagas.definition import tokens
 from sagas.definition.capacity import SHARD_CAPACITY
 from sagas.runtime.retries import until_answered
+from sagas.storage import queries
 from sagas.storage.external import Report, Row
 
 if TYPE_CHECKING:
@@ -39,9 +39,9 @@ GOOD = ("commit", "undone")
 KNOWN = (SUCCEEDED, FAILED, PERMANENT)
 """The outcomes of a report that says what the attempt did."""
 OF_TOKEN = f"""
-SELECT l.shard, s.id, s.phase, s.definition_index, h.texts
-FROM shards l JOIN definition_sets h USING (definition_set)
-JOIN sagas s ON s.id = l.shard * {SHARD_CAPACITY} + ? WHERE l.name = ?
+SELECT l.shard, s.id, s.phase, text FROM shards l
+JOIN sagas s ON s.id = l.shard * {SHARD_CAPACITY} + ? {queries.OF_SHARD}
+JOIN definitions USING (definition) WHERE l.name = ?
 """
 EVENT = "SELECT event, value FROM attempts WHERE id = ? AND step = ? AND action = ? AND number = ?"
 
@@ -183,9 +183,9 @@ class ExternalReports:
         `OwnerUnavailable`."""
         told, read = tokens.parse(token), self.owner.store.read
         rows = await read(OF_TOKEN, told.number, told.shard) if told else []
-        for _, id, phase, place, texts in rows:
+        for _, id, phase, text in rows:
             assert told
-            names = self.owner.shelf.kind(json.loads(texts)[place]).names
+            names = self.owner.shelf.kind(text).names
             step = names.index(told.step) if told.step in names else -1
             for event, value in await read(EVENT, id, step, told.kind, told.attempt):
                 return event, value and self.owner.shelf.payloads.decode(value)

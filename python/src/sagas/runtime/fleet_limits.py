@@ -196,7 +196,7 @@ class Fleet:
         if step is None or step.bounds is None or attempt.kind == Action.COMPENSATE:
             return None
         key = attempt.extras.limit_key if attempt.extras and step.bounds.is_keyed else None
-        at = attempt.instance.kind.name, attempt.name, key or ""
+        at = *attempt.limit_name, key or ""
         gate = self._gates.get(at)
         if gate is None:
             if len(self._gates) >= self._most:

@@ -33,11 +33,9 @@ class Instances:
         self._has_told = False
         self._empty = asyncio.Event()
 
-    def add(
-        self, key: str, text: str, kind: Kind, place: int, options: StartOptions
-    ) -> SagaInstance:
-        """Make one that has a key from now on."""
-        saga = self.by_key[key] = SagaInstance(key, text, kind, place, options)
+    def add(self, key: str, text: str, kind: Kind, options: StartOptions) -> SagaInstance:
+        """Make one that has a key from now on. Its definition has a place once it has a shard."""
+        saga = self.by_key[key] = SagaInstance(key, text, kind, -1, options)
         return saga
 
     def replace(self, before: SagaInstance, saga: SagaInstance) -> None:

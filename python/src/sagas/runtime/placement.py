@@ -10,7 +10,9 @@ from sagas.base.errors import SagasError
 from sagas.core.batch import SagaRow
 from sagas.core.model import SagaInstance
 from sagas.core.shard import ShardDriver, ShardIdentity
-from sagas.definition.compiled import DefinitionSet, Shelf
+from sagas.core.shard_definitions import ShardDefinitions
+from sagas.definition.compiled import Kind
+from sagas.definition.shelf import DefinitionSet, Shelf
 from sagas.runtime.instances import Instances
 from sagas.runtime.shard_runner import ShardRunner
 from sagas.storage.interface import Database
@@ -94,30 +96,36 @@ class Placement:
     def forget(self, runner: ShardRunner) -> None:
         """A shard takes no more sagas."""
         if self.is_current(runner):
-            del self.current[runner.driver.identity.definitions]
+            del self.current[runner.driver.identity.definitions.digest]
 
     def is_current(self, runner: ShardRunner) -> bool:
         """Whether a shard takes sagas."""
-        return self.current.get(runner.driver.identity.definitions) is runner
+        return self.current.get(runner.driver.identity.definitions.digest) is runner
 
     def _put(self, saga: SagaInstance) -> ShardRunner | None:
-        definitions = self._definitions.set_of(saga.kind)
+        definitions, kind = self._definitions.set_of(saga.kind), saga.kind
         runner = self.current.get(definitions.digest)
-        if runner is None or not runner.driver.has_room(self._definitions.room):
+        if runner is None or not self._takes(runner, kind):
             try:
-                runner = self._create(definitions)
+                runner = self._create(definitions, kind)
             except SagasError as error:
                 self._loop.call_soon(self._home.refuse, saga, error)
                 return None
+        saga.place = runner.driver.identity.definitions.place(kind)
         runner.driver.open(saga)
         return runner
 
-    def _create(self, definitions: DefinitionSet) -> ShardRunner:
+    def _takes(self, runner: ShardRunner, kind: Kind) -> bool:
+        """Whether a shard takes one more saga, of this definition."""
+        has_room = runner.driver.identity.definitions.has_room(kind)
+        return has_room and runner.driver.has_room(self._definitions.room)
+
+    def _create(self, definitions: DefinitionSet, kind: Kind) -> ShardRunner:
+        """Make a shard. None is without a definition: an audit of it would have none to read."""
         before = self.current.get(definitions.digest)
         number, name = self._store.new_log(), secrets.token_hex(8)
-        identity = ShardIdentity(
-            number, name, definitions.digest, definitions.texts, definitions.kinds
-        )
+        of = ShardDefinitions(definitions.kinds or [kind], definitions.digest)
+        identity = ShardIdentity(number, name, of)
         runner = self._home.run(ShardDriver.created(identity, self._store.line))
         self.current[definitions.digest] = runner
         if before:

@@ -12,7 +12,7 @@ from typing import TYPE_CHECKING, Any
 
 from sagas.base.errors import SagasError
 from sagas.core import outcomes
-from sagas.core.dispatch import Order, Position
+from sagas.core.dispatch import Declared, Order, Position
 from sagas.core.outcomes import Outcome
 
 if TYPE_CHECKING:
@@ -68,7 +68,16 @@ def order_of(attempt: Attempt, lease: int) -> Order:
         results,
         own,
         live.options.deadline,
+        live.options.traceparent,
+        _declared(attempt),
     )
+
+
+def _declared(attempt: Attempt) -> Declared | None:
+    if attempt.instance.kind.layout is None:
+        return None
+    step = attempt.declared
+    return Declared(step.saga.name, step.saga.version, step.name)
 
 
 async def check(database: Database, sagas: Iterable[Saga]) -> None:
@@ -77,7 +86,7 @@ async def check(database: Database, sagas: Iterable[Saga]) -> None:
     """
     queues: dict[int, tuple[RemoteQueue, list[tuple[Step[Any], str]]]] = {}
     for saga in sagas:
-        for step in saga.steps:
+        for step in saga.all_steps:
             for kind in ("run", "undo"):
                 queue = step.manner(kind).queue
                 if queue is not None:

@@ -58,6 +58,7 @@ WHERE c.id / {SHARD_CAPACITY} <> c.parent / {SHARD_CAPACITY}
 OF_SAGAS = (
     "DELETE FROM operator_commands WHERE key IN (SELECT key FROM sagas WHERE id >= ? AND id < ?)",
     "DELETE FROM labels WHERE id >= ? AND id < ?",
+    "DELETE FROM shapes WHERE id >= ? AND id < ?",
     "DELETE FROM children WHERE id >= ? AND id < ?",
     "DELETE FROM attempts WHERE id >= ? AND id < ?",
     "DELETE FROM suspensions WHERE id >= ? AND id < ?",
@@ -66,7 +67,10 @@ OF_SAGAS = (
     "DELETE FROM external_attempts WHERE id >= ? AND id < ?",
     "DELETE FROM sagas WHERE id >= ? AND id < ?",
 )
-OF_LOG = ("DELETE FROM event_log WHERE shard = ?",)
+OF_LOG = (
+    "DELETE FROM event_log WHERE shard = ?",
+    "DELETE FROM shard_definitions WHERE shard = ?",
+)
 
 
 @dataclasses.dataclass

@@ -64,7 +64,7 @@ class Scheduler:
         pause = MOST_PAUSE
         for one in map(schedules.of_row, await owner.store.read(schedules.DUE)):
             now = owner.clock()
-            if (one.saga, one.version) not in owner.shelf.by_name:
+            if (one.saga, one.version) not in owner.shelf.sagas:
                 continue
             if one.next_at > now:
                 pause = min(pause, one.next_at - now)

@@ -14,6 +14,7 @@ from sagas.core.batch import Loaded
 from sagas.core.limits import Slots
 from sagas.core.shard import ShardDriver
 from sagas.engine.pool import EnginePool
+from sagas.engine.process import EngineProcess, Listener
 from sagas.runtime.commit_queue import CommitQueue
 from sagas.runtime.effects import EffectHandler
 from sagas.runtime.instances import Instances
@@ -100,6 +101,16 @@ class Opening:
         """One could not be taken up."""
         if self._over and not self._over.done():
             self._over.set_exception(error)
+
+
+def engine_on(
+    parts: Parts, driver: ShardDriver, log_text: str, listener: Listener
+) -> EngineProcess:
+    """Start an engine on a shard's event log. It knows all definitions of the shard."""
+    definitions = driver.identity.definitions
+    engine = EngineProcess(parts.program, definitions.texts, log_text, listener)
+    definitions.known = len(definitions.texts)
+    return engine
 
 
 def named(error: Exception, shard: str) -> SagasError:

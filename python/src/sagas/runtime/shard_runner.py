@@ -16,7 +16,7 @@ from sagas.core.states import ShardState
 from sagas.core.suspensions import SuspensionRow
 from sagas.engine.process import EngineProcess
 from sagas.runtime import decode_check
-from sagas.runtime.shard_parts import Parts, Shards, named
+from sagas.runtime.shard_parts import Parts, Shards, engine_on, named
 
 FEW = 64  # requests whose answer comes soon
 TURN = 0.1  # seconds for which a shard keeps its engine while others wait for one
@@ -53,9 +53,7 @@ class ShardRunner:
     # -- what it is told
 
     def report(self, attempt: Attempt, at_once: bool = False) -> None:
-        """Report an attempt that is finished. `at_once`: nothing else of its shard is in the
-        middle of something.
-        """
+        """Report a finished attempt. `at_once`: nothing else of its shard is half done."""
         self.driver.report(attempt)
         self.poke(at_once)
 
@@ -71,9 +69,8 @@ class ShardRunner:
     # -- a turn
 
     def poke(self, at_once: bool = False) -> None:
-        """Send what is due, with what else comes meanwhile. `at_once`: send it now, if no function
-        runs that might bring more, or if there is a lot.
-        """
+        """Send what is due, with what else comes meanwhile. `at_once`: now, if no function runs
+        that might bring more, or if there is a lot."""
         if self.driver.state is ACTIVE:
             assert self.engine
             if self.engine.asked:  # when it has answered, it is asked what is due
@@ -88,9 +85,7 @@ class ShardRunner:
             self._engines.want(self)
 
     def _turn(self, waits: bool = False) -> None:
-        """Ask what is due. `waits`: nothing else goes on here that could be done until the answer
-        comes.
-        """
+        """Ask what is due. `waits`: nothing else could be done here until the answer comes."""
         self._is_scheduled = False
         engine = self.engine
         if self.driver.state is not ACTIVE or engine is None or engine.asked:
@@ -102,6 +97,9 @@ class ShardRunner:
         self._shards.fill(self)
         if self.driver.state is not ACTIVE or engine.asked:  # another shard took its engine
             return
+        if self.driver.wants_engine:
+            self._renew()
+            return
         lines = self._requests()
         if not lines:
             if self._engines.wanted:
@@ -111,6 +109,15 @@ class ShardRunner:
         engine.ask(lines)
         if waits and len(lines) <= FEW and (answer := engine.wait()):
             self.answered(*answer)
+
+    def _renew(self) -> None:
+        """Its engine makes way for one that knows all definitions, once all it said is stored."""
+        if not self.driver.unwritten:
+            self._stop_engine()
+            self.engine = None
+            self.driver.to(IDLE)
+            self.driver.to(STARTING)
+            self._parts.spawn(self._start())
 
     def _requests(self) -> list[str]:
         is_closing, driver = self._shards.is_closing, self.driver
@@ -177,9 +184,7 @@ class ShardRunner:
         self._settle()
 
     def failed(self, effects: Effects, fault: BaseException | None) -> None:
-        """The batch is not durable, as far as is known: then what the engine knows beyond the
-        store is thrown away.
-        """
+        """The batch is not durable, as far as is known: the engine is thrown away."""
         was_known = self.driver.is_known
         unanswered = self.driver.failed(effects)
         self._effects.lost(effects)
@@ -195,6 +200,8 @@ class ShardRunner:
         if not self.driver.unwritten:
             if self.driver.state is STALE:
                 self._load_soon()
+            if self.driver.wants_engine:
+                self.poke()
             if self._engines.wanted:
                 self._offer()
             self._shards.changed(self)
@@ -218,9 +225,7 @@ class ShardRunner:
         return bool(driver.unwritten or (has_more and not self.fault and not self._pause))
 
     def rests(self) -> bool:
-        """Whether its engine may go: nothing is on its way, and all that it knows is in the
-        store.
-        """
+        """Whether its engine may go: nothing is on its way, and all it knows is in the store."""
         engine = self.engine
         if self.driver.state is not ACTIVE or self.driver.unwritten or not engine or engine.asked:
             return False
@@ -271,16 +276,13 @@ class ShardRunner:
                 self.fail(None)
                 return
             text, driver.events = taken
-            self.engine = self._engine_on(text)
+            self.engine = engine_on(self._parts, driver, text, self)
         except Exception as error:
             self.fail(named(error, self.driver.name))
             return
         driver.to(ACTIVE)
         self.used = self._woke = time.monotonic()
         self.poke()
-
-    def _engine_on(self, log_text: str) -> EngineProcess:
-        return EngineProcess(self._parts.program, self.driver.identity.texts, log_text, self)
 
     def _stop_engine(self) -> None:
         if self.engine:
@@ -301,9 +303,7 @@ class ShardRunner:
     # -- what goes wrong, and the way back
 
     def fail(self, fault: BaseException | None) -> None:
-        """What is in the store is all that is known; it is loaded again, after a pause that
-        grows.
-        """
+        """What is in the store is all that is known; it is loaded again, after longer pauses."""
         self._fail(fault, self.driver.is_known, self.driver.fail())
 
     def _fail(self, fault: BaseException | None, was_known: bool, unanswered: int) -> None:
@@ -356,7 +356,7 @@ class ShardRunner:
             if driver.state is not LOADING:
                 return
             self._shards.reopen(driver, rows, self.fault)
-            self.engine = self._engine_on(rows.text)
+            self.engine = engine_on(self._parts, driver, rows.text, self)
         except Exception as error:
             if driver.state is LOADING:
                 self._shards.reopen(driver, None, fault := named(error, driver.name))

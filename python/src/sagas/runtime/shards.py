@@ -14,8 +14,9 @@ from sagas.core.batch import Loaded, LogRow, SagaRow, Wanted
 from sagas.core.effects import Abort
 from sagas.core.model import SagaInstance
 from sagas.core.shard import ShardDriver, ShardIdentity
+from sagas.core.shard_definitions import ShardDefinitions
 from sagas.core.states import ShardState
-from sagas.definition.compiled import Shelf
+from sagas.definition.shelf import Shelf
 from sagas.engine.pool import EnginePool
 from sagas.engine.process import EngineProcess
 from sagas.runtime import decode_check
@@ -105,7 +106,7 @@ class Shards:
         adopted = []
         for row in rows:
             kinds = [self._definitions.kind(text) for text in row.texts]
-            identity = ShardIdentity(row.log, row.name, row.shelf, row.texts, kinds)
+            identity = ShardIdentity(row.log, row.name, ShardDefinitions(kinds))
             state = STALE if row.open else IDLE
             adopted.append(self.run(ShardDriver(identity, state, row.epoch, row.opened)))
         return adopted

@@ -28,6 +28,7 @@ from sagas.server.routes import (
     start_form,
     task_reports,
     tasks,
+    webhook_pages,
     webhooks,
 )
 from sagas.server.service import Service
@@ -53,6 +54,7 @@ PAGES = [
     pages.routes,
     saga_pages.routes,
     page_forms.routes,
+    webhook_pages.routes,
 ]
 
 

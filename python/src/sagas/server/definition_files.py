@@ -32,7 +32,7 @@ from sagas.base.errors import DefinitionError
 from sagas.definition.compiled import version_of
 from sagas.definition.saga import Saga
 from sagas.definition.step import NEVER, Backoff, Cost, Step, nothing
-from sagas.definition.validation import MOST_WITHIN
+from sagas.definition.waits import MOST_WITHIN
 from sagas.server.toml_lines import Lines
 
 SERVICE = ".service.toml"

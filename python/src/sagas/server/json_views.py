@@ -159,7 +159,7 @@ def task(one: LeasedTask, now: float) -> dict[str, Any]:
     task = one.task
     deadline = task.deadline.timestamp() if task.deadline else None
     return {
-        "name": name_of(task.saga, task.step, task.is_compensation),
+        "name": name_of(task.saga, task.declared_step, task.is_compensation),
         "attempt_id": one.attempt_id,
         "lease": one.lease,
         "seconds": round(max(0.0, one.until - now), 3),
@@ -172,6 +172,7 @@ def task(one: LeasedTask, now: float) -> dict[str, Any]:
         "attempt": task.attempt,
         "idempotency_key": task.idempotency_key,
         "original_idempotency_key": task.original_idempotency_key,
+        "traceparent": task.traceparent,
         **task.plain,
     }
 

@@ -6,7 +6,7 @@ import functools
 import time
 from collections import OrderedDict
 from collections.abc import Callable, Iterator
-from typing import TYPE_CHECKING, Optional
+from typing import TYPE_CHECKING, Optional, Union
 
 from prometheus_client import CollectorRegistry, Counter, Gauge, Histogram
 from prometheus_client.core import CounterMetricFamily, GaugeMetricFamily, Metric
@@ -29,8 +29,13 @@ INTERNAL_ERRORS = ("engine_died", "commit_failed", "audit_failed", "lease_expire
 TYPE = CONTENT_TYPE_LATEST
 MOST_BEGUN = 100_000
 """Attempts of which it is known when they began."""
-Begun = tuple[Optional[str], Optional[str], bool, Optional[int]]
-"""key, step, undo, attempt"""
+Begun = tuple[Optional[str], Optional[str], Union[int, str, None], bool, Optional[int]]
+"""key, step, index, undo, attempt"""
+
+
+def _attempt(event: Event) -> Begun:
+    """Of which attempt an event tells."""
+    return event.key, event.step, event.index, event.undo, event.attempt
 
 
 class Metrics:
@@ -110,13 +115,13 @@ class Metrics:
         elif event.name == "shard_taken":
             self.shards_taken_over.inc()
         elif event.name == "step_started":
-            self._began[event.key, event.step, event.undo, event.attempt] = event.at
+            self._began[_attempt(event)] = event.at
             if len(self._began) > MOST_BEGUN:  # the first of them may have ended at other nodes
                 self._began.popitem(last=False)
         elif outcome:
             kind = "undo" if event.undo else "run"
             self.steps(saga, event.step, kind, outcome).inc()
-            began = self._began.pop((event.key, event.step, event.undo, event.attempt), None)
+            began = self._began.pop(_attempt(event), None)
             if began is not None:
                 seconds = max(0.0, event.at - began)
                 self.step_seconds(saga, event.step, kind).observe(seconds)

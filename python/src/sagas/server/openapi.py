@@ -125,10 +125,11 @@ def parameters_of(operation: Operation) -> list[dict[str, Any]]:
          "example": {"key": "order-1", "step": "car"}.get(name, "a1-car-run-1")}
         for name in re.findall(r"{(\w+)}", operation.path)
     ]  # fmt: skip
-    for name, field in operation.query.items():
-        schema = dict(field.schema())
-        told = {"name": name, "in": "query", "description": schema.pop("description", "")}
-        found.append({**told, "required": field.is_required, "schema": schema})
+    for place, fields in (("query", operation.query), ("header", operation.headers)):
+        for name, field in fields.items():
+            schema = dict(field.schema())
+            told = {"name": name, "in": place, "description": schema.pop("description", "")}
+            found.append({**told, "required": field.is_required, "schema": schema})
     return found
 
 

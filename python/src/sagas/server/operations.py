@@ -76,8 +76,9 @@ class Answer:
 class Operation:
     """One method of one path.
 
-    `problems`: the names of those that are its own, beside those that any operation has. `may`:
-    what the token has to allow; None: it needs none."""
+    `headers`: what its handler reads of the request's headers; `problems`: the names of those that
+    are its own, beside those that any operation has. `may`: what the token has to allow; None: it
+    needs none."""
 
     method: str
     path: str
@@ -87,6 +88,7 @@ class Operation:
     may: May | None = None
     parts: Mapping[str, Shape] = dataclasses.field(default_factory=dict)
     query: Mapping[str, Field] = dataclasses.field(default_factory=dict)
+    headers: Mapping[str, Field] = dataclasses.field(default_factory=dict)
     body: Record | None = None
     answers: Mapping[int, Answer] = dataclasses.field(default_factory=dict)
     problems: tuple[str, ...] = ()

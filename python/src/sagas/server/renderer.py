@@ -71,6 +71,14 @@ def render(template: str, told: dict[str, Any]) -> str:
     return ENVIRONMENT.get_template(template).render(told)
 
 
+def compile_all() -> None:
+    """Compile the templates, so that the first who asks for a page does not wait for that. In a
+    thread.
+    """
+    for name in ENVIRONMENT.list_templates():
+        ENVIRONMENT.get_template(name)
+
+
 def sent(text: str) -> bytes:
     """A page or a picture as it is sent; JSON may hold halves of pairs of characters, which are
     shown by their numbers.

@@ -27,7 +27,7 @@ from sagas.inspection import saga as one_saga
 from sagas.inspection.question import Question, StoreReader
 from sagas.inspection.views import SagaView
 from sagas.runtime.external_queue import Queue
-from sagas.server import webhook_file
+from sagas.server import renderer, webhook_file
 from sagas.server.auth import Rates, Sessions, Tokens, Who
 from sagas.server.event_stream import Hub
 from sagas.server.figures import Figures
@@ -113,6 +113,7 @@ class Service:
         for _ in range(LOOKERS):
             self._lookers.put_nowait(StoreReader(self.store.reader()))
         self.figures.prime()
+        self._threads.submit(renderer.compile_all)
 
     @property
     def is_stopping(self) -> bool:
@@ -289,12 +290,14 @@ class Service:
 
     async def start(
         self, who: Who, saga: Saga, key: str, given: Any, labels: Labels | None = None,
-        deadline: float | None = None,
+        deadline: float | None = None, traceparent: str | None = None,
     ) -> Run:  # fmt: skip
         """Starts a saga. Raises what `Store.start` raises; of a key's saga that is not theirs to
         see nothing is told."""
         try:
-            return await self.store.start(saga, key, given, labels=labels, deadline=deadline)
+            return await self.store.start(
+                saga, key, given, labels=labels, deadline=deadline, traceparent=traceparent
+            )
         except KeyConflict:
             if who.definitions is None:
                 raise
@@ -334,10 +337,10 @@ class Service:
     def _words(self) -> set[str]:
         found = set()
         for saga in self.settings.sagas:
-            for step in saga.steps:
-                found.add(f"{saga.name}/{step.name}")
+            for name, step in saga.declared_steps:
+                found.add(f"{saga.name}/{name}")
                 if step.has_compensation:
-                    found.add(f"{saga.name}/{step.name}/undo")
+                    found.add(f"{saga.name}/{name}/undo")
         return found
 
     def saw(self, worker: str, steps: list[str]) -> None:

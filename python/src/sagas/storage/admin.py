@@ -38,8 +38,8 @@ SELECT key, saga, version, at FROM pending_starts i
 WHERE NOT EXISTS (SELECT 1 FROM nodes n WHERE n.node = i.node AND n.lease > now()) ORDER BY id
 """
 UNUSED = """
-DELETE FROM definition_sets
-WHERE definition_set NOT IN (SELECT DISTINCT definition_set FROM shards)
+DELETE FROM definitions
+WHERE NOT EXISTS (SELECT 1 FROM shard_definitions d WHERE d.definition = definitions.definition)
 """
 STARTS_OF = "SELECT key FROM pending_starts WHERE node IS NULL AND labels @> CAST(? AS jsonb)"
 
@@ -351,7 +351,7 @@ class Base:
 
     def drop_definitions(self) -> None:
         with self.transaction():  # a commit that makes a shard has written both rows, or waits
-            self.changed("LOCK TABLE definition_sets IN SHARE ROW EXCLUSIVE MODE")
+            self.changed("LOCK TABLE definitions IN SHARE ROW EXCLUSIVE MODE")
             self.changed(UNUSED)
 
     def close(self) -> None:

@@ -31,9 +31,7 @@ ASKED = """
 SELECT s.id, r.command, r.value, r.at, r.answer
 FROM sagas s JOIN operator_commands r USING (key) WHERE s.id >= ? AND s.id < ? ORDER BY r.id
 """
-SHARD = """
-SELECT name, texts, audit FROM shards JOIN definition_sets USING (definition_set) WHERE shard = ?
-"""
+SHARD = "SELECT name, audit FROM shards WHERE shard = ?"
 NAMES = {
     "results": ("step", "kind", "attempt", "outcome", "value", "at"),
     "requests": ("what", "value", "at", "answer"),
@@ -53,16 +51,15 @@ def write(link: Source, log: int, folder: pathlib.Path) -> pathlib.Path:
 
     Raises `OSError`; then what is there is no whole folder of that name.
     """
-    name, texts, audit = link.ask(SHARD, log)[0]
+    name, audit = link.ask(SHARD, log)[0]
     lines = "".join(
         text
         for (text,) in link.ask(
             "SELECT text FROM event_log WHERE shard = ? ORDER BY first_seq", log
         )
     )
-    rows, definitions = link.ask(
-        SAGAS, log * SHARD_CAPACITY, (log + 1) * SHARD_CAPACITY
-    ), json.loads(texts)
+    rows = link.ask(SAGAS, log * SHARD_CAPACITY, (log + 1) * SHARD_CAPACITY)
+    definitions = [text for _, text in link.ask(queries.TEXTS, log, log)]
     files = {
         "log": HEADER + lines,
         "about.json": json.dumps({"log": log, "name": name, "sagas": len(rows), "audit": audit})

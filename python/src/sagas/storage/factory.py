@@ -7,7 +7,9 @@ from collections.abc import Callable
 from typing import Any
 
 from sagas.base.errors import DefinitionError, InvalidStore
-from sagas.definition.compiled import Shelf, digest_of
+from sagas.definition import definition_text
+from sagas.definition.compiled import digest_of
+from sagas.definition.shelf import Shelf
 from sagas.storage.interface import Database
 from sagas.storage.sqlite.storage import Sqlite
 
@@ -75,7 +77,7 @@ def make(
         for step in (
             step
             for saga in shelf.sagas.values()
-            for step in saga.steps
+            for step in saga.all_steps
             if step.run.transaction or step.undo.transaction
         ):
             raise DefinitionError(
@@ -88,6 +90,11 @@ def make(
     except ImportError as error:
         raise missing(error) from error
     names = {f"{kind.name}/{kind.version}": kind.text for kind in shelf.kinds if kind.fits}
+    names |= {
+        f"{saga.name}/{saga.version}": definition_text.declared(saga)
+        for saga in shelf.sagas.values()
+        if saga.is_shaped
+    }
     kinds = [f"{name}/{digest_of(text)}" for name, text in names.items()]
     return PostgreSQL(
         name,

@@ -287,6 +287,11 @@ class Database(CommitWriter, StoreReader, Protocol):
         `under_way` also those that were, and are not among these.
         """
 
+    async def refuse(self, start: int, why: str) -> None:
+        """Keeps why a start that this node took (`starts`) is not begun: its input gives the saga
+        no steps. Nobody takes it again, until it is started anew.
+        """
+
     async def ask(self, row: SagaRow, what: str, value: str) -> Any:
         """Leaves a request for the node that has this very saga; waits for its answer, parsed."""
 

@@ -25,13 +25,17 @@ OPENED = (
     "SELECT count(*) FROM sagas "
     f"WHERE id >= shard * {SHARD_CAPACITY} AND id < (shard + 1) * {SHARD_CAPACITY}"
 )
-LOGS = f"""
-SELECT shard, name, definition_set, texts, ({OPENED}), ({OPENED} AND phase IS NULL)
-FROM shards JOIN definition_sets USING (definition_set)
+LOGS = f"SELECT shard, name, ({OPENED}), ({OPENED} AND phase IS NULL) FROM shards"
+TEXTS = """
+SELECT shard, text FROM shard_definitions JOIN definitions USING (definition)
+WHERE shard >= ? AND shard <= ? ORDER BY shard, place
 """
+"""The definitions of logs, each by its place."""
+DEFINITIONS = "SELECT count(*) FROM shard_definitions WHERE shard = ?"
 LINES = "SELECT first_seq, text FROM event_log WHERE shard = ? ORDER BY first_seq"
 OPEN_SAGAS = (
-    "SELECT s.id, s.key, s.definition_index, s.input, s.deadline "
+    "SELECT s.id, s.key, s.definition_index, s.input, s.deadline, s.traceparent, "
+    "(SELECT p.shape FROM shapes p WHERE p.id = s.id) "
     f"FROM sagas s WHERE {OPEN} ORDER BY s.id"
 )
 OPEN_RESULTS = f"""
@@ -77,10 +81,12 @@ AS TEXT)"""
 """The labels of a saga `s`, as a JSON object or null."""
 PHASE = f"""CASE WHEN phase IS NULL THEN 'open' WHEN note IS NOT NULL THEN 'resolved'
 WHEN {PLANNED} THEN 'recovered' WHEN phase = 'ended' THEN 'completed' ELSE phase END"""
-DEFINED = f"""sagas JOIN shards ON shard = id / {SHARD_CAPACITY}
-JOIN definition_sets USING (definition_set)"""
-"""Sagas, each with its shard and the texts of the shard's definitions."""
-DEFINITION = f"SELECT texts, definition_index FROM {DEFINED} WHERE id = ?"
+OF_SHARD = f"""JOIN shard_definitions d ON d.shard = s.id / {SHARD_CAPACITY}
+AND d.place = s.definition_index"""
+"""Beside a saga `s` the digest of its definition."""
+DEFINED = f"sagas s {OF_SHARD} JOIN definitions USING (definition)"
+"""Sagas, each with the text of its definition."""
+DEFINITION = f"SELECT text FROM {DEFINED} WHERE id = ?"
 RESULTS = """
 SELECT step, action, number, event, value, at FROM attempts WHERE id = ?
 ORDER BY step, action, number
@@ -88,9 +94,10 @@ ORDER BY step, action, number
 """What a saga's attempts came to: of each step its tries, then those of its compensation. Not by
 their times, since a clock may step back."""
 KNOWN = f"""
-SELECT 0, definition_index, '', 0, '', texts, 0.0
+SELECT 0, 0, '', 0, '', text, 0.0
 FROM {DEFINED} WHERE id = ?
 UNION ALL SELECT 1, step, action, number, event, value, at FROM attempts WHERE id = ?
+UNION ALL SELECT 3, 0, '', 0, '', shape, 0.0 FROM shapes WHERE id = ?
 """
 HISTORY = f"""{KNOWN}
 UNION ALL SELECT 2, first_seq, '', 0, '', text, committed_at FROM event_log
@@ -131,6 +138,14 @@ def named(query: str, *names: str) -> str:
     return query
 
 
+def texts_of(rows: list[tuple[Any, ...]]) -> dict[int, list[str]]:
+    """The definitions of logs, by what `TEXTS` gave."""
+    found = dict[int, list[str]]()
+    for log, text in rows:
+        found.setdefault(log, []).append(text)
+    return found
+
+
 def bounds(log: int) -> tuple[int, int]:
     """The ids of a log's sagas: from the first, before the second."""
     return log * SHARD_CAPACITY, (log + 1) * SHARD_CAPACITY
@@ -152,10 +167,8 @@ class Rows:
     def open_logs(self) -> list[LogRow]:
         """The logs that are not closed, in order."""
         found = self.rows(f"{LOGS} WHERE closed = 0 ORDER BY shard")
-        return [
-            LogRow(log, name, shelf, json.loads(texts), opened, open)
-            for log, name, shelf, texts, opened, open in found
-        ]
+        texts = texts_of(self.rows(TEXTS, found[0][0], found[-1][0]) if found else [])
+        return [LogRow(log, name, texts[log], *counts) for log, name, *counts in found]
 
     def places(self, log: int) -> list[int]:
         """The places of the definitions of a log's open sagas."""
@@ -187,21 +200,22 @@ class Rows:
 def known_words(id: int, history: bool) -> tuple[Any, ...]:
     """What is asked of a saga, and the words for it."""
     if not history:
-        return KNOWN, id, id
+        return KNOWN, id, id, id
     log, number = divmod(id, SHARD_CAPACITY)
-    return HISTORY, id, id, log, f'%"saga":{number},%', f'%"saga":{number}}}%'
+    return HISTORY, id, id, id, log, f'%"saga":{number},%', f'%"saga":{number}}}%'
 
 
 def known(rows: Sequence[tuple[Any, ...]], key: str) -> Known:
     """What these say. Raises `NoSuchSaga` where it was let go since its row was read."""
-    parts: tuple[list[Any], list[Any], list[Any]] = [], [], []
+    parts: tuple[list[Any], ...] = [], [], [], []
     for row in sorted(rows, key=lambda row: row[:4]):
         parts[row[0]].append(row[1:])
     if not parts[0]:
         raise NoSuchSaga(f"saga {key!r} was deleted meanwhile")
-    ((place, _, _, _, texts, _),) = parts[0]
-    chunks = [(at, text) for _, _, _, _, text, at in parts[2]]
-    return Known(str(json.loads(texts)[place]), parts[1], chunks)
+    ((*_, text, _),) = parts[0]
+    chunks = [(at, chunk) for _, _, _, _, chunk, at in parts[2]]
+    shape = parts[3][0][4] if parts[3] else None
+    return Known(text, parts[1], chunks, shape)
 
 
 class Questions:

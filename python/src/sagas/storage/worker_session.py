@@ -13,6 +13,7 @@ from sagas.base.errors import WrongStore
 from sagas.core.dispatch import Begun, Order, Position, id_of
 from sagas.core.outcomes import Outcome
 from sagas.definition.step import Function
+from sagas.storage import queries
 from sagas.storage.factory import is_url
 
 BEGIN = """
@@ -23,6 +24,8 @@ INPUT = "SELECT input FROM sagas WHERE id = ?"
 RESULT = (
     "SELECT value FROM attempts WHERE id = ? AND step = ? AND action = 'run' AND event = 'commit'"
 )
+DEFINITION = f"SELECT text FROM {queries.DEFINED} WHERE s.id = ?"
+SHAPE = "SELECT shape FROM shapes WHERE id = ?"
 OPEN = (None, "unknown", "suspended")
 
 
@@ -79,4 +82,5 @@ def fetched(
         one(INPUT, id) if order.input is None else order.input,
         results,
         None if order.result is None else whole(order.result),
+        None if order.declared is None else (one(DEFINITION, id), one(SHAPE, id)),
     )

@@ -10,11 +10,12 @@ from sagas.core import children, outcomes
 from sagas.core.model import Attempt
 from sagas.core.outcomes import SUCCEEDED, Outcome
 from sagas.core.states import SagaPhase
-from sagas.definition import serialization, tokens, undo_sagas
+from sagas.definition import serialization, shape_text, tokens, undo_sagas
 from sagas.definition.compiled import Kind
 from sagas.definition.context import Context
 from sagas.definition.payloads import Payloads
 from sagas.definition.saga import Saga
+from sagas.definition.shape import Shape
 from sagas.definition.start_options import deadline_at
 from sagas.testing.engine import Engine
 from sagas.testing.simulation import Scenario, Simulation
@@ -40,13 +41,18 @@ class Family:
             InvalidInput: The first steps cannot read the input.
             NotSerializable: The input is not JSON.
         """
-        kind = Kind(saga.toml(), saga, self._context, self._payloads)
-        text = serialization.write(given, "input")
+        text, kept = serialization.write(given, "input"), None
+        if saga.is_shaped:
+            shape = Shape(saga, text)
+            definition, kept = shape_text.write(shape), self._payloads.encode(shape.values.text())
+        else:
+            definition = saga.toml()
+        kind = Kind(definition, saga, self._context, self._payloads)
         if wrong := kind.misfit(given, text):
             raise wrong
         text = kind.payloads.encode(text)
         name = f"test{len(self._members) or ''}"
-        simulation = Simulation(key, text, kind, scenario, self._clock, self, name)
+        simulation = Simulation(key, text, kind, scenario, self._clock, self, name, kept)
         self._members[key] = simulation, kind, tokens.saga_token(name, 0)
         with Engine(kind.text) as engine:
             return await simulation.play(engine)

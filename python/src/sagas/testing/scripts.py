@@ -7,27 +7,37 @@ What a test says that is to happen to the attempts of a saga, and what is wrong 
 from __future__ import annotations
 
 from collections.abc import Callable, Iterable, Mapping
-from typing import Any, Union
+from typing import Any, TypeVar, Union
 
 from sagas.core import outcomes
+from sagas.core.model import Attempt
 from sagas.core.outcomes import Outcome
 from sagas.core.states import OutcomeKind
-from sagas.definition import children, serialization, validation
+from sagas.definition import children, serialization, shape_validation, validation
 from sagas.definition.arguments import shown
 from sagas.definition.saga import Saga
+from sagas.definition.selection import Selection
 from sagas.definition.step import Step
 
 Attempts = Union[int, Iterable[int], Exception, type[Exception]]
 """Which attempts: the first so many, just those of a list, or all of them, by this exception."""
 
-Script = Union[Mapping[str, Attempts], Mapping[Step[Any], Attempts]]
-Answers = Union[Mapping[str, Any], Mapping[Step[Any], Any]]
+V = TypeVar("V")
+Script = Union[
+    Mapping[str, Attempts], Mapping[Step[Any], Attempts], Mapping[Selection[Any], Attempts]
+]
+Answers = Union[Mapping[str, Any], Mapping[Step[Any], Any], Mapping[Selection[Any], Any]]
 Rule = Callable[[int], Exception | None]
 TOLD = "the test says so"
 FORMS = (
     "a number of attempts (1), a list of attempts ([2]), or an exception for all "
     '(sagas.Fail("sold out"))'
 )
+
+
+def said_of(attempt: Attempt, said: Mapping[str, V]) -> V | None:
+    """What is said of a step, by its name; else what is said of it as it was declared."""
+    return said.get(attempt.name, said.get(attempt.declared_name))
 
 
 def part_of(saga: Saga, child: str | None, said: Mapping[Any, Any] | None) -> Any:
@@ -56,6 +66,8 @@ def _heads(saga: Saga, step: object) -> tuple[list[str], object]:
     if isinstance(step, str) and "/" in step:
         head, _, rest = step.partition("/")
         names = [one.name for one, _ in children.children_of(saga)]
+        if head not in names and shape_validation.step_named(saga, step):
+            return [], step
         if head not in names:
             near = validation.meant(head, names)
             raise KeyError(f"saga {saga.name!r} has no child step {head!r}{near}")
@@ -72,13 +84,20 @@ def _heads(saga: Saga, step: object) -> tuple[list[str], object]:
 
 def name_of(saga: Saga, step: object) -> str:
     """A step's name; an unknown one is a fault of the test."""
-    name = step.name if isinstance(step, Step) else step
+    name = "/".join(step.path) if isinstance(step, Selection) else step
     if not isinstance(name, str):
         raise TypeError(f"{shown(step)}: must be a step of saga {saga.name!r}, or its name")
-    names = [step.name for step in saga.steps]
-    if name not in names:
+    if shape_validation.step_named(saga, name) is None:
+        names = [one.path for one in shape_validation.patterns(saga)]
         raise KeyError(f"saga {saga.name!r} has no step {name!r}{validation.meant(name, names)}")
     return name
+
+
+def _step(saga: Saga, name: str) -> Step[Any]:
+    """The step that has a name."""
+    step = shape_validation.step_named(saga, name)
+    assert step
+    return step
 
 
 def answers_of(saga: Saga, answers: Answers | None, word: str = "answers") -> dict[str, Any]:
@@ -86,7 +105,7 @@ def answers_of(saga: Saga, answers: Answers | None, word: str = "answers") -> di
     if answers is not None and not isinstance(answers, Mapping):
         raise TypeError(
             f"{word}={shown(answers)}: must be a dict of answers by step: "
-            f'{word}={{"{saga.steps[-1].name}": "yes"}}'
+            f'{word}={{"{saga.parts[-1].name}": "yes"}}'
         )
     return {name_of(saga, step): answer for step, answer in (answers or {}).items()}
 
@@ -95,7 +114,7 @@ def early_of(saga: Saga, early: Answers | None) -> dict[str, Outcome]:
     """What is reported before the steps begin, by step; a failure by an exception."""
     found = {}
     for name, answer in answers_of(saga, early, "early").items():
-        step = next(step for step in saga.steps if step.name == name)
+        step = _step(saga, name)
         if step.kind != "approval" and not step.run.external:
             raise ValueError(
                 f"early: step {name!r} is neither an approval nor external, so nobody reports it. "
@@ -117,7 +136,7 @@ def script(saga: Saga, word: str, said: Script | None) -> dict[str, Rule]:
     if said is not None and not isinstance(said, Mapping):
         raise TypeError(
             f"{word}={shown(said)}: must be a dict of attempts by step: "
-            f'{word}={{"{saga.steps[-1].name}": 1}}'
+            f'{word}={{"{saga.parts[-1].name}": 1}}'
         )
     return {
         name_of(saga, step): _rule(saga, word, name_of(saga, step), attempts)
@@ -146,7 +165,7 @@ def _rule(saga: Saga, word: str, name: str, attempts: Any) -> Rule:
 
 
 def _check_compensation(saga: Saga, word: str, name: str) -> None:
-    step = next(step for step in saga.steps if step.name == name)
+    step = _step(saga, name)
     if not step.has_compensation:
         raise ValueError(
             f"{word}: step {name!r} has no compensation, so it is never undone. Declare "

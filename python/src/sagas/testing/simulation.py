@@ -21,10 +21,11 @@ from sagas.core.attempts import AttemptMachine
 from sagas.core.decisions import Decision, Do
 from sagas.core.effects import Abort, Effects
 from sagas.core.exhaustion import FAILED_BEFORE
-from sagas.core.history import STANDS
+from sagas.core.history import STANDS, fan_of
 from sagas.core.model import RUNNING, SUSPENDED, Attempt, SagaInstance
 from sagas.core.outcomes import Outcome
 from sagas.core.shard import MOST_CLAIMS, ShardDriver, ShardIdentity
+from sagas.core.shard_definitions import ShardDefinitions
 from sagas.core.states import Action, OutcomeKind, Suspension, saga_phase, step_state
 from sagas.core.suspensions import SuspensionRow
 from sagas.definition import serialization
@@ -32,7 +33,7 @@ from sagas.definition.compiled import Kind
 from sagas.definition.start_options import StartOptions
 from sagas.runtime import invocation
 from sagas.testing.engine import Engine
-from sagas.testing.scripts import Rule
+from sagas.testing.scripts import Rule, said_of
 from sagas.testing.trial import Call, Clock, Trial
 
 MOST_CALLS = 10_000
@@ -51,6 +52,7 @@ class Scenario:
         deadline: When the saga is aborted, by the clock of the simulation.
         early: What is reported before the steps begin, by step.
         children: What is to happen to the children, by step.
+        concurrency: How many functions are called at once; None for as many as there are.
     """
 
     rules: Mapping[tuple[str, str], Mapping[str, Rule]]
@@ -60,6 +62,7 @@ class Scenario:
     deadline: float | None = None
     early: Mapping[str, Outcome] = dataclasses.field(default_factory=dict)
     children: Mapping[str, Scenario] = dataclasses.field(default_factory=dict)
+    concurrency: int | None = None
 
     def undoing(self) -> Scenario:
         """Return what is to happen to the saga that undoes this one: the compensations are its
@@ -74,7 +77,7 @@ class Scenario:
 
     def rule(self, outcome: str, attempt: Attempt, count: int) -> Exception | None:
         """Return the exception by which the `count`-th of an action is to end so, if it is."""
-        rule = self.rules[outcome, attempt.kind].get(attempt.name)
+        rule = said_of(attempt, self.rules[outcome, attempt.kind])
         return rule(count) if rule else None
 
 
@@ -101,13 +104,14 @@ class Simulation:
 
     def __init__(
         self, key: str, text: str, kind: Kind, scenario: Scenario, clock: Clock,
-        children: Children, name: str = "test",
+        children: Children, name: str = "test", shape: str | None = None,
     ) -> None:  # fmt: skip
         self._kind, self._scenario, self._clock = kind, scenario, clock
         self._children, self._followed = children, set[Attempt]()
-        identity = ShardIdentity(0, name, "", [kind.text], [kind])
+        identity = ShardIdentity(0, name, ShardDefinitions([kind]))
         self._driver, self._machine = ShardDriver.created(identity), AttemptMachine()
-        self._saga = SagaInstance(key, text, kind, 0, StartOptions(deadline=scenario.deadline))
+        options = StartOptions(deadline=scenario.deadline, shape=shape)
+        self._saga = SagaInstance(key, text, kind, 0, options)
         self._began = clock()
         self._due: list[tuple[float, int, Due, Attempt]] = []
         self._order = 0
@@ -126,8 +130,10 @@ class Simulation:
         """Run it."""
         self._driver.open(self._saga)
         for name, outcome in self._scenario.early.items():
-            word = (self._kind.names.index(name), Action.RUN.value)
-            early_reports.EarlyReport(self._saga, word, outcome).keep()
+            for step, own in enumerate(self._kind.names):
+                if name in (own, self._kind.declared_name(step)):
+                    word = (step, Action.RUN.value)
+                    early_reports.EarlyReport(self._saga, word, outcome).keep()
         self._turn(engine)
         while self._due:
             deadline = self._saga.options.deadline
@@ -183,7 +189,7 @@ class Simulation:
     def _turn(self, engine: Engine) -> None:
         """Ask the engine until nothing is due."""
         driver = self._driver
-        while lines := driver.requests(MOST_CLAIMS):
+        while lines := driver.requests(self._free()):
             found = driver.replies(engine.ask(lines), "", self._clock())
             while isinstance(found, list):
                 found = driver.replies(engine.ask(found), "", self._clock())
@@ -192,6 +198,13 @@ class Simulation:
             for saga in found.draining:
                 self._drain(saga)
             self._commit(found)
+
+    def _free(self) -> int:
+        """How many tasks may be claimed."""
+        most = self._scenario.concurrency
+        if most is None:
+            return MOST_CLAIMS
+        return most - sum(one.state is RUNNING for one in self._saga.busy.values())
 
     def _drain(self, saga: SagaInstance) -> None:
         for attempt, decision in self._machine.drain(saga, self._clock()):
@@ -202,7 +215,8 @@ class Simulation:
         self._driver.writes(effects)
         self._driver.committed(effects)
         for attempt in effects.reported:
-            if attempt.event == "commit" and attempt.name == self._scenario.abort:
+            declared = self._kind.declared_name(attempt.step)
+            if attempt.event == "commit" and self._scenario.abort in (attempt.name, declared):
                 self._driver.abort(Abort(self._saga))
         for attempt in effects.suspended:
             self._stored(attempt)
@@ -249,7 +263,8 @@ class Simulation:
 
     def _wait(self, attempt: Attempt) -> None:
         """Until its time; an approval is answered at once, if the test says how."""
-        if attempt.reason is Suspension.APPROVAL and attempt.name in self._scenario.answers:
+        is_told = said_of(attempt, dict.fromkeys(self._scenario.answers, True))
+        if attempt.reason is Suspension.APPROVAL and is_told:
             self._put(self._clock(), Due.ANSWER, attempt)
         elif attempt.until is not None:
             self._put(max(self._clock(), attempt.until), Due.TIMER, attempt)
@@ -264,7 +279,7 @@ class Simulation:
             return outcomes.raised(told, attempt.manner)
         if self._saga.aborted and not attempt.undo:
             return outcomes.failure("its child saga was not started: the saga was aborted")
-        scenario = self._scenario.children[attempt.name]
+        scenario = self._scenario.children[attempt.declared.name]
         scenario = dataclasses.replace(scenario, deadline=self._saga.options.deadline)
         return await self._children.run(attempt, scenario)
 
@@ -305,6 +320,8 @@ class Simulation:
     def _answer(self, attempt: Attempt) -> Outcome:
         """What a person, or another program, says."""
         answers, name = self._scenario.answers, attempt.name
+        if name not in answers:
+            name = self._kind.declared_name(attempt.step)
         if name not in answers:
             whose = f"{'the compensation of ' if attempt.undo else ''}step {name!r}"
             how = f"Set answers={{{name!r}: ...}}"
@@ -375,6 +392,7 @@ class Simulation:
             seconds=self._spent(),
             saga=self._kind.name,
             key=self._saga.key,
+            fan=fan_of(self._kind, self._saga.options.shape),
         )
 
     def _spent(self) -> float:

@@ -14,12 +14,12 @@ import asyncio
 import dataclasses
 from typing import Any, NamedTuple
 
-from sagas.definition import children, payloads, validation
+from sagas.definition import arguments, children, payloads, validation
 from sagas.definition.context import Context
 from sagas.definition.payloads import Codec
 from sagas.definition.saga import Saga
+from sagas.definition.selection import Selection
 from sagas.definition.start_options import Deadline, deadline_at
-from sagas.definition.step import Step
 from sagas.runtime.lifespan import Lifespan
 from sagas.testing.family import Family
 from sagas.testing.scripts import Answers, Script, answers_of, early_of, name_of, part_of, script
@@ -38,12 +38,13 @@ def run(
     unknown_undo: Script | None = None,
     answers: Answers | None = None,
     early: Answers | None = None,
-    abort: str | Step[Any] | None = None,
+    abort: str | Selection[Any] | None = None,
     clock: Clock | None = None,
     connection: Any = None,
     context: Any = None,
     deadline: Deadline | None = None,
     codec: Codec | None = None,
+    concurrency: int | None = None,
 ) -> Trial:
     """Run a whole saga in memory, from its start to its end, in milliseconds.
 
@@ -74,6 +75,8 @@ def run(
         context: `task.context`, for example a fake; or a function, as for `sagas.open`.
         deadline: As of `Store.start`, by the clock of the simulation.
         codec: As for `sagas.open`.
+        concurrency: Maximum number of functions that are called at once, as of `sagas.open`
+            (default: no limit). With one, what has not begun when a step fails does not begin.
 
     Returns:
         A `Trial`.
@@ -121,6 +124,7 @@ def run(
             context=context,
             deadline=deadline,
             codec=codec,
+            concurrency=concurrency,
         )
     )
 
@@ -136,12 +140,13 @@ async def run_async(
     unknown_undo: Script | None = None,
     answers: Answers | None = None,
     early: Answers | None = None,
-    abort: str | Step[Any] | None = None,
+    abort: str | Selection[Any] | None = None,
     clock: Clock | None = None,
     connection: Any = None,
     context: Any = None,
     deadline: Deadline | None = None,
     codec: Codec | None = None,
+    concurrency: int | None = None,
 ) -> Trial:
     """Run a whole saga in memory, in a running event loop. See `testing.run`."""
     validation.check_given(saga)
@@ -149,7 +154,10 @@ async def run_async(
     said = Said(fail, fail_undo, unknown, unknown_undo, answers, early, abort)
     clock, shared = clock or Clock(), Context()
     at = deadline_at(saga.deadline if deadline is None else deadline, clock())
-    scenario = dataclasses.replace(_scenario(saga, said, connection), deadline=at)
+    if concurrency is not None:
+        arguments.count("concurrency", concurrency)
+    scenario = _scenario(saga, said, connection)
+    scenario = dataclasses.replace(scenario, deadline=at, concurrency=concurrency)
     family = Family(clock, shared, payloads.checked(codec))
     lifespan = Lifespan(context, shared)
     await lifespan.enter()
@@ -169,7 +177,7 @@ class Said(NamedTuple):
     unknown_undo: Script | None
     answers: Answers | None
     early: Answers | None
-    abort: str | Step[Any] | None
+    abort: str | Selection[Any] | None
 
     def part(self, saga: Saga, child: str | None) -> Said:
         """What of it is of a saga's own steps, or of those of a child."""

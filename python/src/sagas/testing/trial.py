@@ -9,6 +9,7 @@ from typing import Any
 from sagas.core.outcomes import FAILED, PERMANENT, SUCCEEDED
 from sagas.core.results import Answering
 from sagas.definition.control import Progress
+from sagas.definition.fan import FIXED, Fan
 
 
 class Clock:
@@ -80,6 +81,7 @@ class Trial(Answering):
         saga: The saga's name.
         key: The saga's key.
         children: How its children ended, and theirs, and the sagas that undid them, by key.
+        fan: Which steps stand for a declared one.
     """
 
     phase: str
@@ -93,6 +95,7 @@ class Trial(Answering):
     saga: str = ""
     key: str = "test"
     children: dict[str, Trial] = dataclasses.field(default_factory=dict)
+    fan: Fan = dataclasses.field(default=FIXED, repr=False, compare=False)
 
     @property
     def errors(self) -> dict[str, str]:

@@ -16,6 +16,7 @@ from starlette.requests import Request
 from starlette.responses import PlainTextResponse, Response
 
 from sagas.base.errors import NoSuchSaga
+from sagas.definition import tracing
 from sagas.engine.plan import certificate_text
 from sagas.inspection import families, lists
 from sagas.inspection import picture as picture_module
@@ -50,6 +51,7 @@ KEY = Text(most=512, least=1)
 LABELS = Mapped(Text(most=256))
 VERSION = Nullable(Number(1, 1_000_000_000, whole=True))
 DEADLINE = Nullable(Number(0.0, 100 * 365.25 * 86_400))
+TRACE = {"traceparent": Field(Text(), "the W3C trace context of its start", default=None)}
 NOTE = Field(Nullable(Text(most=2000)), "why; it is stored with who and when", default=None)
 UNDO = Field(Flag(), "its compensation is meant", default=False)
 EARLY = Field(Flag(), "until the step begins, the report is stored", default=True)
@@ -90,6 +92,12 @@ SAGA = Answer("The saga.", answers.SAGA, headers={"ETag": "changes with the saga
 DECIDED = {200: Answer("It is stored.", answers.DECIDED)}
 
 
+def trace_of(request: Request) -> str | None:
+    """The trace context of a request's header; as the standard has it, an invalid one is none."""
+    some = request.headers.getlist("traceparent")
+    return tracing.read(some[0]) if len(some) == 1 else None
+
+
 async def view_of(call: Call, key: str | None = None) -> SagaView:
     """A saga with all that is kept of it, and what is known of what has begun. Raises
     `NoSuchSaga`.
@@ -113,7 +121,7 @@ def there(view: SagaView | None, key: str) -> SagaView:
 
 
 @routes.post(
-    "/sagas", "startSaga", may=May.START, body=START,
+    "/sagas", "startSaga", may=May.START, body=START, headers=TRACE,
     answers={
         201: Answer("It was started.", answers.STARTED, headers={"Location": "where it is"}),
         200: Answer("The key has this very saga already.", answers.STARTED),
@@ -133,6 +141,7 @@ async def start(call: Call) -> Response:
     check_definition(call.who, name)
     saga = call.service.saga_named(call.who, name, call.body["version"])
     words = [call.body[word] for word in ("input", "labels", "deadline")]
+    words.append(trace_of(call.request))
     run = await call.service.start(call.who, saga, key, *words)
     told = {"key": key, "definition": saga.name, "version": saga.version, "new": run.new}
     return Json(told, 201 if run.new else 200, {"Location": f"/v1/sagas/{quote(key, safe='')}"})

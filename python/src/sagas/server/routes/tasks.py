@@ -19,12 +19,16 @@ from sagas.server.routes.sagas import first
 from sagas.server.shapes import Anything, Field, Flag, Nullable, Number, Record, Several, Text
 
 routes = Routes("workers", "/v1/tasks")
-WORD = re.compile(r"([a-z][a-z0-9_-]{0,31})/([a-z][a-z0-9_-]{0,31})(/undo)?\Z")
+NAME = "[a-z][a-z0-9_-]{0,31}"
+WORD = re.compile(rf"({NAME})/((?:{NAME}/)*?{NAME})(/undo)?\Z")
 LONGEST_LEASE = 3600.0
 HEARTBEATS = 3
 """How many heartbeats fit into a lease, so that two of them may be lost."""
 CLAIM = {
-    "steps": Field(Several(Text(most=80), least=1, most=1000), "`trip/car`, or `trip/car/undo`"),
+    "steps": Field(
+        Several(Text(most=200), least=1, most=1000),
+        "`trip/car`, or `trip/car/undo`; of an included saga `trip/hotel/room`",
+    ),
     "limit": Field(Number(1, 100, whole=True), "how many tasks at most", default=1),
     "wait": Field(Number(0.0, 30.0), "seconds to wait while there is none", default=30.0),
     "lease": Field(

@@ -2,6 +2,7 @@
 
 from __future__ import annotations
 
+import logging
 from typing import Any
 
 from starlette.responses import Response
@@ -9,14 +10,16 @@ from starlette.responses import Response
 from sagas.inspection import deliveries
 from sagas.inspection.deliveries import Delivery
 from sagas.server import answers
-from sagas.server.auth import May
+from sagas.server.auth import May, Who
 from sagas.server.operations import Answer, Call, Routes
 from sagas.server.problems import Problem
 from sagas.server.responses import Json, times
 from sagas.server.routes.filters import LIMIT
+from sagas.server.service import Service
 from sagas.server.shapes import Choice, Field, Record, Text
 from sagas.storage.deliveries import DeliveryState
 
+logger = logging.getLogger("sagas.server")
 routes = Routes("operators", "/v1")
 AGAIN = Record("RedeliverRequest", {}, "Nothing is to be said.")
 
@@ -37,10 +40,22 @@ def told_of(one: Delivery) -> dict[str, Any]:
     }
 
 
-def check_all(call: Call) -> None:
+def check_all(who: Who) -> None:
     """Raises `Problem` where somebody is kept to some definitions."""
-    if call.who.definitions is not None:
-        raise Problem("Forbidden", f"{call.who.name} is kept to some definitions")
+    if who.definitions is not None:
+        raise Problem("Forbidden", f"{who.name} is kept to some definitions")
+
+
+async def again(service: Service, who: Who, id: str) -> Delivery:
+    """Have a delivery posted again. Raises `Problem`."""
+    check_all(who)
+    done = await service.store.deliveries.redeliver(id)
+    one = await service.look(deliveries.one(id)) if done else None
+    if one is None:
+        raise Problem("NoSuchDelivery", f"no delivery has the id {id[:64]!r}")
+    logger.info("%s has the delivery %s posted again", who.name, one.id)
+    service.webhooks.look()
+    return one
 
 
 @routes.get(
@@ -56,7 +71,7 @@ async def listed(call: Call) -> Response:
     """List deliveries of webhooks.
 
     Those of the store: of all services that share it."""
-    check_all(call)
+    check_all(call.who)
     query = call.query
     found = await call.service.look(
         deliveries.listed(query["state"], query["webhook"], query["limit"])
@@ -73,11 +88,4 @@ async def redeliver(call: Call) -> Response:
     """Post a delivery again.
 
     Under its id, with all its attempts, also where it was delivered or given up."""
-    check_all(call)
-    id = call.path["id"]
-    done = await call.service.store.deliveries.redeliver(id)
-    one = await call.service.look(deliveries.one(id)) if done else None
-    if one is None:
-        raise Problem("NoSuchDelivery", f"no delivery has the id {id[:64]!r}")
-    call.service.webhooks.look()
-    return Json(told_of(one))
+    return Json(told_of(await again(call.service, call.who, call.path["id"])))

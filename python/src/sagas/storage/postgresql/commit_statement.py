@@ -26,12 +26,13 @@ FREE = "(v.shard < 0 OR v.shard IN (SELECT shard FROM mine))"
 """What is of no log, or of one that is still this node's."""
 
 ROWS = {
-    "born": "shard bigint, name text, definition_set text",
+    "born": "shard bigint, name text",
     "guessed": "shard bigint, key text",
-    "shelves": "definition_set text, texts text",
+    "definitions": "definition text, text text",
+    "defined": "shard bigint, place integer, definition text",
     "lines": "shard bigint, first_seq integer, committed_at double precision, text text",
     "opened": "id bigint, key text, saga text, definition_index integer, input text, "
-    "at double precision, deadline double precision",
+    "at double precision, deadline double precision, traceparent text",
     "results": (
         "id bigint, step integer, action text, number integer, event text, value text, at double "
         "precision"
@@ -46,6 +47,7 @@ ROWS = {
     ),
     "freed": "id bigint, step integer, action text, number integer",
     "labels": "id bigint, name text, value text",
+    "shapes": "id bigint, shape text",
     "children": "id bigint, parent bigint",
     "progress": (
         "id bigint, step integer, action text, number integer, fraction double precision, detail "
@@ -82,10 +84,14 @@ COLUMNS = {
 
 OF_LOG = f"JOIN mine ON mine.shard = v.id / {SHARD_CAPACITY}"
 PARTS = {
-    "shelves": "INSERT INTO definition_sets SELECT v.* FROM {rows} ON CONFLICT DO NOTHING",
+    "definitions": "INSERT INTO definitions SELECT v.* FROM {rows} ON CONFLICT DO NOTHING",
+    "defined": (
+        "INSERT INTO shard_definitions SELECT v.* FROM {rows} JOIN mine USING (shard) "
+        "ON CONFLICT DO NOTHING"
+    ),
     "lines": "INSERT INTO event_log SELECT v.* FROM {rows} JOIN mine USING (shard)",
     "opened": (
-        "INSERT INTO sagas(id, key, saga, definition_index, input, at, deadline) "
+        "INSERT INTO sagas(id, key, saga, definition_index, input, at, deadline, traceparent) "
         f"SELECT v.* FROM {{rows}} {OF_LOG}"
     ),
     "results": f"INSERT INTO attempts SELECT v.* FROM {{rows}} {OF_LOG} "
@@ -100,6 +106,7 @@ PARTS = {
     "count = excluded.count, since = excluded.since, until = excluded.until, "
     "detail = excluded.detail",
     "labels": f"INSERT INTO labels SELECT v.* FROM {{rows}} {OF_LOG}",
+    "shapes": f"INSERT INTO shapes SELECT v.* FROM {{rows}} {OF_LOG}",
     "children": f"INSERT INTO children SELECT v.* FROM {{rows}} {OF_LOG}",
     "freed": (
         f"DELETE FROM suspensions USING {{rows}} {OF_LOG} WHERE suspensions.id = v.id AND "
@@ -164,8 +171,8 @@ LISTED = (
 )
 """Whether a log is this node's still: the only one of a commit, or one of several."""
 BORN = (
-    "INSERT INTO shards(shard, name, definition_set, owner, epoch) SELECT v.shard, v.name, "
-    "v.definition_set, $2, 1 FROM {rows}{free} ON CONFLICT DO NOTHING RETURNING shard"
+    "INSERT INTO shards(shard, name, owner, epoch) SELECT v.shard, v.name, $2, 1 "
+    "FROM {rows}{free} ON CONFLICT DO NOTHING RETURNING shard"
 )
 TAKEN = (
     "SELECT v.shard FROM {rows} JOIN sagas s ON s.key = v.key UNION ALL SELECT v.shard FROM {rows} "
@@ -319,9 +326,13 @@ class Commit:
 
     def _lists(self) -> Iterable[tuple[str, Iterable[Sequence[Any]]]]:
         born = {batch.log: batch.born for batch in self.batches if batch.born}
-        yield "born", [[(log, name, shelf) for log, (name, shelf, _) in born.items()]]
-        shelves = {(shelf, texts): None for _, shelf, texts in born.values()}
-        yield "shelves", [shelves]  # type: ignore[list-item]
+        yield "born", [[(log, name) for log, (name, _) in born.items()]]
+        defined = {(log, *one) for log, (_, of) in born.items() for one in of}
+        defined |= {(log, *one) for log, rare in self.rare for one in rare.defined}
+        # in order, so that two commits that make the same wait for one another and never crosswise
+        yield "definitions", [sorted({row[2:] for row in defined})]
+        yield "defined", [sorted({row[:3] for row in defined})]
+        yield "shapes", (rare.shapes for _, rare in self.rare)
         yield "guessed", ([(batch.log, key) for key in batch.guessed] for batch in self.batches)
         yield "labels", (rare.labels for _, rare in self.rare)
         yield "children", (rare.children for _, rare in self.rare)

@@ -16,7 +16,7 @@ from sagas.storage.postgresql import prepared
 KEYS = "key = ANY(ARRAY(SELECT json_array_elements_text(%(keys)s::json)))"
 FIND = f"""
 SELECT {queries.SAGA} FROM sagas WHERE {KEYS}
-UNION ALL SELECT -id, key, saga, -1, input, at, NULL, NULL, NULL, NULL FROM pending_starts WHERE
+UNION ALL SELECT -id, key, saga, -1, input, at, NULL, NULL, NULL, refused FROM pending_starts WHERE
 {KEYS}
 """
 FIND_WIRED = FIND.replace("%(keys)s", "$1")

@@ -7,31 +7,27 @@ that other nodes drive asks about many at once, as they end.
 from __future__ import annotations
 
 import asyncio
-import json
 from collections.abc import Callable, Coroutine, Sequence
 from typing import Any
 
 from sagas.base.errors import NoSuchSaga, StoreUnavailable
 from sagas.core.batch import Known, SagaRow
-from sagas.definition.capacity import SHARD_CAPACITY
+from sagas.storage import queries
 from sagas.storage.postgresql.connections import Asker
 
 MANY = 256
 """Sagas that are asked about at once."""
-MOST_SHELVES = 64
+MOST_TEXTS = 256
 """Texts of definitions that are kept at hand."""
 KNOWN = f"""
-SELECT id, -1, definition_set, definition_index, '', NULL, 0.0
-FROM sagas JOIN shards ON shard = id / {SHARD_CAPACITY}
-WHERE id = ANY(%(ids)s::bigint[])
+SELECT s.id, -1, d.definition, 0, '', (SELECT p.shape FROM shapes p WHERE p.id = s.id), 0.0
+FROM sagas s {queries.OF_SHARD} WHERE s.id = ANY(%(ids)s::bigint[])
 UNION ALL SELECT id, step, action, number, event, value, at FROM attempts
 WHERE id = ANY(%(ids)s::bigint[])
 """
-"""As of one moment, of each saga: first the shelf of its definition, and the place there."""
-SHELVES = (
-    "SELECT definition_set, texts FROM definition_sets WHERE definition_set = "
-    "ANY(%(shelves)s::text[])"
-)
+"""As of one moment, of each saga: first the digest of its definition, and what is kept of its
+shape."""
+TEXTS = "SELECT definition, text FROM definitions WHERE definition = ANY(%(digests)s::text[])"
 """None of them is ever changed or let go."""
 
 
@@ -41,7 +37,7 @@ class Lookups:
     def __init__(self, asker: Asker, spawn: Callable[[Coroutine[Any, Any, None]], object]) -> None:
         self._asker, self._spawn = asker, spawn
         self._wanted: dict[int, list[asyncio.Future[Known | None]]] = {}
-        self._shelves: dict[str, list[str]] = {}
+        self._texts: dict[str, str] = {}
         self._is_looking = False
 
     async def known(self, row: SagaRow) -> Known:
@@ -94,25 +90,25 @@ class Lookups:
                     future.set_exception(error)
 
     async def _ask(self, ids: Sequence[int]) -> dict[int, Known]:
-        places: dict[int, tuple[str, int]] = {}
+        found: dict[int, tuple[str, str | None]] = {}
         results: dict[int, list[Any]] = {id: [] for id in ids}
-        for id, step, kind, attempt, *more in await self._asker.read(KNOWN, ids=ids):
+        for id, step, kind, attempt, event, value, at in await self._asker.read(KNOWN, ids=ids):
             if step < 0:
-                places[id] = kind, attempt
+                found[id] = kind, value
             else:
-                results[id].append((step, kind, attempt, *more))
-        await self._fetch({shelf for shelf, _ in places.values()})
+                results[id].append((step, kind, attempt, event, value, at))
+        await self._fetch({digest for digest, _ in found.values()})
         return {
-            id: Known(self._shelves[shelf][place], sorted(results[id], key=lambda row: row[:3]), [])
-            for id, (shelf, place) in places.items()
+            id: Known(self._texts[digest], sorted(results[id], key=lambda row: row[:3]), [], shape)
+            for id, (digest, shape) in found.items()
         }
 
-    async def _fetch(self, shelves: set[str]) -> None:
+    async def _fetch(self, digests: set[str]) -> None:
         """The texts of these are at hand."""
-        lacking = [shelf for shelf in shelves if shelf not in self._shelves]
+        lacking = [digest for digest in digests if digest not in self._texts]
         if not lacking:
             return
-        rows = await self._asker.read(SHELVES, shelves=lacking)
-        if len(self._shelves) + len(rows) > MOST_SHELVES:
-            self._shelves = {one: self._shelves[one] for one in shelves if one in self._shelves}
-        self._shelves |= {shelf: json.loads(texts) for shelf, texts in rows}
+        rows = await self._asker.read(TEXTS, digests=lacking)
+        if len(self._texts) + len(rows) > MOST_TEXTS:
+            self._texts = {one: self._texts[one] for one in digests if one in self._texts}
+        self._texts |= dict(rows)  # type: ignore[arg-type]

@@ -50,7 +50,7 @@ ORPHAN = (
 """Nobody drives it: its node is gone, or is this one, which did not hear that it has it (looked
 at where `own`: it takes long where it has many).
 """
-UNTAKEN = f"NOT {LIVE.format('i.node')}"
+UNTAKEN = f"(i.refused IS NULL AND NOT {LIVE.format('i.node')})"
 
 SAY = """
 WITH said AS (UPDATE nodes SET lease = now() + make_interval(secs => %(lease)s)
@@ -73,9 +73,11 @@ PLACES = f"""ARRAY(SELECT DISTINCT definition_index FROM sagas
     WHERE id >= l.shard * {SHARD_CAPACITY} AND id < (l.shard + 1) * {SHARD_CAPACITY}
     AND phase IS NULL)"""
 """Of the definitions of a log, those with open sagas."""
+TEXTS = """(SELECT coalesce(json_agg(text ORDER BY place), '[]')
+    FROM shard_definitions d JOIN definitions USING (definition) WHERE d.shard = l.shard)"""
+"""The definitions of a log."""
 CANDIDATES = f"""
-SELECT json_build_array(l.shard, s.texts, {PLACES})::text
-FROM shards l JOIN definition_sets s USING (definition_set)
+SELECT json_build_array(l.shard, {TEXTS}, {PLACES})::text FROM shards l
 WHERE {ORPHAN} AND l.shard <> ALL(%(left)s::bigint[]) ORDER BY l.shard LIMIT {LOT}
 """
 TAKE = f"""
@@ -84,9 +86,9 @@ UPDATE shards SET owner = %(node)s, epoch = epoch + 1 WHERE shard IN (
   ORDER BY l.shard FOR UPDATE SKIP LOCKED) RETURNING shard
 """
 TAKEN = f"""
-SELECT json_build_array(shard, name, definition_set, texts, ({OPENED}),
-  ({OPENED} AND phase IS NULL), epoch, {PLACES})::text
-FROM shards l JOIN definition_sets USING (definition_set)
+SELECT json_build_array(shard, name, {TEXTS}, ({OPENED}), ({OPENED} AND phase IS NULL), epoch,
+  {PLACES})::text
+FROM shards l
 WHERE shard = ANY(%(logs)s::bigint[]) AND owner = %(node)s ORDER BY shard
 """
 """What is in the logs that were taken. By a statement behind the taking: one that counted as it
@@ -95,11 +97,13 @@ took would not see the last commit of a node that still wrote.
 Each row is one text, which psycopg reads in less time than several cells.
 """
 UNDRIVEN = f"""
-SELECT texts::json ->> definition_index, count(DISTINCT shard), count(*)
-FROM shards l JOIN definition_sets USING (definition_set)
-JOIN sagas s ON s.id >= shard * {SHARD_CAPACITY} AND s.id < (shard + 1) * {SHARD_CAPACITY}
+SELECT text, count(DISTINCT l.shard), count(*)
+FROM shards l
+JOIN sagas s ON s.id >= l.shard * {SHARD_CAPACITY} AND s.id < (l.shard + 1) * {SHARD_CAPACITY}
   AND phase IS NULL
-WHERE shard = ANY(%(logs)s::bigint[]) GROUP BY 1 ORDER BY 1
+JOIN shard_definitions d ON d.shard = l.shard AND d.place = s.definition_index
+JOIN definitions USING (definition)
+WHERE l.shard = ANY(%(logs)s::bigint[]) GROUP BY 1 ORDER BY 1
 """
 """The definitions of the open sagas of these logs: of how many logs, and how many sagas."""
 LEAVE = """
@@ -264,7 +268,7 @@ class Lease:
         """Those of these logs that this program has the functions for; the others are left to
         other nodes, and given back where they are this one's by now.
         """
-        lacks = {log: drives(json.loads(texts), places) for log, texts, places in found}
+        lacks = {log: drives(texts, places) for log, texts, places in found}
         left = {log: why for log, why in lacks.items() if why is not None}
         if left:
             await self._asker.ask(LEAVE, node=self.node, logs=[*left])
@@ -280,12 +284,8 @@ class Lease:
             json.loads(text)
             for (text,) in await self._asker.read(TAKEN, node=self.node, logs=taken)
         ]
-        fit = await self._fit(drives, [(row[0], row[3], row[7]) for row in found])
-        return [
-            LogRow(log, name, shelf, json.loads(texts), opened, open, epoch)
-            for log, name, shelf, texts, opened, open, epoch, _ in found
-            if log in fit
-        ]
+        fit = await self._fit(drives, [(row[0], row[2], row[6]) for row in found])
+        return [LogRow(*row[:6]) for row in found if row[0] in fit]
 
     async def end(self) -> None:
         """What this node has is free for others, now."""

@@ -8,7 +8,9 @@ from typing import Any
 
 from sagas.base.errors import NoSuchSaga
 from sagas.core.batch import Request, SagaRow, Start
+from sagas.core.pending import check_refused
 from sagas.definition.capacity import SHARD_CAPACITY
+from sagas.definition.serialization import clean
 from sagas.storage import operator_requests, queries
 from sagas.storage.postgresql import connections, notifications
 from sagas.storage.postgresql.key_finder import FIND_ONE
@@ -25,14 +27,18 @@ WHERE r.answer IS NULL AND r.id > %(after)s ORDER BY 1 LIMIT %(most)s
 STARTS = f"""
 WITH lot AS MATERIALIZED (
   SELECT id FROM pending_starts i
-  WHERE ({UNTAKEN} OR i.node = %(node)s AND i.id <> ALL(%(mine)s::bigint[]))
+  WHERE ({UNTAKEN}
+      OR i.node = %(node)s AND i.id <> ALL(%(mine)s::bigint[]) AND i.refused IS NULL)
     AND saga || '/' || version || coalesce('/' || digest, '') = ANY(%(sagas)s::text[])
   ORDER BY id LIMIT %(most)s FOR UPDATE SKIP LOCKED)
 UPDATE pending_starts SET node = %(node)s FROM lot WHERE pending_starts.id = lot.id RETURNING
-pending_starts.id, key, saga, version, input, labels, deadline
+pending_starts.id, key, saga, version, input, labels, deadline, traceparent
 """
 """As a part of an OR what is not taken is looked up again for a row that another node took
 meanwhile; as a join it would not be.
+"""
+REFUSE = """
+UPDATE pending_starts SET refused = %(why)s, node = NULL WHERE id = %(id)s AND node = %(node)s
 """
 ANSWER = queries.named(operator_requests.ANSWER, "id", "start")
 ASK = queries.named(operator_requests.ASK, "what", "value", "id")
@@ -60,13 +66,20 @@ async def take_starts(
     return await asker.ask(STARTS, **words)  # type: ignore[return-value]
 
 
+async def refuse(asker: connections.Asker, node: str, start: int, why: str) -> None:
+    """Keep why a start that this node took is not begun: nobody takes it any more."""
+    await asker.ask(REFUSE, id=start, why=clean(why), node=node)
+
+
 async def ask(
     asker: connections.Asker, heard: notifications.News, row: SagaRow, what: str, value: str
 ) -> Any:
     """Leaves a request for this very saga, or for the start that it is yet; tells the nodes, and
     waits for the answer. An abort of a start that no node has taken withdraws it instead.
 
-    Raises `NoSuchSaga`."""
+    Raises `NoSuchSaga`, and `InvalidInput` where the start was refused."""
+    if what != "abort":
+        check_refused(row)
     if what == "abort" and row.id < 0 and await _withdraw(asker, -row.id):
         return True
     row, id = await _leave(asker, row, what, value)

@@ -20,17 +20,21 @@ CREATE TABLE sagas.nodes(
   lease timestamptz NOT NULL,
   serves boolean NOT NULL DEFAULT false, kinds text[]);
 
--- The definitions of a shard: a JSON list of TOML texts, sorted by name; `definition_set` is their
--- digest.
-CREATE TABLE sagas.definition_sets(definition_set text PRIMARY KEY, texts text NOT NULL);
+-- Definitions: TOML texts, each once, by their digests.
+CREATE TABLE sagas.definitions(definition text PRIMARY KEY, text text NOT NULL);
+
+-- The definitions of a shard, by their places there. A shard of sagas whose steps come from their
+-- input gets more of them with its sagas.
+CREATE TABLE sagas.shard_definitions(
+  shard bigint NOT NULL, place integer NOT NULL, definition text NOT NULL,
+  PRIMARY KEY(shard, place));
 
 -- closed: 0 it is driven, 1 it is settled and its audit said yes, 2 it is settled and its audit
 -- said no; audit: what it said; owner: the node that drives it, or null; epoch: grows with each
 -- owner and each time it is taken up, and a commit has to know it.
 CREATE SEQUENCE sagas.shard_numbers MINVALUE 0 START 0;
 CREATE TABLE sagas.shards(
-  shard bigint PRIMARY KEY, name text NOT NULL UNIQUE, definition_set text NOT NULL, owner text,
-  epoch bigint NOT NULL,
+  shard bigint PRIMARY KEY, name text NOT NULL UNIQUE, owner text, epoch bigint NOT NULL,
   closed smallint NOT NULL DEFAULT 0, audit text) WITH (fillfactor = 50);
 CREATE INDEX shards_open ON sagas.shards(shard) WHERE closed = 0;
 
@@ -40,8 +44,8 @@ CREATE TABLE sagas.event_log(
   text text NOT NULL,
   PRIMARY KEY(shard, first_seq));
 
--- definition_index: of its definition in the shard's set; deadline: when it is
--- aborted; phase: null while open, then ended or
+-- definition_index: of its definition in the shard; deadline: when it is
+-- aborted; traceparent: the W3C trace context of its start; phase: null while open, then ended or
 -- stuck; outcome: JSON (aborted, answer, kept, states); recovered: it ended by a plan; undo_failed:
 -- and a compensation failed for good; note: of one that a person resolved, null before.
 CREATE TABLE sagas.sagas(
@@ -49,10 +53,14 @@ CREATE TABLE sagas.sagas(
   definition_index integer NOT NULL, input text NOT NULL,
   at double precision NOT NULL, deadline double precision, phase text, outcome text,
   recovered boolean NOT NULL DEFAULT false, undo_failed boolean NOT NULL DEFAULT false,
-  ended double precision, note text) WITH (fillfactor = 70);
+  ended double precision, note text, traceparent text) WITH (fillfactor = 70);
 CREATE INDEX sagas_open ON sagas.sagas(id) WHERE phase IS NULL;
 CREATE INDEX sagas_stuck ON sagas.sagas(id) WHERE phase = 'stuck';
 CREATE INDEX sagas_recovered ON sagas.sagas(id) WHERE recovered;
+
+-- What is kept of sagas whose steps come from their input: items, their keys, and the inputs of
+-- included sagas, as a JSON object.
+CREATE TABLE sagas.shapes(id bigint PRIMARY KEY, shape text NOT NULL);
 
 -- The labels of sagas, by which they are found.
 CREATE TABLE sagas.labels(
@@ -109,13 +117,13 @@ CREATE INDEX operator_commands_key ON sagas.operator_commands(key);
 -- the client's definition, null where the client has no steps of it: then any node takes it that
 -- has a saga of that name and version; commands: what is asked of it: a JSON list of lists with id,
 -- command, value and at. They go with the start, and to `operator_commands` in the commit that
--- opens its saga.
+-- opens its saga; refused: why the input gives the saga no steps: then no node takes it.
 CREATE TABLE sagas.pending_starts(
   id bigint GENERATED ALWAYS AS IDENTITY PRIMARY KEY, key text NOT NULL UNIQUE,
   saga text NOT NULL, version integer NOT NULL,
   input text NOT NULL, at double precision NOT NULL, node text, digest text,
-  labels jsonb NOT NULL DEFAULT '{}', deadline double precision,
-  commands jsonb NOT NULL DEFAULT '[]');
+  labels jsonb NOT NULL DEFAULT '{}', deadline double precision, traceparent text,
+  commands jsonb NOT NULL DEFAULT '[]', refused text);
 
 -- Attempts that are done elsewhere, from the commit that offers them on.
 -- attempt: its id; task: what a worker asks for, saga/step/action, or empty where a message has it;
@@ -135,6 +143,8 @@ CREATE TABLE sagas.external_attempts(
   value text, reported bigint, cancelled text) WITH (fillfactor = 70);
 CREATE INDEX external_attempts_offered ON sagas.external_attempts(task, offered_at)
   WHERE outcome IS NULL;
+CREATE INDEX external_attempts_bound ON sagas.external_attempts(task)
+  WHERE outcome IS NULL AND concurrency IS NOT NULL;
 CREATE INDEX external_attempts_reported ON sagas.external_attempts(shard)
   WHERE outcome IN ('succeeded', 'failed', 'failed_permanently', 'unknown');
 CREATE INDEX external_attempts_id ON sagas.external_attempts(id);
@@ -193,7 +203,9 @@ TABLES = (
     "progress",
     "operator_commands",
     "external_attempts",
-    "definition_sets",
+    "definitions",
+    "shard_definitions",
+    "shapes",
     "limit_slots",
     "webhook_deliveries",
     "schedules",

@@ -37,8 +37,10 @@ SELECT shard, {MINE},
   (SELECT json_agg(json_build_array(s.id, s.key, s.definition_index, s.input, s.deadline,
     (SELECT json_agg(json_build_array({queries.RESULT}) ORDER BY r.step, r.action, r.number)
       FROM attempts r WHERE r.id = s.id),
-    (SELECT json_agg(json_build_array({queries.HELD})) FROM suspensions h WHERE h.id = s.id))
+    (SELECT json_agg(json_build_array({queries.HELD})) FROM suspensions h WHERE h.id = s.id),
+    s.traceparent, (SELECT p.shape FROM shapes p WHERE p.id = s.id))
     ORDER BY s.id)::text FROM {SAGAS} AND s.phase IS NULL),
+  (SELECT count(*) FROM shard_definitions d WHERE d.shard = l.shard),
   {connections.LINE} FROM shards l WHERE {LOGS}
 """
 """One transaction: the second part sees all that was written under the epochs before, and
@@ -46,13 +48,19 @@ meanwhile nothing is. A log of which a commit is under way is passed over. A log
 text, since psycopg takes longer for some thousand cells than the server for all.
 """
 BORN = """
-WITH new AS (INSERT INTO definition_sets VALUES (%(shelf)s, %(texts)s) ON CONFLICT DO NOTHING)
-INSERT INTO shards(shard, name, definition_set, owner, epoch)
-VALUES (%(log)s, %(name)s, %(shelf)s, %(node)s, %(epoch)s) ON CONFLICT DO NOTHING
+WITH given AS (SELECT place, digest, text FROM unnest(%(places)s::integer[], %(digests)s::text[],
+    %(texts)s::text[]) AS of(place, digest, text)),
+new AS (INSERT INTO definitions SELECT DISTINCT digest, text FROM given ORDER BY 1
+  ON CONFLICT DO NOTHING),
+new2 AS (INSERT INTO shard_definitions SELECT %(log)s, place, digest FROM given
+  ON CONFLICT DO NOTHING)
+INSERT INTO shards(shard, name, owner, epoch)
+VALUES (%(log)s, %(name)s, %(node)s, %(epoch)s) ON CONFLICT DO NOTHING
 """
 """A log that is not in the store, as far as this node knows: the commit that was to hold it may
 come late, and then meets it, of a later epoch.
 """
+DEFINITIONS = "SELECT count(*) FROM shard_definitions WHERE shard = %(log)s"
 ALONE = (
     f"UPDATE shards SET epoch = epoch + 1 WHERE {LOGS} AND {MINE} RETURNING epoch, "
     f"{connections.LINE}"
@@ -165,7 +173,7 @@ class Loads:
                 epochs: dict[int, int] = {log: epoch for log, epoch in await cursor.fetchall()}
                 cursor.nextset()
                 while row := await cursor.fetchone():
-                    log, is_mine, text, opened, sagas, line = row
+                    log, is_mine, text, opened, sagas, defined, line = row
                     these, waits = [want for want in waits if want.log == log], [
                         want for want in waits if want.log != log
                     ]
@@ -176,6 +184,7 @@ class Loads:
                     if log in epochs:
                         loaded = _loaded(text or "", opened, json.loads(sagas or "[]"))
                         loaded.epoch, loaded.line = epochs[log], line
+                        loaded.definitions = defined
                     for want in these:
                         want.tell(loaded)
                     await asyncio.sleep(0)
@@ -200,11 +209,7 @@ class Loads:
                 connections.PATIENCE
             ), self._asker.pool.connection() as link, link.transaction():
                 if want.born:
-                    name, shelf, texts = want.born
-                    await link.execute(
-                        BORN,
-                        words | {"name": name, "shelf": shelf, "texts": texts, "epoch": want.epoch},
-                    )
+                    await link.execute(BORN, words | _born(want.born) | {"epoch": want.epoch})
                 taken = await rows(ALONE)
                 if not taken:
                     return None
@@ -214,13 +219,21 @@ class Loads:
                     )
                 )
                 ((opened,),) = await rows(queries.COUNT)
+                ((defined,),) = await rows(DEFINITIONS)
                 open, results, held = [
                     await rows(query)
                     for query in (queries.OPEN_SAGAS, queries.OPEN_RESULTS, queries.OPEN_HELD)
                 ]
-        loaded = Loaded(text, events, opened, open, results, held)
+        loaded = Loaded(text, events, opened, open, results, held, definitions=defined)
         ((loaded.epoch, loaded.line),) = taken
         return loaded
+
+
+def _born(born: Born) -> dict[str, Any]:
+    """A log's name and definitions, as `BORN` has them."""
+    name, defined = born
+    places, digests, texts = zip(*defined) if defined else ((), (), ())
+    return {"name": name, "places": [*places], "digests": [*digests], "texts": [*texts]}
 
 
 def _was_heard(fault: Exception) -> bool:
@@ -252,7 +265,7 @@ def _loaded(text: str, opened: int, sagas: Sequence[Any]) -> Loaded:
         for id, step, kind, attempt, why, count, since, until, error in saga[6] or ()
     ]
     open: list[OpenRow] = [
-        (id, key, place, text, None if deadline is None else float(deadline))
-        for id, key, place, text, deadline, _, _ in sagas
+        (id, key, place, text, None if deadline is None else float(deadline), traceparent, shape)
+        for id, key, place, text, deadline, _, _, traceparent, shape in sagas
     ]
     return Loaded(text, text.count("\n"), opened, open, results, held)

@@ -327,9 +327,8 @@ class PostgreSQL(queries.Questions):
         return await self._keys.find(key)
 
     async def load(self, log: int, epoch: int, born: Born | None) -> Loaded | None:
-        """A log as a pump takes it up, under a new epoch: what was on its way to the server is
-        fenced. None where it is another node's, or is not there.
-        """
+        """A log as a pump takes it up, under a new epoch, which fences what was on its way. None
+        where it is another node's, or is not there."""
         line = self._line
         loaded = await self._loads.load(log, epoch, born)
         self._check_line(loaded.line if loaded else line)  # it may come over a connection of before
@@ -342,9 +341,7 @@ class PostgreSQL(queries.Questions):
         return await self.lease.spare(log)
 
     async def take_up(self, log: int, epoch: int) -> tuple[str, int] | None:
-        """A log's lines and how many events they are; None where it is not this node's any more,
-        since another wrote behind them.
-        """
+        """A log's lines and how many events they are; None where it is not this node's any more."""
         line = self._line
         found = await self._loads.take_up(log, epoch)
         if found is not None:
@@ -361,6 +358,10 @@ class PostgreSQL(queries.Questions):
         return await saga_requests.take_starts(
             self.asker, self.lease.node, self._sagas, most, under_way
         )
+
+    async def refuse(self, start: int, why: str) -> None:
+        """Keeps why a start that this node took is not begun."""
+        await saga_requests.refuse(self.asker, self.lease.node, start, why)
 
     async def ask(self, row: SagaRow, what: str, value: str) -> Any:
         """Leaves a request for the node that has the saga, and waits for its answer."""

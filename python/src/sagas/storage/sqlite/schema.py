@@ -11,15 +11,19 @@ leads to them.
 """
 
 TABLES = """
--- The definitions of a shard: a JSON list of TOML texts, sorted by name; `definition_set` is their
--- digest.
-CREATE TABLE definition_sets(
-  definition_set TEXT PRIMARY KEY, texts TEXT NOT NULL) WITHOUT ROWID;
+-- Definitions: TOML texts, each once, by their digests.
+CREATE TABLE definitions(definition TEXT PRIMARY KEY, text TEXT NOT NULL) WITHOUT ROWID;
+
+-- The definitions of a shard, by their places there. A shard of sagas whose steps come from their
+-- input gets more of them with its sagas.
+CREATE TABLE shard_definitions(
+  shard INTEGER NOT NULL, place INTEGER NOT NULL, definition TEXT NOT NULL,
+  PRIMARY KEY(shard, place)) WITHOUT ROWID;
 
 -- closed: 0 it is driven, 1 it is settled and its audit said yes, 2 it is settled and its audit
 -- said no; audit: what it said.
 CREATE TABLE shards(
-  shard INTEGER PRIMARY KEY, name TEXT NOT NULL UNIQUE, definition_set TEXT NOT NULL,
+  shard INTEGER PRIMARY KEY, name TEXT NOT NULL UNIQUE,
   closed INTEGER NOT NULL DEFAULT 0, audit TEXT);
 CREATE INDEX shards_open ON shards(shard) WHERE closed = 0;
 
@@ -29,8 +33,8 @@ CREATE TABLE event_log(
   text TEXT NOT NULL,
   PRIMARY KEY(shard, first_seq)) WITHOUT ROWID;
 
--- definition_index: of its definition in the shard's set; deadline: when it is
--- aborted; phase: null while open, then ended or
+-- definition_index: of its definition in the shard; deadline: when it is
+-- aborted; traceparent: the W3C trace context of its start; phase: null while open, then ended or
 -- stuck; outcome: JSON (aborted, answer, kept, states); recovered: it ended by a plan; undo_failed:
 -- and a compensation failed for good; note: of one that a person resolved, null before. The open
 -- sagas are those of shards that are not closed: an index of them takes each saga two pages of the
@@ -40,7 +44,7 @@ CREATE TABLE sagas(
   definition_index INTEGER NOT NULL,
   input TEXT NOT NULL, at REAL NOT NULL, deadline REAL, phase TEXT, outcome TEXT,
   recovered INTEGER NOT NULL DEFAULT 0,
-  undo_failed INTEGER NOT NULL DEFAULT 0, ended REAL, note TEXT);
+  undo_failed INTEGER NOT NULL DEFAULT 0, ended REAL, note TEXT, traceparent TEXT);
 CREATE INDEX sagas_stuck ON sagas(id) WHERE phase = 'stuck';
 CREATE INDEX sagas_recovered ON sagas(id) WHERE recovered;
 
@@ -53,6 +57,10 @@ CREATE INDEX labels_value ON labels(name, value, id);
 -- The sagas that others started, each with the id of the one that did.
 CREATE TABLE children(id INTEGER PRIMARY KEY, parent INTEGER NOT NULL);
 CREATE INDEX children_parent ON children(parent);
+
+-- What is kept of sagas whose steps come from their input: items, their keys, and the inputs of
+-- included sagas, as a JSON object.
+CREATE TABLE shapes(id INTEGER PRIMARY KEY, shape TEXT NOT NULL);
 
 -- What attempts came to. action: run or undo; number: of the attempt; event: that the report came
 -- to (commit, missed, fail, undone, undo_missed, undo_fail); value: the result, or {"error": ..,
@@ -111,6 +119,8 @@ CREATE TABLE external_attempts(
   since REAL, until REAL, given_back INTEGER NOT NULL DEFAULT 0, outcome TEXT, value TEXT,
   reported INTEGER, cancelled TEXT) WITHOUT ROWID;
 CREATE INDEX external_attempts_offered ON external_attempts(task, offered_at) WHERE outcome IS NULL;
+CREATE INDEX external_attempts_bound ON external_attempts(task)
+  WHERE outcome IS NULL AND concurrency IS NOT NULL;
 CREATE INDEX external_attempts_reported ON external_attempts(shard)
   WHERE outcome IN ('succeeded', 'failed', 'failed_permanently', 'unknown');
 CREATE INDEX external_attempts_id ON external_attempts(id);

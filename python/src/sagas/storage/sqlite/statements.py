@@ -3,15 +3,23 @@
 from __future__ import annotations
 
 import functools
+import sqlite3
+from collections.abc import Iterable, Sequence
 
+from sagas.core.batch import Defined
 from sagas.storage import external
 
 LINES = "INSERT INTO event_log VALUES(?, ?, ?, ?)"
-OPENED = "INSERT INTO sagas(id, key, saga, definition_index, input, at, deadline) VALUES {}"
+OPENED = (
+    "INSERT INTO sagas(id, key, saga, definition_index, input, at, deadline, traceparent) VALUES {}"
+)
 RESULTS = "INSERT INTO attempts VALUES {}"
 ENDED = """
 UPDATE sagas SET phase = ?, outcome = ?, recovered = ?, undo_failed = ?, ended = ? WHERE id IN ({})
 """
+DEFINITION = "INSERT OR IGNORE INTO definitions VALUES(?, ?)"
+DEFINED = "INSERT OR IGNORE INTO shard_definitions VALUES(?, ?, ?)"
+SHAPES = "INSERT INTO shapes VALUES(?, ?)"
 LABELS = "INSERT INTO labels VALUES(?, ?, ?)"
 CHILDREN = "INSERT INTO children VALUES(?, ?)"
 OFFERS = f"""
@@ -23,6 +31,7 @@ UPDATE external_attempts SET cancelled = ? WHERE id = ? AND action = 'run' AND o
 """
 OF_PARTS = (
     (LABELS, "labels"),
+    (SHAPES, "shapes"),
     (CHILDREN, "children"),
     (OFFERS, "offers"),
     (CANCELLED, "cancelled"),
@@ -42,6 +51,14 @@ shard = CASE WHEN outcome IS NOT 'succeeded' OR ?2 = 'succeeded' THEN shard END 
 """
 """A worker's *done* gives way to nothing else: its shard would be null, which is refused."""
 DONE = "SELECT 1 FROM external_attempts WHERE attempt = ? AND outcome = 'succeeded'"
+
+
+def define(db: sqlite3.Connection, logs: Iterable[tuple[int, Sequence[Defined]]]) -> None:
+    """Writes definitions of logs, as far as they are not there."""
+    rows = [(log, *one) for log, defined in logs for one in defined]
+    if rows:
+        db.executemany(DEFINITION, [row[2:] for row in rows])
+        db.executemany(DEFINED, [row[:3] for row in rows])
 
 
 @functools.lru_cache(maxsize=256)

@@ -342,7 +342,9 @@ class Sqlite(queries.Questions, queries.Rows):
             self.rows(query, *within)
             for query in (queries.OPEN_SAGAS, queries.OPEN_RESULTS, queries.OPEN_HELD)
         )
-        return Loaded(text, events, opened, open, results, held, epoch)  # type: ignore[arg-type]
+        loaded = Loaded(text, events, opened, open, results, held, epoch)  # type: ignore[arg-type]
+        loaded.definitions = self.rows(queries.DEFINITIONS, log)[0][0]
+        return loaded
 
     async def find(self, key: str) -> SagaRow | None:
         """The saga with this key."""
@@ -355,6 +357,10 @@ class Sqlite(queries.Questions, queries.Rows):
     async def starts(self, most: int, under_way: Sequence[int] | None = None) -> list[Start]:
         """None: who starts a saga has the store open."""
         return []
+
+    async def refuse(self, start: int, why: str) -> None:
+        """There are none."""
+        raise NotImplementedError
 
     async def ask(self, row: SagaRow, what: str, value: str) -> Any:
         """Nobody else has the sagas of a file."""

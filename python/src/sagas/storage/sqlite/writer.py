@@ -292,7 +292,7 @@ class Writer:
             for of in logs.values():
                 self._put_lines(of, events)
         if opened:
-            self._lots(statements.OPENED, 7, opened)
+            self._lots(statements.OPENED, 8, opened)
         if results:
             self._lots(statements.RESULTS, 7, results)
         if ended:
@@ -311,12 +311,9 @@ class Writer:
         had = has = self.events.get(log, 0)
         for batch in batches:
             if batch.born:
-                name, shelf, texts = batch.born
-                self._execute("INSERT OR IGNORE INTO definition_sets VALUES(?, ?)", (shelf, texts))
-                self._execute(
-                    "INSERT OR IGNORE INTO shards(shard, name, definition_set) VALUES(?, ?, ?)",
-                    (log, name, shelf),
-                )
+                name, defined = batch.born
+                statements.define(self._db, [(log, defined)])
+                self._execute("INSERT OR IGNORE INTO shards(shard, name) VALUES(?, ?)", (log, name))
             if batch.text:
                 if batch.first != has:
                     raise Gap(f"shard {log}: event {batch.first} behind {has}")
@@ -344,6 +341,7 @@ class Writer:
             ([cleaned(row) for row in of.held] for _, of in rare),
         )
         self._many(statements.FREED, (of.freed for _, of in rare))
+        statements.define(self._db, ((log, of.defined) for log, of in rare))
         self._many(statements.PROGRESS, (of.progress for _, of in rare))
         for _, of in rare:
             for work in of.work:

@@ -1,0 +1,64 @@
+"""`deliveries`: lists posts to webhooks, and repeats one."""
+
+from __future__ import annotations
+
+import argparse
+import contextlib
+import dataclasses
+
+from sagas.cli.formatting import GOOD, moment, short, show_json, table
+from sagas.cli.snapshot import Snapshot
+from sagas.inspection import deliveries as questions
+from sagas.inspection.deliveries import Delivery
+from sagas.storage import admin
+from sagas.storage.admin import Trouble
+from sagas.storage.deliveries import REDELIVER, DeliveryState
+
+
+def words_of_deliveries(part: argparse.ArgumentParser) -> None:
+    """The options of `deliveries`."""
+    part.add_argument("change", nargs="?", choices=["redeliver"], help="what to do with ID")
+    part.add_argument("id", metavar="ID", nargs="?", help="the delivery's id")
+    states = [state.value for state in DeliveryState]
+    part.add_argument("--state", choices=states, help="only deliveries in this state")
+    part.add_argument("--webhook", metavar="NAME", help="only deliveries to this webhook")
+    part.add_argument(
+        "--limit",
+        type=int,
+        default=100,
+        metavar="N",
+        help="maximum number of deliveries, the newest first (default: 100)",
+    )
+
+
+def deliveries(path: str, words: argparse.Namespace) -> int:
+    """List the deliveries of webhooks, or have one posted again.
+
+    A service that has the webhook posts it within seconds, with all its attempts.
+    """
+    if (words.change is None) != (words.id is None):
+        raise Trouble("deliveries redeliver: give the id of the delivery", 2)
+    if words.limit < 1:
+        raise Trouble("--limit: must be 1 or more", 2)
+    if words.change:
+        with contextlib.closing(admin.connect(path, "rw")) as link:
+            if not link.ask(REDELIVER.replace(":id", "?"), words.id):
+                raise Trouble(f"no delivery has the id {words.id!r}")
+        told = {"id": words.id, "state": DeliveryState.PENDING.value}
+        show_json(told) if words.json else print(f"{words.id}: {told['state']}")
+        return GOOD
+    with Snapshot(path) as store:
+        found = store.ask(questions.listed(words.state, words.webhook, words.limit))
+    if words.json:
+        show_json([dataclasses.asdict(one) for one in found])
+        return GOOD
+    rows = [row_of(one) for one in found]
+    print(table(["ID", "WEBHOOK", "TYPE", "KEY", "AT", "STATE", "ATTEMPTS", "ANSWER"], rows))
+    return GOOD
+
+
+def row_of(one: Delivery) -> tuple[object, ...]:
+    """A delivery as a person reads it."""
+    answer = short(one.error) if one.error else one.status or ""
+    at = moment(one.at)
+    return one.id, one.webhook, one.type, one.key, at, one.state, one.attempts, str(answer)

@@ -1,0 +1,81 @@
+"""The definitions of a shard."""
+
+from __future__ import annotations
+
+from collections.abc import Sequence
+
+from sagas.core import protocol
+from sagas.core.batch import Defined
+from sagas.definition.capacity import MOST_DEFINITIONS
+from sagas.definition.compiled import Kind, digest_of
+
+
+class ShardDefinitions:
+    """Its definitions, each at its place. One of sagas whose steps come from their input gets more
+    of them; none ever goes.
+
+    Attributes:
+        digest: What names the set of them, if it does not grow; of others it is empty.
+        texts: The definitions, as the engine reads them.
+        kinds: The same with this program's functions.
+        stored: How many of them the store has, or will have.
+        known: How many of them the engine knows.
+        is_fixed: Whether an engine learns none behind its start: then another one takes its place.
+    """
+
+    __slots__ = ("digest", "texts", "kinds", "stored", "known", "is_fixed", "_places")
+
+    def __init__(self, kinds: Sequence[Kind], digest: str = "") -> None:
+        self.digest = digest
+        self.kinds = [*kinds]
+        self.texts = [kind.text for kind in kinds]
+        self._places = {text: place for place, text in enumerate(self.texts)}
+        self.stored = self.known = len(self.texts)
+        self.is_fixed = False
+
+    def has_room(self, kind: Kind) -> bool:
+        """Whether it has this one, or may get it."""
+        return kind.text in self._places or len(self.texts) < MOST_DEFINITIONS
+
+    def place(self, kind: Kind) -> int:
+        """Return the place of one, which it has from now on."""
+        place = self._places.get(kind.text)
+        if place is None:
+            place = self._places[kind.text] = len(self.texts)
+            self.texts.append(kind.text)
+            self.kinds.append(kind)
+        return place
+
+    def define_lines(self) -> list[str]:
+        """The requests by which the engine learns those that it does not know."""
+        lines: list[str] = []
+        for text in self.texts[self.known :] if not self.is_fixed else ():
+            line = protocol.define_line(text)
+            if line is None:
+                self.is_fixed = True
+                break
+            lines.append(line)
+        return lines
+
+    def defined(self, reply: str) -> None:
+        """Read the engine's reply to one of them. Those behind one that it did not take are at
+        other places there, so that it is not asked to open a saga with any of them.
+        """
+        if not self.is_fixed and protocol.is_defined(reply, self.known):
+            self.known += 1
+        else:
+            self.is_fixed = True
+
+    def all(self) -> list[Defined]:
+        """All of them, as rows."""
+        return self._rows(0, len(self.texts))
+
+    def _rows(self, first: int, end: int) -> list[Defined]:
+        of = range(first, end)
+        return [(place, digest_of(self.texts[place]), self.texts[place]) for place in of]
+
+    def to_store(self, place: int) -> list[Defined]:
+        """Return those up to a place that the store does not have; it will have them now."""
+        rows = self._rows(self.stored, place + 1)
+        self.stored = max(self.stored, place + 1)
+        return rows

@@ -1,0 +1,169 @@
+"""`Place`: where a task is in a saga whose steps come from its input."""
+
+from __future__ import annotations
+
+import contextlib
+import dataclasses
+from collections.abc import Callable, Iterator, Mapping, Sequence
+from typing import TYPE_CHECKING, Any, Protocol
+
+from sagas.definition import serialization
+from sagas.definition.decoders import Decoder
+from sagas.definition.layout import Layout, Scope, Spot
+from sagas.definition.selection import Selection
+from sagas.definition.shape_values import ShapeValues
+
+if TYPE_CHECKING:
+    from sagas.definition.about import About
+
+
+NO_ITEM = {"index": None, "item_key": None, "item": None}
+"""What is told of a step without one."""
+
+
+class Reading(Protocol):
+    """How the values of a saga are read by its declaration."""
+
+    def saga(self, scope: Scope) -> str:
+        """The name of the saga in a scope."""
+
+    def input(self, scope: Scope) -> Decoder | None:
+        """How the input of a scope is read."""
+
+    def item(self, spot: Spot) -> Decoder | None:
+        """How the items of a step, or of an inclusion, are read."""
+
+    def fan_outs(self, scope: Scope) -> Sequence[str]:
+        """The steps with items of the saga in a scope."""
+
+    def given(self, scope: Scope) -> Callable[[Any], Any] | None:
+        """The function of the task outside that gives the included saga something."""
+
+
+class Place:
+    """One step of one saga.
+
+    Attributes:
+        spot: Where the step comes from.
+        layout: The steps of the saga's definition.
+        values: What is kept of the saga's shape.
+    """
+
+    __slots__ = ("spot", "layout", "values", "_reading", "_input")
+
+    def __init__(
+        self, spot: Spot, layout: Layout, values: ShapeValues, reading: Reading, input: str
+    ) -> None:
+        self.spot, self.layout, self.values = spot, layout, values
+        self._reading, self._input = reading, input
+
+    @property
+    def index(self) -> int | str | None:
+        """The number of its item, or the item's key in a dict; None where it has none."""
+        return self.values.key(self.spot)
+
+    @property
+    def input(self) -> str:
+        """The input of the saga in which it was declared, as JSON."""
+        return self.values.input(self.spot.scope) if self.spot.scope else self._input
+
+    def item(self) -> Any:
+        """Its item. Raises what the type's own code raises."""
+        return self.values.item(self.spot, self._reading.item(self.spot))
+
+    @property
+    def plain(self) -> dict[str, Any]:
+        """Its item as JSON values, for a worker elsewhere."""
+        number, key = self.spot.number, self.index
+        if number is None:
+            return NO_ITEM
+        told = {"index": number, "item_key": key if isinstance(key, str) else None}
+        return told | {"item": self.values.item(self.spot)}
+
+    def visible(self, texts: Mapping[str, str]) -> Iterator[tuple[str, str]]:
+        """Of the steps that have results, those of its own saga: by the name there, and the whole
+        one.
+        """
+        if not self.spot.scope:
+            return ((name, name) for name in texts)
+        return (pair for pair in self.layout.within(self.spot.scope) if pair[1] in texts)
+
+    def groups(self, texts: Mapping[str, str]) -> Iterator[tuple[str, Any]]:
+        """The results of the fan-outs of its own saga, where each item has one: by the declared
+        name a list, or a dict by the keys of the items.
+        """
+        for name in self._reading.fan_outs(self.spot.scope):
+            with contextlib.suppress(KeyError):
+                yield name, self.gather(name, lambda step: serialization.read(texts[step]))
+
+    def gather(self, step: Selection[Any] | str, one: Callable[[str], Any]) -> Any:
+        """Return what `one` gives of the steps that are meant, as `Layout.gather`.
+
+        Raises:
+            KeyError: They are not there, or not of this saga.
+        """
+        scope, name = self.spot.scope, self._reading.saga(self.spot.scope)
+        if isinstance(step, str):
+            whole = self.layout.prefix(scope) + step
+            if whole in self.layout.spots:
+                return one(whole)
+            path: tuple[str, ...] = (step,)
+        elif step.saga.name != name:
+            raise KeyError(
+                f"{step!r} is a step of saga {step.saga.name!r}, and this one is of {name!r}. "
+                "Write inclusion[step] for a step of an included saga, and give an included saga "
+                "what it needs by given="
+            )
+        else:
+            path = step.path
+            if step.is_own:
+                return one(self.layout.own(scope, path[0], self.spot.number))
+        return self.layout.gather(scope, path, self.values, one)
+
+    def given(self, about: About) -> Any:
+        """What the saga outside gives to the included one; None where it gives nothing."""
+        from sagas.definition.task import Task
+
+        scope = self.spot.scope
+        give = self._reading.given(scope) if scope else None
+        if give is None:
+            return None
+        outer = Spot(scope[:-1], *scope[-1])
+        place = Place(outer, self.layout, self.values, self._reading, self._input)
+        from sagas.definition.about import whole
+
+        told = dataclasses.replace(
+            whole(about), place=place, input=place.input, hint=self._reading.input(outer.scope)
+        )
+        return give(Task(told))
+
+
+class ToldPlace(Place):
+    """Where a task is, as a worker elsewhere was told: its results have names already."""
+
+    __slots__ = ("_index", "_item")
+
+    def __init__(self, declared: str, index: int | str | None, item: Any) -> None:
+        self.spot = Spot((), declared, None if index is None else 0)
+        self._index, self._item = index, serialization.write(item)
+
+    @property
+    def index(self) -> int | str | None:
+        """As of `Place`."""
+        return self._index
+
+    def item(self) -> Any:
+        """The item, as JSON has it: a new object at each call."""
+        return serialization.read(self._item)
+
+    def visible(self, texts: Mapping[str, str]) -> Iterator[tuple[str, str]]:
+        """All of them."""
+        return ((name, name) for name in texts)
+
+    def gather(self, step: Selection[Any] | str, one: Callable[[str], Any]) -> Any:
+        """The result with the step's name; of a fan-out a list or a dict."""
+        return one(step if isinstance(step, str) else step.path[-1])
+
+    def given(self, about: About) -> Any:
+        """Nothing: the function is not here."""
+        return None

@@ -1,0 +1,81 @@
+"""Definitions that come from inputs, by what they have in common."""
+
+from __future__ import annotations
+
+import weakref
+from collections import OrderedDict
+from collections.abc import Iterator
+from typing import TYPE_CHECKING, Any, Protocol
+
+from sagas.definition import shape_text
+from sagas.definition.compiled import Hooks, Kind, name_of, version_of
+from sagas.definition.declared import Declared
+from sagas.definition.shape import Shape
+
+if TYPE_CHECKING:
+    from sagas.definition.context import Context
+    from sagas.definition.payloads import Payloads
+    from sagas.definition.saga import Saga
+
+MOST = 256
+"""Definitions that are kept at hand, beside those of the shards that are driven."""
+
+
+class Known(Protocol):
+    """The sagas of a store."""
+
+    sagas: dict[tuple[str, int], Saga]
+    context: Context
+    payloads: Payloads
+
+    def hooks(self, name: str) -> Hooks:
+        """The webhooks that are told of sagas of a name."""
+
+
+class ShapedKinds:
+    """The definitions of a store's sagas whose steps come from their input."""
+
+    def __init__(self, known: Known) -> None:
+        self._known = known
+        self._kinds: weakref.WeakValueDictionary[str, Kind] = weakref.WeakValueDictionary()
+        self._recent: OrderedDict[tuple[Any, ...], Kind] = OrderedDict()
+        self._declared: dict[tuple[str, int], Declared] = {}
+
+    def all(self) -> Iterator[Kind]:
+        """Those that somebody has."""
+        return iter([*self._kinds.values()])
+
+    def kind(self, text: str) -> Kind:
+        """The definition of a text."""
+        kind = self._kinds.get(text)
+        if kind is None:
+            known, declared = self._known, self._declaration(name_of(text), version_of(text))
+            kind = Kind(text, declared.root, known.context, known.payloads, declared)
+            kind.hooks = known.hooks(kind.name)
+            self._kinds[text] = kind
+        return kind
+
+    def _declaration(self, name: str, version: int) -> Declared:
+        """The declaration of a saga, with what was found of it so far."""
+        if (name, version) not in self._declared:
+            self._declared[name, version] = Declared(self._known.sagas.get((name, version)))
+        return self._declared[name, version]
+
+    def of(self, saga: Saga, text: str) -> tuple[Kind, str]:
+        """The definition of a saga with this input, as JSON, and what is kept of its shape, as it
+        is stored.
+
+        Raises:
+            InvalidInput: The input gives the saga no shape.
+            TooLarge: It gives it too many steps, or needs.
+        """
+        shape = Shape(saga, text, self._declaration(saga.name, saga.version))
+        signature = (saga.name, saga.version, *shape.signature)
+        kind = self._recent.get(signature)
+        if kind is None:
+            kind = self._recent[signature] = self.kind(shape_text.write(shape))
+            if len(self._recent) > MOST:
+                self._recent.popitem(last=False)
+        else:
+            self._recent.move_to_end(signature)
+        return kind, self._known.payloads.encode(shape.values.text())

@@ -1,0 +1,170 @@
+"""`Shelf`: the sagas that a store was opened with, and their definitions."""
+
+from __future__ import annotations
+
+import hashlib
+import json
+from collections.abc import Callable, Iterable, Iterator, Sequence
+from typing import Any, NamedTuple
+
+from sagas.base.errors import DefinitionError, SagasError
+from sagas.definition import definition_text, shape_text, undo_sagas, validation
+from sagas.definition.capacity import MOST_DEFINITIONS, SHARD_CAPACITY
+from sagas.definition.compiled import Hooks, Kind, name_of, version_of
+from sagas.definition.context import Context
+from sagas.definition.payloads import PLAIN as PLAIN_PAYLOADS
+from sagas.definition.payloads import Payloads
+from sagas.definition.saga import Saga
+from sagas.definition.shaped_kinds import ShapedKinds
+
+
+def shelf_of(sagas: Iterable[Saga]) -> tuple[str, list[str]]:
+    """The definitions' texts, sorted by name, and the digest that names them."""
+    texts = [
+        definition_text.declared(saga)
+        for saga in sorted(sagas, key=lambda saga: (saga.name, saga.version))
+    ]
+    return digest_of_texts(texts), texts
+
+
+def digest_of_texts(texts: list[str]) -> str:
+    """The digest of a set of definitions."""
+    return hashlib.sha256(json.dumps(texts).encode()).hexdigest()[:16]
+
+
+class DefinitionSet(NamedTuple):
+    """The definitions with which a shard begins. Of sagas whose steps come from their input there
+    are none, and no digest: they come with the sagas.
+    """
+
+    digest: str = ""
+    kinds: Sequence[Kind] = ()
+
+
+GROWING = DefinitionSet()
+
+
+class Fitted(NamedTuple):
+    """A saga with an input.
+
+    Attributes:
+        kind: The definition; None where the input gives it no shape.
+        shape: What is kept of its shape, as it is stored, if its steps come from the input.
+        wrong: Why it cannot be started, or None.
+    """
+
+    kind: Kind | None
+    shape: str | None
+    wrong: SagasError | None
+
+
+class Shelf:
+    """The sagas that a store was opened with, and the definitions of older logs by them."""
+
+    def __init__(self, sagas: Iterable[Saga], payloads: Payloads = PLAIN_PAYLOADS) -> None:
+        self.sagas: dict[tuple[str, int], Saga] = {}
+        self.context, self.payloads = Context(), payloads
+        self._hooks: Callable[[str], Hooks] = lambda name: {}
+        if isinstance(sagas, Saga) or not isinstance(sagas, Iterable):
+            raise DefinitionError(
+                f"expected a list of sagas, got {sagas!r}. Write open(..., [trip])"
+            )
+        for saga in sagas:
+            if not isinstance(saga, Saga):
+                raise DefinitionError(f"expected a sagas.Saga, got {saga!r}")
+            name = (saga.name, saga.version)
+            if name in self.sagas:
+                raise DefinitionError(
+                    f"{saga.where}: saga {saga.name!r}: another saga has this name and version, "
+                    f"at {self.sagas[name].where}. Change one of them"
+                )
+            self.sagas[name] = saga
+        if not self.sagas:
+            raise DefinitionError("a store needs at least one saga")
+        self.sagas = undo_sagas.with_undo_sagas(self.sagas)
+        self.shelf, self.texts = shelf_of(self.sagas.values())
+        self._kinds: dict[str, Kind] = {}
+        self._shaped = ShapedKinds(self)
+        self.kinds = [self.kind(saga.toml()) for saga in self._fixed()]
+        self._check_queues()
+        self.room = SHARD_CAPACITY  # how many sagas a log takes, where they are small
+        self.by_name = {(kind.name, kind.version): kind for kind in self.kinds}
+        self._by_saga = {
+            saga: self.by_name[name] for name, saga in self.sagas.items() if name in self.by_name
+        }
+        self._sets = dict(self._divided())
+
+    def _fixed(self) -> list[Saga]:
+        """The sagas whose steps do not come from their input, sorted by name."""
+        fixed = (saga for saga in self.sagas.values() if not saga.is_shaped)
+        return sorted(fixed, key=lambda saga: (saga.name, saga.version))
+
+    def _check_queues(self) -> None:
+        """Raises `DefinitionError` where workers would read stored values without the codec or the
+        blobs."""
+        word = "codec" if self.payloads.codec else "blobs"
+        for saga in self.sagas.values() if self.payloads.reads else ():
+            for step in (one for one in saga.all_steps if one.run.queue or one.undo.queue):
+                raise DefinitionError(
+                    f"saga {saga.name!r}, step {step.name!r}: a store with {word}= cannot "
+                    "have steps with queue=, because their workers read stored values themselves"
+                )
+
+    def _divided(self) -> Iterator[tuple[Kind, DefinitionSet]]:
+        """Each definition with its set, of as many as a log has."""
+        for first in range(0, len(self.kinds), MOST_DEFINITIONS):
+            kinds = self.kinds[first : first + MOST_DEFINITIONS]
+            found = DefinitionSet(digest_of_texts([kind.text for kind in kinds]), kinds)
+            yield from ((kind, found) for kind in kinds)
+
+    def kind(self, text: str) -> Kind:
+        """The definition of a text."""
+        if shape_text.is_shaped(text):
+            return self._shaped.kind(text)
+        if text not in self._kinds:
+            saga = self.sagas.get((name_of(text), version_of(text)))
+            kind = self._kinds[text] = Kind(text, saga, self.context, self.payloads)
+            kind.hooks = self._hooks(kind.name)
+        return self._kinds[text]
+
+    def hooks(self, name: str) -> Hooks:
+        """The webhooks that are told of sagas of a name."""
+        return self._hooks(name)
+
+    def fit(self, saga: Saga, input: Any, text: str) -> Fitted:
+        """Return the definition of a saga with an input.
+
+        Args:
+            saga: The saga.
+            input: The input.
+            text: The same as JSON.
+
+        Raises:
+            DefinitionError: The store was not opened with this very saga.
+        """
+        validation.check_given(saga)
+        kind = self._by_saga.get(saga)
+        if kind is not None:
+            wrong = kind.misfit(input, text)
+            return Fitted(kind, None, wrong if wrong or kind.fits else kind.too_large())
+        if self.sagas.get((saga.name, saga.version)) is not saga:
+            raise DefinitionError(
+                f"{saga.where}: saga {saga.name!r}: the store was not opened with it. Add it "
+                "to open(..., [...])"
+            )
+        try:
+            kind, shape = self._shaped.of(saga, text)
+        except SagasError as error:
+            return Fitted(None, None, error)
+        wrong = kind.misfit(input, text)
+        return Fitted(kind, shape, wrong if wrong or kind.fits else kind.too_large())
+
+    def announce(self, hooks: Callable[[str], Hooks]) -> None:
+        """Let webhooks be told of sagas: `hooks` gives them by the name of the saga."""
+        self._hooks = hooks
+        for kind in (*self._kinds.values(), *self._shaped.all()):
+            kind.hooks = hooks(kind.name)
+
+    def set_of(self, kind: Kind) -> DefinitionSet:
+        """The definitions of the logs that take new sagas of this one."""
+        return GROWING if kind.layout is not None else self._sets[kind]

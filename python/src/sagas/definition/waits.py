@@ -1,0 +1,182 @@
+"""Steps that wait: for a time, or for a person's decision."""
+
+from __future__ import annotations
+
+import datetime
+import inspect
+from collections.abc import Callable, Iterable
+from typing import TYPE_CHECKING, Any, overload
+
+from sagas.definition.children import ChildSteps
+from sagas.definition.decorators import Declare, Decorator
+from sagas.definition.step import MANY_TRIES, Backoff, CostOf, Manner, Seconds, Step, Until, seconds
+from sagas.definition.validation import of_step
+
+if TYPE_CHECKING:
+    from sagas.definition.parts import ForEach, Need
+
+MOST_WITHIN = 1e11
+"""Seconds."""
+
+
+class WaitSteps(ChildSteps):
+    """What `Saga` has for steps that wait."""
+
+    def wait(
+        self,
+        *,
+        until: Until,
+        name: str | None = None,
+        needs: Iterable[Need] = (),
+        undo: CostOf | None = None,
+        skip: CostOf = 0,
+        keep: CostOf = 0,
+        tries: int = MANY_TRIES,
+        timeout: Seconds | None = None,
+        backoff: Backoff = Backoff(),
+        concurrency: int | None = None,
+        for_each: ForEach | None = None,
+        when: Callable[[Any], Any] | None = None,
+    ) -> Declare:  # fmt: skip
+        """Declare a function that is called when a time has come, by `@saga.wait(...)`.
+
+        Until then the step takes no slot. A saga that is undone meanwhile does not wait for it.
+
+        Args:
+            until: A timedelta from when the needs are committed, a datetime with a time zone, or a
+                plain function of the task that returns either.
+            undo: As of `step` (default: 0). `NEVER`: its function's effect cannot be undone.
+            tries: As of `step` (default: 9). Being undone while it waits uses one.
+
+        See `Saga.step` for `name`, `needs`, `skip`, `keep`, `timeout`, `backoff`, `concurrency`,
+        `for_each`, `when`.
+
+        Returns:
+            A decorator that returns the `Step`.
+
+        Raises:
+            DefinitionError: An argument is not valid.
+        """
+
+        def declare(function: Callable[[Any], Any]) -> Step[Any]:
+            manner = Manner(
+                function, tries, timeout if timeout is None else seconds(timeout), backoff
+            )
+            costs: dict[str, CostOf | None] = {"run": 0, "undo": undo, "skip": skip, "keep": keep}
+            step = self._add(
+                function, name, "wait", needs, costs, manner, concurrency, for_each, when
+            )
+            step.until = until
+            check_until(step, until)
+            return step
+
+        return Decorator(_saga(self), f"{self.name}.wait", name, declare)
+
+    @overload
+    def approval(self, function: Callable[[Any], Any], /) -> Step[Any]:
+        ...
+
+    @overload
+    def approval(
+        self,
+        function: None = None,
+        /,
+        *, name: str | None = None, needs: Iterable[Need] = (),
+        undo: CostOf | None = None, skip: CostOf = 0, timeout: Seconds | None = None,
+        tries: int = MANY_TRIES, call_timeout: Seconds | None = None, backoff: Backoff = Backoff(),
+        for_each: ForEach | None = None, when: Callable[[Any], Any] | None = None,
+    ) -> Callable[[Callable[[Any], Any]], Step[Any]]:  # fmt: skip
+        ...
+
+    def approval(
+        self,
+        function: Callable[[Any], Any] | None = None,
+        /,
+        *, name: str | None = None, needs: Iterable[Need] = (),
+        undo: CostOf | None = None, skip: CostOf = 0, timeout: Seconds | None = None,
+        tries: int = MANY_TRIES, call_timeout: Seconds | None = None, backoff: Backoff = Backoff(),
+        for_each: ForEach | None = None, when: Callable[[Any], Any] | None = None,
+    ) -> Any:  # fmt: skip
+        """Declare a step that a person decides, by `@saga.approval`.
+
+        The function asks for the decision, for example by mail, and returns None. `Store.complete`
+        or `Store.fail` gives it. Or the function decides: it returns `Approved` or `Rejected`.
+
+        Args:
+            undo: As of `step` (default: 0). `NEVER`: the approval cannot be taken back.
+            timeout: Seconds, or a timedelta, after which the step has failed (default: none).
+            tries: As of `step` (default: 9). Being undone while it waits uses one.
+            call_timeout: As `timeout` of `step`: for the function itself (default: none).
+
+        See `Saga.step` for `function`, `name`, `needs`, `skip`, `backoff`, `for_each`, `when`.
+
+        Returns:
+            The `Step`, or a decorator that returns it.
+
+        Raises:
+            DefinitionError: An argument is not valid.
+        """
+
+        def declare(function: Callable[[Any], Any]) -> Step[Any]:
+            manner = Manner(
+                function, tries, None if call_timeout is None else seconds(call_timeout), backoff
+            )
+            manner.asks = True
+            step = self._add(
+                function,
+                name,
+                "approval",
+                needs,
+                {"run": 0, "undo": undo, "skip": skip, "keep": 0},
+                manner,
+                None,
+                for_each,
+                when,
+            )
+            step.approval_timeout = approval_timeout(step, timeout)
+            return step
+
+        return (
+            Decorator(_saga(self), f"{self.name}.approval", name, declare)
+            if function is None
+            else declare(function)
+        )
+
+
+def check_until(step: Step[Any], until: object) -> None:
+    if isinstance(until, datetime.datetime):
+        if until.tzinfo is None:
+            raise of_step(
+                step,
+                f"until={until!r}: it has no time zone. Give one, for example "
+                "datetime.timezone.utc",
+            )
+    elif not isinstance(until, datetime.timedelta) and (
+        not callable(until) or inspect.iscoroutinefunction(until)
+    ):
+        raise of_step(
+            step,
+            f"until={until!r}: must be a timedelta, a datetime, or a plain function of "
+            "the task that returns one",
+        )
+
+
+def approval_timeout(step: Step[Any], timeout: object) -> datetime.timedelta | None:
+    """How long an approval waits."""
+    time = (
+        datetime.timedelta(seconds=timeout)
+        if isinstance(timeout, (int, float))
+        and not isinstance(timeout, bool)
+        and abs(timeout) < MOST_WITHIN
+        else timeout
+    )
+    if time is not None and not (
+        isinstance(time, datetime.timedelta) and time > datetime.timedelta(0)
+    ):
+        raise of_step(step, f"timeout={timeout!r}: must be seconds or a timedelta, > 0")
+    return time
+
+
+def _saga(saga: Any) -> Any:
+    """What is a saga by now."""
+    return saga

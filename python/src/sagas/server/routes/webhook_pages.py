@@ -1,0 +1,57 @@
+"""The page of posts to webhooks."""
+
+from __future__ import annotations
+
+from typing import Any
+from urllib.parse import urlencode
+
+from starlette.responses import RedirectResponse, Response
+
+from sagas.inspection import deliveries
+from sagas.server.access import service_of
+from sagas.server.dashboard_session import closed, looker, sent, shows
+from sagas.server.operations import Call, Routes
+from sagas.server.routes import webhooks
+from sagas.server.shapes import Choice, Field, Text
+from sagas.storage.deliveries import DeliveryState
+
+routes = Routes("pages", is_page=True)
+LISTED = 100
+STATES = tuple(state.value for state in DeliveryState)
+FILTERED = {
+    "state": Field(Choice(STATES), default=None),
+    "webhook": Field(Text(most=64), default=None),
+}
+LOOKS = {"pending": "open", "delivered": "completed", "failed": "stuck"}
+"""The badge of a state: that of a phase that means as much."""
+
+
+def url(**given: Any) -> str:
+    """The page with this filter."""
+    words = {name: value for name, value in given.items() if value}
+    return f"/ui/webhooks?{urlencode(words)}" if words else "/ui/webhooks"
+
+
+@routes.get("/ui/webhooks", query=FILTERED)
+async def listed(call: Call) -> Response:
+    """The latest deliveries, the newest first."""
+    if answer := closed(call.request):
+        return answer
+    webhooks.check_all(looker(call.request))
+    state, webhook = call.query["state"], call.query["webhook"]
+    found = await call.service.look(deliveries.listed(state, webhook, LISTED + 1))
+    return shows(
+        call.request, "webhooks.html", here="webhooks", deliveries=found[:LISTED], most=LISTED,
+        more=len(found) > LISTED, states=(None, *STATES), looks=LOOKS, state=state,
+        webhook=webhook, url=url,
+        has_hooks=call.service.settings.webhooks is not None,
+    )  # fmt: skip
+
+
+@routes.post("/ui/webhooks/{id}/redeliver")
+async def redelivered(call: Call) -> Response:
+    """Have a delivery posted again, and go back to the list."""
+    session, form = await sent(call.request)
+    await webhooks.again(service_of(call.request), session.who, call.path["id"])
+    state = form.get("state") if form.get("state") in STATES else None
+    return RedirectResponse(url(state=state, webhook=form.get("webhook", "")[:64]), 303)
