@@ -6,7 +6,7 @@ for it in python:pytest,python3-pytest python:xdist,python3-pytest-xdist python:
   python:psycopg,python3-psycopg python:psycopg_pool,python3-psycopg-pool initdb,postgresql \
   python:starlette,python3-starlette python:jsonschema,python3-jsonschema python:pydantic,python3-pydantic python:uvicorn,python3-uvicorn python:jinja2,python3-jinja2 python:prometheus_client,python3-prometheus-client \
   python:httpx,python3-httpx python:selenium,python3-selenium chromium,chromium chromedriver,chromium-driver node,nodejs curl,curl systemd-analyze,systemd go,golang-go javac,default-jdk-headless \
-  python:celery,python3-celery python:redis,python3-redis redis-server,redis-server erl,rabbitmq-server; do
+  python:celery,python3-celery python:redis,python3-redis redis-server,redis-server erl,rabbitmq-server openapi-3.1,openapi-specification; do
   tests/need "${it%,*}" "${it#*,}" || exit 77
 done
 program=${SAGAS:-$(tests/program)} || exit 1

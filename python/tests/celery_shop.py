@@ -49,11 +49,12 @@ class Shop:
         self.queue = sagas.celery.Queue(self.app, queue, patience=patience, timeout=timeout)
         self.notes = pathlib.Path(notes)
         self.trip, self.large, self.odd, self.slow, self.held = self._trip(), self._large(), self._odd(), self._slow(), self._held()
+        self.order, self.fair = self._shaped()
         self.bank = self._bank() if store.startswith("postgresql:") else None
 
     @property
     def sagas(self) -> list[sagas.Saga]:
-        return [self.trip, self.large, self.odd, self.slow, self.held, *([self.bank] if self.bank else [])]
+        return [self.trip, self.large, self.odd, self.slow, self.held, self.order, self.fair, *([self.bank] if self.bank else [])]
 
     def open(self, **words: Any) -> sagas.Store:
         """The store."""
@@ -177,6 +178,30 @@ class Shop:
     def release(self) -> None:
         """Lets the step of `held` go on."""
         self._released.touch()
+
+    def _shaped(self) -> tuple[sagas.Saga, sagas.Saga]:
+        """A saga with a step for each item, and one that includes it."""
+        order = sagas.Saga("order")
+
+        @order.step(for_each=lambda given: given["parcels"], queue=self.queue, keep=lambda seat: 5, undo=1)
+        def ship(task: sagas.ItemTask[Any, Seat]) -> Seat:
+            self.note(task, index=task.index, declared=task.declared_step)
+            if task.item.name == "nowhere":
+                raise sagas.Fail("no such place")
+            return Seat(task.item.row, task.item.name.upper())
+
+        @ship.compensation
+        def call_back(task: sagas.Task[Any]) -> None:
+            self.note(task, index=task.index, result=task.result.name)
+
+        @order.step(needs=[ship], queue=self.queue)
+        def mail(task: sagas.Task[Any]) -> list[str]:
+            shipped: Any = task.result_of(ship)
+            return [seat.name for seat in (shipped.values() if isinstance(shipped, dict) else shipped)]
+
+        fair = sagas.Saga("fair")
+        fair.include(order, name="stall", for_each="stalls")
+        return order, fair
 
     def _bank(self) -> sagas.Saga:
         bank = sagas.Saga("bank")

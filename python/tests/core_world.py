@@ -29,6 +29,7 @@ from sagas.core.effects import Abort, Effects
 from sagas.core.model import FINISHED, RUNNING, SUSPENDED, Attempt, SagaInstance
 from sagas.core.outcomes import Outcome
 from sagas.core.shard import ShardDriver, ShardIdentity
+from sagas.core.shard_definitions import ShardDefinitions
 from sagas.core.states import ShardState
 from sagas.core.suspensions import SuspensionRow
 from sagas.definition.capacity import SHARD_CAPACITY
@@ -150,7 +151,7 @@ class Store:
             text=self.text,
             events=self.events,
             opened=len(self.sagas),
-            open=[(id, row[0], row[1], row[2], None) for id, row in sorted(open_ones.items())],
+            open=[(id, row[0], row[1], row[2], None, None, None) for id, row in sorted(open_ones.items())],
             results=[(*key, *row) for key, row in self.attempts.items() if key[0] in open_ones],
             held=[row for key, row in self.suspensions.items() if key[0] in open_ones],
             epoch=1,
@@ -167,7 +168,7 @@ class World:
         for path, text in zip(self.paths, texts):
             path.write_text(text)
         self.kinds = [Kind(text, kind) for text, kind in zip(texts, kinds)]
-        self.identity = ShardIdentity(0, "shard", "", texts, self.kinds)
+        self.identity = ShardIdentity(0, "shard", ShardDefinitions(self.kinds))
         self.machine, self.store = AttemptMachine(), Store(texts)
         self.moves: Counter[str] = Counter()
         self.is_recovered = False

@@ -94,9 +94,14 @@ def read(store: pathlib.Path | str) -> Records:
     rows = contextlib.contextmanager(_server if str(store).startswith("postgresql:") else _lite)
     with rows(store) as ask:
         logs = {
-            log: LogRows(log, name, bool(closed), json.loads(texts))
-            for log, name, closed, texts in ask("SELECT shard, name, closed, texts FROM shards JOIN definition_sets USING (definition_set) ORDER BY shard")
+            log: LogRows(log, name, bool(closed), [])
+            for log, name, closed in ask("SELECT shard, name, closed FROM shards ORDER BY shard")
         }
+        for log, text in ask(
+            "SELECT shard, text FROM shard_definitions JOIN definitions USING (definition) "
+            "ORDER BY shard, place"
+        ):
+            logs[log].texts.append(text)
         for log, first, text in ask("SELECT shard, first_seq, text FROM event_log ORDER BY shard, first_seq"):
             logs[log].chunks.append((first, text))
         sagas = {

@@ -499,3 +499,33 @@ def test_reports_go_with_their_log(shop: Shop, tmp_path: pathlib.Path) -> None:
     with sqlite3.connect(path) as db:
         assert db.execute("SELECT DISTINCT outcome, value FROM external_attempts").fetchall() == [("settled", None)]
     desk.close()
+
+
+def seat(name: str) -> dict[str, Any]:
+    return {"row": 1, "name": name}
+
+
+def test_steps_of_items(either: Shop, tmp_path: pathlib.Path) -> None:
+    """A worker is handed the item of its step, also in an included saga, and reads all results of a fan-out; one task name for all items."""
+    worker = either.worker(tmp_path)
+
+    async def main() -> None:
+        async with either.open() as store:
+            some = await store.start(either.order, key="list", input={"parcels": [seat("rome"), seat("oslo")]})
+            keyed = await store.start(either.order, key="keyed", input={"parcels": {"a b": seat("rome")}})
+            wrong = await store.start(either.order, key="wrong", input={"parcels": [seat("rome"), seat("nowhere")]})
+            stalls = [{"parcels": [seat("bern")]}, {"parcels": []}, {"parcels": [seat("kiel"), seat("linz")]}]
+            fair = await store.start(either.fair, key="fair", input={"stalls": stalls})
+            assert (await some.wait()).results["mail"] == ["ROME", "OSLO"]
+            assert (await keyed.wait()).results["mail"] == ["ROME"]
+            assert (await wrong.wait()).phase == "recovered"
+            told = await fair.wait()
+            assert [told.results[f"stall-{number}-mail"] for number in range(3)] == [["BERN"], [], ["KIEL", "LINZ"]]
+
+    try:
+        run(main())
+    finally:
+        worker.kill()
+    assert [call["index"] for call in either.calls("keyed") if "index" in call] == ["a b"]
+    declared = {call["declared"] for call in either.calls("fair") if "declared" in call}
+    assert declared == {"stall/ship"} and {call["step"] for call in either.calls("list")} == {"ship-0", "ship-1"}

@@ -425,7 +425,7 @@ def test_a_child_of_another_node(url: str) -> None:
 
 def test_children_stay_with_their_parents(place: str, monkeypatch: pytest.MonkeyPatch) -> None:
     """What is over is not deleted as long as its parent is open."""
-    monkeypatch.setattr("sagas.definition.compiled.SHARD_CAPACITY", 1)
+    monkeypatch.setattr("sagas.definition.shelf.SHARD_CAPACITY", 1)
     world = Slow(keep=0, undo=3)
 
     async def closed(store: sagas.Store, count: int) -> None:

@@ -3,7 +3,6 @@
 from __future__ import annotations
 
 import contextlib
-import json
 import os
 import pathlib
 import subprocess
@@ -17,7 +16,7 @@ from driving import program
 
 import sagas
 from sagas.runtime import retention
-from sagas.storage import admin
+from sagas.storage import admin, queries
 
 HERE = pathlib.Path(__file__).resolve().parent
 COUNT = 135
@@ -75,16 +74,17 @@ def test_a_store_has_as_many_definitions_as_wanted(place: str) -> None:
             assert {told[:3] for told in (await store.audit()).values()} == {"yes"}
 
     run(main())
-    sets = [len(json.loads(texts)) for (texts,) in rows(place, "SELECT texts FROM definition_sets")]
-    assert sorted(sets) == [7, 64, 64]
+    counts = rows(place, "SELECT shard, count(*) FROM shard_definitions GROUP BY 1")
+    assert {count for _, count in counts} == {7, 64}
+    assert rows(place, "SELECT count(*) FROM definitions") == [(135,)]
 
 
 def test_full_shards_of_several_sets(
     tmp_path: pathlib.Path, monkeypatch: pytest.MonkeyPatch
 ) -> None:
     """Each set has a shard of its own that takes sagas, and the next one of the set follows it."""
-    monkeypatch.setattr("sagas.definition.compiled.SHARD_CAPACITY", 3)
-    monkeypatch.setattr("sagas.definition.compiled.MOST_DEFINITIONS", 2)
+    monkeypatch.setattr("sagas.definition.shelf.SHARD_CAPACITY", 3)
+    monkeypatch.setattr("sagas.definition.shelf.MOST_DEFINITIONS", 2)
     path, kinds = str(tmp_path / "store.db"), many(0, 5)
 
     async def main() -> None:
@@ -97,11 +97,10 @@ def test_full_shards_of_several_sets(
             )
 
     run(main())
-    found = rows(path, "SELECT shard, id, key, texts, definition_index FROM sagas JOIN shards ON "
-                 "shard = id / 1000 JOIN definition_sets USING (definition_set)")  # fmt: skip
+    found = rows(path, f"SELECT d.shard, s.id, s.key, text FROM {queries.DEFINED}")
     assert len({shard for shard, *_ in found}) == 8 and len(found) == 20
-    for _, _, key, texts, index in found:
-        assert f'name = "{key.rpartition("-")[0]}"' in json.loads(texts)[index]
+    for _, _, key, text in found:
+        assert f'name = "{key.rpartition("-")[0]}"' in text
 
 
 def test_definitions_without_a_shard_leave(place: str) -> None:
@@ -127,12 +126,12 @@ def test_definitions_without_a_shard_leave(place: str) -> None:
     with sagas.open_sync(place, [second]) as store:
         kept = store.definitions()
     assert kept == [sagas.DefinitionCount("kind", 1, 0, 1), sagas.DefinitionCount("kind", 2, 1, 2)]
-    assert rows(place, "SELECT count(*) FROM definition_sets") == [(3,)]
+    assert rows(place, "SELECT count(*) FROM definitions") == [(2,)]
     assert retention.prune(place, 0).sagas == 2  # they ended, and their shards are closed
-    assert rows(place, "SELECT count(*) FROM definition_sets") == [(1,)]
+    assert rows(place, "SELECT count(*) FROM definitions") == [(1,)]
     run(rest())
     assert retention.prune(place, 0).sagas == 1
-    assert rows(place, "SELECT count(*) FROM definition_sets") == [(0,)]
+    assert rows(place, "SELECT count(*) FROM definitions") == [(0,)]
 
 
 def test_a_start_beside_a_deletion(url: str) -> None:
@@ -152,11 +151,12 @@ def test_a_start_beside_a_deletion(url: str) -> None:
         for _ in range(5):
             kinds = many(100, 2)
             run(main())
-            for shard, texts in rows(
+            for shard, text in rows(
                 url,
-                "SELECT shard, texts FROM shards LEFT JOIN definition_sets USING (definition_set)",
+                "SELECT d.shard, text FROM shards LEFT JOIN shard_definitions d USING (shard) "
+                "LEFT JOIN definitions USING (definition)",
             ):
-                assert texts, shard
+                assert text, shard
     finally:
         job.kill()
         job.wait()

@@ -20,6 +20,13 @@ SAYS = {
         "  put the piano back",
         "  recovered: reserve undone, charge undone, send failed",
     ],
+    "parcels": [
+        "  wrap 2 parcels",
+        "  completed: T-ROM and T-OSL",
+        "  call back T-OSL from Oslo",
+        "  recovered, on its way: {0: 'T-ROM'}",
+        "  completed: sent to Oslo, Rome; not to nowhere",
+    ],
     "trip": [
         "  completed, stands: flight, car, hotel, tour",
         "  hotel in Lisbon: full (attempt 3)",

@@ -199,7 +199,7 @@ exec {program} "$@"
 
 def test_an_audit_is_killed(tmp_path: pathlib.Path, place: str, monkeypatch: pytest.MonkeyPatch) -> None:
     """It has said nothing of the log, which is audited again, and is closed as a good one."""
-    monkeypatch.setattr("sagas.definition.compiled.SHARD_CAPACITY", 2)
+    monkeypatch.setattr("sagas.definition.shelf.SHARD_CAPACITY", 2)
     killed, once, told = tmp_path / "killed", tmp_path / "once", list[str]()
     killed.write_text(KILLED_ONCE.format(once=once, program=program()))
     killed.chmod(0o755)
@@ -1090,7 +1090,7 @@ def test_closing(place: str) -> None:
 
 def test_closing_while_starts_wait(place: str, monkeypatch: pytest.MonkeyPatch) -> None:
     """Sagas that wait for a log, and logs that wait for a child, keep nobody: who was not told of a start gets Closed."""
-    monkeypatch.setattr("sagas.definition.compiled.SHARD_CAPACITY", 4)
+    monkeypatch.setattr("sagas.definition.shelf.SHARD_CAPACITY", 4)
     saga = sagas.Saga("pair")
     begun, gate = asyncio.Event(), asyncio.Event()
 

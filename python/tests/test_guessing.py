@@ -263,7 +263,7 @@ def test_an_answer_that_is_lost(url: str, looks: list[str], monkeypatch: pytest.
 @pytest.mark.parametrize("fast", [True, False])
 def test_a_wrong_guess_in_a_file(tmp_path: pathlib.Path, looks: list[str], monkeypatch: pytest.MonkeyPatch, fast: bool) -> None:
     """Of its log nothing is written, by the loop as by the thread, and the other logs of that commit are; then all its sagas are begun."""
-    monkeypatch.setattr("sagas.definition.compiled.SHARD_CAPACITY", 10)
+    monkeypatch.setattr("sagas.definition.shelf.SHARD_CAPACITY", 10)
     monkeypatch.setattr(writer, "AT_ONCE", 60.0 if fast else 0.0)
     path, kind, lost = str(tmp_path / "store.db"), step(), set[int]()
     put = writer.Writer._put

@@ -119,7 +119,7 @@ def test_labels_leave_with_their_sagas(
     tmp_path: pathlib.Path, monkeypatch: pytest.MonkeyPatch
 ) -> None:
     """Their shard is exported with them before."""
-    monkeypatch.setattr("sagas.definition.compiled.SHARD_CAPACITY", 2)
+    monkeypatch.setattr("sagas.definition.shelf.SHARD_CAPACITY", 2)
     path = str(tmp_path / "store.db")
 
     async def main() -> None:
@@ -287,7 +287,7 @@ BATCH = """
     sagas.cli.store_command.main([{path!r}, "abort", "--all", *words])
 """
 DRIVER = """
-    import asyncio, sagas, sagas.definition.compiled
+    import asyncio, sagas, sagas.definition.shelf
     from test_command import signed
     async def main():
         async with sagas.open({path!r}, [kind := signed()], lease=2.0) as store:

@@ -18,7 +18,7 @@ from sagas.storage.postgresql import connections
 from sagas.storage.postgresql.shard_loader import Loads
 
 LOGS, ROOM = 6, 3
-BORN = "another", "shelf", "[]"
+BORN = "another", [(0, "digest", "text")]
 REFUSES = """
 CREATE FUNCTION refuses() RETURNS trigger LANGUAGE plpgsql AS $$ BEGIN RAISE 'it is not read'; END $$;
 CREATE TRIGGER refuses BEFORE UPDATE ON sagas.shards FOR EACH ROW WHEN (NEW.shard = {}) EXECUTE FUNCTION refuses();
@@ -28,7 +28,7 @@ CREATE TRIGGER refuses BEFORE UPDATE ON sagas.shards FOR EACH ROW WHEN (NEW.shar
 @pytest.fixture
 def logs(url: str, monkeypatch: pytest.MonkeyPatch) -> list[int]:
     """Logs of a node `me`, with sagas whose first step is over, at a whole second, and whose second one waits for a person."""
-    monkeypatch.setattr("sagas.definition.compiled.SHARD_CAPACITY", ROOM)
+    monkeypatch.setattr("sagas.definition.shelf.SHARD_CAPACITY", ROOM)
     kind, events = sagas.Saga("signed"), list[sagas.Event]()
 
     @kind.step
@@ -64,9 +64,9 @@ def is_whole(loaded: Loaded | None, place: int, epoch: int) -> bool:
     assert loaded
     ids = [id for id, *_ in loaded.open]
     numbers = [*range(place * ROOM, place * ROOM + ROOM)]
-    open = [(key, json.loads(text), until) for _, key, _, text, until in loaded.open]
+    open = [(key, json.loads(text), until) for _, key, _, text, until, *_ in loaded.open]
     assert open == [(f"k{number}", {"n": number}, 8200.0) for number in numbers]
-    assert all(type(until) is float for *_, until in loaded.open)
+    assert all(type(until) is float for *_, until, _, _ in loaded.open)
     assert {(id, step, outcome, value) for id, step, _, _, outcome, value, _ in loaded.results} == {(id, 0, "commit", '"a \\"word\\""') for id in ids}
     assert {(id, step, why, until) for id, step, _, _, why, _, _, until, _ in loaded.held} == {(id, 1, "approval", 4600.0) for id in ids}
     assert all(type(at) is float for *_, at in loaded.results) and all(type(row[6]) is type(row[7]) is float for row in loaded.held)
@@ -90,7 +90,7 @@ def test_all_that_are_wanted_go_together(url: str, logs: list[int]) -> None:
             )
             assert gone is None and is_whole(there, 2, 4) and born is None
             ((line,),) = psycopg.connect(url).execute(f"SELECT {connections.LINE}".encode()).fetchall()
-            assert unborn == Loaded("", 0, 0, [], [], [], 8, line) and there and there.line == line
+            assert unborn == Loaded("", 0, 0, [], [], [], 8, line, 1) and there and there.line == line
 
     run(main())
 

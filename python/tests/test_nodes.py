@@ -532,7 +532,7 @@ TAKEN = "UPDATE sagas.shards SET owner = 'other', epoch = epoch + 1 WHERE shard 
 
 def test_behind_its_lease_a_node_keeps_what_is_still_its_own(url: str, monkeypatch: pytest.MonkeyPatch) -> None:
     """Another node has taken one of its two logs meanwhile: it ends the children of both, lets go of that one, and goes on with the other."""
-    monkeypatch.setattr("sagas.definition.compiled.SHARD_CAPACITY", 1)
+    monkeypatch.setattr("sagas.definition.shelf.SHARD_CAPACITY", 1)
     gate, calls, said = asyncio.Event(), list[str](), list[tuple[str, str | None]]()
     kind = pair(gate, calls)
 
@@ -591,7 +591,7 @@ def test_new_sagas_go_to_a_log_of_the_nodes_own(url: str) -> None:
 
 def test_takeover_in_lots_goes_past_a_locked_log(url: str, monkeypatch: pytest.MonkeyPatch) -> None:
     """More logs than a lot; one that somebody else is at is left, and taken later."""
-    monkeypatch.setattr("sagas.definition.compiled.SHARD_CAPACITY", 1)
+    monkeypatch.setattr("sagas.definition.shelf.SHARD_CAPACITY", 1)
     calls: list[str] = []
 
     async def main() -> None:
@@ -803,7 +803,7 @@ def test_the_server_is_stopped_and_started(postgresql: Server, tmp_path: pathlib
 
 def test_a_start_without_a_server_is_refused(url: str, monkeypatch: pytest.MonkeyPatch) -> None:
     """No number of a log is at hand, and none can be asked for: it hears so, as who finds the server gone; nobody waits for ever."""
-    monkeypatch.setattr("sagas.definition.compiled.SHARD_CAPACITY", 1)
+    monkeypatch.setattr("sagas.definition.shelf.SHARD_CAPACITY", 1)
     kind = pair()
 
     async def main() -> None:
@@ -904,7 +904,7 @@ FREE = {"attempts": ["audit"], "suspensions": ["audit", "draw"]}
 """What does not wait for a locked table, and starts a program, which takes the loop a while."""
 
 
-@pytest.mark.parametrize("table", ["sagas", "event_log", "attempts", "suspensions", "definition_sets"])
+@pytest.mark.parametrize("table", ["sagas", "event_log", "attempts", "suspensions", "definitions"])
 def test_who_reads_holds_up_nobody(url: str, table: str) -> None:
     """A stranger has a table for longer than a lease: the loop goes on while the store is asked for
     whatever is in it, the node keeps its lease, and each answer comes once the table is free."""

@@ -56,7 +56,7 @@ def test_a_synchronous_standby_takes_over(tmp_path: pathlib.Path) -> None:
 def test_an_asynchronous_standby_may_lack_the_last_commits(monkeypatch: pytest.MonkeyPatch, room: int) -> None:
     """A saga of which the standby knows goes back to what it knows, and its step is called again with its token; one that it lacks is not there, and is
     started again. The store goes on, also where a whole log is lacking, and gives no saga another's tokens."""
-    monkeypatch.setattr("sagas.definition.compiled.SHARD_CAPACITY", room)
+    monkeypatch.setattr("sagas.definition.shelf.SHARD_CAPACITY", room)
     calls: Counter[tuple[str, str]] = Counter()
     whose: dict[str, set[str]] = defaultdict(set)
     late = asyncio.Event()
@@ -101,7 +101,7 @@ def test_a_log_that_is_about_to_be_closed(
 ) -> None:
     """An asynchronous standby takes over while a settled log is audited. The saga in it, which is
     open on that server, goes on; the log is closed once that saga is over there too."""
-    monkeypatch.setattr("sagas.definition.compiled.SHARD_CAPACITY", 1)
+    monkeypatch.setattr("sagas.definition.shelf.SHARD_CAPACITY", 1)
     held = HeldAudits(tmp_path)
     monkeypatch.setenv("SAGAS_PROGRAM", str(held.program))
     calls: list[str] = []

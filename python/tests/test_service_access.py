@@ -129,7 +129,7 @@ def test_each_route_has_its_roles(guarded: Guarded) -> None:
     assert routes - pages - asked == {("GET", path) for path in FREE if not path.startswith("/ui")}
     assert {path for method, path in pages if method == "POST"} == {
         "/ui/login",
-        *(path.replace("KEY", "{key}") for path in POSTED),
+        *(path.replace("KEY", "{key}").replace("msg_1", "{id}") for path in POSTED),
     }
 
 
@@ -177,6 +177,7 @@ POSTED = (
     "/ui/sagas/KEY/resolve",
     "/ui/sagas/{key}/steps/{step}/{outcome}",
     "/ui/schedules/{name}/{change}",
+    "/ui/webhooks/{id}/redeliver",
 )  # fmt: skip
 
 
@@ -192,6 +193,7 @@ def test_pages_have_no_roles_but_a_session(guarded: Guarded) -> None:
                     .replace("{step}", "review")
                     .replace("{outcome}", "done")
                     .replace("{change}", "pause")
+                    .replace("{id}", "msg_1")
                 )
                 answer = client.post(path, data={"csrf": "x", "result": "1"})
                 assert answer.status_code == 403 and "The form is not of this session" in answer.text

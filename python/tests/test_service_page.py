@@ -362,7 +362,7 @@ def test_those_that_ended_by_plan(browser: Browser) -> None:
     browser.is_quiet()
 
 
-PATHS = ("/ui", "/ui?kind=undo_failed", "/ui/definitions", "/ui/definitions/trip", "/ui/sagas", "/ui/start", "/ui/sagas/failed-1", "/ui/sagas/fixed-1", "/ui/sagas/stuck-2", "/ui/sagas/work-1", "/ui/workers", "/ui/sagas/work-1/abort", "/ui/sagas/nobody")
+PATHS = ("/ui", "/ui?kind=undo_failed", "/ui/definitions", "/ui/definitions/trip", "/ui/sagas", "/ui/start", "/ui/sagas/failed-1", "/ui/sagas/fixed-1", "/ui/sagas/stuck-2", "/ui/sagas/work-1", "/ui/workers", "/ui/webhooks", "/ui/sagas/work-1/abort", "/ui/sagas/nobody")
 
 
 @pytest.mark.parametrize("width, dark", [(1280, False), (1280, True), (360, False), (360, True)])
@@ -411,7 +411,8 @@ def fill(store: pathlib.Path, count: int) -> None:
     )
     with sqlite3.connect(store) as db:
         for log in range(1000, 1000 + count // 1000):
-            db.execute("INSERT INTO shards(shard, name, definition_set, closed) SELECT ?, ?, definition_set, 1 FROM definition_sets LIMIT 1", (log, f"{log:016x}"))
+            db.execute("INSERT INTO shards(shard, name, closed) VALUES(?, ?, 1)", (log, f"{log:016x}"))
+            db.execute("INSERT INTO shard_definitions SELECT ?, place, definition FROM shard_definitions WHERE shard = 0", (log,))
         db.executemany("INSERT INTO sagas(id, key, saga, definition_index, input, at, phase, outcome, ended, note) VALUES(?, ?, ?, ?, ?, ?, ?, ?, ?, ?)", rows)
     db.close()
 

@@ -29,7 +29,8 @@ class Receiver:
 
     def __init__(self, *statuses: int) -> None:
         self.got: list[tuple[dict[str, str], bytes]] = []
-        left, got = [*statuses], self.got
+        self.left = left = [*statuses]
+        got = self.got
 
         class Handler(http.server.BaseHTTPRequestHandler):
             def do_POST(self) -> None:

@@ -563,7 +563,7 @@ def test_a_compensation_of_which_nobody_knows(place: str) -> None:
 
 def test_full_logs_are_audited_and_closed(place: str, monkeypatch: pytest.MonkeyPatch) -> None:
     """New sagas go to the newest log until it is full; a settled one is audited once and marked closed, and then never again."""
-    monkeypatch.setattr("sagas.definition.compiled.SHARD_CAPACITY", 15)
+    monkeypatch.setattr("sagas.definition.shelf.SHARD_CAPACITY", 15)
     saga, right, audits = row(), program.run, Counter[str]()
 
     def counting(command: str, texts: Sequence[str], where: str | None = None) -> subprocess.CompletedProcess[str]:
@@ -781,7 +781,7 @@ def lives(pid: int) -> bool:
 
 def test_few_children_for_many_logs(place: str, monkeypatch: pytest.MonkeyPatch) -> None:
     """Sagas in many logs share two children, also when the store is opened again."""
-    monkeypatch.setattr("sagas.definition.compiled.SHARD_CAPACITY", 7)
+    monkeypatch.setattr("sagas.definition.shelf.SHARD_CAPACITY", 7)
     gate, most = asyncio.Event(), 0
     saga = row(gate)
     others = set(children(os.getpid()))  # servers that other tests use
@@ -815,7 +815,7 @@ def test_few_children_for_many_logs(place: str, monkeypatch: pytest.MonkeyPatch)
 
 def test_one_slot_for_many_logs(place: str, monkeypatch: pytest.MonkeyPatch) -> None:
     """Logs that find no slot are fed when one is given back unused, too: nothing hangs."""
-    monkeypatch.setattr("sagas.definition.compiled.SHARD_CAPACITY", 4)
+    monkeypatch.setattr("sagas.definition.shelf.SHARD_CAPACITY", 4)
     saga = sagas.Saga("pair")
 
     @saga.step
@@ -853,7 +853,7 @@ def locked(place: str) -> Iterator[None]:
 
 def test_one_transaction_takes_what_all_logs_have(place: str, monkeypatch: pytest.MonkeyPatch) -> None:
     """Steps end in eight logs while a commit is under way: one more holds all of it."""
-    monkeypatch.setattr("sagas.definition.compiled.SHARD_CAPACITY", 2)
+    monkeypatch.setattr("sagas.definition.shelf.SHARD_CAPACITY", 2)
     gate, far = asyncio.Event(), sagas.Saga("far")
     far.step(external=True, name="b")  # it stays open, so that no log is closed meanwhile
     calls: list[str] = []

@@ -1,4 +1,4 @@
-"""The program that the kill tests kill: four sagas, each of whose calls is told to a witness outside, and over PostgreSQL a fifth whose steps are inside.
+"""The program that the kill tests kill: five sagas, each of whose calls is told to a witness outside, and over PostgreSQL a sixth whose steps are inside.
 
     python3 tests/world.py STORE SOCKET COUNT [--concurrency N] [--small] [--wrong NAME] [--eye URL] [--node NAME] [--lease SECONDS]
 
@@ -17,6 +17,7 @@ import importlib
 import json
 import logging
 import random
+import re
 import signal
 import sqlite3
 import time
@@ -27,7 +28,7 @@ import psycopg
 from witness import Witness
 
 import sagas
-import sagas.definition.compiled
+import sagas.definition.shelf
 from sagas.core import states
 
 states.Check.is_on = True
@@ -105,7 +106,7 @@ class World:
 
     def __init__(self, witness: Witness, eye: Eye, inside: bool = False) -> None:
         self.witness, self.eye = witness, eye
-        self.sagas = [self.chain(), self.trip(), self.must(), self.late(), *([self.desk()] if inside else [])]
+        self.sagas = [self.chain(), self.trip(), self.must(), self.late(), self.order(), *([self.desk()] if inside else [])]
 
     def act(self, task: Any, failing: float, unknown: float = 0.0) -> Any:
         """A call: begins, fails or has its effect, and perhaps does not hear of it."""
@@ -140,10 +141,18 @@ class World:
         kind = "undo" if task.is_compensation else "run"
         said = {"key": task.key, "step": task.step, "kind": kind, "attempt": task.attempt, "token": task.attempt_id}
         name, number, _ = task.attempt_id.split("-", 2)
-        steps = [step.name for saga in self.sagas if saga.name == task.saga for step in saga.steps]
-        begins = self.eye.begins(name, int(number), steps.index(task.step), kind)
+        begins = self.eye.begins(name, int(number), self.steps(task).index(task.step), kind)
         self.witness.note(what="begin", input=task.input, begun=begins, idempotency_key=task.idempotency_key, **said)
         return said
+
+    def steps(self, task: Any) -> list[str]:
+        """The names of the saga's steps, in order: of one whose steps come from its input, as that gives them."""
+        at, names = (task.saga, task.input["i"]), self.__dict__.setdefault("names", {})  # also where no world was made
+        if at not in names:
+            saga = next(saga for saga in self.sagas if saga.name == task.saga)
+            names[at] = re.findall(r'^name = "(.*)"$', saga.toml(task.input), re.M)[1:]
+        found: list[str] = names[at]
+        return found
 
     def named(self, task: Any) -> str:
         """What is drawn by."""
@@ -155,7 +164,8 @@ class World:
 
     def handed(self, task: Any) -> dict[str, Any]:
         """What it was given."""
-        more: dict[str, Any] = {"results": task.results}
+        prefix = task.step.removesuffix(task.declared_step.rpartition("/")[2])  # of an included saga's
+        more: dict[str, Any] = {"results": {(prefix if "/" in task.declared_step else "") + name: value for name, value in task.results.items()}}
         if task.is_compensation:
             more |= {"of": task.original_idempotency_key, "result": task.result}
         return more
@@ -262,6 +272,57 @@ class World:
         return late
 
 
+    def order(self) -> sagas.Saga:
+        """Its steps and costs come from its input: most sagas have a definition of their own. Two sagas are included, one of them for each item."""
+        order, box = sagas.Saga("order"), self.box()
+
+        @order.step(keep=9, undo=1)
+        async def collect(task: Any) -> Any:
+            return self.act(task, 0.05)
+
+        @collect.compensation(tries=3, backoff=QUICK, on_exhausted="fail")
+        async def put_back(task: Any) -> None:
+            self.act(task, 0.2)
+
+        @order.step(for_each=lambda input: {f"p {n}/": {"worth": n} for n in range(input["i"] % 4)}, needs=[collect], tries=2,
+                    backoff=QUICK, undo=3, keep=lambda item: item["worth"] * 2, skip=lambda item: item["worth"])  # fmt: skip
+        def send(task: Any) -> Any:
+            assert task.index == f"p {task.item['worth']}/" and task.step == f"send-{task.item['worth']}"
+            return self.act(task, 0.15, unknown=0.1)
+
+        @send.compensation(backoff=QUICK, on_exhausted="fail")
+        def call_back(task: Any) -> None:
+            assert task.step == f"send-{task.item['worth']}"
+            self.act(task, 0.1)
+
+        first = order.include(box, name="box", needs=[send], when=lambda input: input["i"] % 3)
+
+        @order.step(needs=[first], skip=lambda input: input["i"])
+        async def mail(task: Any) -> Any:
+            assert list(task.result_of(send)) == [f"p {n}/" for n in range(task.input["i"] % 4)]
+            return self.act(task, 0.1)
+
+        return order
+
+    def box(self) -> sagas.Saga:
+        """A saga that is included: within it another one, for each item."""
+        box, lid = sagas.Saga("box"), sagas.Saga("lid")
+
+        @lid.step(undo=2, keep=1)
+        async def close(task: Any) -> Any:
+            return self.act(task, 0.05)
+
+        @close.compensation(on_exhausted="fail")
+        async def open(task: Any) -> None:
+            self.act(task, 0.05)
+
+        @box.step(undo=0)
+        async def fold(task: Any) -> Any:
+            return self.act(task, 0.05)
+
+        box.include(lid, for_each=lambda input: [{"i": input["i"]}] * (input["i"] % 3), needs=[fold])
+        return box
+
     def desk(self) -> sagas.Saga:
         """Three steps inside the database, in a row, the second of plain functions."""
         desk = sagas.Saga("desk")
@@ -326,7 +387,7 @@ async def one(world: World, store: sagas.Store, number: int) -> None:
 
 async def every(world: World, store: sagas.Store, count: int) -> None:
     """All of them at once; of those with steps inside each by itself, before the others or behind them, so that they are alone as well."""
-    inside = [number for number in range(count) if number % len(world.sagas) == 4]
+    inside = [number for number in range(count) if number % len(world.sagas) == 5]
     others = [number for number in range(count) if number not in inside]
     is_first = random.random() < 0.5
     if not is_first:
@@ -355,7 +416,7 @@ async def main(words: argparse.Namespace) -> None:
         package = "wrong_stores" if words.node else "wrong"
         importlib.import_module(f"{package}.{words.wrong}").apply()
     if words.small:
-        setattr(sagas.definition.compiled, "SHARD_CAPACITY", 10)
+        setattr(sagas.definition.shelf, "SHARD_CAPACITY", 10)
     children = 2 if words.small else 16
     async with contextlib.AsyncExitStack() as stack:
         store = await opened(stack, lambda: sagas.open(

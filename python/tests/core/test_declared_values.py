@@ -15,7 +15,7 @@ from sagas.core.attempts import AttemptMachine
 from sagas.core.decisions import CALL, REPORT, Do
 from sagas.core.model import Attempt, SagaInstance
 from sagas.core.states import AttemptState, OutcomeKind, Suspension
-from sagas.definition.compiled import Shelf
+from sagas.definition.shelf import Shelf
 
 
 @dataclasses.dataclass

@@ -14,12 +14,14 @@ from sagas.core.effects import Abort, Effects
 from sagas.core.model import Attempt, SagaInstance
 from sagas.core.replies import Disagrees
 from sagas.core.shard import MOST_REPORTS, ShardDriver, ShardIdentity
+from sagas.core.shard_definitions import ShardDefinitions
 from sagas.core.states import AttemptState, Check, IllegalTransition, ShardState, Suspension
 from sagas.core.suspensions import SuspensionRow
-from sagas.definition.compiled import Shelf
+from sagas.definition.shelf import Shelf
 from sagas.definition.start_options import StartOptions
 
 NUMBER, NOW = 7, 50.0
+TRACE = "00-0af7651916cd43dd8448eb211c80319c-b7ad6b7169203331-01"
 
 
 def two() -> Shelf:
@@ -41,7 +43,7 @@ SHELF = two()
 
 def driver() -> ShardDriver:
     """A new shard with an engine."""
-    found = ShardDriver.created(ShardIdentity(NUMBER, "name", SHELF.shelf, SHELF.texts, SHELF.kinds), "line")
+    found = ShardDriver.created(ShardIdentity(NUMBER, "name", ShardDefinitions(SHELF.kinds)), "line")
     found.to(ShardState.STARTING)
     found.to(ShardState.ACTIVE)
     return found
@@ -98,7 +100,7 @@ def test_a_saga_from_its_start_to_its_end() -> None:
     shard.open(saga)
     assert shard.requests(8) == ['{"def":0,"do":"open","saga":0}', '{"do":"next","most":2}']
     effects = come(shard, opened(0), tasks((0, 0, "run", 1)))
-    assert effects.batch.opened == [(7000, "k", "two", 0, '{"n":1}', NOW, None)] and effects.batch.born and effects.unclaimed == 1
+    assert effects.batch.opened == [(7000, "k", "two", 0, '{"n":1}', NOW, None, None)] and effects.batch.born and effects.unclaimed == 1
     assert effects.opened == [saga] and not saga.committed and shard.sent and shard.events == 1
     shard.writes(effects)
     assert shard.unwritten == 1 and not shard.is_over
@@ -238,7 +240,7 @@ def test_a_state_that_may_not_follow(monkeypatch: pytest.MonkeyPatch) -> None:
 
 def rows(*, results: list[Any] = [], held: list[Any] = [], open: bool = True) -> Loaded:
     """What the store has of a shard with one saga."""
-    there = [(7000, "k", 0, '{"n":1}', 9.0)] if open else []
+    there = [(7000, "k", 0, '{"n":1}', 9.0, TRACE, None)] if open else []
     return Loaded("x\n", 1, 1, there, results, held, epoch=3, line="other")
 
 
@@ -307,10 +309,20 @@ def test_aborts_are_asked_again_or_answered() -> None:
     assert found.aborted == [abort] and abort.done is False and shard.aborts == []
 
 
+def test_a_saga_that_comes_from_the_store_has_its_options() -> None:
+    """Another program started it: deadline and trace context are in the store."""
+    shard = driver()
+    found = recovered(shard, rows(), [])
+    (saga,) = found.restored
+    assert (saga.options.deadline, saga.options.traceparent) == (9.0, TRACE)
+    attempt = Attempt(saga, 0, "run", 1, fresh=True)
+    assert attempt.traceparent == attempt.task().traceparent == TRACE
+
+
 def test_labels_go_with_the_row_of_their_saga() -> None:
     """A saga that is displaced takes them into the next shard; others have no row of them."""
     saga = SagaInstance(
-        "k", "1", SHELF.kinds[0], 0, StartOptions({"customer": "7", "region": "north"}, 5.0)
+        "k", "1", SHELF.kinds[0], 0, StartOptions({"customer": "7", "region": "north"}, 5.0, traceparent=TRACE)
     )
     full, shard = driver(), driver()
     for one in (full, shard):
@@ -321,7 +333,7 @@ def test_labels_go_with_the_row_of_their_saga() -> None:
         id = NUMBER * 1000
         rows = [(id, "customer", "7"), (id, "region", "north")]
         assert labels == ([] if one is full else rows) and bool(effects.displaced) is (one is full)
-        assert [row[-1] for row in effects.batch.opened] == ([] if one is full else [5.0])
+        assert [row[-2:] for row in effects.batch.opened] == ([] if one is full else [(5.0, TRACE)])
     shard.open(instance("other"))
     shard.requests(0)
     assert come(shard, opened(1)).batch.rare is None

@@ -1,0 +1,182 @@
+"""The objects of OpenAPI 3.1, as the tables of the specification have them: which fields each may
+and must have, and of which type. Debian's package `openapi-specification` has the text, and no JSON
+Schema of 3.1."""
+
+from __future__ import annotations
+
+import dataclasses
+import pathlib
+import re
+from collections.abc import Iterator
+from typing import Any
+
+import jsonschema
+
+TEXT = pathlib.Path("/usr/share/openapi-specification/versions/3.1.0.md")
+OBJECT = re.compile(r'^#### <a name="\w+"></a>(.+?) Object$(.*?)(?=^#### |\Z)', re.M | re.S)
+ROW = re.compile(r"^<a name=\"\w+\"></a>(.+)$", re.M)
+WORD = re.compile(
+    r"\[\{expression\}\]\(#\w+\)|Map\[|\[(\w[\w ]*) Object\]\(#\w+\)|\[|\]|`(\w+)`|\\\||,|Any"
+)
+KINDS = {"string": str, "boolean": bool}
+ANNOTATIONS = {
+    "$comment", "$defs", "$id", "$ref", "$schema", "title", "description", "default", "deprecated",
+    "examples", "example", "readOnly", "writeOnly", "discriminator", "xml", "externalDocs",
+    "contentEncoding", "contentMediaType",
+}  # fmt: skip
+
+
+@dataclasses.dataclass(frozen=True)
+class Of:
+    """A type: `word` is an object's name, `string`, `boolean`, `any`, `list`, `map` or `or`."""
+
+    word: str
+    parts: tuple[Of, ...] = ()
+
+
+@dataclasses.dataclass
+class Rules:
+    """The fields of an object by name, those that it must have, each perhaps only for one `type`,
+    and the types of the others by a pattern."""
+
+    fields: dict[str, Of] = dataclasses.field(default_factory=dict)
+    required: dict[str, str] = dataclasses.field(default_factory=dict)
+    patterns: dict[str, Of] = dataclasses.field(default_factory=dict)
+
+
+def type_of(cell: str) -> Of:
+    """The type that a cell of a table has."""
+    words = [found for found in WORD.finditer(cell)]
+
+    def one() -> Of:
+        found = words.pop(0)
+        text = found[0]
+        if text == "Map[":
+            one()  # of the names: always `string`
+            words.pop(0)
+            return closed("map")
+        if text == "[":
+            return closed("list")
+        return Of("any") if text == "Any" or "{" in text else Of(found[1] or found[2])
+
+    def some() -> Of:
+        parts = [one()]
+        while words and words[0][0] == "\\|":
+            words.pop(0)
+            parts.append(one())
+        return parts[0] if len(parts) == 1 else Of("or", tuple(parts))
+
+    def closed(word: str) -> Of:
+        found = Of(word, (some(),))
+        words.pop(0)
+        return found
+
+    return some()
+
+
+def read() -> dict[str, Rules]:
+    """The rules of all objects."""
+    found = {name: rules_of(text) for name, text in OBJECT.findall(TEXT.read_text())}
+    header = Rules(dict(found["Parameter"].fields), {}, dict(found["Parameter"].patterns))
+    for name in ("name", "in"):
+        del header.fields[name]
+    return {
+        **found,
+        "Header": header,
+    }  # "follows the structure of the Parameter Object", but for these
+
+
+def rules_of(text: str) -> Rules:
+    """Those of one object."""
+    rules = Rules()
+    for row in ROW.findall(text):
+        cells = [cell.strip() for cell in re.split(r"(?<!\\)\|", row)]
+        name, kind, *told = cells
+        if "{" in name or "HTTP Status Code" in name:
+            pattern = {"/{path}": "/.*", "{name}": ".*", "{expression}": ".*"}
+            rules.patterns[pattern.get(name, r"[1-5](\d\d|XX)")] = type_of(kind)
+            continue
+        rules.fields[name] = type_of(kind)
+        if told[-1].startswith("**REQUIRED**"):  # else of some only
+            applies = re.search(r"`(\w+)`", told[0]) if len(told) > 1 else None
+            rules.required[name] = applies[1] if applies else ""
+    return rules
+
+
+class Checker:
+    """Compares a document with the rules."""
+
+    def __init__(self) -> None:
+        self.rules, self.seen = read(), dict[str, int]()
+
+    def faults(self, value: Any, of: Of, where: str) -> Iterator[str]:
+        """What is wrong with a value."""
+        self.seen[of.word] = self.seen.get(of.word, 0) + 1
+        if of.word == "or":
+            is_reference = isinstance(value, dict) and "$ref" in value
+            reference = Of("Reference")
+            part = reference if is_reference and reference in of.parts else of.parts[0]
+            yield from self.faults(value, part, where)
+        elif of.word in KINDS:
+            if not isinstance(value, KINDS[of.word]):
+                yield f"{where}: it is no {of.word}"
+        elif of.word == "list":
+            if not isinstance(value, list):
+                yield f"{where}: it is no list"
+            for number, one in enumerate(value if isinstance(value, list) else ()):
+                yield from self.faults(one, of.parts[0], f"{where}/{number}")
+        elif of.word == "map":
+            if not isinstance(value, dict):
+                yield f"{where}: it is no map"
+            for name, one in value.items() if isinstance(value, dict) else ():
+                yield from self.faults(one, of.parts[0], f"{where}/{name}")
+        elif of.word == "Schema":
+            yield from schema_faults(value, where)
+        elif of.word != "any":
+            yield from self._object(value, self.rules[of.word], where)
+
+    def _object(self, value: Any, rules: Rules, where: str) -> Iterator[str]:
+        if not isinstance(value, dict):
+            yield f"{where}: it is no object"
+            return
+        for name, one in rules.required.items():
+            if one in ("", value.get("type")) and name not in value:
+                yield f"{where}: {name} is missing"
+        for name, one in value.items():
+            kind = rules.fields.get(name)
+            for pattern, of in rules.patterns.items():
+                kind = kind or (of if re.fullmatch(pattern, name) else None)
+            if kind is not None:
+                yield from self.faults(one, kind, f"{where}/{name}")
+            elif not name.startswith("x-") or name.startswith(("x-oai-", "x-oas-")):
+                yield f"{where}: there is no field {name}"
+
+
+def schema_faults(schema: Any, where: str) -> Iterator[str]:
+    """By the meta-schema of JSON Schema 2020-12; no keyword is one that it does not have."""
+    try:
+        jsonschema.Draft202012Validator.check_schema(schema)
+    except jsonschema.SchemaError as error:
+        yield f"{where}: {error.message}"
+    yield from keyword_faults(schema, where)
+
+
+def keyword_faults(schema: Any, where: str) -> Iterator[str]:
+    """Keywords that JSON Schema does not have, in a schema and those within it."""
+    known = ANNOTATIONS | {*jsonschema.Draft202012Validator.VALIDATORS}
+    for name in schema if isinstance(schema, dict) else ():
+        if name not in known and not name.startswith("x-"):
+            yield f"{where}: there is no keyword {name}"
+    for one, place in subschemas(schema):
+        yield from keyword_faults(one, f"{where}/{place}")
+
+
+def subschemas(schema: Any) -> Iterator[tuple[Any, str]]:
+    """The schemas within one, with their places."""
+    for name, value in schema.items() if isinstance(schema, dict) else ():
+        if name in ("properties", "$defs", "patternProperties", "dependentSchemas"):
+            yield from ((one, f"{name}/{key}") for key, one in value.items())
+        elif name in ("oneOf", "anyOf", "allOf", "prefixItems"):
+            yield from ((one, f"{name}/{at}") for at, one in enumerate(value))
+        elif name in ("items", "additionalProperties", "not", "if", "then", "else", "contains"):
+            yield value, name

@@ -1,0 +1,162 @@
+"""openapi.json is as the OpenAPI specification has it: each field of each object, and what its
+prose demands."""
+
+from __future__ import annotations
+
+import copy
+import importlib
+import importlib.util
+import re
+from collections.abc import Iterator
+from typing import Any
+
+import contract
+import openapi_objects
+import pytest
+from openapi_objects import Checker, Of
+
+DOCUMENT = contract.DOCUMENT
+METHODS = ("get", "put", "post", "delete", "options", "head", "patch", "trace")
+
+
+def structure(document: Any) -> list[str]:
+    """What is wrong with the fields of a document."""
+    return [*Checker().faults(document, Of("OpenAPI"), "")]
+
+
+def operations(document: Any) -> Iterator[tuple[str, dict[str, Any]]]:
+    for path, item in document["paths"].items():
+        for method in METHODS:
+            if method in item:
+                yield f"{method} {path}", item[method]
+
+
+def prose(document: Any) -> Iterator[str]:
+    """What is wrong by what the specification says of the fields in words."""
+    components = document["components"]
+    ids, templates = list[str](), list[str]()
+    tags = [one["name"] for one in document["tags"]]
+    if len(tags) != len({*tags}):
+        yield "tags: a name is there twice"
+    if not re.fullmatch(r"3\.1\.\d+", document["openapi"]):
+        yield "openapi: it is no version of 3.1"
+    for kind in components:
+        for name in components[kind]:
+            if not re.fullmatch(r"[a-zA-Z0-9._-]+", name):
+                yield f"components/{kind}: {name} is no name"
+    templates = [re.sub(r"{\w+}", "{}", path) for path in document["paths"]]
+    if len(templates) != len({*templates}):
+        yield "paths: two differ in the names of their parameters alone"
+    for place, told in operations(document):
+        ids.append(told.get("operationId", place))
+        for need in told.get("security", document["security"]):
+            for name in need:
+                if name not in components["securitySchemes"]:
+                    yield f"{place}: there is no security scheme {name}"
+        some = [contract.resolved(one) for one in told.get("parameters", ())]
+        names = [(one["name"], one["in"]) for one in some]
+        if len(names) != len({*names}):
+            yield f"{place}: a parameter is there twice"
+        if {name for name, where in names if where == "path"} != {*re.findall(r"{(\w+)}", place)}:
+            yield f"{place}: its path has other parameters"
+        for one in some:
+            if one["in"] not in ("query", "header", "path", "cookie"):
+                yield f"{place}: {one['name']} is in {one['in']}"
+            if one["in"] == "path" and one.get("required") is not True:
+                yield f"{place}: {one['name']} must be required"
+            if one["in"] == "header" and one["name"].lower() in (
+                "accept",
+                "content-type",
+                "authorization",
+            ):
+                yield f"{place}: {one['name']} is ignored as a parameter"
+            if ("schema" in one) is ("content" in one) or ("example" in one and "examples" in one):
+                yield f"{place}: {one['name']} has both, or neither, of what excludes each other"
+        if not told["responses"]:
+            yield f"{place}: there is no response"
+        for content in contents(told):
+            if "example" in content and "examples" in content:
+                yield f"{place}: example and examples exclude each other"
+    if len(ids) != len({*ids}):
+        yield "paths: an operationId is there twice"
+
+
+def contents(operation: dict[str, Any]) -> Iterator[dict[str, Any]]:
+    for part in (operation.get("requestBody", {}), *operation["responses"].values()):
+        yield from contract.resolved(part).get("content", {}).values()
+
+
+def test_the_rules_are_those_of_the_specification() -> None:
+    """The tables are read whole: all objects, with their fields, and those that must be there."""
+    assert openapi_objects.TEXT.is_file(), "install it: apt-get install openapi-specification"
+    rules = openapi_objects.read()
+    assert len(rules) == 30 and {*rules["Info"].required} == {"title", "version"}
+    assert rules["OpenAPI"].required.keys() == {"openapi", "info"}
+    assert rules["Components"].fields["schemas"] == Of("map", (Of("Schema"),))
+    either = Of("or", (Of("Parameter"), Of("Reference")))
+    assert rules["Operation"].fields["parameters"] == Of("list", (either,))
+    assert rules["Security Scheme"].required == {
+        "type": "", "name": "apiKey", "in": "apiKey", "scheme": "http", "flows": "oauth2",
+        "openIdConnectUrl": "openIdConnect",
+    }  # fmt: skip
+    assert (
+        rules["Paths"].patterns == {"/.*": Of("Path Item")} and "name" not in rules["Header"].fields
+    )
+
+
+def test_the_document_is_strictly_valid() -> None:
+    """Nothing of it is passed over: each operation, response and schema is looked at."""
+    checker = Checker()
+    assert [*checker.faults(DOCUMENT, Of("OpenAPI"), "")] == []
+    assert [*prose(DOCUMENT)] == []
+    assert checker.seen["Operation"] == sum(1 for _ in operations(DOCUMENT)) > 30
+    assert checker.seen["Schema"] > 100 and checker.seen["Reference"] > 30
+
+
+def test_the_official_validator_where_it_is_installed() -> None:
+    """`openapi-spec-validator` is no package of Debian's; where somebody has it, it agrees."""
+    if importlib.util.find_spec("openapi_spec_validator") is None:
+        assert structure(DOCUMENT) == []  # what holds without it
+        return
+    module = importlib.import_module("openapi_spec_validator")
+    (getattr(module, "validate", None) or module.validate_spec)(DOCUMENT)
+
+
+WRONG: dict[str, tuple[str, Any, str]] = {
+    "a field that no object has": ("info/licence", "x", "/info: there is no field licence"),
+    "a field of another type": ("paths/~/get/tags", "sagas", "tags: it is no list"),
+    "a text that is none": ("info/title", 5, "/info/title: it is no string"),
+    "what must be there": ("components/securitySchemes/token/scheme", None, "scheme is missing"),
+    "a status that is none": ("paths/~/get/responses/2", {"description": ""}, "no field 2"),
+    "a keyword that is none": ("components/schemas/Saga/requierd", [], "no keyword requierd"),
+    "a schema that is none": ("components/schemas/Saga/type", "objekt", "objekt"),
+    "a path without a slash": ("paths/v1", {}, "/paths: there is no field v1"),
+    "a scheme that is not there": ("paths/~/get/security", [{"oauth": []}], "scheme oauth"),
+    "a tag twice": ("tags", [{"name": "a"}, {"name": "a"}], "a name is there twice"),
+    "an id twice": ("paths/~/get/operationId", "startSaga", "an operationId is there twice"),
+    "a parameter of no path": (
+        "paths/~/get/parameters", [{"name": "id", "in": "path", "required": True, "schema": {}}],
+        "other parameters",
+    ),
+    "a parameter without a schema": (
+        "paths/~/get/parameters", [{"name": "id", "in": "query"}], "both, or neither",
+    ),
+}  # fmt: skip
+
+
+@pytest.mark.parametrize("what", WRONG)
+def test_what_is_wrong_is_found(what: str) -> None:
+    """Each rule, by a document that breaks it."""
+    place, value, text = WRONG[what]
+    document = copy.deepcopy(DOCUMENT)
+    *parts, last = [part.replace("~", "/v1/sagas") for part in place.split("/")]
+    inner = document
+    for part in parts:
+        inner = inner[part]
+    if value is None:
+        del inner[last]
+    else:
+        inner[last] = value
+    found = structure(document)
+    found += [*prose(document)] if not found else []
+    assert any(text in one for one in found), found[:3]

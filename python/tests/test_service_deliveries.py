@@ -1,0 +1,168 @@
+"""Deliveries of webhooks in the dashboard and by `sagas store STORE deliveries`, over both kinds of
+database: who may look at them, and have them posted again."""
+
+from __future__ import annotations
+
+import html
+import json
+import pathlib
+import re
+import subprocess
+import sys
+import time
+from collections.abc import Iterator
+from typing import Any
+
+import httpx
+import pytest
+from serving import DEFINITIONS, LONG, environment, served, start, token
+from test_service_tokens import World
+from test_service_webhooks import Receiver, table, written
+
+TOKENS: dict[str, tuple[str, ...]] = {
+    "operator": ("operator",),
+    "of-order": ("operator", "--definition", "order"),
+    "caller": ("caller",),
+}
+
+
+@pytest.fixture(scope="module")
+def receiver() -> Iterator[Receiver]:
+    """It wants the first post no more, and takes the others."""
+    one = Receiver(410)
+    yield one
+    one.server.shutdown()
+
+
+@pytest.fixture(scope="module")
+def world(
+    tmp_path_factory: pytest.TempPathFactory, receiver: Receiver, store: str | None
+) -> Iterator[World]:
+    """A service with a delivery that was given up, and one that came."""
+    folder = tmp_path_factory.mktemp("deliveries")
+    tokens = {name: token(folder, name, *words) for name, words in TOKENS.items()}
+    hooks = written(folder, table(receiver.url))
+    words = "--token-file", str(folder / "tokens.toml"), "--webhooks", hooks
+    receiver.got.clear()
+    receiver.left[:] = [410]
+    with served(folder, DEFINITIONS, *words, store=store) as service:
+        found = World(service, tokens)
+        for key in ("<b>given-up", "came"):
+            assert start(found["caller"], "order", key).status_code == 201
+            settled(found["operator"], key)
+        yield found
+        for client in found.clients.values():
+            client.close()
+
+
+def settled(operator: httpx.Client, key: str, attempts: int = 1) -> dict[str, Any]:
+    """The delivery of a saga, once it is over."""
+    deadline = time.monotonic() + LONG
+    while True:
+        told = operator.get("/v1/webhooks/deliveries").json()["deliveries"]
+        for one in told:
+            if one["key"] == key and one["state"] != "pending" and one["attempts"] == attempts:
+                return dict(one)
+        assert time.monotonic() < deadline, told
+        time.sleep(0.05)
+
+
+def rows(text: str) -> list[list[str]]:
+    """The first words of the rows of a page's table."""
+    body = re.search(r"<tbody>(.*?)</tbody>", text, re.S)
+    found = re.findall(r"<tr>(.*?)</tr>", body[1], re.S) if body else []
+    cells = [re.findall(r"<t[hd][^>]*>(.*?)</t[hd]>", row, re.S) for row in found]
+    return [[html.unescape(re.sub(r"<[^>]*>", "", cell)).strip() for cell in row] for row in cells]
+
+
+def csrf_of(text: str) -> str:
+    found = re.search(r'name="csrf" value="([^"]+)"', text)
+    assert found
+    return found[1]
+
+
+def test_the_page_lists_them(world: World, receiver: Receiver) -> None:
+    """The newest first, by state and by webhook; texts are escaped, and no secret is there."""
+    page = world.page("operator")
+    text = page.get("/ui/webhooks").text
+    assert [row[:4] for row in rows(text)] == [
+        ["came", "Delivered", "saga.attention", "one"],
+        ["<b>given-up", "Failed", "saga.attention", "one"],
+    ]
+    assert [row[6] for row in rows(text)] == ["204", "410"] and "<b>given-up" not in text
+    assert "whsec_" not in text and receiver.url not in text
+    for query, keys in (
+        ("state=failed", ["<b>given-up"]),
+        ("state=delivered&webhook=one", ["came"]),
+        ("state=pending", []),
+        ("webhook=two", []),
+    ):
+        assert [row[0] for row in rows(page.get(f"/ui/webhooks?{query}").text)] == keys, query
+    assert "There is no such delivery" in page.get("/ui/webhooks?state=pending").text
+    assert page.get("/ui/webhooks?state=lost").status_code == 422
+
+
+def test_who_may_look_and_post_again(world: World, receiver: Receiver) -> None:
+    """Operators that see all definitions, by a form of their own session."""
+    one = settled(world["operator"], "<b>given-up")
+    again = f"/ui/webhooks/{one['id']}/redeliver"
+    kept = world.page("of-order")
+    for answer in (
+        kept.get("/ui/webhooks"),
+        kept.post(again, data={"csrf": csrf_of(kept.get("/ui").text)}),
+        world["caller"].post(again, data={"csrf": "x"}),
+        world.page("operator").post(again, data={"csrf": csrf_of(kept.get("/ui").text)}),
+    ):
+        assert answer.status_code == 403, answer.text
+    with world.service.client() as nobody:
+        assert nobody.get("/ui/webhooks").headers["location"].startswith("/ui/login?next=")
+        assert nobody.post(again, data={"csrf": "x"}).status_code == 403
+    assert settled(world["operator"], "<b>given-up")["status"] == 410
+    page = world.page("operator")
+    words = {"csrf": csrf_of(page.get("/ui/webhooks").text), "state": "failed", "webhook": ""}
+    missing = page.post("/ui/webhooks/msg_none/redeliver", data=words)
+    assert missing.status_code == 404 and "no delivery has the id" in missing.text
+    count = len(receiver.got)
+    answer = page.post(again, data=words)
+    assert (answer.status_code, answer.headers["location"]) == (303, "/ui/webhooks?state=failed")
+    receiver.wait(count + 1)
+    assert settled(world["operator"], "<b>given-up")["status"] == 204
+    assert f"operator has the delivery {one['id']} posted again" in world.service.told()
+    assert rows(page.get("/ui/webhooks?state=failed").text) == []
+
+
+def command(store: str, *words: str) -> subprocess.CompletedProcess[str]:
+    """`sagas store STORE deliveries ..`, beside the service that has the store."""
+    told = [sys.executable, "-m", "sagas", "store", store, "deliveries", *words]
+    return subprocess.run(told, env=environment(), capture_output=True, text=True, check=False)
+
+
+def test_the_command(world: World, receiver: Receiver) -> None:
+    """It lists them, as a table and as JSON, and has one posted again by the service."""
+    store = str(world.service.store)
+    told = command(store, "--json").stdout
+    found = {one["key"]: one for one in json.loads(told)}
+    assert {*found} == {"came", "<b>given-up"} and found["came"]["state"] == "delivered"
+    assert "body" not in found["came"] and "whsec_" not in told
+    lines = command(store, "--state", "delivered", "--webhook", "one", "--limit", "1").stdout
+    head, line = lines.splitlines()
+    assert head.split() == "ID WEBHOOK TYPE KEY AT STATE ATTEMPTS ANSWER".split()
+    assert line.startswith("msg_") and line.split()[-3:] == ["delivered", "1", "204"]
+    count, id = len(receiver.got), found["came"]["id"]
+    assert command(store, "redeliver", id).stdout == f"{id}: pending\n"
+    receiver.wait(count + 1)
+    assert receiver.got[-1][0]["webhook-id"] == id
+    settled(world["operator"], "came")
+    for words, status, text in (
+        (("redeliver", "msg_none"), 1, "no delivery has the id 'msg_none'"),
+        (("redeliver",), 2, "give the id"),
+        (("--limit", "0"), 2, "--limit: must be 1 or more"),
+        (("--state", "lost"), 2, "invalid choice: 'lost'"),
+    ):
+        done = command(store, *words)
+        assert (done.returncode, done.stdout) == (status, "") and text in done.stderr, words
+
+
+def test_a_store_that_is_none(tmp_path: pathlib.Path) -> None:
+    done = command(str(tmp_path / "none.db"))
+    assert done.returncode == 4 and "the file does not exist" in done.stderr

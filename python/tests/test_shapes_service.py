@@ -1,0 +1,126 @@
+"""Steps of items, and of included sagas, where others meet them: tasks over HTTP, events, metrics."""
+
+from __future__ import annotations
+
+import asyncio
+import pathlib
+from typing import Any
+
+import pytest
+from serving import report, served, start, take
+from test_service_workers import ONE, working
+
+import sagas
+
+
+
+def module(folder: pathlib.Path) -> None:
+    (folder / "shop.py").write_text(
+        "import sagas\n"
+        'order = sagas.Saga("order")\n'
+        'ship = order.step(external=True, name="ship", for_each="parcels", undo=1)\n'
+        "ship.compensation(external=True)\n"
+        'order.step(external=True, name="mail", needs=[ship])\n'
+        'fair = sagas.Saga("fair")\n'
+        'fair.include(order, name="stall", for_each="stalls")\n'
+        'store = sagas.open("unused.db", [order, fair])\n'
+    )
+
+
+def test_tasks_of_items(tmp_path: pathlib.Path) -> None:
+    """A task says its declared step and its item; a list has numbers, an object keys beside. The metrics count by the declared step."""
+    module(tmp_path)
+    with served(tmp_path, {"one.toml": ONE}, "--app", "shop:store") as service, service.client() as client:
+        start(client, "order", "list", {"parcels": ["book", "lamp"]})
+        found = {task["index"]: task for task in (take(client, "order/ship")[0] for _ in range(2))}
+        assert [(found[at]["step"], found[at]["item"], found[at]["item_key"]) for at in (0, 1)] == [
+            ("ship-0", "book", None), ("ship-1", "lamp", None),
+        ]  # fmt: skip
+        assert {task["declared_step"] for task in found.values()} == {"ship"}
+        assert {task["name"] for task in found.values()} == {"order/ship"}
+        for at in (1, 0):
+            assert report(client, found[at], result=at).status_code == 200
+        (mail,) = take(client, "order/mail")
+        assert mail["results"] == {"ship-0": 0, "ship-1": 1, "ship": [0, 1]}
+        assert (mail["index"], mail["item"], mail["declared_step"]) == (None, None, "mail")
+        report(client, mail)
+        start(client, "order", "keyed", {"parcels": {"a b": 1, "c/d": 2}})
+        keyed = [take(client, "order/ship")[0] for _ in range(2)]
+        assert sorted((task["index"], task["item_key"], task["item"]) for task in keyed) == [(0, "a b", 1), (1, "c/d", 2)]
+        for task in keyed:
+            report(client, task, result=task["item_key"])
+        (mail,) = take(client, "order/mail")
+        assert mail["results"]["ship"] == {"a b": "a b", "c/d": "c/d"}
+        report(client, mail)
+        start(client, "order", "none", {"parcels": []})
+        (mail,) = take(client, "order/mail")
+        assert mail["results"] == {"ship": []}
+        report(client, mail)
+        text = client.get("/metrics").text
+        assert 'sagas_steps_total{action="run",outcome="succeeded",saga="order",step="ship"} 4.0' in text
+        assert "ship-0" not in text
+
+
+def test_tasks_of_included_sagas(tmp_path: pathlib.Path) -> None:
+    """They are asked for by the path of their names, and see what their own saga has."""
+    module(tmp_path)
+    with served(tmp_path, {"one.toml": ONE}, "--app", "shop:store") as service, service.client() as client:
+        start(client, "fair", "f", {"stalls": [{"parcels": ["book"]}]})
+        answer = client.post("/v1/tasks/claim", json={"steps": ["fair/stall/ship", "fair/nobody/ship"], "wait": 30, "worker": "w"})
+        (task,) = answer.json()["tasks"]
+        assert answer.json()["unknown_steps"] == ["fair/nobody/ship"]
+        assert (task["name"], task["step"], task["declared_step"]) == ("fair/stall/ship", "stall-0-ship-0", "stall/ship")
+        assert (task["input"], task["item"]) == ({"parcels": ["book"]}, "book")
+        report(client, task, result=7)
+        (mail,) = take(client, "fair/stall/mail")
+        assert mail["results"] == {"ship-0": 7, "ship": [7]}
+        queues = client.get("/v1/queues").json()["queues"]
+        assert [(queue["definition"], queue["step"], queue["undo"]) for queue in queues] == [("fair", "stall/mail", False)]
+
+
+def test_a_worker_s_function_reads_its_item(tmp_path: pathlib.Path) -> None:
+    """`task.item`, `task.index` and `task.result_of` are as in a store."""
+    module(tmp_path)
+    calls: list[Any] = []
+    with served(tmp_path, {"one.toml": ONE}, "--app", "shop:store") as service, service.client() as client:
+        worker = sagas.Worker(service.url, wait=1.0)
+
+        @worker.step("order", "ship")
+        def ship(task: sagas.Task[Any]) -> str:
+            calls.append((task.step, task.declared_step, task.index, task.item, task.has_item))
+            return f"{task.index}!"
+
+        @worker.step("order", "mail")
+        def mail(task: sagas.Task[Any]) -> Any:
+            with pytest.raises(RuntimeError, match="no item"):
+                task.item
+            return task.result_of("ship")
+
+        with working(worker):
+            start(client, "order", "k", {"parcels": {"x y": {"to": "Rome"}}})
+            told = client.get("/v1/sagas/k/wait?seconds=60").json()
+        assert told["results"]["mail"] == {"x y": "x y!"}
+        assert calls == [("ship-0", "ship", "x y", {"to": "Rome"}, True)]
+
+
+def test_events_of_items(tmp_path: pathlib.Path) -> None:
+    """They name the declared step, with the number or key of the item beside."""
+    order = sagas.Saga("order")
+
+    @order.step(for_each="parcels")
+    def ship(task: sagas.ItemTask[dict[str, Any], str]) -> None:
+        if task.item == "bad":
+            raise sagas.Fail("no")
+
+    @order.step
+    def bill(task: sagas.Task[Any]) -> None: ...
+
+    events: list[sagas.Event] = []
+
+    async def main() -> None:
+        async with sagas.open(tmp_path / "store.db", [order], on_event=events.append) as store:
+            await (await store.start(order, key="k", input={"parcels": {"a": "good", "b": "bad"}})).wait()
+
+    asyncio.run(main())
+    found = {(event.step, event.index) for event in events if event.name in ("step_succeeded", "step_failed")}
+    assert found == {("ship", "a"), ("ship", "b"), ("bill", None)}

@@ -1,0 +1,414 @@
+"""Sagas whose steps come from their input, in both stores."""
+
+from __future__ import annotations
+
+import asyncio
+import contextlib
+import dataclasses
+import pathlib
+import random
+from typing import Any
+
+import psycopg
+import pytest
+import shaped
+from cases import run, surely_ended, until
+from shaped import Hotel, Order, Package, Parcel, Trip, booking, order, parcels, plain, ship, trip
+
+import sagas
+from sagas.storage import admin
+
+ALL = [order, plain, trip, booking, shaped.package, shaped.hire]
+
+
+def rows(place: str, query: str) -> list[Any]:
+    """Rows of a query."""
+    with contextlib.closing(admin.connect(place)) as link:
+        return [tuple(row) for row in link.ask(query)]
+
+
+async def ended(store: sagas.Store, saga: sagas.Saga, key: str, given: Any) -> sagas.SagaResult:
+    """A saga from its start to its end."""
+    return await (await store.start(saga, key, given)).wait(120)
+
+
+def is_good(verdicts: dict[str, str]) -> bool:
+    """Whether each shard's audit says yes."""
+    return all(said.startswith("yes") for said in verdicts.values())
+
+
+def test_many_shapes_among_fixed_sagas(place: str) -> None:
+    """Also after the store was opened again, each end is what it was."""
+
+    async def one(store: sagas.Store, number: int) -> sagas.SagaResult:
+        if number % 4 == 3:
+            return await ended(store, plain, f"p{number}", None)
+        given = parcels(number, 1 if number % 4 == 1 else None)
+        return await ended(store, order, f"o{number}", given)
+
+    async def main() -> None:
+        async with sagas.open(place, ALL) as store:
+            ends = await asyncio.gather(*(one(store, number) for number in range(60)))
+            for number, end in enumerate(ends):
+                if number % 4 == 3:
+                    assert end.results == {"one": 1, "two": 2}
+                elif number % 4 == 1 and number > 1:
+                    assert end.states["ship-1"] == "failed" and end.each(ship)[0] == "0:t0"
+                    assert end.cost == (await least(store, f"o{number}"))
+                else:
+                    assert end.ok
+                    assert end.result_of(ship) == [f"{item}:t{item}" for item in range(number)]
+            assert is_good(await store.audit())
+        async with sagas.open(place, ALL) as store:
+            for number, end in enumerate(ends):
+                again = await store.wait(f"{'p' if number % 4 == 3 else 'o'}{number}")
+                assert again == end
+                if number % 4 == 0:
+                    assert again.result_of(ship) == end.result_of(ship)
+            assert is_good(await store.audit())
+
+    run(main())
+    assert rows(place, "SELECT count(*) FROM shapes") == [(45,)]
+
+
+def test_no_shard_is_without_a_definition(place: str) -> None:
+    """Also one whose first saga has a key that another one has, as a wrong guess finds out."""
+
+    async def main() -> None:
+        async with sagas.open(place, [order, plain]) as store:
+            for number in range(40):  # new keys, so that the next one is guessed to be new, too
+                await ended(store, plain, f"p{number}", None)
+            with pytest.raises(sagas.KeyConflict):
+                await store.start(order, "p3", parcels(2))
+            assert is_good(await store.audit())
+        async with sagas.open(place, [order, plain]) as store:
+            await until(lambda: not rows(place, "SELECT 1 FROM shards WHERE closed = 0"))
+            assert is_good(await store.audit())
+
+    run(main())
+    lacking = "SELECT shard FROM shards WHERE shard NOT IN (SELECT shard FROM shard_definitions)"
+    assert rows(place, lacking) == []
+    assert rows(place, "SELECT count(*) FROM shards WHERE closed = 2") == [(0,)]
+
+
+async def least(store: sagas.Store, key: str) -> int:
+    """What the saga's plan costs, which `sagas check` verifies to be the least."""
+    plan = await store.plan(key)
+    assert plan and str(plan.check()).startswith("least")
+    assert plan.cost is not None
+    return plan.cost
+
+
+def test_inclusion_and_its_plan(place: str) -> None:
+    async def main() -> None:
+        async with sagas.open(place, ALL) as store:
+            good = Trip(Package(Hotel("Rome", ["a"], True), ["vw", "bmw"]))
+            end = await ended(store, trip, "good", good)
+            confirmed = ["booked in Rome", ["booked in Rome: a"], "by LH1"]
+            assert end.result_of(shaped.tour) == [
+                "LH1", confirmed, ["booked in Rome: a"], ["vw", "bmw"]
+            ]  # fmt: skip
+            bad = await ended(store, trip, "bad", Trip(Package(Hotel("Rome", ["a"]), ["none"])))
+            assert bad.cost == 12 == await least(store, "bad")
+            assert bad.errors == {"p-car-0-take": "sagas.Fail: no car"}
+        async with sagas.open(place, ALL) as store:
+            again = await store.wait("good")
+            assert again.result_of(shaped.inside[shaped.cars[shaped.take]]) == ["vw", "bmw"]
+
+    run(main())
+
+
+def held() -> tuple[sagas.Saga, asyncio.Event]:
+    """A saga of two items that wait until they are let go."""
+    saga, go = sagas.Saga("held"), asyncio.Event()
+
+    @saga.step(for_each=lambda input: {key: {"of": key} for key in input["keys"]})
+    async def work(task: sagas.Task[Any]) -> Any:
+        await go.wait()
+        return [task.index, task.item]
+
+    @saga.step(needs=[work])
+    def last(task: sagas.Task[Any]) -> Any:
+        return task.result_of(work)
+
+    return saga, go
+
+
+def test_items_are_those_of_the_start(place: str) -> None:
+    """After a restart, later code that would compute others gets the items that were kept."""
+    first, _ = held()
+    later = sagas.Saga("held")
+
+    @later.step(for_each=lambda input: 1 / 0, name="work")
+    def work(task: sagas.Task[Any]) -> Any:
+        return [task.index, task.item]
+
+    @later.step(needs=[work], name="last")
+    def last(task: sagas.Task[Any]) -> Any:
+        return task.result_of(work)
+
+    async def main() -> None:
+        async with sagas.open(place, [first], shutdown_timeout=0) as store:
+            await store.start(first, "k", {"keys": ["b/1", "a \x01"]})
+        async with sagas.open(place, [later]) as store:
+            end = await store.wait("k", 60)
+            wanted = {"a \x01": ["a \x01", {"of": "a \x01"}], "b/1": ["b/1", {"of": "b/1"}]}
+            assert end.result_of(last) == wanted == end.each(work)
+            with pytest.raises(sagas.InvalidInput, match="for_each= raised ZeroDivisionError"):
+                await store.start(later, "new", {"keys": []})
+            # the key that is there is the saga, whatever its shape would be today
+            assert not (await store.start(later, "k", {"keys": ["b/1", "a \x01"]})).new
+            with pytest.raises(sagas.KeyConflict):
+                await store.start(later, "k", {"keys": []})
+
+    run(main())
+
+
+def test_each_its_own_definition(place: str) -> None:
+    """More definitions than a shard has, each text once in the store."""
+
+    async def main() -> None:
+        async with sagas.open(place, [order]) as store:
+            given = [Order([Parcel("a", number)] * 3, number=number) for number in range(150)]
+            ends = await asyncio.gather(
+                *(ended(store, order, f"k{number}", one) for number, one in enumerate(given)),
+                *(ended(store, order, f"t{number}", one) for number, one in enumerate(given)),
+            )
+            assert all(end.ok for end in ends) and is_good(await store.audit())
+
+    run(main())
+    assert rows(place, "SELECT count(*) FROM definitions") == [(150,)]
+
+
+def test_what_is_wrong_begins_nothing(place: str) -> None:
+    async def main() -> None:
+        async with sagas.open(place, [order]) as store:
+            with pytest.raises(sagas.InvalidInput, match="parcels"):
+                await store.start(order, "k", {"parcels": 3})
+            with pytest.raises(sagas.TooLarge):
+                await store.start(order, "k", parcels(600))
+            assert await store.get("k") is None
+            assert (await ended(store, order, "k", Order())).ok
+
+    run(main())
+
+
+def test_a_limit_holds_over_all_items(place: str) -> None:
+    saga, now, most = sagas.Saga("limited"), 0, 0
+
+    @saga.step(for_each="n", concurrency=3)
+    async def work(task: sagas.Task[Any]) -> None:
+        nonlocal now, most
+        now += 1
+        most = max(most, now)
+        await asyncio.sleep(0.002)
+        now -= 1
+
+    async def main() -> None:
+        async with sagas.open(place, [saga]) as store:
+            given = {"n": [0] * 7}
+            ends = await asyncio.gather(*(ended(store, saga, f"k{n}", given) for n in range(4)))
+            assert all(end.ok for end in ends) and most == 3
+
+    run(main())
+
+
+def test_a_program_without_the_step_is_refused(tmp_path: pathlib.Path) -> None:
+    path = str(tmp_path / "s.db")
+    saga, _ = held()
+    other = sagas.Saga("held")
+
+    @other.step(for_each="keys", name="worked")
+    def worked(task: sagas.Task[Any]) -> None:
+        ...
+
+    async def main() -> None:
+        async with sagas.open(path, [saga], shutdown_timeout=0) as store:
+            await store.start(saga, "k", {"keys": ["a"]})
+        with pytest.raises(sagas.MissingStep, match="work-0"):
+            async with sagas.open(path, [other]):
+                pass
+
+    run(main())
+
+
+def test_another_version_of_an_included_saga(tmp_path: pathlib.Path) -> None:
+    path = str(tmp_path / "s.db")
+
+    def outer(version: int, go: asyncio.Event) -> sagas.Saga:
+        inner, saga = sagas.Saga("inner", version=version), sagas.Saga("outer")
+
+        @inner.step(name="work")
+        async def work(task: sagas.Task[Any]) -> None:
+            await go.wait()
+
+        saga.include(inner)
+        return saga
+
+    async def main() -> None:
+        first = outer(1, asyncio.Event())
+        async with sagas.open(path, [first], shutdown_timeout=0) as store:
+            await store.start(first, "k")
+        with pytest.raises(sagas.MissingStep, match="includes saga 'inner' .version 1.*version 2"):
+            async with sagas.open(path, [outer(2, asyncio.Event())]):
+                pass
+
+    run(main())
+
+
+def test_engines_are_killed_while_definitions_come(place: str) -> None:
+    """Each saga has a definition of its own; meanwhile each engine is killed."""
+
+    async def main() -> None:
+        draw, kills = random.Random(5), 0
+        async with sagas.open(place, [order, plain]) as store:
+
+            async def kill() -> None:
+                nonlocal kills
+                while True:
+                    await asyncio.sleep(draw.uniform(0.03, 0.2))
+                    for runner in list(store._inside.shards.runners.values()):
+                        if runner.engine and not runner.engine.dead:
+                            runner.engine.process.kill()
+                            kills += 1
+
+            async def one(number: int) -> sagas.SagaResult:
+                await asyncio.sleep(draw.uniform(0, 2))
+                bad = 1 if number % 3 == 1 else None
+                given = parcels(3, bad, lambda item: number * 3 + item)
+                return await surely_ended(store, order, f"o{number}", given)
+
+            killer = asyncio.create_task(kill())
+            ends = await asyncio.gather(*(one(number) for number in range(40)))
+            killer.cancel()
+            assert kills > 3
+            assert all(end.ok == (number % 3 != 1) for number, end in enumerate(ends))
+            assert is_good(await store.audit())
+
+    run(main())
+
+
+def test_a_codec_has_the_items_too(place: str) -> None:
+    class Codec:
+        def encode(self, data: bytes) -> bytes:
+            return data[::-1]
+
+        def decode(self, data: bytes) -> bytes:
+            return data[::-1]
+
+    async def main() -> None:
+        async with sagas.open(place, [order], codec=Codec()) as store:
+            assert (await ended(store, order, "k", Order([Parcel("secret town")]))).ok
+        async with sagas.open(place, [order], codec=Codec()) as store:
+            assert (await store.wait("k")).result_of(ship) == ["0:secret town"]
+
+    run(main())
+    assert "secret" not in str(rows(place, "SELECT shape FROM shapes"))
+
+
+# -- clients
+
+
+def test_a_client_starts_a_shaped_saga(url: str) -> None:
+    async def main() -> None:
+        async with sagas.open(url, ALL) as _, sagas.Client(url) as client:
+            end = await (await client.start(order, "a", parcels(3))).wait(60)
+            assert end.ok and end.result_of(ship) == ["0:t0", "1:t1", "2:t2"]
+            with pytest.raises(sagas.InvalidInput, match="parcels"):
+                await client.start(order, "b", {"parcels": 3})
+            assert await client.get("b") is None
+
+    run(main())
+
+
+def other_code() -> tuple[sagas.Saga, sagas.Saga]:
+    """A saga as a client and as a node have it, of which only the node's function raises."""
+
+    def made(function: Any) -> sagas.Saga:
+        saga = sagas.Saga("made")
+
+        @saga.step(for_each=function, name="work")
+        def work(task: sagas.Task[Any]) -> Any:
+            return task.item
+
+        return saga
+
+    return made(lambda input: input["items"]), made(lambda input: input["gone"])
+
+
+def test_a_start_that_raises_in_the_node_is_refused(url: str) -> None:
+    """It is kept as such, and taken again where it is started again; other starts go on."""
+    mine, theirs = other_code()
+
+    async def main() -> None:
+        async with sagas.Client(url) as client:
+            async with sagas.open(url, [theirs, plain]) as store:
+                started = await client.start(mine, "a", {"items": [1]})
+                for wait in (started.wait, lambda time: store.wait("a", time)):
+                    with pytest.raises(sagas.InvalidInput, match="for_each= raised KeyError"):
+                        await wait(60)
+                assert (await (await client.start(plain, "b")).wait(60)).ok
+                with pytest.raises(sagas.InvalidInput):
+                    await client.complete("a", "work-0", 1)
+            async with sagas.open(url, [mine]) as store:
+                assert not (await client.start(mine, "a", {"items": [1]})).new
+                assert (await client.wait("a", 60)).result_of("work") == [1]
+
+    async def withdrawn() -> None:
+        async with sagas.Client(url) as client:
+            async with sagas.open(url, [theirs]):
+                await client.start(mine, "c", {"items": [1]})
+                with pytest.raises(sagas.InvalidInput):
+                    await client.wait("c", 60)
+                assert await client.abort("c") and await client.get("c") is None
+
+    async def prepared() -> None:
+        async with sagas.open(url, [plain]):
+            pass
+
+    run(prepared())
+    run(main())
+    run(withdrawn())
+
+
+def test_another_node_takes_over(url: str) -> None:
+    """Its definitions and items are those of the store."""
+
+    async def main() -> None:
+        first, _ = held()
+        second, go = held()
+        async with sagas.open(url, [first], node="a", lease=1, shutdown_timeout=0) as store:
+            for number in range(5):
+                await store.start(first, f"k{number}", {"keys": ["x", "y", "z"][: number % 4]})
+        go.set()
+        async with sagas.open(url, [second], node="b", lease=1) as store:
+            for number in range(5):
+                end = await store.wait(f"k{number}", 60)
+                keys = ["x", "y", "z"][: number % 4]
+                assert end.result_of("last") == {key: [key, {"of": key}] for key in keys}
+            await store.start(second, "new", {"keys": ["q"]})
+            assert (await store.wait("new", 60)).ok
+
+    run(main())
+    with psycopg.connect(url) as link:
+        (count,) = link.execute("SELECT count(*) FROM sagas.shapes").fetchone() or (0,)
+    assert count == 6
+
+
+def test_no_shape_outlives_its_saga(place: str) -> None:
+    from sagas.runtime import retention
+
+    async def main() -> None:
+        async with sagas.open(place, [order]) as store:
+            assert (await ended(store, order, "k", parcels(2))).ok
+        async with sagas.open(place, [order]):
+            await until(lambda: not rows(place, "SELECT 1 FROM shards WHERE closed = 0"))
+
+    run(main())
+    assert retention.prune(place, 0).sagas == 1
+    for table in ("shapes", "definitions", "shard_definitions"):
+        assert rows(place, f"SELECT count(*) FROM {table}") == [(0,)], table
+
+
+def test_two_inputs_are_two_sagas() -> None:
+    assert dataclasses.replace(Order(), gift=True) != Order()
