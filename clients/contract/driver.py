@@ -156,6 +156,7 @@ class Driver:
                         "idempotency_key": task.idempotency_key,
                         "results": task.results,
                         "result": task.result,
+                        "traceparent": task.traceparent,
                     }
                 )
             given = task.input

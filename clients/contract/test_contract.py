@@ -207,6 +207,24 @@ def test_inputs(driver: Driver) -> None:
         assert end["results"] == {"a": given, "b": given}
 
 
+def test_trace_contexts(driver: Driver) -> None:
+    """That of a start is handed to each function, also of a compensation; one that is not valid is
+    refused before anything is sent.
+    """
+    trace = "00-0af7651916cd43dd8448eb211c80319c-b7ad6b7169203331-01"
+    given = script("ok", b=["fail"])
+    for told in (trace, None):
+        key, more = fresh("trace"), {} if told is None else {"traceparent": told}
+        driver.ask("start", definition="pair", key=key, input=given, **more)
+        assert driver.ask("wait", key=key, timeout=LONG)["phase"] == "recovered"
+        calls = [one for step in STEPS for one in driver.calls(key, step)]
+        assert [one["traceparent"] for one in calls] == [told] * 3
+    for wrong in ("00-1", trace.replace("0af7", "0AF7"), f"ff{trace[2:]}", f"{trace}\r\nx: y"):
+        words = {"definition": "pair", "key": fresh("trace"), "input": given, "traceparent": wrong}
+        assert driver.refused("start", **words) == "InvalidArgument"
+        assert driver.refused("get", key=words["key"]) == "NoSuchSaga"
+
+
 def test_big_results(driver: Driver, language: str) -> None:
     """One of a megabyte is stored; a step whose result is refused is done all the same."""
     end = played(driver, script("big", b=["huge"]))

@@ -81,7 +81,7 @@ func (r *run) claimTasks() {
 			continue
 		}
 		body, _ := json.Marshal(r.claimOf(limit, wait))
-		answer, err := r.w.conn.until(r.claims, request{"POST", "/v1/tasks/claim", body, wait + 40*time.Second})
+		answer, err := r.w.conn.until(r.claims, request{method: "POST", path: "/v1/tasks/claim", body: body, timeout: wait + 40*time.Second})
 		var found claimed
 		if err == nil {
 			err = json.Unmarshal(answer, &found)

@@ -4,8 +4,11 @@ import (
 	"context"
 	"encoding/json"
 	"errors"
+	"net/http"
 	"net/url"
+	"regexp"
 	"strconv"
+	"strings"
 	"time"
 )
 
@@ -54,6 +57,8 @@ type start struct {
 	Version    *int              `json:"version,omitempty"`
 	Labels     map[string]string `json:"labels,omitempty"`
 	Deadline   *float64          `json:"deadline,omitempty"`
+
+	traceparent string // a header
 }
 
 // StartOption configures Start.
@@ -77,6 +82,27 @@ func WithVersion(version int) StartOption {
 	return func(s *start) { s.Version = &version }
 }
 
+// WithTraceparent says in which W3C trace context the saga is started (default: none). Workers get it
+// as Task.Traceparent.
+func WithTraceparent(traceparent string) StartOption {
+	return func(s *start) { s.traceparent = traceparent }
+}
+
+var traceparents = regexp.MustCompile("^[0-9a-f]{2}-[0-9a-f]{32}-[0-9a-f]{16}-[0-9a-f]{2}$")
+
+// header returns the headers of a start.
+func (s *start) header() (http.Header, error) {
+	if s.traceparent == "" {
+		return nil, nil
+	}
+	none := strings.Contains(s.traceparent, "-"+strings.Repeat("0", 32)+"-") ||
+		strings.Contains(s.traceparent, "-"+strings.Repeat("0", 16)+"-")
+	if none || strings.HasPrefix(s.traceparent, "ff") || !traceparents.MatchString(s.traceparent) {
+		return nil, invalidArgument("the traceparent is not a W3C trace context")
+	}
+	return http.Header{"Traceparent": {s.traceparent}}, nil
+}
+
 // Start starts a saga, or finds the one that has the key. When it returns, the saga is stored.
 //
 // The input is any value that encoding/json writes. If the key has another definition or input, the
@@ -87,7 +113,10 @@ func Start[In any](ctx context.Context, c *Client, definition, key string, input
 		option(&asked)
 	}
 	var found Started
-	err := c.conn.call(ctx, "POST", "/v1/sagas", asked, &found)
+	header, err := asked.header()
+	if err == nil {
+		err = c.conn.send(ctx, request{method: "POST", path: "/v1/sagas", header: header}, asked, &found)
+	}
 	return found, err
 }
 

@@ -153,6 +153,7 @@ type request struct {
 	method, path string
 	body         []byte
 	timeout      time.Duration // of one attempt
+	header       http.Header   // beside those of every request; may be nil
 }
 
 // open sends a request to a service, and returns its answer before the body is read.
@@ -181,7 +182,7 @@ func (c *connection) open(ctx context.Context, service string, r request, header
 func (c *connection) ask(ctx context.Context, service string, r request) (body []byte, pause time.Duration, err error) {
 	ctx, cancel := context.WithTimeout(ctx, r.timeout)
 	defer cancel()
-	answer, err := c.open(ctx, service, r, nil)
+	answer, err := c.open(ctx, service, r, r.header.Clone())
 	if err != nil {
 		return nil, 0, bare(err)
 	}
@@ -256,7 +257,12 @@ func (c *connection) until(ctx context.Context, r request) ([]byte, error) {
 
 // call repeats a request of a client, for as long as its timeout, and reads the answer.
 func (c *connection) call(ctx context.Context, method, path string, asked, answer any) error {
-	r := request{method: method, path: path, timeout: requestTimeout}
+	return c.send(ctx, request{method: method, path: path}, asked, answer)
+}
+
+// send is call for a request with headers of its own.
+func (c *connection) send(ctx context.Context, r request, asked, answer any) error {
+	r.timeout = requestTimeout
 	if asked != nil {
 		body, err := json.Marshal(asked)
 		if err != nil {

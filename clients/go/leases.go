@@ -42,7 +42,7 @@ func (r *run) beat(ctx context.Context, one *held, lease time.Duration) StopReas
 	}
 	body, _ := json.Marshal(asked)
 	service := r.w.conn.url()
-	answer, _, err := r.w.conn.ask(ctx, service, request{"POST", "/v1/tasks/" + escaped(one.AttemptID) + "/heartbeat", body, beatTimeout})
+	answer, _, err := r.w.conn.ask(ctx, service, request{method: "POST", path: "/v1/tasks/" + escaped(one.AttemptID) + "/heartbeat", body: body, timeout: beatTimeout})
 	var problem *Problem
 	switch {
 	case err == nil:

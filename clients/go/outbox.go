@@ -106,7 +106,7 @@ func (r *run) together(ctx context.Context, batch []taskReport, next *claim) ([]
 		Reports []taskReport `json:"reports"`
 		Next    *claim       `json:"next,omitempty"`
 	}{batch, next})
-	answer, err := r.w.conn.until(ctx, request{"POST", "/v1/tasks/report", body, requestTimeout})
+	answer, err := r.w.conn.until(ctx, request{method: "POST", path: "/v1/tasks/report", body: body, timeout: requestTimeout})
 	if err != nil {
 		return batch, nil, err
 	}
@@ -145,7 +145,7 @@ func (r *run) alone(ctx context.Context, one taskReport, next *claim) *claimed {
 			taskReport
 			Next *claim `json:"next,omitempty"`
 		}{bare, next})
-		answer, err := r.w.conn.until(ctx, request{"POST", path, body, requestTimeout})
+		answer, err := r.w.conn.until(ctx, request{method: "POST", path: path, body: body, timeout: requestTimeout})
 		if err == nil {
 			var kept struct{ Next *claimed }
 			if err := json.Unmarshal(answer, &kept); err != nil {

@@ -33,6 +33,9 @@ type Task[In any] struct {
 	Input In
 	// Deadline is when the saga is aborted if it has not ended, or the zero time.
 	Deadline time.Time
+	// Traceparent is the W3C trace context that the saga was started in, or empty: the parent of a
+	// span of this attempt.
+	Traceparent string
 
 	held *held
 }
@@ -96,6 +99,7 @@ type leased struct {
 	Result      json.RawMessage            `json:"result"`
 	Idempotency string                     `json:"idempotency_key"`
 	Original    string                     `json:"original_idempotency_key"`
+	Traceparent string                     `json:"traceparent"`
 }
 
 // held is a task that this worker has.
@@ -109,7 +113,7 @@ type held struct {
 func taskOf[In any](h *held) (Task[In], error) {
 	task := Task[In]{
 		Saga: h.Definition, Key: h.Key, Step: h.Step, Attempt: h.Attempt, AttemptID: h.AttemptID,
-		IdempotencyKey: h.Idempotency, Deadline: h.Deadline, held: h,
+		IdempotencyKey: h.Idempotency, Deadline: h.Deadline, Traceparent: h.Traceparent, held: h,
 	}
 	return task, decode(h.Input, &task.Input, "input")
 }

@@ -112,6 +112,8 @@ export interface StartOptions extends CallOptions {
   deadline?: number;
   /** Default: the newest. */
   version?: number;
+  /** The W3C trace context that the saga is started in (default: none). */
+  traceparent?: string;
 }
 
 export interface WaitOptions extends CallOptions {
@@ -234,6 +236,8 @@ export interface Task<I = any, R = Record<string, any>, Result = any> {
   /** The key to pass to other services: the same for all attempts. */
   readonly idempotencyKey: string;
   readonly originalIdempotencyKey: string | null;
+  /** The W3C trace context that the saga was started in: the parent of a span of this attempt. */
+  readonly traceparent: string | null;
   readonly deadline: Date | null;
   /** Aborted when the function should stop: `reason` is an `Aborted` or a `LeaseLost`. */
   readonly signal: AbortSignal;

@@ -69,8 +69,8 @@ const WORDS = {
 
 function play(worker, quiet) {
   return (task) => {
-    const { name, key, step, isCompensation: undo, attempt, idempotencyKey: idempotency_key, results, result, input } = task;
-    if (!quiet) say({ note: "called", worker, name, key, step, undo, attempt, idempotency_key, results, result });
+    const { name, key, step, isCompensation: undo, attempt, idempotencyKey: idempotency_key, results, result, input, traceparent } = task;
+    if (!quiet) say({ note: "called", worker, name, key, step, undo, attempt, idempotency_key, results, result, traceparent });
     const script = input?.script;
     if (!script) return WORDS.echo(worker, task);
     const place = undo ? `${step}/undo` : step;
@@ -109,8 +109,8 @@ async function follow(stream) {
 
 const COMMANDS = {
   open: ({ url, token }) => { client = new Client(url, { token: token ?? undefined }); return { language: "node" }; },
-  start: async ({ definition, key, input, labels, deadline, version }) => {
-    const run = await client.start(definition, key, input, { labels, deadline, version });
+  start: async ({ definition, key, input, labels, deadline, version, traceparent }) => {
+    const run = await client.start(definition, key, input, { labels, deadline, version, traceparent });
     return { key: run.key, new: run.new };
   },
   get: async ({ key }) => {

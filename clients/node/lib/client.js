@@ -17,6 +17,12 @@ const name = (what, value) => {
   return value;
 };
 const path = (key, ...rest) => ["v1/sagas", name("key", key), ...rest].map((part, i) => (i ? encodeURIComponent(part) : part)).join("/");
+const TRACEPARENT = /^[0-9a-f]{2}-(?!0{32})[0-9a-f]{32}-(?!0{16})[0-9a-f]{16}-[0-9a-f]{2}$/;
+const traced = (value) => {
+  if (value === undefined) return {};
+  if (!TRACEPARENT.test(value) || value.startsWith("ff")) throw new InvalidArgument("traceparent: it is a W3C trace context");
+  return { traceparent: value };
+};
 const seconds = (value) => (value instanceof Date ? value.toISOString() : value);
 
 /** A saga that this program started, or found. */
@@ -59,9 +65,9 @@ export class Client {
     this.#connection.close();
   }
 
-  async start(definition, key, input = null, { labels, deadline, version, signal } = {}) {
+  async start(definition, key, input = null, { labels, deadline, version, traceparent, signal } = {}) {
     const body = write({ definition: name("definition", definition), key: name("key", key), input, labels, deadline, version });
-    return new Run(this, await this.#ask("POST", "v1/sagas", { body, signal }));
+    return new Run(this, await this.#ask("POST", "v1/sagas", { body, signal, headers: traced(traceparent) }));
   }
 
   async get(key, { signal } = {}) {
@@ -122,7 +128,7 @@ export class Client {
     return new EventStream(this.#connection, filter);
   }
 
-  async #ask(method, path, { body, signal, seconds = Math.min(ANSWER, this.#timeout), patience = this.#timeout }) {
-    return (await this.#connection.untilAnswered(method, path, { body, seconds, patience, signal })).value;
+  async #ask(method, path, { body, headers, signal, seconds = Math.min(ANSWER, this.#timeout), patience = this.#timeout }) {
+    return (await this.#connection.untilAnswered(method, path, { body, headers, seconds, patience, signal })).value;
   }
 }

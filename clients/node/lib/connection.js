@@ -106,7 +106,7 @@ export class Connection {
    * Asks until a service answers. Gives the status and the value; throws a `Problem`, the signal's reason, or
    * `Unreachable` where nobody has answered within `patience` seconds (Infinity: it is asked for ever).
    */
-  async untilAnswered(method, path, { body, seconds, patience, signal, lacks }) {
+  async untilAnswered(method, path, { body, headers: more, seconds, patience, signal, lacks }) {
     const until = performance.now() + 1000 * patience;
     for (let next = FIRST_PAUSE; ; next = Math.min(MOST_PAUSE, 2 * next)) {
       const { url } = this;
@@ -114,7 +114,8 @@ export class Connection {
       let error;
       try {
         const left = (until - performance.now()) / 1000;
-        const { status, headers, text } = await this.ask(url, method, path, { body, seconds: Math.min(seconds, Math.max(0.001, left)), signal });
+        const words = { body, headers: more, seconds: Math.min(seconds, Math.max(0.001, left)), signal };
+        const { status, headers, text } = await this.ask(url, method, path, words);
         if (status < 300) {
           lacks?.(null, url);
           return { status, value: parse(text) };

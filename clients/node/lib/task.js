@@ -31,6 +31,7 @@ export class Task {
       result: told.result,
       idempotencyKey: told.idempotency_key,
       originalIdempotencyKey: told.original_idempotency_key,
+      traceparent: told.traceparent,
       deadline: told.deadline === null ? null : new Date(1000 * told.deadline),
     });
     const hidden = { lease: told.lease, heartbeat, until: performance.now() + 500 * told.seconds, unstorable: undefined };

@@ -32,6 +32,7 @@ type command struct {
 	Labels      map[string]string
 	Deadline    *float64
 	Version     *int
+	Traceparent string
 	Timeout     float64
 	Note        string
 	Step        string
@@ -210,6 +211,9 @@ func (d *driver) start(ctx context.Context, client *sagas.Client, c command) (an
 	if c.Version != nil {
 		options = append(options, sagas.WithVersion(*c.Version))
 	}
+	if c.Traceparent != "" {
+		options = append(options, sagas.WithTraceparent(c.Traceparent))
+	}
 	if c.Input == nil {
 		c.Input = json.RawMessage("null")
 	}
@@ -318,6 +322,14 @@ type script struct {
 	Value  json.RawMessage
 }
 
+// traced writes no trace context as null.
+func traced(traceparent string) any {
+	if traceparent == "" {
+		return nil
+	}
+	return traceparent
+}
+
 // perform does the next word of a saga's script.
 func (d *driver) perform(ctx context.Context, c command, task sagas.Task[json.RawMessage], undo bool, result json.RawMessage) (any, error) {
 	suffix := ""
@@ -328,7 +340,7 @@ func (d *driver) perform(ctx context.Context, c command, task sagas.Task[json.Ra
 		say(object{
 			"note": "called", "worker": c.Worker, "name": task.Saga + "/" + task.Step + suffix, "key": task.Key,
 			"step": task.Step, "undo": undo, "attempt": task.Attempt, "idempotency_key": task.IdempotencyKey,
-			"results": task.Results(), "result": result,
+			"results": task.Results(), "result": result, "traceparent": traced(task.Traceparent),
 		})
 	}
 	var said script
