@@ -330,7 +330,7 @@ def spent_by(server: Server) -> float:
 
 
 TABLES = (
-    "sagas", "attempts", "event_log", "shards", "definition_sets", "suspensions", "operator_commands",
+    "sagas", "attempts", "event_log", "shards", "definitions", "shard_definitions", "suspensions", "operator_commands",
     "pending_starts",
 )  # fmt: skip
 
@@ -374,7 +374,8 @@ def size(server: Server, words: argparse.Namespace) -> None:
 
 
 COPY = """
-INSERT INTO sagas.shards(shard, name, definition_set, owner, epoch, closed, audit) SELECT {to}, name || '-{to}', definition_set, NULL, epoch, closed, audit FROM sagas.shards WHERE shard = {log};
+INSERT INTO sagas.shards(shard, name, owner, epoch, closed, audit) SELECT {to}, name || '-{to}', NULL, epoch, closed, audit FROM sagas.shards WHERE shard = {log};
+INSERT INTO sagas.shard_definitions SELECT {to}, place, definition FROM sagas.shard_definitions WHERE shard = {log};
 INSERT INTO sagas.event_log SELECT {to}, first_seq, committed_at, text FROM sagas.event_log WHERE shard = {log};
 INSERT INTO sagas.sagas(id, key, saga, definition_index, input, at, phase, outcome, ended, note) SELECT id + ({to} - {log}) * 1000, key || '-{to}', saga, definition_index, input, at, phase, outcome, ended, note FROM sagas.sagas WHERE id / 1000 = {log};
 INSERT INTO sagas.attempts SELECT id + ({to} - {log}) * 1000, step, action, number, event, value, at FROM sagas.attempts WHERE id / 1000 = {log};
@@ -404,7 +405,7 @@ async def ended(url: str, logs: int) -> None:
 
 def opening(server: Server, words: argparse.Namespace) -> None:
     """From a start on 100,000 ended sagas and 1,000 open ones until the open steps are called, where these stand in one log, and in a hundred."""
-    import sagas.definition.compiled
+    import sagas.definition.shelf
 
     async def opened(url: str) -> float:
         called: list[float] = []
@@ -418,10 +419,10 @@ def opening(server: Server, words: argparse.Namespace) -> None:
         return max(called)
 
     for room in (1000, 10):
-        setattr(sagas.definition.compiled, "SHARD_CAPACITY", 1000)
+        setattr(sagas.definition.shelf, "SHARD_CAPACITY", 1000)
         url = server.create()
         asyncio.run(ended(url, max(2, int(100 * words.scale))))
-        setattr(sagas.definition.compiled, "SHARD_CAPACITY", room)
+        setattr(sagas.definition.shelf, "SHARD_CAPACITY", room)
         asyncio.run(opened(url))
         times = []
         for _ in range(words.turns):
@@ -429,7 +430,7 @@ def opening(server: Server, words: argparse.Namespace) -> None:
             times.append(asyncio.run(opened(url)) - began)
         print(f"opening: {int(100_000 * words.scale)} ended, 1,000 open sagas in {1000 // room} logs: {statistics.median(times):.2f} s until all are called", flush=True)
         server.drop(url)
-        setattr(sagas.definition.compiled, "SHARD_CAPACITY", 1000)
+        setattr(sagas.definition.shelf, "SHARD_CAPACITY", 1000)
 
 
 def prune(server: Server, words: argparse.Namespace) -> None:

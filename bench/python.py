@@ -322,7 +322,7 @@ def turn(way: str, failing: bool, count: int, together: int) -> Timing:
 
 MANY = """
 import asyncio, os, pathlib, signal, sys, time
-import sagas, sagas.definition.compiled
+import sagas, sagas.definition.shelf
 
 path, count, each, again = sys.argv[1], int(sys.argv[2]), int(sys.argv[3]), sys.argv[4] == "again"
 began = time.perf_counter()
@@ -342,7 +342,7 @@ def memory(pid):
     return next(int(line.split()[1]) for line in text.splitlines() if line.startswith("Pss:"))
 
 async def main():
-    sagas.definition.compiled.SHARD_CAPACITY = each
+    sagas.definition.shelf.SHARD_CAPACITY = each
     async with sagas.open(path, [saga]) as store:
         if not again:
             for place in range(0, count, 500):

@@ -1,0 +1,109 @@
+#!/usr/bin/env python3
+"""An order that is sent in as many parcels as it has: a step for each parcel, and a hotel that another saga books.
+
+    PYTHONPATH=python/src python3 examples/python/parcels.py
+
+Three orders are made. The first goes well. In the second a parcel cannot be sent: those that are worth more than it costs to call
+them back come back. The third goes on without the parcel, since its failure is collected.
+"""
+
+from __future__ import annotations
+
+import asyncio
+import pathlib
+import tempfile
+from dataclasses import dataclass
+
+import sagas
+
+
+@dataclass
+class Parcel:
+    """What is sent."""
+
+    to: str
+    value: int
+
+
+@dataclass
+class Order:
+    """What is ordered."""
+
+    parcels: list[Parcel]
+    gift: bool = False
+
+
+def by_town(order: Order) -> dict[str, Parcel]:
+    """The parcels, each under the town that it goes to."""
+    return {parcel.to: parcel for parcel in order.parcels}
+
+
+def send(parcel: Parcel) -> str:
+    """Hand a parcel to the carrier."""
+    if parcel.to == "nowhere":
+        raise sagas.Fail("no such address")
+    return f"T-{parcel.to[:3].upper()}"
+
+
+packing = sagas.Saga("packing", input=Order)
+
+
+@packing.step(when=lambda order: order.gift, undo=0)
+def wrap(task: sagas.Task[Order]) -> None:
+    print(f"  wrap {len(task.input.parcels)} parcels")
+
+
+@packing.step(needs=[wrap], undo=0)
+def pack(task: sagas.Task[Order]) -> int:
+    return len(task.input.parcels)
+
+
+order = sagas.Saga("order")
+packed = order.include(packing)
+
+
+@order.step(for_each="parcels", needs=[packed], skip=1, undo=10, keep=lambda parcel: parcel.value)
+def ship(task: sagas.ItemTask[Order, Parcel]) -> str:
+    return send(task.item)
+
+
+@ship.compensation
+def call_back(task: sagas.ItemTask[Order, Parcel]) -> None:
+    print(f"  call back {task.result} from {task.item.to}")
+
+
+@order.step(needs=[ship])
+def mail(task: sagas.Task[Order]) -> list[str]:
+    numbers: list[str] = task.result_of(ship)
+    return numbers
+
+
+best_effort = sagas.Saga("best-effort")
+
+
+@best_effort.step(for_each=by_town, undo=0)
+def try_to_ship(task: sagas.ItemTask[Order, Parcel]) -> str:
+    return send(task.item)
+
+
+@best_effort.step(needs=[sagas.collect(try_to_ship)])
+def report(task: sagas.Task[Order]) -> str:
+    found = task.result_of(sagas.collect(try_to_ship))
+    return f"sent to {', '.join(map(str, found.results))}; not to {', '.join(map(str, found.errors))}"
+
+
+async def main(folder: pathlib.Path) -> None:
+    good = Order([Parcel("Rome", 0), Parcel("Oslo", 14)], gift=True)
+    bad = Order([*good.parcels, Parcel("nowhere", 3)])
+    async with sagas.open(folder / "orders.db", [order, packing, best_effort]) as store:
+        end = await (await store.start(order, "order-1", good)).wait()
+        print(f"  {end.phase}: {' and '.join(end.result_of(ship))}")
+        end = await (await store.start(order, "order-2", bad)).wait()
+        print(f"  {end.phase}, on its way: {end.each(ship)}")
+        end = await (await store.start(best_effort, "order-3", bad)).wait()
+        print(f"  {end.phase}: {end.result_of(report)}")
+
+
+if __name__ == "__main__":
+    with tempfile.TemporaryDirectory() as name:
+        asyncio.run(main(pathlib.Path(name)))
