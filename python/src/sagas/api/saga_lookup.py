@@ -98,6 +98,8 @@ class SagaLookup:
             if live is None:
                 row = await retries.until_answered(lambda: self.row(key))
                 if row.phase is not None:
+                    if record := inside.store.record:
+                        record.seen(row.id, "wake")
                     return row
                 pending.check_refused(row)
                 if key not in self._access.inside.sagas.by_key:

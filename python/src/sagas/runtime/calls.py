@@ -22,6 +22,7 @@ from sagas.definition import awaitables
 from sagas.definition.step import Manner
 from sagas.definition.tracing import Tracer
 from sagas.runtime import invocation
+from sagas.runtime.acknowledgements import Acknowledgements
 from sagas.runtime.current_step import CALLED
 from sagas.runtime.dispatcher import Dispatcher
 from sagas.runtime.executor_host import Host
@@ -63,6 +64,7 @@ class Calls:
 
     Attributes:
         running: The attempts that have a slot, each with the task that calls its function.
+        acknowledgements: What is acknowledged, if the program has a record.
     """
 
     def __init__(
@@ -73,6 +75,7 @@ class Calls:
         self._threads, self._remote = threads, remote
         self._teller, self._clock = host.teller, host.clock
         self._forks, self._tracer = private.forks, tracer
+        self.acknowledgements = Acknowledgements.of(host.store)
         self.running: dict[Attempt, asyncio.Task[None] | None] = {}
         self._alone = Dispatcher(self, host, self.running)
         self._inside = Dispatcher(self, host, self.running, host.store.inside)
@@ -192,6 +195,8 @@ class Calls:
         if private.forks != self._forks:  # a function forked, and its child came back here
             os._exit(FORKED)
         if attempt.state is RUNNING and self._store.holds():
+            if self.acknowledgements is not None:
+                self.acknowledgements.called(attempt)
             if attempt.extras is not None:
                 spans.noted(attempt, self._clock())
             if self._teller.listens:

@@ -2,7 +2,7 @@
 
 from __future__ import annotations
 
-from collections.abc import Sequence
+from collections.abc import Iterable, Sequence
 from typing import Protocol
 
 from sagas.base.errors import SagasError
@@ -55,9 +55,12 @@ class EffectHandler:
     ) -> None:
         self._executor, self._slots, self._sagas = executor, executor.slots, sagas
         self._teller, self._home, self._offers = teller, home, offers
+        self._acknowledgements = executor.calls.acknowledgements
 
     def at_once(self, effects: Effects) -> None:
         """Do what does not wait for the commit."""
+        if self._acknowledgements is not None:
+            self._acknowledgements.decided(effects)
         if effects.unclaimed:
             self._slots.release(effects.unclaimed)
         for saga in effects.draining:
@@ -69,6 +72,8 @@ class EffectHandler:
 
     def lost(self, effects: Effects) -> None:
         """The batch is not durable: nothing of it begins."""
+        if self._acknowledgements is not None:
+            self._acknowledgements.lost(effects)
         self._slots.release(len(effects.dispatch))
 
     def committed(self, effects: Effects) -> None:
@@ -89,14 +94,22 @@ class EffectHandler:
             self._executor.planned(saga)
         if effects.ended:
             self._ended(effects.ended)
+            self.over(effects.ended)
         if effects.dispatch:
             self._slots.release(len(effects.dispatch))
             self._executor.begin_all(effects.dispatch)
+
+    def over(self, sagas: Iterable[SagaInstance]) -> None:
+        """Nothing is acknowledged of these any more."""
+        if self._acknowledgements is not None:
+            self._acknowledgements.over(sagas)
 
     # -- of a shard that was recovered
 
     def found(self, found: Recovery) -> None:
         """Do what was found of its sagas."""
+        if self._acknowledgements is not None:
+            self._acknowledgements.recovered(found)
         for before, saga in found.replaced:
             kind = saga.kind
             if error := conflict(saga.key, before.kind, before.text, kind.name, saga.text):

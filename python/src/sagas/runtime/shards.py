@@ -294,6 +294,7 @@ class Shards:
 
     def _stop(self, runner: ShardRunner) -> None:
         runner.stop()
+        self._parts.effects.over(runner.driver.sagas.values())
         self.runners.pop(runner.driver.number, None)
         self._placement.forget(runner)
 

@@ -3,16 +3,22 @@
 from __future__ import annotations
 
 import asyncio
+from collections.abc import Callable
 from typing import Generic, TypeVar
 
 K = TypeVar("K")
 
 
 class Waiters(Generic[K]):
-    """Who waits for one thing, by that of which it is awaited."""
+    """Who waits for one thing, by that of which it is awaited.
+
+    Attributes:
+        told: Is called before anybody is told that it is so, if it is set.
+    """
 
     def __init__(self, loop: asyncio.AbstractEventLoop) -> None:
         self._loop = loop
+        self.told: Callable[[K], object] | None = None
         self._futures: dict[K, list[asyncio.Future[None]]] = {}
 
     def __bool__(self) -> bool:
@@ -33,6 +39,8 @@ class Waiters(Generic[K]):
         if not self._futures:
             return False
         waiting = self._futures.pop(key, ())
+        if waiting and error is None and self.told:
+            self.told(key)
         for future in waiting:
             if not future.done():
                 if error is None:

@@ -30,13 +30,16 @@ class StreamSettings:
 
 @dataclasses.dataclass(frozen=True, slots=True)
 class StoreSettings:
-    """How the store is opened, as `sagas.open` has it. `node` and `lease` are of PostgreSQL."""
+    """How the store is opened, as `sagas.open` has it. `node`, `lease` and `record` are of
+    PostgreSQL.
+    """
 
     node: str | None = None
     lease: float = 10.0
     codec: Codec | None = None
     blobs: BlobStore | None = None
     blob_threshold: int = 65_536
+    record: str | None = None
 
 
 @dataclasses.dataclass(frozen=True, slots=True)

@@ -21,58 +21,11 @@ from sagas.core.batch import Batch, HeldRow
 from sagas.definition.capacity import SHARD_CAPACITY
 from sagas.definition.serialization import clean
 from sagas.storage import deliveries, external
+from sagas.storage.postgresql import connections
+from sagas.storage.postgresql.commit_rows import ROWS
 
 FREE = "(v.shard < 0 OR v.shard IN (SELECT shard FROM mine))"
 """What is of no log, or of one that is still this node's."""
-
-ROWS = {
-    "born": "shard bigint, name text",
-    "guessed": "shard bigint, key text",
-    "definitions": "definition text, text text",
-    "defined": "shard bigint, place integer, definition text",
-    "lines": "shard bigint, first_seq integer, committed_at double precision, text text",
-    "opened": "id bigint, key text, saga text, definition_index integer, input text, "
-    "at double precision, deadline double precision, traceparent text",
-    "results": (
-        "id bigint, step integer, action text, number integer, event text, value text, at double "
-        "precision"
-    ),
-    "ended": (
-        "phase text, outcome text, recovered boolean, undo_failed boolean, ended double precision, "
-        "id bigint"
-    ),
-    "held": (
-        "id bigint, step integer, action text, number integer, reason text, count bigint, since "
-        "double precision, until double precision, detail text"
-    ),
-    "freed": "id bigint, step integer, action text, number integer",
-    "labels": "id bigint, name text, value text",
-    "shapes": "id bigint, shape text",
-    "children": "id bigint, parent bigint",
-    "progress": (
-        "id bigint, step integer, action text, number integer, fraction double precision, detail "
-        "text, at double precision"
-    ),
-    "offers": (
-        "attempt text, shard bigint, id bigint, step integer, action text, number integer, task "
-        "text, concurrency integer, lease bigint, offered_at double precision, cancelled text"
-    ),
-    "cancelled": "cancelled text, id bigint",
-    "suspended": "attempt text, shard bigint, outcome text",
-    "settled": "attempt text, shard bigint, came text",
-    "deliveries": (
-        "id text, webhook text, type text, saga bigint, key text, body text, at double precision"
-    ),
-    "spans": (
-        "id bigint, step integer, action text, number integer, at double precision, spans text"
-    ),
-    "answers": "shard bigint, answer text, id bigint",
-    "asked": "shard bigint, key text, command text, value text, at double precision, answer text",
-    "begun": "shard bigint, id bigint, saga bigint",
-    "notes": "note text, id bigint",
-    "closed": "shard bigint, closed smallint, audit text",
-}
-"""The columns of the rows of each part."""
 USUAL = "opened", "results", "ended"
 """The parts that most commits have, beside lines: they stand in a batch as they are written."""
 COLUMNS = {
@@ -172,8 +125,9 @@ LISTED = (
 """Whether a log is this node's still: the only one of a commit, or one of several."""
 BORN = (
     "INSERT INTO shards(shard, name, owner, epoch) SELECT v.shard, v.name, $2, 1 "
-    "FROM {rows}{free} ON CONFLICT DO NOTHING RETURNING shard"
+    "FROM {rows}{free} ON CONFLICT DO NOTHING RETURNING shard, epoch"
 )
+BIRTHS = connections.TAKEOVER.format(node="$2", last="NULL::integer", taken="born")
 TAKEN = (
     "SELECT v.shard FROM {rows} JOIN sagas s ON s.key = v.key UNION ALL SELECT v.shard FROM {rows} "
     "JOIN pending_starts i ON i.key = v.key"
@@ -209,7 +163,7 @@ def statement(parts: tuple[str, ...], form: str = "jsonb", alone: bool = False) 
     )
     if "born" in parts:
         born = BORN.format(rows=rows("born"), free=f" WHERE {_free('v')}" if guessed else "")
-        texts += [f"kept AS MATERIALIZED ({kept})", f"born AS ({born})"]
+        texts += [f"kept AS MATERIALIZED ({kept})", f"born AS ({born})", f"births AS ({BIRTHS})"]
         kept = "SELECT shard FROM kept UNION ALL SELECT shard FROM born"
     texts.append(f"mine AS MATERIALIZED ({kept})")
     texts += [
@@ -275,7 +229,16 @@ class Commit:
     @property
     def ended(self) -> list[int]:
         """The sagas that end in it."""
-        return [id for *_, id in self._rows.get("ended", ())]
+        return [id for *_, id in self.rows("ended")]
+
+    def rows(self, part: str) -> Sequence[Sequence[Any]]:
+        """The rows of a part."""
+        return self._rows.get(part, ())
+
+    @property
+    def ends(self) -> list[tuple[int, int, int]]:
+        """Of each log with lines its epoch, and how many events it has then."""
+        return [(log, self.epochs[log], events) for log, events in self.events.items()]
 
     def _lines(self) -> None:
         chunks: dict[int, tuple[int, float, list[str]]] = {}
@@ -287,12 +250,13 @@ class Commit:
                     raise ValueError(f"shard {log}: event {batch.first} behind {had}")
                 self.events[log] = had + batch.text.count("\n")
                 if len(self.batches) == 1:
-                    self._rows["lines"] = [(log, had, batch.at, batch.text)]
+                    self._rows["lines"] = [(log, had, batch.at, batch.text, batch.epoch)]
                     return
                 chunks.setdefault(log, (had, batch.at, []))[2].append(batch.text)
         if chunks:
             self._rows["lines"] = [
-                (log, first, at, "".join(texts)) for log, (first, at, texts) in chunks.items()
+                (log, first, at, "".join(texts), self.epochs[log])
+                for log, (first, at, texts) in chunks.items()
             ]
 
     def _held(self) -> None:

@@ -38,11 +38,25 @@ CREATE TABLE sagas.shards(
   closed smallint NOT NULL DEFAULT 0, audit text) WITH (fillfactor = 50);
 CREATE INDEX shards_open ON sagas.shards(shard) WHERE closed = 0;
 
--- The events of one commit, a line each; first_seq: how many events the shard has before them.
+-- The events of one commit, a line each; first_seq: how many events the shard has before them;
+-- epoch: under which epoch of the shard the commit says that it writes.
 CREATE TABLE sagas.event_log(
   shard bigint NOT NULL, first_seq integer NOT NULL, committed_at double precision NOT NULL,
-  text text NOT NULL,
+  text text NOT NULL, epoch bigint NOT NULL,
   PRIMARY KEY(shard, first_seq));
+
+-- Each new epoch of a shard, from its birth on: who made it, on which timeline of the server;
+-- last_seq: first_seq of the last commit before it, null where there is none.
+CREATE TABLE sagas.takeovers(
+  shard bigint NOT NULL REFERENCES sagas.shards ON DELETE CASCADE,
+  id bigint GENERATED ALWAYS AS IDENTITY, epoch bigint NOT NULL, node text NOT NULL,
+  last_seq integer, timeline text NOT NULL, at timestamptz NOT NULL DEFAULT now(),
+  PRIMARY KEY(shard, id));
+
+-- first_seq of a shard's last commit. Volatile, so that it sees what was committed until the
+-- statement had the lock of the shard's row, and not only what was there as it began.
+CREATE FUNCTION sagas.last_seq(number bigint) RETURNS integer LANGUAGE sql VOLATILE AS
+  'SELECT max(first_seq) FROM sagas.event_log WHERE shard = number';
 
 -- definition_index: of its definition in the shard; deadline: when it is
 -- aborted; traceparent: the W3C trace context of its start; phase: null while open, then ended or
@@ -194,6 +208,7 @@ TABLES = (
     "pending_starts",
     "shards",
     "event_log",
+    "takeovers",
     "sagas",
     "labels",
     "children",
@@ -284,6 +299,7 @@ def allow(link: psycopg.Connection[tuple[object, ...]], role: str) -> None:
                 )
             )
         link.execute(sql.SQL("GRANT USAGE ON ALL SEQUENCES IN SCHEMA sagas TO {}").format(name))
+        link.execute(sql.SQL("GRANT EXECUTE ON FUNCTION sagas.last_seq TO {}").format(name))
         given = (
             "has_schema_privilege(%(role)s, 'sagas', 'USAGE') "
             "AND has_table_privilege(%(role)s, 'sagas.shards', 'INSERT')"

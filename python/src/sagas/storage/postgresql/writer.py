@@ -17,6 +17,7 @@ from sagas.storage.interface import Then
 from sagas.storage.postgresql import connections
 from sagas.storage.postgresql.commit_statement import Commit
 from sagas.storage.postgresql.prepared import Values, Wire
+from sagas.storage.record_file import RecordFile
 
 NONE: frozenset[int] = frozenset()
 OF_ONE = (errors.UniqueViolation, errors.NotNullViolation)
@@ -31,7 +32,7 @@ written.
 class Writer:
     """`events`: how many each log has, by what the server said. `check`: called with a new
     connection, and raises where it is not to be used; `refused`: called where there is none to
-    be had.
+    be had. `record`: what is sent and heard is written to it, with the server's timeline `line`.
     """
 
     def __init__(
@@ -42,6 +43,8 @@ class Writer:
         check: Callable[[connections.Link], Coroutine[Any, Any, None]],
         kept: Callable[[Commit], object],
         refused: Callable[[], object],
+        record: RecordFile | None = None,
+        line: Callable[[], str] = str,
     ) -> None:
         self._url, self._where, self._node, self._check, self._kept, self._refused = (
             url,
@@ -51,6 +54,7 @@ class Writer:
             kept,
             refused,
         )
+        self.record, self._line = record, line
         self.commits = 0
         self.takes = 0.0
         """Seconds that a commit takes, in the middle of the last ones."""
@@ -137,6 +141,8 @@ class Writer:
         except Exception as error:  # told to the coordinator, which begins again from the database
             asyncio.get_running_loop().call_soon(came, NONE, error)
         else:
+            if self.record:
+                self.record.sent(commit.rows("lines"), commit.rows("born"), self._line())
             began = time.monotonic()
             wire.ask(text, words, lambda rows, fault: came(*self._read(commit, rows, fault, began)))
 
@@ -147,12 +153,22 @@ class Writer:
         if fault is not None:
             if not isinstance(fault, OF_ONE):
                 self.cut()
+            elif self.record:
+                self.record.failed(commit.ends, self._line())
             return NONE, fault
         mine = {int(log) for (log,) in rows if log is not None}
+        if self.record:
+            self._note(self.record, commit, mine)
         self.commits += 1
         self.events.update((log, events) for log, events in commit.events.items() if log in mine)
         self._kept(commit)
         return frozenset(commit.epochs.keys() - mine), None
+
+    def _note(self, record: RecordFile, commit: Commit, mine: set[int]) -> None:
+        record.heard(commit.ends, mine, self._line())
+        for log, *_ in commit.rows("closed"):
+            if log in mine:
+                record.closed((log, commit.epochs[log], self._line()))
 
     def _came(
         self, batches: Sequence[Batch], then: Then, lost: frozenset[int], fault: Exception | None
