@@ -111,11 +111,6 @@ class Action:
         self.is_external = self.is_remote or bool(step and step.manner(self.kind).external)
 
 
-def needs_in(steps: list[dict[str, Any]]) -> int:
-    """How many needs the steps of a definition have, in all."""
-    return sum(len(step.get("needs", ())) for step in steps)
-
-
 Hooks = Mapping[str, tuple[str, ...]]
 """The webhooks that are told, by the type of what is told."""
 
@@ -148,7 +143,7 @@ class Kind:
         self.below = self._below(
             [[place[need] for need in step.get("needs", ())] for step in listed]
         )
-        self.fits = capacity.fits(self.count, needs_in(listed))
+        self.fits = capacity.fits(listed)
         told_hints = [self.declared.hints(step) for step in self.steps]
         self.inputs = [hint for hint, _, _ in told_hints]
         undo_inputs = [hint for _, _, hint in told_hints]
@@ -305,7 +300,7 @@ class Kind:
 
     def too_large(self) -> TooLarge:
         """Why none can be started, where it does not fit into a log."""
-        return capacity.too_large(self.name, self.count, needs_in(tomllib.loads(self.text)["step"]))
+        return capacity.too_large(self.name, tomllib.loads(self.text)["step"])
 
     def lacks(self) -> str | None:
         """The first step without a function, or the first compensation that may be called and
