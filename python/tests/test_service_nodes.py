@@ -100,7 +100,10 @@ def test_a_task_goes_through_both(both: Pair) -> None:
         end = client.get("/v1/sagas/both/wait?seconds=60").json()
         assert end["states"] == {"flight": "committed", "car": "undone", "tour": "failed"} and end["plan"]["cost"] == 15
         assert client.get("/v1/sagas?search=both").json()["sagas"][0]["key"] == "both"
-        assert 'phase="completed",saga="trip"' in client.get("/metrics").text
+        until = time.monotonic() + LONG  # the figures are counted again within seconds
+        while 'phase="completed",saga="trip"' not in client.get("/metrics").text:
+            assert time.monotonic() < until
+            time.sleep(0.05)
         assert "both" in client.get("/ui/sagas/both").text
 
 
