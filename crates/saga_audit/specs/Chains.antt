@@ -1,4 +1,4 @@
--- The places of each saga's events, each linked to the next one of the same saga.
+-- The indices of the events of each saga. Each is linked to the next event of the same saga.
 use Rattle.std.specs.Prelude.{◌≡◌, ℕ, ◌<◌, ◌+◌, Bool, true, List, length, take, slice_get, slice_index_or, Option, Some, None}
 use Rattle.saga_history.specs.declared.events.Event.{Event}
 use Rattle.saga_history.specs.Changes.{Change, saga_of, past, changes}
@@ -10,7 +10,7 @@ no_link = record { place = 0; next = None }
 abbrev pub link_at : List Link → ℕ → Link
 link_at links k = slice_index_or links k no_link
 
--- what changed in a saga before the event of a link; without a link, in the whole history
+-- the changes of a saga before the event of a link; without a link, in the whole history
 abbrev pub changes_before : List Event → List Link → ℕ → Option ℕ → List Change
 changes_before events links i None = changes i (past events)
 changes_before events links i (Some k) = changes i (past (take (link_at links k).place events))
@@ -26,7 +26,7 @@ abbrev pub IsOwn : List Event → List Link → ℕ → Option ℕ → Type 0
 IsOwn events links i None = Unit {0}
 IsOwn events links i (Some k) = IsLinkOf events links i k
 
--- the first event of a saga from a place on is the one of the link, or there is none
+-- the first event of a saga from an index on is the one of the link; without a link there is none
 pub record Leads (events : List Event) (links : List Link) (i place : ℕ) (to : Option ℕ) : Type 0 where
   pub own : IsOwn events links i to
   pub nothing_between : changes_before events links i to ≡ changes i (past (take place events))
@@ -35,7 +35,7 @@ abbrev pub IsBelow : ℕ → Option ℕ → Type 0
 IsBelow k None = Unit {0}
 IsBelow k (Some j) = j < k
 
--- the link at a place of the list leads to the next event of the same saga
+-- the link at an index of the list leads to the next event of the same saga
 pub record IsLink (events : List Event) (links : List Link) (k : ℕ) (link : Link) : Type 0 where
   pub event : Event
   pub here : slice_get events link.place ≡ Some event
@@ -45,7 +45,7 @@ pub record IsLink (events : List Event) (links : List Link) (k : ℕ) (link : Li
 abbrev pub AreLinks : List Event → List Link → Type 0
 AreLinks events links = (k : ℕ) → k < length links → IsLink events links k (link_at links k)
 
--- of each saga of a group, the first event from a place on
+-- for each saga of a group, the first event from an index on
 abbrev pub AreHeads : (ℕ → Bool) → List Event → List Link → (ℕ → Option ℕ) → ℕ → Type 0
 AreHeads mine events links heads place = (i : ℕ) → mine i ≡ true → Leads events links i place (heads i)
 

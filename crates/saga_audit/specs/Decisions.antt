@@ -1,4 +1,4 @@
--- What a row allows of a change, and what the change makes of it.
+-- Whether a row allows a change, and the row after it.
 use Rattle.std.specs.Prelude.{◌≡◌, ◌<◌, length, Option, Some, None}
 use Rattle.saga_case.specs.Terms.{terms_of}
 use Rattle.saga_case.specs.Right.{IsRight}
@@ -18,16 +18,16 @@ RowTakes row drops_plan = row.turn ≡ Planning
 RowTakes row (adopts a) = (row.turn ≡ Planning) × IsRight (terms_of (row_case row)) a
 RowTakes row aborts = RowMayAbort row
 
--- it does, or it does not and why
+-- the row allows the change, or does not and why
 abbrev pub Decides : Row → Change → Option Reason → Type 0
 Decides row c None = RowTakes row c
 Decides row c (Some why) = (RowTakes row c → ⊥) × (why ≡ reason_opened row.definition row.turn c)
 
--- while the saga is planned, no step is busy
+-- while a plan of the saga is in progress, no step is busy
 abbrev pub IsDrainedForPlanning : Row → Type 0
 IsDrainedForPlanning row = row.turn ≡ Planning → IsDrained row
 
--- the row has room for a change
+-- the row can count or apply the change without an overflow
 abbrev pub HasRoomFor : Row → Change → Type 0
 HasRoomFor row (moves s t) = (s < length row.definition.steps) × HasRoom row s t
 HasRoomFor row (adopts a) = FitsIn row a

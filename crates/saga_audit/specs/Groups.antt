@@ -1,4 +1,4 @@
--- What is found of the sagas of a group, and what an audit answers of all.
+-- The result for the sagas of a group, and the result of an audit of all.
 use Rattle.std.specs.Prelude.{◌≡◌, ℕ, ◌&&◌, ◌==◌, ◌%◌, Bool, true, false, List, length, count_by, take, slice_get, Option, Some, None}
 use Rattle.std.specs.List.{list_all, range_with_len}
 use Rattle.saga_def.specs.Contents.{Contents}
@@ -19,7 +19,8 @@ use Rattle.saga_audit.specs.declared.answers.Finding.{Finding}
 use Rattle.saga_audit.specs.declared.answers.Finding.TheVariants.{Legal, Refused}
 use Rattle.saga_audit.specs.Reasons.{IsRefused}
 
--- the saga is going, each step of the goal stands, and each other step is waiting, failed or undone
+-- the saga is going, each step of the goal is in effect, and each other step is waiting, failed or
+-- undone
 abbrev pub is_ended_by : Option Contents → List Change → Bool
 is_ended_by None l = false
 is_ended_by (Some d) l = is_going (turn l) && list_all (done_at l) (range_with_len 0 (length d.steps))
@@ -43,7 +44,8 @@ sticks events i = is_stuck (changes i (past events))
 
 -- ---- all sagas
 
--- the history is legal, with these numbers of sagas that it opens, of those that are ended and stuck, and of events
+-- the history is legal; it opens this many sagas, this many of them are ended and stuck, and it has
+-- this many events
 pub record IsLegalWith (shelf : List Contents) (events : List Event) (sagas ended stuck count : ℕ) : Type 0 where
   pub legal : IsLegal shelf (past events)
   pub headline : Headline shelf (past events)
@@ -52,7 +54,7 @@ pub record IsLegalWith (shelf : List Contents) (events : List Event) (sagas ende
   pub stuck_are : stuck ≡ count_by (sticks events) (opened_sagas events)
   pub events_are : count ≡ length events
 
--- the first event that is not allowed stands at that place, and the first reason that applies is that one
+-- the first event that is not allowed has that index, and that reason is the first that applies
 pub record IsFirstRefused (shelf : List Contents) (events : List Event) (place : ℕ) (why : Reason) : Type 0 where
   pub event : Event
   pub here : slice_get events place ≡ Some event
@@ -94,11 +96,11 @@ abbrev pub Finds : List Contents → (ℕ → Bool) → List Event → Finding �
 Finds shelf mine events (Legal tally) = IsTallied shelf mine events tally
 Finds shelf mine events (Refused place why) = IsFirstIn shelf mine events place why
 
--- the sagas whose numbers leave a remainder
+-- the sagas whose numbers have a remainder
 abbrev pub is_in : ℕ → ℕ → ℕ → Bool
 is_in workers group i = i % workers == group
 
--- one saga, and all
+-- only one saga; all sagas
 abbrev pub is_saga : ℕ → ℕ → Bool
 is_saga saga i = saga == i
 

@@ -1,4 +1,4 @@
--- What an audit answers, why events are refused, and how the auditor follows a history.
+-- The result of an audit, why events are refused, and how the auditor follows a history.
 pub mod Words
 pub mod Reasons
 pub mod Groups

@@ -11,17 +11,17 @@ use Rattle.saga_history.specs.Rules.{definition, IsAllowedChange}
 use Rattle.saga_audit.specs.declared.reasons.Reason.{Reason}
 use Rattle.saga_audit.specs.declared.reasons.Reason.TheVariants as reason
 
--- the place on the shelf of the definition that a change opens a saga with
+-- the index on the shelf of the definition with which a change opens a saga
 abbrev pub opened_by : Change → Option ℕ
 opened_by (opens k) = Some k
 opened_by _ = None
 
--- in a saga that was not opened
+-- the reason if the saga was not opened
 abbrev pub reason_unopened : Change → Reason
 reason_unopened (opens k) = reason.NoSuchDefinition
 reason_unopened _ = reason.NoSuchSaga
 
--- of a transition that begins an action or a compensation, or ends one
+-- the reason for a transition that starts an action or a compensation, or ends one
 abbrev pub reason_of_transition : Transition → Reason
 reason_of_transition transition.StartRun = reason.NotNow
 reason_of_transition transition.StartUndo = reason.NotNow
@@ -34,7 +34,7 @@ abbrev pub reason_of_adoption : Turn → Reason
 reason_of_adoption Planning = reason.NotRight
 reason_of_adoption _ = reason.NotPlanning
 
--- in a saga of that definition, whose turn it is
+-- the reason for a saga with that definition and that turn
 abbrev pub reason_opened : Contents → Turn → Change → Reason
 reason_opened d turn (opens k) = reason.DoubleOpen
 reason_opened d turn (moves s t) = reason_of_step d s t
@@ -47,11 +47,11 @@ abbrev pub reason_by : Option Contents → Turn → Change → Reason
 reason_by None turn c = reason_unopened c
 reason_by (Some d) turn c = reason_opened d turn c
 
--- the first reason that applies to a change that is not allowed after those of its saga
+-- the first reason that applies to a change that is not allowed after the changes of its saga
 abbrev pub reason_of : List Contents → List Change → Change → Reason
 reason_of shelf l c = reason_by (definition shelf l) (turn l) c
 
--- a change is not allowed, and that is why
+-- a change is not allowed, for this reason
 pub record IsRefused (shelf : List Contents) (l : List Change) (c : Change) (why : Reason) : Type 0 where
   pub denied : IsAllowedChange shelf l c → ⊥
   pub first : why ≡ reason_of shelf l c

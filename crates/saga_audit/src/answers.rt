@@ -1,28 +1,29 @@
-//! What an audit answers, of some sagas and of all.
+//! The results of an audit: for a group of sagas, and for all.
 ghost use Rattle.std.specs.Prelude.{◌≡◌};
 ghost use Rattle.saga_audit.specs.Joins.{Fit, joined};
 
 use crate::reasons::Reason;
 
-/// What an audit answers.
+/// The result of an audit.
 #[derive(Clone, Copy, Debug, PartialEq, Eq)]
 pub enum AuditAnswer {
-    /// The history is legal: how many sagas it opens, how many of them are ended and how many stuck in the end, and how
-    /// many events it has.
+    /// The history is legal. The fields count the opened sagas, the sagas that are ended or stuck
+    /// after the last event, and the events.
     Yes {
         sagas: usize,
         ended: usize,
         stuck: usize,
         events: usize,
     },
-    /// The place, from 0, of the first event that is not allowed after those before it, and why it is not.
+    /// The history is not legal. `position` is the index, from 0, of the first event that the rules
+    /// do not allow after the events before it. `reason` says why.
     No {
         position: usize,
         reason: Reason,
     },
 }
 
-/// How many sagas there are, and how many of them are ended and stuck.
+/// Counts of sagas: all, the ended ones and the stuck ones.
 #[derive(Clone, Copy, Debug)]
 pub struct Tally {
     pub sagas: usize,
@@ -30,14 +31,15 @@ pub struct Tally {
     pub stuck: usize,
 }
 
-/// What is found of the sagas of a group: a tally of them, or the first event of theirs that is not allowed.
+/// The result for a group of sagas: their tally, or the first event of the group that is not
+/// allowed.
 #[derive(Clone, Copy, Debug)]
 pub enum Finding {
     Legal(Tally),
     Refused { position: usize, reason: Reason },
 }
 
-/// What is found of two groups that have no saga in common.
+/// Joins the results of two groups that have no saga in common.
 pub fn join(first: Finding, second: Finding) -> Finding
     requires { Fit first second }
     ensures { result ≡ joined first second }

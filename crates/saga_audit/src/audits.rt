@@ -1,4 +1,4 @@
-//! Audits, by one thread and by several.
+//! Audits, by one thread or by several.
 ghost use Rattle.std.specs.Prelude.{◌≡◌, ℕ, ◌<◌, ◌≤◌, ◌↔◌, IfOk, IsTrue};
 ghost use Rattle.std.specs.List.{AllZip, range_with_len};
 ghost use Rattle.saga_history.specs.Changes.{past};
@@ -16,14 +16,14 @@ use saga_history::{Event, headline};
 use std::alloc::{AllocError, Global};
 use std::thread::Threads;
 
-/// What is found of no saga.
+/// The result for an empty group.
 const NOTHING: Finding = Finding::Legal(Tally {
     sagas: 0,
     ended: 0,
     stuck: 0,
 });
 
-/// What is found of a group of sagas, one after the other.
+/// Returns the result for a group of sagas, which it audits one after the other.
 fn find(
     alloc: Global,
     shelf: &[Definition],
@@ -45,7 +45,7 @@ fn find(
     Ok(found)
 }
 
-/// The answer, by what is found of all sagas.
+/// Returns the result of the audit from the result for all sagas.
 fn answer_of(shelf: &[Definition], events: &[Event], found: Finding) -> AuditAnswer
     requires { Finds shelf.now everything events.now found }
     ensures { Audits shelf.now events.now result }
@@ -62,11 +62,13 @@ fn answer_of(shelf: &[Definition], events: &[Event], found: Finding) -> AuditAns
     }
 }
 
-/// Whether the history is legal over the shelf: yes, and how many sagas and events it has; or the first event that is not
-/// allowed after those before it, and the first reason that applies.
+/// Audits a history with a shelf, which is a list of definitions. The result is `Yes` with counts
+/// if the history is legal. Otherwise it is `No` with the index of the first event that the rules
+/// do not allow after the events before it, and the first reason that applies.
 ///
-/// Sagas may have any numbers, in any order. Takes time linear in the history and the shelf, but for finding each saga by
-/// its number; and memory linear in them, of which the tables of sagas are those of one saga at a time.
+/// Sagas may have any numbers, in any order. Takes time linear in the history and the shelf, in
+/// addition to one search for the number of the saga of each event. Takes memory linear in both; it
+/// has the state tables of only one saga at a time. The only error is lack of memory.
 pub fn audit(
     alloc: Global,
     shelf: &[Definition],
@@ -82,7 +84,7 @@ pub fn audit(
     Ok(answer_of(shelf, events, found))
 }
 
-/// What is found of each group.
+/// Returns the result for each group.
 fn find_all(
     rt: &(impl Threads + Sync),
     alloc: Global,
@@ -109,7 +111,7 @@ fn find_all(
         .collect(rt, alloc)
 }
 
-/// What is found of one group of all.
+/// Returns the result for one of the groups.
 fn found_in(
     shelf: &[Definition],
     events: &[Event],
@@ -131,8 +133,8 @@ fn found_in(
     }
 }
 
-/// The answer of [`audit`], whatever the number of workers: each audits a group of the sagas in a thread of its own, where
-/// the system has one.
+/// Returns the result of [`audit`], for every number of workers. Each worker audits a group of the
+/// sagas in its own thread, if the system provides one.
 pub fn audit_with(
     rt: &(impl Threads + Sync),
     alloc: Global,

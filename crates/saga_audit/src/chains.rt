@@ -9,21 +9,22 @@ use saga_history::Event;
 use std::alloc::{AllocError, Global};
 use std::collections::BTreeMap;
 
-/// The place of an event in the history, and the link of the next event of the same saga.
+/// The index of an event in the history, and the link of the next event of the same saga.
 #[derive(Clone, Copy, Debug)]
 pub struct Link {
     pub place: usize,
     pub next: Option<usize>,
 }
 
-/// A link for each event of a group of sagas, and of each saga that has one the link of its first event.
+/// A link for each event of a group of sagas; and, for each saga with an event, the link of its
+/// first event.
 #[derive(Drop)]
 pub struct Chains {
     pub links: Vec<Link>,
     pub heads: BTreeMap<u32, usize>,
 }
 
-/// Whether a saga is in a group: its number leaves that remainder.
+/// Returns whether a saga is in a group: whether its number has the remainder of the group.
 pub fn is_in(workers: u32, group: u32, saga: u32) -> bool
     requires { 0 < workers }
     ensures { result ≡ is_in workers group saga }
@@ -31,7 +32,8 @@ pub fn is_in(workers: u32, group: u32, saga: u32) -> bool
     saga % workers == group
 }
 
-/// Links the events of a group of sagas. Goes over the history from its end, so that each event finds the one after it.
+/// Links the events of a group of sagas. Visits the history from its end, so that each event finds
+/// the next event of its saga.
 pub fn chains_of(
     alloc: Global,
     events: &[Event],

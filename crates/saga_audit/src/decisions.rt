@@ -1,4 +1,4 @@
-//! What a row allows of an event, and what the event makes of it.
+//! Whether a row allows an event, and the row after it. A row has the state of one saga in tables.
 ghost use Rattle.std.specs.Prelude.{◌≡◌, IfOk, None, Some, if◌then◌else◌};
 ghost use Rattle.saga_history.specs.Changes.{change_of, moves, adopts};
 ghost use Rattle.saga_audit.specs.Reasons as spec;
@@ -11,7 +11,7 @@ use saga_history::{Event, Transition, Turn};
 use saga_rows::Row;
 use std::alloc::{AllocError, Global};
 
-/// Why a transition that is not allowed is not.
+/// Returns the reason why a transition is not allowed.
 fn reason_of_transition(transition: Transition) -> Reason
     ensures { result ≡ spec.reason_of_transition transition }
 {
@@ -26,7 +26,8 @@ fn reason_of_transition(transition: Transition) -> Reason
     }
 }
 
-/// Why a step must not make a transition, if it must not.
+/// Returns the reason why a step must not make a transition, or `None` if the transition is
+/// allowed.
 fn refusal_of_step(row: &Row, step: u16, transition: Transition) -> Option<Reason>
     ensures { Decides row.now (moves step transition) result }
 {
@@ -40,7 +41,8 @@ fn refusal_of_step(row: &Row, step: u16, transition: Transition) -> Option<Reaso
     }
 }
 
-/// Why an answer must not be adopted, if it must not: it is judged for the present case.
+/// Returns the reason why an answer must not be adopted, or `None` if it may be. The verifier
+/// checks the answer for the current case.
 fn refusal_of_answer(
     alloc: Global,
     row: &Row,
@@ -59,14 +61,15 @@ fn refusal_of_answer(
     }
 }
 
-/// That reason, unless it is allowed.
+/// Returns that reason, or `None` if the event is allowed.
 fn unless(allowed: bool, reason: Reason) -> Option<Reason>
     ensures { result ≡ (if allowed then None else Some reason) }
 {
     if allowed { None } else { Some(reason) }
 }
 
-/// Why an event of an opened saga is not allowed, if it is not. Takes memory for the case of an adopted answer alone.
+/// Returns the reason why an event of an opened saga is not allowed, or `None` if it is allowed.
+/// Allocates memory only for the case of an adopted answer.
 pub fn refusal(alloc: Global, row: &Row, event: &Event) -> Result<Option<Reason>, AllocError>
     requires { IsDrainedForPlanning row.now }
     ensures { IfOk result (Decides row.now (change_of event.now)) }
@@ -83,7 +86,7 @@ pub fn refusal(alloc: Global, row: &Row, event: &Event) -> Result<Option<Reason>
     }
 }
 
-/// The row follows an event that it allows.
+/// Applies an allowed event to the row.
 pub fn follow(row: &mut Row, event: &Event)
     requires { HasRoomFor row.old (change_of event.now) }
     ensures { row.new ≡ row_then row.old (change_of event.now) }

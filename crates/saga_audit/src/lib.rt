@@ -1,12 +1,14 @@
-//! The auditor: whether a history kept the rules, told from the history and the definitions alone.
+//! The auditor. It decides whether a history obeys the rules, from only the history and the
+//! definitions.
 //!
-//! [`audit`] says yes exactly where a history is legal, and then the headline of `saga_history` holds of it; or it names the
-//! first event that was not allowed, and why. [`audit_with`] gives the same answer by several threads.
+//! [`audit`] returns `Yes` if and only if a history is legal. The headline, which is the main
+//! theorem of `saga_history`, then holds of it. Otherwise it returns the first event that is not
+//! allowed, and why. [`audit_with`] returns the same with several threads.
 //!
-//! One saga is followed after the other, each over the places of its own events, so there are the tables of one saga at a
-//! time.
+//! The auditor follows one saga after the other, by links between the events of each saga. So it
+//! has the state tables of only one saga at a time.
 //!
-//! Which event of a history was not allowed, if one was:
+//! This example returns the index of the first event that is not allowed, if there is one:
 //!
 //! ```
 //! match audit(alloc, shelf, events)? {

@@ -2,29 +2,30 @@
 ghost use Rattle.std.specs.Prelude.{◌≡◌};
 ghost use Rattle.saga_audit.specs.Words.{word_of};
 
-/// Why an event is not allowed: the first that applies, in this order.
+/// Why an event is not allowed: the first reason that applies, in this order.
 #[derive(Clone, Copy, Debug, PartialEq, Eq)]
 pub enum Reason {
     /// The saga was opened before.
     DoubleOpen,
-    /// A saga is opened by a definition that is not on the shelf.
+    /// The event opens a saga with a definition that is not on the shelf.
     NoSuchDefinition,
     /// The saga was not opened.
     NoSuchSaga,
     /// The saga's definition has no such step.
     NoSuchStep,
-    /// An action, a compensation, a plan or an abort must not begin now.
+    /// An action, a compensation, a plan or an abort must not start now.
     NotNow,
-    /// An action or a compensation that is not on its way ends, or it ends in another way than its tries say.
+    /// The event ends an action or a compensation that is not running, or ends it in another way
+    /// than its tries allow.
     NotTaken,
-    /// A plan is dropped or adopted, and none is being made.
+    /// The event drops or adopts a plan, and no plan is in progress.
     NotPlanning,
-    /// The adopted answer is not right for the present case.
+    /// The adopted answer is not correct for the current case.
     NotRight,
 }
 
 impl Reason {
-    /// The reason in one word, as `not-taken`.
+    /// Returns the reason as one word, for example `not-taken`.
     pub fn word(&self) -> &'static str
         ensures { result.now ≡ word_of self.now }
     {

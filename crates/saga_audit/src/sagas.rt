@@ -1,4 +1,4 @@
-//! One saga followed along its own events.
+//! One saga, followed along its events.
 ghost use Rattle.std.specs.Prelude.{◌≡◌, IfOk, Some};
 ghost use Rattle.saga_history.specs.Changes.{change_of, changes, past};
 ghost use Rattle.saga_rows.specs.Follows.{Follows};
@@ -16,7 +16,7 @@ use saga_history::{Event, Turn};
 use saga_rows::Row;
 use std::alloc::{AllocError, Global};
 
-/// For each definition a row in which nothing has happened.
+/// Makes a row without changes for each definition.
 pub fn new_rows<'d>(alloc: Global, shelf: &'d [Definition]) -> Result<Vec<Row<'d>>, AllocError>
     ensures { IfOk result (λ rows. rows.items ≡ new_rows shelf.entry.now) }
 {
@@ -27,7 +27,7 @@ pub fn new_rows<'d>(alloc: Global, shelf: &'d [Definition]) -> Result<Vec<Row<'d
     Ok(rows)
 }
 
-/// The place on the shelf of the definition that an event opens a saga with.
+/// Returns the index on the shelf of the definition with which an event opens a saga.
 fn opened_by(event: &Event) -> Option<u32>
     ensures { result ≡ opened_by (change_of event.now) }
 {
@@ -37,7 +37,7 @@ fn opened_by(event: &Event) -> Option<u32>
     }
 }
 
-/// The tally of a saga that was followed to its end.
+/// Returns the tally of a saga after its last event.
 fn tally_of(row: &Row, shelf: &[Definition], events: &[Event], saga: u32) -> Tally
     requires { Follows shelf.now row.now (changes saga (past events.now)) }
     ensures { result ≡ tally_of shelf.now events.now saga }
@@ -54,7 +54,7 @@ fn tally_of(row: &Row, shelf: &[Definition], events: &[Event], saga: u32) -> Tal
     }
 }
 
-/// What is found of a saga that a row follows up to a link, along the links from there.
+/// Returns the result for a saga that a row follows up to a link. It follows the links from there.
 fn follow_links(
     alloc: Global,
     row: Row,
@@ -85,7 +85,8 @@ fn follow_links(
     Ok(Finding::Legal(tally_of(&row, shelf, events, saga)))
 }
 
-/// What is found of a saga, whose first event has that link. A saga that is but opened needs no tables of its own.
+/// Returns the result for a saga whose first event has that link. A saga with only its opening
+/// needs no tables of its own.
 pub fn follow_saga(
     alloc: Global,
     rows: &[Row],

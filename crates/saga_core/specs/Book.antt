@@ -18,7 +18,7 @@ use Rattle.saga_rows.specs.Rows.{row_at}
 use Rattle.saga_rows.specs.Limits.{max_rows}
 use Rattle.saga_core.specs.Journal.{Journal}
 
--- the definitions on its shelf, how it numbers its sagas, and what happened
+-- the list of definitions, the first number and the stride of the sagas, and the history in order
 pub record Book : Type 0 where
   pub shelf : List Contents
   pub first : ℕ
@@ -29,11 +29,11 @@ pub record Book : Type 0 where
 abbrev pub book_of : List Contents → ℕ → ℕ → Journal → Book
 book_of shelf first stride journal = record { shelf = shelf; first = first; stride = stride; history = journal.history }
 
--- a book to which one event more has happened
+-- the book after one more event
 abbrev pub with_event : Book → Event → Book
 with_event b e = record b { history = b.history ++ e ∷ [] }
 
--- what happened is legal, and the headline holds of it
+-- the history is legal; the headline (the main theorem) holds of it
 abbrev pub IsLegalBook : Book → Type 0
 IsLegalBook b = IsLegal b.shelf (past b.history)
 
@@ -44,14 +44,14 @@ HeadlineOf b = Headline b.shelf (past b.history)
 abbrev pub Allows : Book → Event → Type 0
 Allows b e = IsAllowed b.shelf (past b.history) e
 
--- what happened to the saga of a number, latest first, and its definition
+-- the changes of a saga, latest first, and its definition if it was opened
 abbrev pub changes_in : Book → ℕ → List Change
 changes_in b i = changes i (past b.history)
 
 abbrev pub definition_in : Book → ℕ → Option Contents
 definition_in b i = definition b.shelf (changes_in b i)
 
--- the number of the saga that is opened after so many others
+-- the number of the saga at an index, in the order of opening, from 0
 abbrev pub number : ℕ → ℕ → ℕ → ℕ
 number first stride k = first + k * stride
 
@@ -59,7 +59,7 @@ number first stride k = first + k * stride
 abbrev pub sagas_in : List Event → ℕ
 sagas_in h = length (opened_sagas h)
 
--- how many ends a row is owed: of its busy steps, and of a plan that is being made
+-- how many ending events a row still needs: one for each busy step, and one for a plan in progress
 abbrev pub busy_in : Row → ℕ
 busy_in row = count_by is_busy row.states
 
@@ -72,7 +72,8 @@ plans_in_turn Stuck = 0
 abbrev pub plans_in : Row → ℕ
 plans_in row = plans_in_turn row.turn
 
--- how a book keeps its word: its history is legal, the rows follow it, and what is owed has its room
+-- the invariant of a book: its history is legal, each row follows the changes of its saga, and
+-- there is memory for each event that must follow
 pub record IsBook (shelf : List Contents) (first stride : ℕ) (rows : List Row) (journal : Journal) : Type 0 where
   pub sound : All IsSound shelf
   pub legal : IsLegal shelf (past journal.history)

@@ -1,4 +1,4 @@
--- What holds of refusals: of each call at most one applies.
+-- Laws of refusals: at most one refusal of each call applies.
 use Rattle.std.specs.Prelude.{◌≡◌, ℕ, List}
 use Rattle.saga_case.specs.declared.states.StepState.{StepState}
 use Rattle.saga_case.specs.Situation.{Situation}

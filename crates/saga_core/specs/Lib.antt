@@ -1,4 +1,4 @@
--- The book of a coordinator.
+-- The book: the state machine of many sagas.
 pub mod Journal
 pub mod Book
 pub mod Saga

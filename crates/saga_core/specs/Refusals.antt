@@ -1,4 +1,4 @@
--- What a call on a book says by its answer.
+-- What the result of a call on a book means.
 use Rattle.std.specs.Prelude.{◌≡◌, ◌≢◌, ℕ, ◌<◌, ◌≤◌, List, None, IsSomeAnd, length}
 use Rattle.saga_def.specs.Contents.{Contents}
 use Rattle.saga_case.specs.declared.states.StepState.{StepState}
@@ -36,20 +36,20 @@ IsUnknown b i = opened_with (changes_in b i) ≡ None
 abbrev pub OfSaga : Book → ℕ → (Contents → List Change → Type 0) → Type 0
 OfSaga b i P = IsSomeAnd (definition_in b i) (λ d. P d (changes_in b i))
 
--- why no saga is opened; the first cause that applies
+-- why no saga is opened: the first cause that applies
 abbrev pub OpenRefused : Book → ℕ → OpenRefusal → Type 0
 OpenRefused b k opening.NoSuchDefinition = length b.shelf ≤ k
 OpenRefused b k opening.Full = (k < length b.shelf) × (sagas_in b.history ≡ max_rows)
 OpenRefused b k opening.OutOfMemory = (k < length b.shelf) × (sagas_in b.history < max_rows)
 
--- why a step does not make a transition that starts something
+-- why a transition that starts an action or a compensation is refused
 abbrev pub TakeRefused : Book → ℕ → ℕ → Transition → TakeRefusal → Type 0
 TakeRefused b i s t take.NoSuchSaga = IsUnknown b i
 TakeRefused b i s t take.NoSuchStep = OfSaga b i (λ d l. length d.steps ≤ s)
 TakeRefused b i s t take.NotNow = OfSaga b i (λ d l. (s < length d.steps) × (StepMay d l s t → ⊥))
 TakeRefused b i s t take.OutOfMemory = Allows b (step_event i s t)
 
--- why an outcome is not taken for a step, which would have to be in that state
+-- why the report of an outcome is refused for a step that would have to be in state `x`
 abbrev pub ReportRefused : Book → ℕ → ℕ → StepState → ReportRefusal → Type 0
 ReportRefused b i s x report.NoSuchSaga = IsUnknown b i
 ReportRefused b i s x report.NoSuchStep = OfSaga b i (λ d l. length d.steps ≤ s)
@@ -60,17 +60,18 @@ pub record GainsTransition (old new : Book) (i s : ℕ) (t : Transition) : Type 
   pub allowed : Allows old (step_event i s t)
   pub gains : new ≡ with_event old (step_event i s t)
 
--- of the transitions by which an action, or a compensation, ends with that outcome, the book gained the one that was allowed
+-- the book gained the event of the one allowed transition that ends the action or the compensation
+-- with that outcome
 abbrev pub IsReported : Kind → Book → Book → ℕ → ℕ → Outcome → Type 0
 IsReported kind old new i s outcome = (t : Transition) × IsEndOf kind outcome t × GainsTransition old new i s t
 
--- why a change of the saga as a whole is not made
+-- why a change of the whole saga is refused
 abbrev pub SagaRefused : Book → ℕ → Change → SagaRefusal → Type 0
 SagaRefused b i c saga.NoSuchSaga = IsUnknown b i
 SagaRefused b i c saga.NotNow = OfSaga b i (λ d l. SagaMay d l c → ⊥)
 SagaRefused b i c saga.OutOfMemory = OfSaga b i (λ d l. SagaMay d l c)
 
--- the case is the saga's present one
+-- the case is the current case of the saga
 abbrev pub IsPresentCase : Book → ℕ → Situation → Type 0
 IsPresentCase b i case = OfSaga b i (λ d l. case ≡ present_case d l)
 
@@ -79,7 +80,7 @@ abbrev pub DropRefused : Book → ℕ → DropRefusal → Type 0
 DropRefused b i drop.NoSuchSaga = IsUnknown b i
 DropRefused b i drop.NotPlanning = OfSaga b i (λ d l. turn l ≢ Planning)
 
--- why a verdict on a case is not adopted
+-- why a verdict on a case is not adopted: the first cause that applies
 abbrev pub AdoptIsRefused : Book → ℕ → Situation → AdoptRefusal → Type 0
 AdoptIsRefused b i case adopt.NoSuchSaga = IsUnknown b i
 AdoptIsRefused b i case adopt.NotPlanning = OfSaga b i (λ d l. turn l ≢ Planning)

@@ -1,4 +1,4 @@
--- A saga of a book, as it stands.
+-- The current state of one saga of a book.
 use Rattle.std.specs.Prelude.{◌≡◌, ℕ, List, Some}
 use Rattle.saga_def.specs.Contents.{Contents}
 use Rattle.saga_history.specs.Changes.{Change}

@@ -1,4 +1,4 @@
--- What may start in a book, and how its sagas stand.
+-- Which tasks may start in a book, and the state of its sagas.
 use Rattle.std.specs.Prelude.{◌≡◌, ℕ, ◌<◌, ◌≤◌, ◌⊎◌, Bool, true, false, List, Some, length}
 use Rattle.saga_def.specs.Contents.{Contents}
 use Rattle.saga_case.specs.declared.states.StepState.{StepState}
@@ -25,13 +25,13 @@ saga_of_task (Run i s) = i
 saga_of_task (Undo i s) = i
 saga_of_task (Plan i) = i
 
--- a plan stands at step 0
+-- a plan counts as step 0
 abbrev pub step_of_task : Task → ℕ
 step_of_task (Run i s) = s
 step_of_task (Undo i s) = s
 step_of_task (Plan i) = 0
 
--- by saga, then by step
+-- the order of tasks: by saga, then by step
 abbrev pub IsNotAfter : Task → Task → Type 0
 IsNotAfter t u = (saga_of_task t < saga_of_task u) ⊎ ((saga_of_task t ≡ saga_of_task u) × (step_of_task t ≤ step_of_task u))
 
@@ -39,7 +39,7 @@ IsNotAfter t u = (saga_of_task t < saga_of_task u) ⊎ ((saga_of_task t ≡ saga
 abbrev pub MayStart : Book → Task → Type 0
 MayStart b t = TaskIsAllowed b.shelf (past b.history) t
 
--- allowed, and none that is allowed comes before it
+-- the task is allowed, and no allowed task comes before it
 pub record IsFirstTask (b : Book) (t : Task) : Type 0 where
   pub allowed : MayStart b t
   pub first : (u : Task) → MayStart b u → IsNotAfter t u
@@ -56,7 +56,7 @@ pub record IsFirstTaskFrom (b : Book) (from : ℕ) (t : Task) : Type 0 where
 abbrev pub NoTaskIsAllowedFrom : Book → ℕ → Type 0
 NoTaskIsAllowedFrom b from = (t : Task) → MayStart b t → from ≤ saga_of_task t → ⊥
 
--- the task of a row, as one of its saga
+-- the task of a row as a task of its saga, and back
 abbrev pub task_of : ℕ → RowTask → Task
 task_of i (row.Run s) = Run i s
 task_of i (row.Undo s) = Undo i s
@@ -105,7 +105,7 @@ HasUndoMisses b i s count = OfSaga b i (λ d l. (s < length d.steps) × (count �
 abbrev pub HasGoal : Book → ℕ → ℕ → Bool → Type 0
 HasGoal b i s wanted = OfSaga b i (λ d l. (s < length d.steps) × (wanted ≡ in_goal l s))
 
--- where the saga stands
+-- the phase of the saga
 abbrev pub StandsAt : Book → ℕ → Phase → Type 0
 StandsAt b i phase = OfSaga b i (λ d l. HasPhase d l phase)
 

@@ -1,4 +1,4 @@
-//! What holds of refusals. The function does nothing: its contract is the law.
+//! Laws of refusals. The function has an empty body: its contract is the law.
 ghost use Rattle.std.specs.Prelude.{ℕ, List};
 ghost use Rattle.saga_def.specs.Contents.{Contents};
 ghost use Rattle.saga_case.specs.Situation.{Situation};
@@ -10,8 +10,8 @@ ghost use Rattle.saga_core.specs.Book.{Book};
 ghost use Rattle.saga_core.specs.Laws.{HasOneAdoptRefusal, HasOneDropRefusal, HasOneOpenRefusal, HasOneReportRefusal, HasOneSagaRefusal, HasOneTakeRefusal};
 ghost use Rattle.saga_core.specs.Replays.{IsReplayed};
 
-/// Whatever the history of a book is, of each call at most one refusal applies: causes that are looked for later leave out
-/// those before them.
+/// For every history of a book, at most one refusal of each call applies, because a later cause
+/// excludes the earlier ones.
 #[tactic(auto, using(crate::proofs::LawLemmas::one_open_refusal, crate::proofs::LawLemmas::one_take_refusal, crate::proofs::LawLemmas::one_report_refusal, crate::proofs::LawLemmas::one_saga_refusal, crate::proofs::LawLemmas::one_drop_refusal, crate::proofs::LawLemmas::one_adopt_refusal, crate::proofs::ReplayLawLemmas::only_for_memory))]
 pub fn refusal_laws()
     ensures open { (b : Book) (k : ℕ) → HasOneOpenRefusal b k }

@@ -1,8 +1,11 @@
-//! The book: sagas by their numbers, and the history of what happened to them, one event for each accepted call.
+//! The book: the state machine of many sagas. It has the sagas by their numbers and a history with
+//! one event for each accepted call.
 //!
-//! Whatever calls are made on a [`Book`], its history is legal, so the headline of `saga_history` holds of it.
+//! After every sequence of calls on a [`Book`], its history is legal. So the headline, which is the
+//! main theorem of `saga_history`, holds of that history.
 //!
-//! A saga that is opened and driven to its end; the shelf has one definition, of three steps:
+//! This example opens a saga and executes it to its end. The shelf is the list of definitions; here
+//! it has one definition, with three steps:
 //!
 //! ```
 //! let mut book = Book::new(alloc, shelf, 0, 1);

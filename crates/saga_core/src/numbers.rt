@@ -1,4 +1,4 @@
-//! The numbers of a book's sagas, and of their tasks.
+//! The numbers of the sagas of a book, and of their tasks.
 ghost use Rattle.std.specs.Prelude.{ℕ, ◌≡◌, ◌<◌, ◌≤◌, ◌↔◌, IsTrue, MatchOption, length};
 ghost use Rattle.saga_core.specs.Book.{number};
 ghost use Rattle.saga_core.specs.Tasks as tasks;
@@ -8,7 +8,7 @@ ghost use Rattle.saga_rows.specs.Limits.{max_rows};
 use saga_history::Task;
 use saga_rows::{Row, RowTask, Rows};
 
-/// The index of a saga among the rows, by its number.
+/// Returns the index of the row of a saga, by the number of the saga.
 pub fn index_of(rows: &Rows, first: u32, stride: u32, saga: u32) -> Option<usize>
     requires { first < stride }
     ensures { MatchOption result ((k : ℕ) → k < length rows.now → saga ≡ number first stride k → ⊥)
@@ -27,7 +27,7 @@ pub fn index_of(rows: &Rows, first: u32, stride: u32, saga: u32) -> Option<usize
     Some(index as usize)
 }
 
-/// The number of the saga of a row.
+/// Returns the number of the saga of the row at an index.
 pub fn number_of(first: u32, stride: u32, index: usize) -> u32
     requires begins { first < stride }
     requires near { stride ≤ 16 }
@@ -37,7 +37,7 @@ pub fn number_of(first: u32, stride: u32, index: usize) -> u32
     first + index as u32 * stride
 }
 
-/// The task of a row, as one of its saga.
+/// Returns the task of a row as a task of its saga.
 pub fn task_of(saga: u32, task: RowTask) -> Task
     ensures { result ≡ tasks.task_of saga task }
 {
@@ -48,7 +48,7 @@ pub fn task_of(saga: u32, task: RowTask) -> Task
     }
 }
 
-/// The saga of a task.
+/// Returns the number of the saga of a task.
 pub fn saga_of(task: Task) -> u32
     ensures { result ≡ tasks.saga_of_task task }
 {
@@ -57,7 +57,7 @@ pub fn saga_of(task: Task) -> u32
     }
 }
 
-/// Whether a row allows a task of its saga.
+/// Returns whether a row allows a task of its saga.
 pub fn allows(row: &Row, task: Task) -> bool
     ensures { IsTrue result ↔ RowAllows row.now (tasks.row_task task) }
 {

@@ -1,4 +1,4 @@
-//! Why a call on a book is refused. The causes stand in the order in which they are looked for.
+//! Why a call on a book is refused. Each type lists the causes in the order of the checks.
 use saga_audit::Reason;
 use saga_check::Verdict;
 
@@ -6,12 +6,12 @@ use saga_check::Verdict;
 #[derive(Clone, Copy, Debug, PartialEq, Eq)]
 pub enum OpenRefusal {
     NoSuchDefinition,
-    /// The book has as many sagas as it may.
+    /// The book already has [`MAX_SAGAS`](crate::MAX_SAGAS) sagas.
     Full,
     OutOfMemory,
 }
 
-/// Why an action or a compensation does not begin.
+/// Why an action or a compensation does not start.
 #[derive(Clone, Copy, Debug, PartialEq, Eq)]
 pub enum TakeRefusal {
     NoSuchSaga,
@@ -20,16 +20,16 @@ pub enum TakeRefusal {
     OutOfMemory,
 }
 
-/// Why the end of an action or a compensation is not taken.
+/// Why the report of an action or a compensation is refused.
 #[derive(Clone, Copy, Debug, PartialEq, Eq)]
 pub enum ReportRefusal {
     NoSuchSaga,
     NoSuchStep,
-    /// The step is not running, or its compensation is not.
+    /// The action is not running, or the compensation is not running.
     NotTaken,
 }
 
-/// Why a plan does not begin, or a saga is not aborted.
+/// Why a plan does not start, or why a saga is not aborted.
 #[derive(Clone, Copy, Debug, PartialEq, Eq)]
 pub enum SagaRefusal {
     NoSuchSaga,
@@ -49,27 +49,28 @@ pub enum DropRefusal {
 pub enum AdoptRefusal {
     NoSuchSaga,
     NotPlanning,
-    /// The verdict is for another case than the saga's present one: another definition, other states, or made before
-    /// the saga was aborted.
+    /// The verdict is for another case than the saga's current one: the definition or the states
+    /// differ, or the saga was aborted after the case was made.
     Stale,
 }
 
-/// A verdict that is not adopted, and why.
+/// A verdict that is not adopted, with the cause.
 #[derive(Debug, Drop)]
 pub struct AdoptRefused<'d> {
     pub verdict: Verdict<'d>,
     pub why: AdoptRefusal,
 }
 
-/// Why no book is made again from a history.
+/// Why [`Book::replay`](crate::Book::replay) makes no book of a history.
 #[derive(Clone, Copy, Debug, PartialEq, Eq)]
 pub enum ReplayRefusal {
-    /// The history is not legal: the place, from 0, of its first event that is not allowed after those before it, and why, as
-    /// an audit tells it.
+    /// The history is not legal. `position` is the index, from 0, of the first event that the rules
+    /// do not allow after the events before it. `reason` is the reason that an audit gives.
     NotLegal { position: usize, reason: Reason },
-    /// The history is legal, but the event at that place opens a saga that is not the next one by number.
+    /// The history is legal, but the event at this index opens a saga with another number than the
+    /// next one.
     NotNumbered { position: usize },
-    /// It is legal, but the event at that place opens one saga too many.
+    /// The history is legal, but the event at this index opens a saga when the book is full.
     Full { position: usize },
     OutOfMemory,
 }

@@ -1,4 +1,4 @@
--- What holds of smallest plans and of their rounds, whatever the case.
+-- Laws of smallest plans and of their rounds, for every case.
 use Rattle.std.specs.Prelude.{◌≡◌, ℕ, length}
 use Rattle.saga_def.specs.Order.{member}
 use Rattle.saga_case.specs.declared.answers.Answer.{Answer}
@@ -13,12 +13,12 @@ KeepsOneSet t =
     (p q : Plan) → IsLeast t (member p.kept) → IsLeast t (member q.kept)
     → IsSmallest t (answer.Plan p) → IsSmallest t (answer.Plan q) → (s : ℕ) → member p.kept s ≡ member q.kept s
 
--- a plan that costs nothing, or a chain
+-- the answer is a plan that costs nothing, or a chain
 abbrev pub CostsNothing : Answer → Type 0
 CostsNothing (answer.Plan p) = p.cost ≡ 0
 CostsNothing (answer.Blocked c) = Unit {0}
 
--- what costs nothing is made in no round, and so is what is made for no steps
+-- an answer that costs nothing takes no round; an answer for no steps takes no round
 abbrev pub HasNoRoundsForNothing : Answer → Type 0
 HasNoRoundsForNothing a = (rounds : ℕ) → CostsNothing a → HasRoundsWithinCost a rounds → rounds ≡ 0
 

@@ -1,9 +1,9 @@
--- The plan that a greatest flow gives.
+-- The plan of a maximum flow.
 use Rattle.std.specs.Prelude.{ℕ, take, drop, ◌≡◌}
 use Rattle.saga_case.specs.declared.answers.Plan.{Plan}
 use Rattle.saga_closure.specs.declared.flows.ClosureFlow.{ClosureFlow}
 
--- the steps reached are kept; the amounts are those of the flow in its three groups
+-- the plan keeps the reached steps; its amounts are those of the flow, in three groups
 pub record IsPlanOf (steps : ℕ) (flow : ClosureFlow) (plan : Plan) : Type 0 where
   pub kept : plan.kept ≡ flow.reached.items
   pub cost : plan.cost ≡ flow.value

@@ -1,10 +1,11 @@
-//! The planner: of a case it makes a least plan with its certificate, or a chain that shows that no set of steps is
-//! allowed.
+//! The planner. For a case it returns a minimum-cost plan with its certificate, or a chain that
+//! shows that no set of steps is allowed.
 //!
-//! A least set of steps is a least cut of the case's network (J.-C. Picard, 1976): a greatest flow is made in it, and
-//! the steps that the source still reaches in the residual network are kept. Of all least sets that is the smallest.
+//! A minimum-cost set of steps is a minimum cut of the network of the case (J.-C. Picard, 1976).
+//! The planner computes a maximum flow, and keeps the steps that the source still reaches in the
+//! residual network. This set is the smallest minimum-cost set.
 //!
-//! The plan of a case, here what it costs:
+//! This example plans a case and returns the cost of the plan:
 //!
 //! ```
 //! match plan(alloc, case)? {

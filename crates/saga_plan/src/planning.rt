@@ -10,11 +10,13 @@ use saga_case::{Answer, Case, Chain, leaves_all_out_for_free};
 use saga_closure::{Solution, solve};
 use std::alloc::{AllocError, Global};
 
-/// A right answer to a case: a plan where some set of steps is allowed, a chain where none is.
+/// Returns a correct answer to a case: a plan if some set of steps is allowed, and otherwise a
+/// chain.
 ///
-/// The plan's kept set is the smallest of all least sets: each of them contains it. So where all prices are 0 and no
-/// compensation failed for good, nothing is kept: pure backward recovery. Which of several right flows, and which of
-/// several right chains, is left open. An error comes only where memory is refused.
+/// The kept set of the plan is the smallest minimum-cost set: every minimum-cost set contains it.
+/// So if all costs are 0 and no compensation failed permanently, the plan keeps no step: pure
+/// backward recovery. The contract does not say which of several correct flows or chains the answer
+/// has. The only error is lack of memory.
 pub fn plan(alloc: Global, case: &Case) -> Result<Answer, AllocError>
     ensures right { IfOk result (IsRight (terms_of case.now)) }
     ensures settles { IfOk result (Settles (terms_of case.now)) }
@@ -25,10 +27,11 @@ pub fn plan(alloc: Global, case: &Case) -> Result<Answer, AllocError>
     Ok(answer)
 }
 
-/// The answer of [`plan`], with the number of rounds in which its flow is reached in the case's network; a chain takes
-/// none.
+/// Returns the answer of [`plan`], with the number of rounds by which the planner reached its flow
+/// in the network of the case. A chain takes no round.
 ///
-/// A plan for `n` steps with `m` needs takes at most `(n + 2) * (2 * n + m)` rounds, and at most as many as it costs.
+/// A plan for `n` steps with `m` needs takes at most `(n + 2) * (2 * n + m)` rounds. It also takes
+/// at most as many rounds as its cost.
 pub fn plan_counted(alloc: Global, case: &Case) -> Result<(Answer, u64), AllocError>
     ensures right { IfOk result (λ r. IsRight (terms_of case.now) r.0) }
     ensures settles { IfOk result (λ r. Settles (terms_of case.now) r.0) }

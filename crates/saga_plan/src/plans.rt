@@ -1,4 +1,4 @@
-//! The plan that a greatest flow gives.
+//! The plan of a maximum flow.
 ghost use Rattle.std.specs.Prelude.{◌≡◌, ◌≤◌, ◌+◌, length, IfOk};
 ghost use Rattle.saga_plan.specs.Making.{IsPlanOf};
 
@@ -6,7 +6,8 @@ use saga_case::{Amounts, Marks, Plan};
 use saga_closure::ClosureFlow;
 use std::alloc::{AllocError, Global};
 
-/// The plan that keeps the steps reached, with the flow in its three groups as certificate.
+/// Makes the plan that keeps the reached steps. Its certificate is the flow in three groups: from
+/// the source, to the sink, and along the needs.
 pub fn plan_of(alloc: Global, steps: usize, flow: ClosureFlow) -> Result<Plan, AllocError>
     requires { steps + steps ≤ length flow.on.items }
     ensures { IfOk result (IsPlanOf steps flow) }

@@ -1,4 +1,5 @@
-//! What a book tells of its sagas. No reader takes memory, and none goes over steps or sagas.
+//! What a book returns about its sagas. No reader allocates memory. Only `next_from` visits the
+//! sagas one by one, and none visits the steps.
 ghost use Rattle.std.specs.Prelude.{◌≡◌, ◌<◌, ◌≤◌, ◌+◌, ◌*◌, ◌↔◌, IfSome, IsTrue, MatchOption, Some, length};
 ghost use Rattle.saga_rows.specs.Limits.{max_rows};
 ghost use Rattle.saga_history.specs.Changes.{past};
@@ -16,7 +17,7 @@ use saga_def::Definition;
 use saga_history::{Kind, Phase, Task};
 
 impl<'d> Book<'d> {
-    /// The saga of a number, or none where there is no such saga.
+    /// Returns the handle of a saga, or `None` if there is no saga with this number.
     pub fn saga(&self, number: u32) -> Option<Saga<'_, 'd>>
         ensures { MatchOption result (IsUnknown self.now number)
             (λ saga. HasSaga self.now number saga) }
@@ -25,7 +26,7 @@ impl<'d> Book<'d> {
         Some(Saga::new(number, self, self.rows.row(index)))
     }
 
-    /// The saga that was opened after so many others.
+    /// Returns the handle of the saga at an index, in the order of opening, from 0.
     pub fn nth(&self, index: usize) -> Saga<'_, 'd>
         requires { index < book.sagas_in self.now.history }
         ensures { HasSaga self.now (book.number self.now.first self.now.stride index) result }
@@ -34,7 +35,7 @@ impl<'d> Book<'d> {
         Saga::new(number, self, self.rows.row(index))
     }
 
-    /// The saga of a number, if it has such a step.
+    /// Returns the handle of a saga, or `None` if there is no such saga or it has no such step.
     fn saga_at(&self, number: u32, step: u16) -> Option<Saga<'_, 'd>>
         ensures { MatchOption result (HasNoStep self.now number step)
             (λ saga. HasSaga self.now number saga × (step < length saga.definition.steps)) }
@@ -47,7 +48,7 @@ impl<'d> Book<'d> {
         }
     }
 
-    /// The state of a step, or none where there is no such saga or step.
+    /// Returns the state of a step, or `None` if there is no such saga or step.
     pub fn state(&self, saga: u32, step: u16) -> Option<StepState>
         ensures { MatchOption result (HasNoStep self.now saga step)
             (λ x. HasState self.now saga step x) }
@@ -55,7 +56,8 @@ impl<'d> Book<'d> {
         Some(self.saga_at(saga, step)?.state(step))
     }
 
-    /// How often the action of a step was missed, or none where there is no such saga or step.
+    /// Returns how many attempts of the action of a step failed with tries left, or `None` if there
+    /// is no such saga or step.
     pub fn misses(&self, saga: u32, step: u16) -> Option<u8>
         ensures { MatchOption result (HasNoStep self.now saga step)
             (λ count. HasMisses self.now saga step count) }
@@ -63,7 +65,8 @@ impl<'d> Book<'d> {
         Some(self.saga_at(saga, step)?.missed(Kind::Run, step))
     }
 
-    /// How often the compensation of a step was missed, or none where there is no such saga or step.
+    /// Returns how many attempts of the compensation of a step failed with tries left, or `None` if
+    /// there is no such saga or step.
     pub fn undo_misses(&self, saga: u32, step: u16) -> Option<u8>
         ensures { MatchOption result (HasNoStep self.now saga step)
             (λ count. HasUndoMisses self.now saga step count) }
@@ -71,8 +74,8 @@ impl<'d> Book<'d> {
         Some(self.saga_at(saga, step)?.missed(Kind::Undo, step))
     }
 
-    /// Whether a step is in the goal, or none where there is no such saga or step. In a saga that is not going, no step
-    /// is.
+    /// Returns whether a saga aims to keep a step, or `None` if there is no such saga or step. If
+    /// the saga is not going forward to a goal, the result is false for every step.
     pub fn in_goal(&self, saga: u32, step: u16) -> Option<bool>
         ensures { MatchOption result (HasNoStep self.now saga step)
             (λ wanted. HasGoal self.now saga step wanted) }
@@ -80,7 +83,7 @@ impl<'d> Book<'d> {
         Some(self.saga_at(saga, step)?.in_goal(step))
     }
 
-    /// Where a saga stands, or none where there is no such saga.
+    /// Returns the phase of a saga, or `None` if there is no such saga.
     pub fn phase(&self, saga: u32) -> Option<Phase>
         ensures { MatchOption result (IsUnknown self.now saga)
             (λ phase. StandsAt self.now saga phase) }
@@ -88,7 +91,7 @@ impl<'d> Book<'d> {
         Some(self.saga(saga)?.phase())
     }
 
-    /// Where the saga stands that was opened after so many others.
+    /// Returns the phase of the saga at an index, in the order of opening, from 0.
     pub fn phase_at(&self, index: usize) -> Phase
         requires { index < book.sagas_in self.now.history }
         ensures { StandsAt self.now (book.number self.now.first self.now.stride index) result }
@@ -96,7 +99,7 @@ impl<'d> Book<'d> {
         self.rows.row(index).phase()
     }
 
-    /// Whether a saga was aborted, or none where there is no such saga.
+    /// Returns whether a saga was aborted, or `None` if there is no such saga.
     pub fn is_aborted(&self, saga: u32) -> Option<bool>
         ensures { MatchOption result (IsUnknown self.now saga)
             (λ a. WasAborted self.now saga a) }
@@ -104,7 +107,7 @@ impl<'d> Book<'d> {
         Some(self.saga(saga)?.is_aborted())
     }
 
-    /// The definition of a saga, or none where there is no such saga.
+    /// Returns the definition of a saga, or `None` if there is no such saga.
     pub fn definition(&self, saga: u32) -> Option<&'d Definition>
         ensures { MatchOption result (IsUnknown self.now saga)
             (λ d. IsDefinedBy self.now saga d.now) }
@@ -112,7 +115,7 @@ impl<'d> Book<'d> {
         Some(self.saga(saga)?.definition())
     }
 
-    /// How many sagas were opened.
+    /// Returns how many sagas were opened.
     pub fn sagas(&self) -> usize
         ensures count { result ≡ book.sagas_in self.now.history }
         ensures few { result ≤ max_rows }
@@ -120,7 +123,7 @@ impl<'d> Book<'d> {
         self.rows.len()
     }
 
-    /// The number that the saga will have that is opened next.
+    /// Returns the number that the next opened saga gets.
     pub fn next_number(&self) -> u32
         ensures { result
             ≡ book.number self.now.first self.now.stride (book.sagas_in self.now.history) }
@@ -128,15 +131,15 @@ impl<'d> Book<'d> {
         number_of(self.first, self.stride, self.rows.len())
     }
 
-    /// Whether each saga is ended or stuck.
+    /// Returns whether each saga is ended or stuck.
     pub fn settled(&self) -> bool
         ensures { IsTrue result ↔ AllAreOver self.now }
     {
         self.rows.are_over()
     }
 
-    /// The first task that is allowed of the sagas from a number on, by saga and then by step. Takes no memory, and looks at no
-    /// step.
+    /// Returns the first allowed task of the sagas from a number on, ordered by saga and then by
+    /// step. Allocates no memory. Takes time linear in the number of sagas and visits no step.
     pub fn next_from(&self, saga: u32) -> Option<Task>
         ensures first { MatchOption result
             (NoTaskIsAllowedFrom self.now saga)
@@ -154,7 +157,7 @@ impl<'d> Book<'d> {
         None
     }
 
-    /// Whether a task may start. Looks at no other one.
+    /// Returns whether a task may start. Visits no other task.
     pub fn may_start(&self, task: Task) -> bool
         ensures { IsTrue result ↔ MayStart self.now task }
     {
@@ -164,14 +167,14 @@ impl<'d> Book<'d> {
         }
     }
 
-    /// The definitions that the book was made with.
+    /// Returns the definitions with which the book was made.
     pub fn shelf(&self) -> &'d [Definition]
         ensures { result.now ≡ self.now.shelf }
     {
         self.shelf
     }
 
-    /// The number of the saga that is opened first.
+    /// Returns the number of the first opened saga.
     pub fn first(&self) -> u32
         ensures value { result ≡ self.now.first }
         ensures begins { self.now.first < self.now.stride }
@@ -179,7 +182,7 @@ impl<'d> Book<'d> {
         self.first
     }
 
-    /// How far the numbers of sagas that are opened one after the other are apart.
+    /// Returns the distance between the numbers of two sagas that are opened one after the other.
     pub fn stride(&self) -> u32
         ensures value { result ≡ self.now.stride }
         ensures near { self.now.stride ≤ 16 }
