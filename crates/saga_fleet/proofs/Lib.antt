@@ -1,4 +1,5 @@
 pub mod ByKey
+pub mod Counts
 pub mod Lists
 pub mod ReadLemmas
 pub mod Records

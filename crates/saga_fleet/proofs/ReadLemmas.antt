@@ -1,10 +1,9 @@
 -- Events of lines, one behind the other.
-use Rattle.std.proofs.Common.{◌≡◌, ℕ, Bool, Option, Some, None, Result, Ok, Err, List, [], ◌∷◌, ◌++◌, refl, sym, ◌∙◌, ap, append_assoc}
+use Rattle.std.proofs.Common.{◌≡◌, ℕ, Some, Result, Ok, Err, List, [], ◌∷◌, ◌++◌, refl, sym, ap, append_assoc}
 use Rattle.std.proofs.lemmas.List.{append-nil}
 use Rattle.saga_bytes.specs.Readings.{with_front}
 use Rattle.saga_fleet.specs.declared.events.Event.{Event}
 use Rattle.saga_fleet.specs.declared.lines.LineFault.{LineFault}
-use Rattle.saga_fleet.specs.declared.lines.LineFault.TheVariants.{BadLine}
 use Rattle.saga_fleet.specs.Lines.{put_before}
 
 abbrev read_as : List Event → Result (List Event) LineFault

@@ -1,8 +1,8 @@
 -- The checker's numbers are those of the log.
-use Rattle.std.proofs.Common.{IsTrue, ◌≡◌, ◌≤◌, ◌<◌, ◌+◌, ℕ, zero, suc, Bool, Option, Some, None, List, [], ◌∷◌, ◌++◌, length, take, map, set, get_or, refl, sym, ◌∙◌, ap, subst, arith, length-append}
-use Rattle.std.proofs.lemmas.List.{map-append, map-set, length-take-le, length_push, take-map, take_more}
-use Rattle.saga_fleet.specs.declared.answers.Reason.{Reason}
-use Rattle.saga_fleet.specs.declared.answers.Reason.TheVariants as why
+use Rattle.std.proofs.Common.{IsTrue, ◌≡◌, ◌≤◌, ◌<◌, ◌+◌, ℕ, zero, suc, Bool, Some, None, List, [], ◌∷◌, ◌++◌, length, take, map, set, get_or, refl, sym, ◌∙◌, ap, subst, arith, length-append}
+use Rattle.std.proofs.lemmas.List.{map-append, map-set, length_push, take-map, take_more}
+use Rattle.saga_fleet.specs.declared.reasons.Reason.{Reason}
+use Rattle.saga_fleet.specs.declared.reasons.Reason.TheVariants as why
 use Rattle.saga_fleet.specs.declared.events.Deed.{Deed}
 use Rattle.saga_fleet.specs.declared.events.Deed.TheVariants.{Decided, Written, TurnedDown, Heard, Told}
 use Rattle.saga_fleet.specs.declared.events.Event.{Event}
@@ -11,7 +11,7 @@ use Rattle.saga_fleet.specs.declared.events.Stage.TheVariants.{Idle, Done, Refus
 use Rattle.saga_fleet.specs.declared.watch.Now.{Now}
 use Rattle.saga_fleet.specs.declared.watch.Tally.{Tally}
 use Rattle.saga_fleet.specs.Fleet.{AreAllowed, Chunk, IsAllowed, IsDone, IsIdle, IsSent, Log, Move, Session, answered, at_stage, happens, nobody, nothing, rules, run, sent, session}
-use Rattle.saga_fleet.specs.Records.{CountFails, DeedFails, Fails, IsFirstFault, Fits, FitsDeed, IsRecordFrom, May, MayFollow, any, blank, deed_of, did, digest_of, digests, digests_after, digests_did, digests_of, last_digest, log_after, move_of, now_after, now_of, only, tallies_after, tallies_of, tally}
+use Rattle.saga_fleet.specs.Records.{AreCounts, CountFails, DeedFails, Fails, IsFirstFault, Fits, FitsDeed, IsRecordFrom, May, MayFollow, any, blank, deed_of, did, digest_of, digests, digests_after, digests_of, log_after, move_of, now_after, now_of, only, tallies_after, tallies_of, tally}
 use Rattle.saga_fleet.specs.Told.{Holds, HoldsUnlessCut}
 use Rattle.std.proofs.lemmas.Bool.{false≢true}
 use Rattle.std.proofs.lemmas.Option.{none-some, same_Some}
@@ -179,6 +179,16 @@ next_are b now ds ts w e are fits = record {
 
 pub are_same : (now now2 : Now) (ds ds2 : List ℕ) (ts ts2 : List Tally) (w : Log) → now2 ≡ now → ds2 ≡ ds → ts2 ≡ ts → AreOf now ds ts w → AreOf now2 ds2 ts2 w
 are_same now now2 ds ds2 ts ts2 w n d t are = record { log = n ∙ are.log; digests = d ∙ are.digests; tallies = t ∙ are.tallies }
+
+-- and how many there are
+pub counted : (b : Bool) (es : List Event) (now : Now) (ds : List ℕ) (ts : List Tally) (sessions chunks failovers events : ℕ) → AreOf now ds ts (log_after b nothing es)
+    → sessions ≡ length ts → chunks ≡ length ds → failovers ≡ now.servers → events ≡ length es → AreCounts b es sessions chunks failovers events
+counted b es now ds ts sessions chunks failovers events are s c f e = record {
+  sessions_are = s ∙ ap length are.tallies ∙ count_map (log_after b nothing es).sessions;
+  chunks_are = c ∙ ap length are.digests ∙ many (log_after b nothing es).chunks;
+  failovers_are = f ∙ ap (λ (n : Now). n.servers) are.log;
+  events_are = e;
+}
 
 -- what is said of its numbers is said of it
 pub said_of : (P : Now → List ℕ → List Tally → Type 0) (now : Now) (ds : List ℕ) (ts : List Tally) (w : Log) → AreOf now ds ts w

@@ -4,4 +4,5 @@ pub mod Lines
 pub mod Needed
 pub mod Records
 pub mod Told
+pub mod Words
 pub mod Written

@@ -1,7 +1,8 @@
 -- Records of runs: what they say, and what a checker makes of them by numbers alone.
 use Rattle.std.specs.Prelude.{◌≡◌, ◌≤◌, ◌<◌, ◌+◌, ◌-◌, ℕ, suc, Bool, true, false, IsTrue, List, [], ◌∷◌, ◌++◌, Option, Some, None, length, map, set, take, get_or}
-use Rattle.saga_fleet.specs.declared.answers.Reason.{Reason}
-use Rattle.saga_fleet.specs.declared.answers.Reason.TheVariants as why
+use Rattle.std.specs.List.{All}
+use Rattle.saga_fleet.specs.declared.reasons.Reason.{Reason}
+use Rattle.saga_fleet.specs.declared.reasons.Reason.TheVariants as why
 use Rattle.saga_fleet.specs.declared.answers.RecordAnswer.{RecordAnswer}
 use Rattle.saga_fleet.specs.declared.answers.RecordAnswer.TheVariants.{Yes, No}
 use Rattle.saga_fleet.specs.declared.events.Deed.{Deed}
@@ -136,6 +137,12 @@ digests_of w = digests w.chunks
 abbrev pub tallies_of : Log → List Tally
 tallies_of w = map tally w.sessions
 
+-- no number of a log is greater than that
+pub record AreWithin (n : ℕ) (now : Now) (ds : List ℕ) (ts : List Tally) : Type 0 where
+  pub servers : now.servers ≤ n
+  pub chunks : length ds ≤ n
+  pub counts : All (λ t. t.known + t.asked ≤ n) ts
+
 -- ---- why an event is not allowed
 
 abbrev pub DeedFails : Bool → Now → List ℕ → Tally → Deed → Reason → Type 0
@@ -174,7 +181,7 @@ Says (Some reason) may fails = fails reason
 
 -- the first event that is not allowed, and a condition of its own that the log before it does not meet
 abbrev pub is_yes : RecordAnswer → Bool
-is_yes Yes = true
+is_yes (Yes sessions chunks failovers events) = true
 is_yes (No position reason) = false
 
 pub record IsFirstFault (b : Bool) (es : List Event) (position : ℕ) (reason : Reason) : Type 0 where
@@ -184,6 +191,13 @@ pub record IsFirstFault (b : Bool) (es : List Event) (position : ℕ) (reason : 
       (tallies_of (log_after b nothing (take position es))) (get_or es position (TookOver 0 0 0)) reason
   pub denied : IsRecordFrom b nothing (take (position + 1) es) → ⊥
 
+-- the sessions that began, the chunks that the log has in the end, the servers that took over, and the events
+pub record AreCounts (b : Bool) (es : List Event) (sessions chunks failovers events : ℕ) : Type 0 where
+  pub sessions_are : sessions ≡ length (log_after b nothing es).sessions
+  pub chunks_are : chunks ≡ length (log_after b nothing es).chunks
+  pub failovers_are : failovers ≡ length (log_after b nothing es).cuts
+  pub events_are : events ≡ length es
+
 abbrev pub IsAnswer : Bool → List Event → RecordAnswer → Type 0
-IsAnswer b es Yes = IsRecordFrom b nothing es
+IsAnswer b es (Yes sessions chunks failovers events) = IsRecordFrom b nothing es × AreCounts b es sessions chunks failovers events
 IsAnswer b es (No position reason) = IsFirstFault b es position reason

@@ -1,45 +1,48 @@
-//! What a record says of one log of a fleet, one event behind the other.
+//! What a record says of one log that many nodes write to, one event after the other.
 
-/// What became of what a session asked of the database last.
+/// The state of the last request of a session to the database.
 #[derive(Clone, Copy, Debug, PartialEq, Eq)]
 pub enum Stage {
-    /// It was answered as done, or nothing was asked.
+    /// The request was answered, or there was none.
     Idle,
-    /// A commit is on its way: it may come late, or never.
+    /// A commit was sent. It may arrive late, or never.
     Sent,
-    /// The database has done it; the answer is on its way, and may never come.
+    /// The database has executed it. The answer may never arrive.
     Done,
-    /// The log's epoch is another, or another server has taken over: nothing was written.
+    /// The request was refused: the log has another epoch, or another server has taken over.
+    /// Nothing was written.
     Refused,
 }
 
-/// What a session did, or the database for it.
+/// An act of a session, or of the database for the session.
 #[derive(Clone, Copy, Debug, PartialEq, Eq)]
 pub enum Deed {
-    /// It decided a chunk of this digest, and sent it.
+    /// The session decided a chunk with this digest, and sent it.
     Decided(u64),
-    /// The database wrote it: so many chunks stood before it, and this is its digest.
+    /// The database wrote the chunk. The fields are the number of chunks before it, and its digest.
     Written(u64, u64),
-    /// The database refused it.
+    /// The database refused the chunk.
     TurnedDown,
-    /// It heard that it was done.
+    /// The session got the answer that the commit succeeded.
     Heard,
-    /// It told something that rests on so many chunks.
+    /// The session acknowledged something that rests on this many chunks.
     Told(u64),
 }
 
-/// What happened.
+/// An event of a record.
 ///
-/// A digest is any number that the recorder computes of a chunk. A recorder whose digest of a chunk covers all chunks
-/// before it, as a chain of hashes does, makes the digest of the last chunk stand for the whole log.
+/// A digest is any number that the recorder computes from a chunk. If the digest of a chunk covers
+/// all chunks before it, as in a hash chain, then the digest of the last chunk identifies the whole
+/// log.
 #[derive(Clone, Copy, Debug, PartialEq, Eq)]
 pub enum Event {
-    /// A session began under this epoch. It read so many chunks, the last of this digest: 0 where there is none.
+    /// A session began with this epoch. It read this many chunks; the digest is that of the last
+    /// one, or 0 if there is none.
     TookOver(u64, u64, u64),
-    /// A session did something: its number, in the order in which they began.
+    /// A session acted. The number counts sessions from 0, in the order of their beginnings.
     Did(usize, Deed),
-    /// So many chunks are on each server that may take over.
+    /// Each server that may take over has this many chunks.
     Shipped(u64),
-    /// Another server took over, with so many chunks and this epoch.
+    /// Another server took over, with this many chunks and this epoch.
     FailedOver(u64, u64),
 }

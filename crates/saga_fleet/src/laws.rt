@@ -1,4 +1,4 @@
-//! What follows for every run of a fleet, of states whose decisions have lines in a log.
+//! What holds after every run of many nodes whose decisions are lines of a log.
 ghost use Rattle.std.specs.Prelude.{◌≡◌, ◌⊎◌, ◌∷◌, ◌++◌, ℕ, Bool, true, false, List, [], take};
 ghost use Rattle.saga_core.specs.Book.{Book};
 ghost use Rattle.saga_fleet.specs.Fleet.{AreAllowed, Chunk, IsAllowed, Move, by_key, nothing, rules, run, session};
@@ -11,32 +11,35 @@ ghost use Rattle.saga_logged.specs.BookLog.{IsBookLog};
 use saga_logged::LoggedBook;
 use saga_wal::Logged;
 
-/// What was told survives. A run is any list of moves that are allowed: nodes take a log over, decide, commit, tell, sleep, wake and
-/// crash at any moment, answers are lost, commits come late, and other servers take over.
+/// What was acknowledged survives. A run is any list of allowed moves. Nodes take a log over,
+/// decide, commit, acknowledge, sleep, wake and crash at any moment. Answers are lost, commits come
+/// late, and other servers take over.
 pub fn told_survives_on_many_nodes<S: Logged>()
-    // the log is one legal history, at each commit that ever was
+    // the log is one legal history, after each commit
     ensures legal { (synchronous : Bool) (moves : List Move) → AreAllowed (rules synchronous) (IsWritten S.is_log) nothing moves
         → IsLegalThroughout (IsWritten S.is_log) (run (rules synchronous) nothing moves).chunks }
-    // who commits knew all that was there: each decision was made by one session at a time, on what all before it had decided
+    // a session that commits knows the whole log: sessions decide one at a time, each on all
+    // earlier decisions
     ensures one_at_a_time { (synchronous : Bool) (moves : List Move) (k : ℕ) → AreAllowed (rules synchronous) (IsWritten S.is_log) nothing moves
         → IsAllowed (rules synchronous) (IsWritten S.is_log) (run (rules synchronous) nothing moves) (Commits k)
         → (session (run (rules synchronous) nothing moves) k).known ≡ (run (rules synchronous) nothing moves).chunks }
-    // so whoever reads it again under the epoch of the log finds what it knows
+    // a session under the epoch of the log that reads it again finds what it knows
     ensures rereads { (synchronous : Bool) (moves : List Move) (k : ℕ) → AreAllowed (rules synchronous) (IsWritten S.is_log) nothing moves
         → IsCurrent (run (rules synchronous) nothing moves) k
         → (session (run (rules synchronous) nothing moves) k).known ≡ (run (rules synchronous) nothing moves).chunks }
-    // over a synchronous standby: all that something was told of is in the database, for ever
+    // with a synchronous standby, the database keeps all that an acknowledged text rests on
     ensures told { (moves : List Move) → AreAllowed (rules true) (IsWritten S.is_log) nothing moves → Holds (run (rules true) nothing moves) }
-    // and no two nodes ever contradict each other
+    // with a synchronous standby, no two nodes contradict each other
     ensures agree { (moves : List Move) → AreAllowed (rules true) (IsWritten S.is_log) nothing moves
         → NoneContradict (run (rules true) nothing moves).told }
-    // over another one: all but what a server that took over later lacked
+    // with an asynchronous standby, the database keeps all except what a server lacked that took
+    // over later
     ensures told_but { (moves : List Move) → AreAllowed (rules false) (IsWritten S.is_log) nothing moves
         → HoldsUnlessCut (run (rules false) nothing moves) }
 {}
 
-/// The same of a book: what was told of it survives on many nodes, and its log is that of a book at each commit, so that what
-/// the log reads as is a legal history.
+/// The same for a book. What was acknowledged of it survives on many nodes. After each commit, the
+/// log is that of a book, so it is read as a legal history.
 pub fn book_survives_on_many_nodes()
     ensures told { (moves : List Move)
         → AreAllowed (rules true) (IsWritten ⟦<LoggedBook<'static> as Logged>⟧.is_log) nothing moves
@@ -52,20 +55,22 @@ pub fn book_survives_on_many_nodes()
     told_survives_on_many_nodes::<LoggedBook<'static>>()
 }
 
-/// No rule can be left out: without any of them something that was told of is not in the database.
+/// Each rule is needed: without it, an allowed run loses something that was acknowledged.
 pub fn each_rule_is_needed()
     ensures epoch { Breaks no_epoch_check Holds }
     ensures takeover { Breaks no_new_epoch Holds }
     ensures answer { Breaks no_waiting Holds }
     ensures again { Breaks no_reading_again Holds }
-    // a log that no server cut since it was told of; so epochs alone do not do where servers may lack what was told
+    // lost although no failover cut the log since the acknowledgement: so epochs alone do not
+    // suffice with an asynchronous standby
     ensures server { Breaks no_server_check HoldsUnlessCut }
-    // over an asynchronous standby something that was told of may be lost
+    // with an asynchronous standby, something that was acknowledged may be lost
     ensures synchronous { Breaks (rules false) Holds }
 {}
 
-/// The key of a log's lines alone does as well, where each server has one: whoever writes behind what he knows is refused where anything
-/// stands there, so no epoch has to be looked at, and what was not answered may be sent again. Epochs keep out what has no lines.
+/// The primary key of the lines alone suffices if each server has it. A commit that writes after
+/// what its session knows is refused if a line is already there. So no epoch must be compared, and
+/// a commit without an answer may be repeated. Epochs keep out what has no lines.
 pub fn the_key_alone_does<S: Logged>()
     ensures legal { (synchronous : Bool) (moves : List Move) → AreAllowed (by_key synchronous) (IsWritten S.is_log) nothing moves
         → IsLegalThroughout (IsWritten S.is_log) (run (by_key synchronous) nothing moves).chunks }
@@ -76,7 +81,8 @@ pub fn the_key_alone_does<S: Logged>()
         → HoldsUnlessCut (run (by_key false) nothing moves) }
 {}
 
-/// A session may send what a state answers that it was made of what it knows: this is what a deciding child does.
+/// A session may send the lines that a state adds if the state was made of what the session knows.
+/// The engine process does this.
 pub fn answers_may_be_sent<S: Logged>()
     ensures { (old new : S) (known : List Chunk) (lines : Chunk) → S.is_log old (text_of known)
         → ((l : Chunk) → S.is_log old l → S.is_log new (l ++ lines)) → IsWritten S.is_log (known ++ lines ∷ []) }

@@ -10,9 +10,10 @@ mod events;
 mod laws;
 mod limits;
 mod lines;
+mod reasons;
 mod watch;
 
-pub use answers::{Reason, RecordAnswer};
+pub use answers::RecordAnswer;
 pub use events::{Deed, Event, Stage};
 pub use laws::{
     answers_may_be_sent, book_survives_on_many_nodes, each_rule_is_needed, the_key_alone_does,
@@ -20,4 +21,5 @@ pub use laws::{
 };
 pub use limits::MAX_RECORD;
 pub use lines::{LineFault, Record, read_record};
-pub use watch::{Now, RecordFault, Tally, audit_record};
+pub use reasons::Reason;
+pub use watch::{Now, Tally, audit_record};

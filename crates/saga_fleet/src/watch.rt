@@ -1,13 +1,14 @@
 //! What is kept of a log while its record is read: numbers alone.
-ghost use Rattle.std.specs.Prelude.{◌≡◌, ◌↔◌, ◌+◌, ◌≤◌, ◌<◌, ℕ, Bool, IsTrue, IfOk, IfSome, OnOk, List, Some, None, length, if◌then◌else◌};
+ghost use Rattle.std.specs.Prelude.{◌≡◌, ◌↔◌, ◌+◌, ◌^◌, ◌≤◌, ◌<◌, ℕ, Bool, IsTrue, IfOk, OnOk, List, Some, None, length, if◌then◌else◌};
 ghost use Rattle.saga_fleet.specs.Fleet.{IsDone, IsIdle, IsSent, nothing};
-ghost use Rattle.saga_fleet.specs.Records.{CountFails, DeedFails, Fails, IsAnswer, IsRecordFrom, May, MayFollow, Says, did, digests_after, digests_did, is_yes, last_digest, log_after, now_after, only, tallies_after};
+ghost use Rattle.saga_fleet.specs.Records.{AreWithin, CountFails, DeedFails, Fails, IsAnswer, IsRecordFrom, May, MayFollow, Says, did, digests_after, digests_did, is_yes, last_digest, log_after, now_after, only, tallies_after};
 ghost use Rattle.saga_fleet.specs.Told.{Holds, HoldsUnlessCut};
 ghost use Rattle.saga_fleet.specs.declared.events.Deed.TheVariants.{Heard, Written};
 ghost use Rattle.saga_fleet.specs.declared.events.Event.TheVariants.{Did, TookOver};
 
-use crate::answers::{Reason, RecordAnswer};
+use crate::answers::RecordAnswer;
 use crate::events::{Deed, Event, Stage};
+use crate::reasons::Reason;
 use std::alloc::{AllocError, Global};
 
 /// Of a log: its epoch, how many chunks each server has that may take over, and how many servers took over.
@@ -28,20 +29,6 @@ pub struct Tally {
     pub asked: u64,
     pub digest: Option<u64>,
     pub stage: Stage,
-}
-
-/// Why a record is not judged.
-#[derive(Clone, Copy, Debug, PartialEq, Eq, Drop)]
-pub enum RecordFault {
-    OutOfMemory,
-    /// A number is past 64 bits.
-    TooLong,
-}
-
-impl From<AllocError> for RecordFault {
-    fn from(_: AllocError) -> RecordFault {
-        RecordFault::OutOfMemory
-    }
 }
 
 impl Stage {
@@ -131,36 +118,34 @@ impl Tally {
         }
     }
 
-    /// What it is then; nothing where a number is past 64 bits.
-    fn after(self, deed: Deed) -> Option<Tally>
-        ensures { IfSome result (λ t. t ≡ did self deed) }
+    /// What it is then.
+    fn after(self, deed: Deed) -> Tally
+        requires { self.known + self.asked < 2 ^ 64 }
+        ensures { result ≡ did self deed }
     {
         match deed {
-            Deed::Decided(digest) => Some(Tally {
+            Deed::Decided(digest) => Tally {
                 asked: 1,
                 digest: Some(digest),
                 stage: Stage::Sent,
                 ..self
-            }),
-            Deed::Written(_, _) => Some(Tally {
+            },
+            Deed::Written(_, _) => Tally {
                 stage: Stage::Done,
                 ..self
-            }),
-            Deed::TurnedDown => Some(Tally {
+            },
+            Deed::TurnedDown => Tally {
                 stage: Stage::Refused,
                 ..self
-            }),
-            Deed::Heard => {
-                let known = self.known.checked_add(self.asked)?;
-                Some(Tally {
-                    known,
-                    asked: 0,
-                    digest: None,
-                    stage: Stage::Idle,
-                    ..self
-                })
-            }
-            Deed::Told(_) => Some(self),
+            },
+            Deed::Heard => Tally {
+                known: self.known + self.asked,
+                asked: 0,
+                digest: None,
+                stage: Stage::Idle,
+                ..self
+            },
+            Deed::Told(_) => self,
         }
     }
 }
@@ -250,7 +235,7 @@ impl Watch {
     }
 
     /// A session takes the log over.
-    fn take_over(&mut self, epoch: u64, read: u64) -> Result<(), RecordFault>
+    fn take_over(&mut self, epoch: u64, read: u64) -> Result<(), AllocError>
         ensures now { OnOk result (self.new.log ≡ now_after self.old.log (TookOver epoch read 0)) }
         ensures digests { OnOk result (self.new.digests.items ≡ self.old.digests.items) }
         ensures tallies { OnOk result (self.new.tallies.items ≡ tallies_after self.old.log self.old.digests.items self.old.tallies.items (TookOver epoch read 0)) }
@@ -263,35 +248,31 @@ impl Watch {
             digest: only_of(self.digests.as_slice()),
             stage: Stage::Done,
         };
-        if let Err(error) = self.tallies.push(tally) {
-            return Err(AllocError::from(error).into());
-        }
+        self.tallies.push(tally)?;
         self.log.epoch = epoch;
         Ok(())
     }
 
     /// A session does something.
-    fn see_deed(&mut self, session: usize, deed: Deed) -> Result<(), RecordFault>
-        requires { session < length self.old.tallies.items }
+    fn see_deed(&mut self, session: usize, deed: Deed) -> Result<(), AllocError>
+        requires begun { session < length self.old.tallies.items }
+        requires within { AreWithin (2 ^ 63) self.old.log self.old.digests.items self.old.tallies.items }
         ensures now { OnOk result (self.new.log ≡ self.old.log) }
         ensures digests { OnOk result (self.new.digests.items ≡ digests_did self.old.digests.items deed) }
         ensures tallies { OnOk result (self.new.tallies.items ≡ tallies_after self.old.log self.old.digests.items self.old.tallies.items (Did session deed)) }
     {
-        let Some(after) = self.tallies[session].after(deed) else {
-            return Err(RecordFault::TooLong);
-        };
+        let after = self.tallies[session].after(deed);
         if let Deed::Written(_, digest) = deed {
-            if let Err(error) = self.digests.push(digest) {
-                return Err(AllocError::from(error).into());
-            }
+            self.digests.push(digest)?;
         }
         self.tallies[session] = after;
         Ok(())
     }
 
     /// An event that may follow has happened.
-    fn see(&mut self, synchronous: bool, event: Event) -> Result<(), RecordFault>
-        requires { MayFollow synchronous self.old.log self.old.digests.items self.old.tallies.items event }
+    fn see(&mut self, synchronous: bool, event: Event) -> Result<(), AllocError>
+        requires allowed { MayFollow synchronous self.old.log self.old.digests.items self.old.tallies.items event }
+        requires within { AreWithin (2 ^ 63) self.old.log self.old.digests.items self.old.tallies.items }
         ensures now { OnOk result (self.new.log ≡ now_after self.old.log event) }
         ensures digests { OnOk result (self.new.digests.items ≡ digests_after self.old.digests.items event) }
         ensures tallies { OnOk result (self.new.tallies.items ≡ tallies_after self.old.log self.old.digests.items self.old.tallies.items event) }
@@ -305,12 +286,9 @@ impl Watch {
                 Ok(())
             }
             Event::FailedOver(n, epoch) => {
-                let Some(servers) = self.log.servers.checked_add(1) else {
-                    return Err(RecordFault::TooLong);
-                };
                 self.digests.truncate(n as usize);
                 self.log.epoch = epoch;
-                self.log.servers = servers;
+                self.log.servers += 1;
                 Ok(())
             }
         }
@@ -319,13 +297,14 @@ impl Watch {
 
 /// Whether these events record a run of moves that are allowed, from the log's birth on; or the first event that is not
 /// allowed, and why. In time and memory by their number.
+#[tactic(auto, using(crate::proofs::Counts::more))]
 pub fn audit_record(
     alloc: Global,
     synchronous: bool,
     events: &[Event],
-) -> Result<RecordAnswer, RecordFault>
+) -> Result<RecordAnswer, AllocError>
     ensures yes { IfOk result (λ answer. IsTrue (is_yes answer) ↔ IsRecordFrom synchronous nothing events.now) }
-    ensures no { IfOk result (IsAnswer synchronous events.now) }
+    ensures answer { IfOk result (IsAnswer synchronous events.now) }
     // where it says yes, all that something was told of is in the database, but for what a server lacked that took over
     ensures told { IfOk result (λ answer. IsTrue (is_yes answer) → HoldsUnlessCut (log_after synchronous nothing events.now)) }
     ensures told_all { IfOk result (λ answer. IsTrue (is_yes answer) → IsTrue synchronous → Holds (log_after synchronous nothing events.now)) }
@@ -346,5 +325,13 @@ pub fn audit_record(
         }
         watch.see(synchronous, event)?;
     }
-    Ok(RecordAnswer::Yes)
+    let sessions = watch.tallies.len();
+    let chunks = watch.digests.len();
+    let failovers = watch.log.servers as usize;
+    Ok(RecordAnswer::Yes {
+        sessions,
+        chunks,
+        failovers,
+        events: events.len(),
+    })
 }

@@ -1,6 +1,7 @@
 -- A command replies to its files.
-use Rattle.std.proofs.Common.{◌≡◌, ℕ, ◌-◌, ◌<◌, ◌≤◌, List, [], ◌∷◌, length, map, take, drop, get_or, slice_index_or, inl, inr, sym, subst, arith, length-drop}
-use Rattle.std.specs.Prelude.{Bool, true, false, codes, Option, Some, None, Result, Err}
+use Rattle.std.proofs.Common.{◌≡◌, ℕ, ◌-◌, ◌<◌, ◌≤◌, Vec, Global, List, [], ◌∷◌, length, map, take, drop, get_or, slice_index_or, inl, inr, refl, sym, subst, arith, length-drop}
+use Rattle.std.specs.Prelude.{Bool, true, false, codes, Option, Some, None, Result, Ok, Err, IfOk, IfErr}
+use Rattle.std.specs.Str.{bytes_eq}
 use Rattle.std.specs.Borrow.{Bor}
 use Rattle.std.proofs.lemmas.List.{take_all}
 use Rattle.saga_tool.specs.declared.arguments.Given.{Given}
@@ -16,10 +17,12 @@ use Rattle.saga_serve.specs.Outside.{beside}
 use Rattle.saga_text.specs.Limits.{max_definition}
 use Rattle.saga_script.specs.Limits.{max_script}
 use Rattle.saga_texts.specs.Limits.{max_log}
-use Rattle.saga_tool.specs.Outside.{Text, FileGives, World}
+use Rattle.saga_fleet.specs.Limits.{max_record}
+use Rattle.saga_tool.specs.Outside.{Text, FileGives, InputGives, World}
 use Rattle.saga_texts.specs.Runs.{IsRunOutput}
-use Rattle.saga_tool.specs.Responses.{IsAlone}
-use Rattle.saga_tool.specs.Program.{AreFor, AreGiven, IsFirstUnreadable, IsBesideUnread, IsUnreadFor, IsUnreadable, RunsFiles, AuditsFiles, DrivesFiles, IsOptional, IsOptionalUnreadable, ShowsFiles, IsMisused, DrivesBy, CommandReplies, Ends, IsResponseOf, StopsBy}
+use Rattle.saga_texts.specs.declared.outputs.Output.{Output}
+use Rattle.saga_tool.specs.Responses.{IsAlone, alone}
+use Rattle.saga_tool.specs.Program.{AreFor, AreGiven, IsFirstUnreadable, IsBesideUnread, IsUnreadFor, IsUnreadable, RunsFiles, AuditsBy, AuditsFiles, AuditsRecord, DrivesFiles, IsOptional, IsOptionalUnreadable, ShowsFiles, IsMisused, DrivesBy, CommandReplies, Ends, IsResponseOf, StopsBy, record_gives}
 use Rattle.saga_texts.proofs.ListLemmas.{text_here}
 
 abbrev Files : Type 0
@@ -99,9 +102,38 @@ run_shown texts same script lines shards count shown r texts_are script_is shard
     subst (λ (t : List Text). IsRunOutput t lines count shown) texts_are
     (subst (λ (s : Text). IsRunOutput texts s count shown) script_is (subst (λ (n : ℕ). IsRunOutput texts script n shown) shards_are r))
 
+-- an audit of a log, of a record, and of one with definitions
+pub log_audited : (world : World) (fleet : Bool) (log : Text) (defs : List Text) (r : Result Response Unread) → fleet ≡ false
+    → Ends (AuditsFiles world.file_gives log defs) r → Ends (AuditsBy world fleet log defs) r
+log_audited world fleet log defs r is ends = rw is ends
+
+pub record_audited : (world : World) (fleet : Bool) (record_ : Text) (defs : List Text) (r : Result Response Unread) → fleet ≡ true → length defs ≡ 0
+    → Ends (AuditsRecord world record_) r → Ends (AuditsBy world fleet record_ defs) r
+record_audited world fleet record_ [] r is none ends = rw is ends
+record_audited world fleet record_ (def ∷ more) r is none ends = absurd (omega (arith, none))
+
+pub fleet_misused : (world : World) (fleet : Bool) (record_ : Text) (defs : List Text) (output : Output) (response : Response) → fleet ≡ true → 0 < length defs
+    → IsMisused (codes "error: the argument '--fleet' cannot be used with '[DEF]...'") output → response ≡ alone output → AuditsBy world fleet record_ defs response
+fleet_misused world fleet record_ [] output response is some told same = absurd (omega (arith, some))
+fleet_misused world fleet record_ (def ∷ more) output response is some told same = rw (is, same) (record { replies = told; none = refl })
+
+-- the text of a record is that of standard input, or of a file
+abbrev Reads : InputGives → Text → Result (Vec ℕ Global) Unread → Type 0
+Reads gives path r =
+    IfOk r (λ text. gives max_record (Ok text.items))
+    × IfErr r (StopsBy (λ response. gives max_record (Err file.Unreadable) × IsAlone (IsUnreadable path) response))
+
+pub read_input : (world : World) (path : Text) (r : Result (Vec ℕ Global) Unread) → bytes_eq path (codes "-") ≡ true → Reads world.input_gives path r
+    → Reads (record_gives world path) path r
+read_input world path r is reads = rw is reads
+
+pub read_file : (world : World) (path : Text) (r : Result (Vec ℕ Global) Unread) → bytes_eq path (codes "-") ≡ false → Reads (world.file_gives path) path r
+    → Reads (record_gives world path) path r
+read_file world path r is reads = rw is reads
+
 -- the log and the definitions of an audit: the first file, and the others
 first_and_rest : (world : World) (given : Given) (files : Files) (r : Result Response Unread) (d : Bor Text) → 1 ≤ length files
-    → Ends (AuditsFiles world.file_gives (slice_index_or files 0 d).now (now_of (drop 1 files))) r
+    → Ends (AuditsBy world given.fleet (slice_index_or files 0 d).now (now_of (drop 1 files))) r
     → Ends (CommandReplies world given Audit (now_of files)) r
 first_and_rest world given [] r d least ends = absurd (omega (arith, least))
 first_and_rest world given (a ∷ more) r d least ends = ends
@@ -111,12 +143,12 @@ all_others files = take_all (length files - 1) (drop 1 files) (omega (arith, len
 
 pub audit_replies : (world : World) (given : Given) (name : Name) (files shown : Files) (r : Result Response Unread) (d : Bor Text) → name ≡ Audit → shown ≡ files
     → 1 ≤ length shown
-    → Ends (AuditsFiles world.file_gives (slice_index_or shown 0 d).now (now_of (take (length shown - 1) (drop 1 shown)))) r
+    → Ends (AuditsBy world given.fleet (slice_index_or shown 0 d).now (now_of (take (length shown - 1) (drop 1 shown)))) r
     → Ends (CommandReplies world given name (now_of files)) r
 audit_replies world given name files shown r d is same least ends =
     subst (λ (n : Name). Ends (CommandReplies world given n (now_of files)) r) (sym is)
     (subst (λ (fs : Files). Ends (CommandReplies world given Audit (now_of fs)) r) same
-    (first_and_rest world given shown r d least (subst (λ (fs : Files). Ends (AuditsFiles world.file_gives (slice_index_or shown 0 d).now (now_of fs)) r) (all_others shown) ends)))
+    (first_and_rest world given shown r d least (subst (λ (fs : Files). Ends (AuditsBy world given.fleet (slice_index_or shown 0 d).now (now_of fs)) r) (all_others shown) ends)))
 
 -- the first file that cannot be read
 pub first_unreadable : (gives : FileGives) (limit : ℕ) (paths : Files) (i : ℕ) (d : Bor Text) (texts : List Text) (stop : Unread) → i < length paths

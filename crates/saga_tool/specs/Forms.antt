@@ -85,7 +85,7 @@ outline_for Run = record {
 }
 outline_for Audit = record {
   title = codes "sagas audit";
-  arguments = argument File (codes "LOG") ∷ argument Files (codes "DEF") ∷ [];
+  arguments = argument Flag (codes "fleet") ∷ argument File (codes "LOG") ∷ argument Files (codes "DEF") ∷ [];
 }
 outline_for Draw = record {
   title = codes "sagas draw";

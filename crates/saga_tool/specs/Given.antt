@@ -93,6 +93,7 @@ pub record IsGiven (o : Outline) (words : List Text) (given : Given) : Type 0 wh
   pub log : option_map (λ s. s.now) given.log ≡ first_of (codes "log") (matches_of (app_by o) words)
   pub lines : given.lines ≡ is_set (first_of (codes "lines") (matches_of (app_by o) words))
   pub from : option_map (λ s. s.now) given.from ≡ first_of (codes "from") (matches_of (app_by o) words)
+  pub fleet : given.fleet ≡ is_set (first_of (codes "fleet") (matches_of (app_by o) words))
   pub workers : IsNumber o.arguments (matches_of (app_by o) words) (codes "workers") given.workers
   pub workers_within : (1 ≤ given.workers) × (given.workers ≤ max_number)
   pub shards : IsNumber o.arguments (matches_of (app_by o) words) (codes "shards") given.shards

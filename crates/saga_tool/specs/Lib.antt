@@ -8,4 +8,5 @@ pub mod Command
 pub mod Responses
 pub mod Input
 pub mod Outside
+pub mod Records
 pub mod Program

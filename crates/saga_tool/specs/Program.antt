@@ -1,6 +1,7 @@
 -- The program over any outside: which texts are read, what is replied, and what is shown.
 use Rattle.std.specs.Prelude.{ℕ, Bool, List, [], ◌∷◌, ◌++◌, true, false, Option, Some, None, option_map, take, slice_get, Result, Ok, Err, ⊤, MatchBool, codes, map, ◌≡◌, ◌≢◌, ◌⊎◌}
 use Rattle.std.specs.List.{AllZip}
+use Rattle.std.specs.Str.{bytes_eq}
 use Rattle.std.specs.declared.alloc.AllocError.{AllocError}
 use Rattle.std.specs.String.{string_bytes}
 use Rattle.saga_tool.specs.declared.forms.Name.{Name}
@@ -18,6 +19,7 @@ use Rattle.saga_tool.specs.declared.words.Words.{Words}
 use Rattle.saga_tool.specs.declared.words.WordsFault.{WordsFault}
 use Rattle.saga_tool.specs.declared.words.WordsFault.TheVariants.{Usage, Help, OutOfMemory}
 use Rattle.saga_texts.specs.Limits.{max_certificate, max_log}
+use Rattle.saga_fleet.specs.Limits.{max_record}
 use Rattle.saga_text.specs.Limits.{max_definition}
 use Rattle.saga_script.specs.Limits.{max_script}
 use Rattle.saga_tool.specs.Limits.{max_input}
@@ -31,6 +33,7 @@ use Rattle.saga_serve.specs.Outside.{beside}
 use Rattle.saga_texts.specs.Beside.{HoldsDefinitions, HoldsNone}
 use Rattle.saga_tool.specs.Responses.{IsAlone, IsLogFor}
 use Rattle.saga_texts.specs.Runs.{IsRunOutput}
+use Rattle.saga_tool.specs.Records.{IsRecordOutput}
 use Rattle.saga_tool.specs.Command.{IsCommand, IsWordsFault}
 use Rattle.saga_tool.specs.Outside.{Text, InputGives, FileGives, World}
 
@@ -150,6 +153,24 @@ abbrev pub AuditsFiles : FileGives → Text → List Text → Response → Type 
 AuditsFiles gives log defs =
     AfterFile gives log max_log (λ history. AfterDefinitions gives (Some log) defs (λ texts. IsAlone (IsAuditOutput history texts)))
 
+-- what reading standard input may give, or else a file
+abbrev pub reading_gives : Bool → World → Text → InputGives
+reading_gives true world path = world.input_gives
+reading_gives false world path = world.file_gives path
+
+-- what reading a record may give: `-` is standard input
+abbrev pub record_gives : World → Text → InputGives
+record_gives world path = reading_gives (bytes_eq path (codes "-")) world path
+
+abbrev pub AuditsRecord : World → Text → Response → Type 0
+AuditsRecord world path = AfterReading (record_gives world path) path max_record (λ text. IsAlone (IsRecordOutput text))
+
+-- whether a record is audited, which has no definitions
+abbrev pub AuditsBy : World → Bool → Text → List Text → Response → Type 0
+AuditsBy world false log defs = AuditsFiles world.file_gives log defs
+AuditsBy world true path [] = AuditsRecord world path
+AuditsBy world true path (def ∷ more) = IsAlone (IsMisused (codes "error: the argument '--fleet' cannot be used with '[DEF]...'"))
+
 -- the output to a run of texts, and its log, where it has one, for the file of a path, where there is one
 pub record IsRunResponse (definitions : List Text) (script : Text) (shards : ℕ) (path : Option Text) (response : Response) : Type 0 where
   pub shown : RunOutput
@@ -214,7 +235,7 @@ CommandReplies world given Draw (def ∷ case ∷ []) response = DrawsCase world
 CommandReplies world given Draw (def ∷ case ∷ answer ∷ []) response = DrawsAnswer world.file_gives def case answer response
 CommandReplies world given Drive defs response =
     DrivesBy world given.lines (option_map (λ s. s.now) given.log) (option_map (λ s. s.now) given.from) defs response
-CommandReplies world given Audit (log ∷ defs) response = AuditsFiles world.file_gives log defs response
+CommandReplies world given Audit (log ∷ defs) response = AuditsBy world given.fleet log defs response
 CommandReplies world given name files response = ⊥
 
 -- what is made of want of memory

@@ -85,6 +85,7 @@ pub struct Given<'a> {
     pub log: Option<&'a str>,
     pub lines: bool,
     pub from: Option<&'a str>,
+    pub fleet: bool,
     /// From 1 to 16, and 1 where the command takes no such number; likewise the shards.
     pub workers: usize,
     pub shards: usize,
@@ -186,6 +187,7 @@ pub fn read_by<'a>(alloc: Global, form: &Form<'a>, words: &'a [&'a str]) -> Resu
     let log = matches.get_str("log");
     let lines = has_flag(&matches, "lines");
     let from = matches.get_str("from");
+    let fleet = has_flag(&matches, "fleet");
     let workers = number_of(form, &matches, "workers");
     let shards = number_of(form, &matches, "shards");
     Ok(Given {
@@ -194,6 +196,7 @@ pub fn read_by<'a>(alloc: Global, form: &Form<'a>, words: &'a [&'a str]) -> Resu
         log,
         lines,
         from,
+        fleet,
         workers,
         shards,
     })

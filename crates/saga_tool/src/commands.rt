@@ -1,17 +1,21 @@
 //! What each command replies to its files.
-ghost use Rattle.std.specs.Prelude.{◌≡◌, ◌<◌, ◌≤◌, ◌^◌, IfErr, IfOk, false, map, option_map, true};
+ghost use Rattle.std.specs.Prelude.{◌≡◌, ◌<◌, ◌≤◌, ◌^◌, Ok, Err, IfErr, IfOk, false, map, option_map, true};
+ghost use Rattle.saga_fleet.specs.Limits.{max_record};
 ghost use Rattle.saga_tool.specs.Command.{IsCommand};
 ghost use Rattle.saga_tool.specs.Limits.{max_number};
-ghost use Rattle.saga_tool.specs.Program.{ChecksFiles, PlansFiles, DrawsDefinition, DrawsCase, DrawsAnswer, RunsFiles, IsFree, IsHeld, IsLocked, AuditsFiles, DrivesFiles, DrivesBy, ShowsFiles, IsOptional, IsOptionalUnreadable, CommandReplies, Ends, StopsBy};
+ghost use Rattle.saga_tool.specs.Responses.{IsAlone};
+ghost use Rattle.saga_tool.specs.Program.{AuditsBy, AuditsRecord, record_gives, IsUnreadable, ChecksFiles, PlansFiles, DrawsDefinition, DrawsCase, DrawsAnswer, RunsFiles, IsFree, IsHeld, IsLocked, AuditsFiles, DrivesFiles, DrivesBy, ShowsFiles, IsOptional, IsOptionalUnreadable, CommandReplies, Ends, StopsBy};
 
 use crate::arguments::Given;
-use crate::files::{Unread, misused, text_of, texts_for, texts_of};
+use crate::files::{Unread, misused, text_of, texts_for, texts_of, unreadable};
 use crate::forms::Name;
 use crate::outside::{Locked, Outside};
+use crate::records::judge_record;
 use crate::responses::{Response, alone, log_for};
 use crate::words::Words;
+use saga_fleet::MAX_RECORD;
 use saga_script::MAX_SCRIPT;
-use saga_serve::{drive_lines, drive_texts};
+use saga_serve::{FileFault, drive_lines, drive_texts};
 use saga_text::MAX_DEFINITION;
 use saga_texts::{
     MAX_CERTIFICATE, MAX_LOG, Output, RunOutput, Scene, audit_text, check_text, draw_text,
@@ -22,6 +26,8 @@ use std::sync::Wait;
 use std::thread::Threads;
 
 const LINES_WITH_LOG: &str = "error: the argument '--lines' cannot be used with '--log <F>'";
+
+const FLEET_WITH_DEFINITIONS: &str = "error: the argument '--fleet' cannot be used with '[DEF]...'";
 
 const FROM_WITHOUT_LINES: &str =
     "error: the argument '--from <F>' cannot be used without '--lines'";
@@ -120,6 +126,66 @@ fn audit<R: Threads + Wait + Sync, W: Outside>(
     let texts = texts_for(outside, alloc, Some(log), definitions)?;
     let definitions = slices_of(alloc, &texts)?;
     Ok(alone(audit_text(rt, alloc, &history, &definitions)?))
+}
+
+/// The text of standard input, up to one byte past the limit of a record. What cannot be read is named by the path.
+fn input_of<W: Outside>(outside: &W, alloc: Global, path: &str) -> Result<Vec<u8>, Unread>
+    ensures text { IfOk result (λ text.
+        (W.world outside.now).input_gives max_record (Ok text.items)) }
+    ensures stop { IfErr result (StopsBy (λ response.
+        (W.world outside.now).input_gives max_record (Err FileFault.Unreadable)
+        × IsAlone (IsUnreadable path.now) response)) }
+{
+    match outside.read_input(alloc, MAX_RECORD) {
+        Ok(text) => Ok(text),
+        Err(FileFault::OutOfMemory) => Err(Unread::OutOfMemory),
+        Err(FileFault::Unreadable) => Err(Unread::Unreadable(unreadable(alloc, path)?)),
+    }
+}
+
+/// The text of a record, up to one byte past its limit: that of a file, or of standard input where the path is `-`.
+fn record_of<W: Outside>(outside: &W, alloc: Global, path: &str) -> Result<Vec<u8>, Unread>
+    ensures text { IfOk result (λ text.
+        record_gives (W.world outside.now) path.now max_record (Ok text.items)) }
+    ensures stop { IfErr result (StopsBy (λ response.
+        record_gives (W.world outside.now) path.now max_record (Err FileFault.Unreadable)
+        × IsAlone (IsUnreadable path.now) response)) }
+{
+    if path == "-" {
+        input_of(outside, alloc, path)
+    } else {
+        text_of(outside, alloc, path, MAX_RECORD)
+    }
+}
+
+fn audit_fleet<W: Outside>(outside: &W, alloc: Global, path: &str) -> Result<Response, Unread>
+    ensures { Ends (AuditsRecord (W.world outside.now) path.now) result }
+{
+    let text = record_of(outside, alloc, path)?;
+    Ok(alone(judge_record(alloc, &text)?))
+}
+
+/// What is replied to a command that audits, by whether it is a record that is audited.
+#[tactic(auto, using(crate::proofs::ReplyLemmas::log_audited, crate::proofs::ReplyLemmas::record_audited))]
+fn audit_by<R: Threads + Wait + Sync, W: Outside>(
+    rt: &R,
+    outside: &W,
+    alloc: Global,
+    fleet: bool,
+    log: &str,
+    definitions: &[&str],
+) -> Result<Response, Unread>
+    ensures { Ends (AuditsBy (W.world outside.now) fleet log.now
+        (map (λ s. s.now) definitions.now)) result }
+{
+    if !fleet {
+        return audit(rt, outside, alloc, log, definitions);
+    }
+    if definitions.is_empty() {
+        audit_fleet(outside, alloc, log)
+    } else {
+        Ok(alone(misused(alloc, FLEET_WITH_DEFINITIONS)?))
+    }
 }
 
 /// The text of a file that may be left out: then it is empty.
@@ -279,7 +345,9 @@ pub fn on_command<R: Threads + Wait + Sync, W: Outside>(
         }
         (Name::Run, _) => run_sagas(rt, outside, alloc, &found.given, held),
         (Name::Drive, _) => drive(rt, outside, alloc, &found.given),
-        (Name::Audit, [log, definitions @ ..]) => audit(rt, outside, alloc, log, definitions),
+        (Name::Audit, [log, definitions @ ..]) => {
+            audit_by(rt, outside, alloc, found.given.fleet, log, definitions)
+        }
         _ => unreachable!(),
     }
 }

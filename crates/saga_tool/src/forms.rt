@@ -96,6 +96,13 @@ const ANSWER_IF_ANY: Parameter<'static> = Parameter {
     ..ANSWER
 };
 
+const FLEET: Parameter<'static> = Parameter {
+    kind: Kind::Flag,
+    name: "fleet",
+    shown: "",
+    help: "LOG is a record of what many nodes did to one log, and `-` is standard input; there are no definitions",
+};
+
 const LOG: Parameter<'static> = Parameter {
     kind: Kind::File,
     name: "LOG",
@@ -205,8 +212,8 @@ pub fn form_of(name: Name) -> Form<'static>
             word: "audit",
             title: "sagas audit",
             brief: "judges the log of a run",
-            about: "Audits the log of a run: prints `yes sagas A ended B stuck C events D`, or `no P REASON` for the event of place P, from 0, that was not allowed",
-            parameters: &[LOG, ANY],
+            about: "Audits the log of a run: prints `yes sagas A ended B stuck C events D`, or `no P REASON` for the event of place P, from 0, that was not allowed; with --fleet a record of many nodes: prints `yes sessions A chunks B failovers C events D`, or `no line N REASON` for the first line that was not allowed",
+            parameters: &[FLEET, LOG, ANY],
         },
         Name::Draw => Form {
             word: "draw",

@@ -14,6 +14,7 @@ mod logs;
 mod outside;
 mod parts;
 mod program;
+mod records;
 mod responses;
 mod showing;
 mod system;

@@ -11,6 +11,7 @@ use saga_cert::write_case;
 use saga_core::Book;
 use saga_def::Definition;
 use saga_drive::audit_trail;
+use saga_fleet::{LineFault, Reason, RecordAnswer, audit_record, read_record};
 use saga_history::{Event, first_not_allowed};
 use saga_order::Order;
 use saga_report::report;
@@ -28,6 +29,7 @@ pub enum Call {
     NoneAdopted,
     AuditText,
     Trail,
+    Records,
     Laws,
 }
 
@@ -116,8 +118,56 @@ fn is_right(alloc: Global, on: On<'_, '_>, call: Call) -> Result<bool, AllocErro
             let trail = audit_trail(alloc, on.book)?;
             trail.log.as_str() == TRIP_LOG && trail.answer == YES
         }
+        Call::Records => {
+            judged(alloc, RECORD)? == Some(RECORDED)
+                && judged(alloc, EARLY_RECORD)? == Some(ANSWERED_EARLY)
+        }
         Call::Laws => laws(on),
     })
+}
+
+/// A commit that a synchronous standby has before it is answered.
+const RECORD: &str = "fleet 1 sync
+took 1 0 0
+heard 0
+sent 0 81
+wrote 0 0 81
+safe 1
+heard 0
+told 0 1
+";
+
+/// One that is answered before.
+const EARLY_RECORD: &str = "fleet 1 sync
+took 1 0 0
+heard 0
+sent 0 81
+wrote 0 0 81
+heard 0
+";
+
+const RECORDED: RecordAnswer = RecordAnswer::Yes {
+    sessions: 1,
+    chunks: 1,
+    failovers: 0,
+    events: 7,
+};
+
+const ANSWERED_EARLY: RecordAnswer = RecordAnswer::No {
+    position: 4,
+    reason: Reason::NotShipped,
+};
+
+/// What an audit of a record answers; nothing where the text is none.
+fn judged(alloc: Global, text: &str) -> Result<Option<RecordAnswer>, AllocError> {
+    match read_record(alloc, text.as_bytes()) {
+        Ok(record) => {
+            let answer = audit_record(alloc, record.is_synchronous, &record.events)?;
+            Ok(Some(answer))
+        }
+        Err(LineFault::OutOfMemory) => Err(AllocError),
+        Err(_) => Ok(None),
+    }
 }
 
 /// Whether the order is that of the trip.

@@ -88,6 +88,7 @@ const TRIALS: &[(&str, Tried)] = &[
     ),
     ("each saga_texts::audit_text_alone", Alone(Call::AuditText)),
     ("each saga_drive::audit_trail", Alone(Call::Trail)),
+    ("each saga_fleet::audit_record", Alone(Call::Records)),
     ("none saga_history,laws", Alone(Call::Laws)),
     ("each saga_flow::unbounded_path", Net(Flow::Path)),
     ("each saga_flow::largest", Net(Flow::Largest)),

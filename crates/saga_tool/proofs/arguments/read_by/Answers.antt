@@ -21,6 +21,7 @@ returns-clause-given c =
       log = c.get_str-log.ensures ∙ (first_value-rows f (codes "log") ∙ ap (first_of (codes "log")) is);
       lines = c.has_flag-lines.ensures ∙ ap (λ (rows : List Row). is_set (first_of (codes "lines") rows)) is;
       from = c.get_str-from.ensures ∙ (first_value-rows f (codes "from") ∙ ap (first_of (codes "from")) is);
+      fleet = c.has_flag-fleet.ensures ∙ ap (λ (rows : List Row). is_set (first_of (codes "fleet") rows)) is;
       workers = subst (λ (rows : List Row). IsNumber args rows (codes "workers") c.number_of-workers.result) is c.number_of-workers.ensures.number;
       workers_within = c.number_of-workers.ensures.within;
       shards = subst (λ (rows : List Row). IsNumber args rows (codes "shards") c.number_of-shards.result) is c.number_of-shards.ensures.number;

@@ -32,4 +32,4 @@ returns-in-Draw-len3 g c =
 pub returns-in-Audit-len1-up : goal.returns-in-Audit-len1-up
 returns-in-Audit-len1-up g c =
     audit_replies (g.W.Outside.world c.args.outside.now) c.args.found.now.given c.args.found.now.name c.args.found.now.given.files.items c.as_slice.result.now
-    c.audit.result _ c.in-Audit-len1-up.is-0 c.as_slice.ensures.value c.in-Audit-len1-up.len_at_least c.audit.ensures
+    c.audit_by.result _ c.in-Audit-len1-up.is-0 c.as_slice.ensures.value c.in-Audit-len1-up.len_at_least c.audit_by.ensures
