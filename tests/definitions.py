@@ -11,7 +11,7 @@ import sys
 import textwrap
 
 ROOT = pathlib.Path(__file__).resolve().parent.parent
-PROGRAM = {"check_input", "read_words", "run"}
+PROGRAM = {"check_input", "judge_record", "read_words", "run"}
 
 # Programs that promise nothing, or nothing that others stand on.
 SILENT = {"saga_trials"}

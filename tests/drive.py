@@ -79,10 +79,10 @@ class State:
     def command(self, definitions, log):
         return [self.program, "drive", *(["--log", log] if log else []), *definitions]
 
-    def ran(self, definitions, log, text, settings=None):
+    def ran(self, definitions, log, text, settings=None, seconds=60):
         """A whole run on some input: its status, what it replied and what it said on standard error."""
         done = subprocess.run(
-            self.command(definitions, log), input=text, env=os.environ | (settings or {}), capture_output=True, check=False, timeout=60
+            self.command(definitions, log), input=text, env=os.environ | (settings or {}), capture_output=True, check=False, timeout=seconds
         )
         return done.returncode, done.stdout, done.stderr
 
@@ -832,17 +832,19 @@ def lines(state):
 LOG_FULL = {"refused": "log-full"}
 OPENED = {"def": 0, "event": "open"}
 
-# Two definitions, by their steps and needs: a saga of each has room in one log to the byte; or there is a byte too little, and the second is refused.
-EDGES = [((651, 666), (692, 745), True), ((661, 687), (689, 688), False)]
+# Two definitions, by their steps and needs: three sagas of the first and one of the second have room in one log to the byte; or there is a byte too
+# little, and the last is refused.
+EDGES = [((1018, 8177), (700, 7193), True), ((1024, 8183), (777, 5777), False)]
 
 
-def large(state, name, steps, needs, first=""):
-    """A definition of that size: each step needs some of those right before it."""
-    lines = [f'format = 1\nname = "{name}"\n[[step]]\nname = "s0"\n{first}']
+def large(state, name, steps, needs, first="", tries=""):
+    """A definition of that size, of the greatest costs to run: each step needs some of those right before it."""
+    each = f"run = 1_000_000_000\n{tries}"
+    lines = [f'format = 2\nname = "{name}"\n[[step]]\nname = "s0"\n{each}{first}']
     for step in range(1, steps):
         count = min(step, -(-needs // (steps - step)))
         needs -= count
-        lines.append(f'[[step]]\nname = "s{step}"\nneeds = [' + ", ".join(f'"s{need}"' for need in range(step - count, step)) + "]\n")
+        lines.append(f'[[step]]\nname = "s{step}"\n{each}needs = [' + ", ".join(f'"s{need}"' for need in range(step - count, step)) + "]\n")
     path = state.folder / f"{name}.toml"
     path.write_text("".join(lines), encoding="utf-8")
     return path
@@ -911,7 +913,7 @@ def room(state):
     state.expect("room: after a kill", (one.fill(0), one.abort(3), one.fill(0)), (0, "ended", 1))
     one.end()
     shown_from(state, one, begun, before)
-    return len(one.pairs) + edges(state) + full(state) + unlimited(state, definitions), "requests of full logs"
+    return len(one.pairs) + edges(state) + crowd(state) + full(state) + unlimited(state, definitions), "requests of full logs"
 
 
 def shown_from(state, one, begun, before):
@@ -923,52 +925,100 @@ def shown_from(state, one, begun, before):
 
 
 def edges(state):
-    """The last byte of the room is used, and no more; what fits into no log is refused by each."""
+    """The last byte of the room is used, and no more; a log has room for three sagas of the greatest definition that there is."""
     for number, (first, second, fits) in enumerate(EDGES):
         one = Followed(state, f"edge{number}", [large(state, f"first{number}", *first), large(state, f"second{number}", *second)])
-        one.ask(opening(0))
+        one.ask(opening(0), opening(0), opening(0))
         state.expect(f"room: the edge {number}", one.ask(opening(1)) != LOG_FULL, fits)
         one.end()
-    alone = Followed(state, "alone", [large(state, "greatest", 965, 964), large(state, "greater", 966, 965)])
-    state.expect("room: one that fits into no log", (one_more(alone, 1), one_more(alone, 0)), (False, True))
-    alone.end()
-    return 2 * len(EDGES) + 2
+    greatest = Followed(state, "greatest", [large(state, "greatest", 1024, 8192, tries="tries = 9\nundo_tries = 9\n")])
+    state.expect("room: of the greatest definition", greatest.fill(0), 3)
+    greatest.end()
+    return 4 * len(EDGES) + 4
 
 
-def one_more(one, definition):
-    """Whether a saga is opened."""
-    return one.ask(opening(definition)) != LOG_FULL
+# A saga of a start, fifty items that need it, and a step that needs them all. While an item is left, it is cheaper to run it than to do without.
+ITEMS = 50
+
+
+def crowded(state):
+    """The definition of such a saga."""
+    items = "".join(f'[[step]]\nname = "item{item}"\nneeds = ["start"]\nskip = 1_000_000\n' for item in range(ITEMS))
+    names = ", ".join(f'"item{item}"' for item in range(ITEMS))
+    path = state.folder / "crowd.toml"
+    text = f'format = 2\nname = "crowd"\n[[step]]\nname = "start"\nundo = 1\nkeep = 900_000\n{items}[[step]]\nname = "join"\nneeds = [{names}]\n'
+    path.write_text(text, encoding="utf-8")
+    return path
+
+
+def failing(saga):
+    """The requests by which a saga of a crowd ends in the worst way: each item but one fails, one after the other, each failure is planned, it is aborted,
+    and the compensation of its start fails too."""
+    take, planned = {"do": "take", "saga": saga}, [{"do": "take", "saga": saga}]
+    failed = [[take | {"step": item}, report(saga, item, "fail"), *planned] for item in range(1, ITEMS)]
+    undone = [aborting(saga), *planned, take | {"step": 0}, report(saga, 0, "fail"), *planned]
+    return [take | {"step": 0}, report(saga, 0, "ok"), *(request for part in failed for request in part), *undone]
+
+
+def crowd(state):
+    """A thousand sagas of 52 steps are open in one log. All of them fail in the worst way, in turn, and end: the log takes every line."""
+    definition, log = crowded(state), state.folder / "crowd.log"
+    requests = [line_of(opening(0)) * 1000, *(line_of(request) for saga in range(1000) for request in failing(saga)), line_of({"do": "status"})]
+    status, replies, wrong = state.ran([definition], log, b"".join(requests), seconds=600)
+    told = replies.splitlines()
+    state.expect("crowd: the end", (status, wrong), (0, b""))
+    state.expect("crowd: refused", [line for line in told if line.startswith((b'{"refused"', b'{"fault"'))][:1], [])
+    events = 1000 * (1 + 2 + 2 * (ITEMS - 1) + 3 + 2 * (ITEMS + 1))
+    wanted = {"definitions": ["crowd"], "ended": 1000, "events": events, "opened": 1000, "room": 0, "stuck": 0}
+    state.expect("crowd: how all stand", json.loads(told[-1]), wanted)
+    state.audited(log, [definition])
+    return len(told)
 
 
 START, DROP = b'{"event":"start_plan","saga":0}\n', b'{"event":"drop_plan","saga":0}\n'
 
 
+PLANS = 8192
+
+
 def filled(state, log, left):
-    """A log of two sagas, of which plans of the first were begun and dropped until so many bytes are left of the most that a log may have."""
-    log.write_bytes(HEADER)
+    """A log of two sagas, of which plans of the first were begun and dropped, with blanks before the first event, until so many bytes are left of the
+    most that a log may have. Gives its bytes."""
     begun = b"".join(event.encode() + b"\n" for event in map(written, [OPENED | {"saga": 0}, OPENED | {"saga": 1}, {"event": "abort", "saga": 0}]))
-    pairs, odd = divmod(follower.MAX_LOG - left - len(HEADER) - len(begun), len(START + DROP))
-    log.write_bytes(HEADER + begun.replace(b"{", b" " * odd + b"{", 1) + (START + DROP) * pairs)
+    rest = begun + (START + DROP) * PLANS
+    with log.open("wb") as file:
+        file.write(HEADER)
+        for first in range(0, follower.MAX_LOG - left - len(HEADER) - len(rest), 1_048_576):
+            file.write(b" " * min(1_048_576, follower.MAX_LOG - left - len(HEADER) - len(rest) - first))
+        file.write(rest)
     state.expect("full: the log's bytes", log.stat().st_size, follower.MAX_LOG - left)
+    return log.stat().st_size
+
+
+def behind(log, size):
+    """What a log has behind so many bytes."""
+    with log.open("rb") as file:
+        file.seek(size)
+        return file.read()
 
 
 def full(state):
-    """A log that plans fill, begun and dropped, to its last byte: what fits is written and told, and what does not is neither, not in part."""
+    """A log that is filled to its last byte: what fits is written and told, and what does not is neither, not in part."""
     pair = state.defined("pair")
     log = state.folder / "full.log"
     line = line_of({"event": "abort", "saga": 1})
     wrong = f"sagas: cannot write {log}\n"
     aborted = {"event": {"event": "abort", "saga": 1}, "phase": "draining"}
     for left, more in [(len(line), True), (len(line) - 1, False)]:
-        filled(state, log, left)
+        before = filled(state, log, left)
         beside(log).unlink(missing_ok=True)
-        before = log.read_bytes()
         one = Driven(state, pair, log)
         state.expect(f"full: an abort where {left} bytes are left", one.ask(aborting(1)), aborted if more else None)
         state.expect(f"full: the next task where {left} bytes were left", one.ask(NEXT), None)
         state.expect(f"full: the end where {left} bytes were left", one.end(), (4, wrong))
-        state.expect(f"full: what was written where {left} bytes were left", log.read_bytes().removeprefix(before), line if more else b"")
+        state.expect(f"full: what was written where {left} bytes were left", behind(log, before), line if more else b"")
         state.expect(f"full: a start where {left} bytes were left", state.ran(pair, log, b""), (0, b"", b""))
+    log.unlink()
     return 4
 
 

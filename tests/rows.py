@@ -135,7 +135,10 @@ def words_of(row: Row, paths: dict[str, list[str]], room: Path) -> list[str]:
     if "args" in row.keys:
         places = {"room": str(room), **{key: found[0] for key, found in paths.items()}}
         places |= {f"{key}{number}": path for key, found in paths.items() for number, path in enumerate(found)}
-        words = [word.format(**places) if "{" in word else word for word in row.keys["args"]]
+        words = []
+        for word in row.keys["args"]:
+            more = row.keys.get("times", 1) if word == "{def}" else 1
+            words += [word.format(**places) if "{" in word else word] * more
         return [word.replace("\\xff", "\udcff") for word in words]
     words = [row.command, *row.keys.get("options", [])]
     definitions = paths.get("def", []) * row.keys.get("times", 1)

@@ -12,6 +12,9 @@ pub mod RestartLemmas
 pub mod DropLemmas
 pub mod RestartLawLemmas
 pub mod LegalLemmas
+pub mod ChainLemmas
+pub mod LengthLemmas
+pub mod AmountLemmas
 pub mod RoomLemmas
 pub mod RoomLawLemmas
 pub mod ReadyLawLemmas

@@ -1,5 +1,5 @@
 -- Many tasks that begin one after the other: one more behind the others.
-use Rattle.std.proofs.Common.{◌≡◌, ◌∙◌, ◌↔◌, ℕ, ◌+◌, ◌≤◌, List, [], ◌∷◌, ◌++◌, Bool, true, false, IsTrue, refl, sym, ap, subst, arith, append_assoc, append-nil, codes, flat_map, inl, length, length-append, string_bytes}
+use Rattle.std.proofs.Common.{◌≡◌, ◌∙◌, ◌↔◌, ℕ, ◌+◌, ◌<◌, List, [], ◌∷◌, ◌++◌, Bool, true, false, IsTrue, refl, sym, ap, subst, arith, append_assoc, append-nil, codes, flat_map, inl, length-append, string_bytes}
 use Rattle.std.proofs.lemmas.List.{flat_map_more}
 use Rattle.saga_history.specs.declared.events.Event.{Event}
 use Rattle.saga_history.specs.declared.tasks.Task.{Task}
@@ -10,8 +10,8 @@ use Rattle.saga_drive.specs.declared.replies.Reply.{Reply}
 use Rattle.saga_drive.specs.declared.requests.Request.TheVariants as request
 use Rattle.saga_drive.specs.declared.tellings.Telling.{Telling}
 use Rattle.saga_drive.specs.Answers.{IsMet}
-use Rattle.saga_drive.specs.Starts.{AreReadBack, Starts, NextIsStarted, after}
-use Rattle.saga_drive.specs.Many.{StartInTurn}
+use Rattle.saga_drive.specs.Starts.{AreReadBack, IsUntouched, NextIsStarted, Starts, after}
+use Rattle.saga_drive.specs.Many.{HasStarted, HasStartedAll, HasStartedFewer, IsUntold, StartInTurn, is_some}
 use Rattle.saga_drive.specs.Replies.{last_tasks_front, lines_of, text_of}
 use Rattle.saga_views.specs.Words.{listed}
 use Rattle.saga_drive.specs.Tellings.{comma_if}
@@ -54,10 +54,6 @@ back_both [] rest one other = other
 back_both (e ∷ first) rest one other = (one.0, back_both first rest one.1 other)
 
 -- texts behind each other
-abbrev pub is_some : List (List ℕ) → Bool
-is_some [] = false
-is_some (text ∷ told) = true
-
 is_some-more : (told : List (List ℕ)) (text : List ℕ) → true ≡ is_some (told ++ text ∷ [])
 is_some-more [] text = refl
 is_some-more (x ∷ told) text = refl
@@ -66,19 +62,21 @@ listed_more : (told : List (List ℕ)) (text : List ℕ) → listed (codes ",") 
 listed_more [] text = sym (append-nil text)
 listed_more (x ∷ told) text = flat_map_more (λ y. codes "," ++ y) x told text
 
--- what has begun so far, and what is told of it
-pub record HasStarted (old now : Book) (telling : Telling) (count : ℕ) : Type 0 where
-  pub tasks : List Task
-  pub told : List (List ℕ)
-  pub gained : List Event
-  pub counted : length tasks ≡ count
-  pub told_all : length told ≡ count
-  pub begin : StartInTurn tasks old gained told
-  pub grows : now ≡ after old gained
-  pub back : AreReadBack gained
-  pub text : string_bytes telling.text ≡ listed (codes ",") told
-  pub lines : string_bytes telling.lines ≡ flat_map event_line gained
-  pub apart : telling.apart ≡ is_some told
+-- none has begun
+pub has_started_none : (book : Book) (telling : Telling) → IsUntold telling → HasStarted book book telling 0
+has_started_none book telling untold = record {
+  tasks = [];
+  told = [];
+  gained = [];
+  counted = refl;
+  told_all = refl;
+  begin = (refl, refl);
+  grows = sym (ap (λ h. record book { history = h }) (append-nil book.history));
+  back = tt;
+  text = untold.text;
+  lines = untold.lines;
+  apart = untold.apart;
+}
 
 flat_both : (first rest : List Event) → flat_map event_line first ++ flat_map event_line rest ≡ flat_map event_line (first ++ rest)
 flat_both [] rest = refl
@@ -102,26 +100,55 @@ has_started_more old mid new a b count has (t, first, begun) = record {
   apart = begun.more.apart ∙ is_some-more has.told begun.told;
 }
 
+-- where nothing more happened, what has begun still has
+has_started_still : (old mid new : Book) (a b : Telling) (count : ℕ) → HasStarted old mid a count → IsUntouched mid new a b → HasStarted old new b count
+has_started_still old mid new a b count has (same, untold) = record {
+  tasks = has.tasks;
+  told = has.told;
+  gained = has.gained;
+  counted = has.counted;
+  told_all = has.told_all;
+  begin = has.begin;
+  grows = same ∙ has.grows;
+  back = has.back;
+  text = untold.text ∙ has.text;
+  lines = untold.lines ∙ has.lines;
+  apart = untold.apart ∙ has.apart;
+}
+
+pub has_started_fewer : (old mid new : Book) (a b : Telling) (count most : ℕ) → HasStarted old mid a count → count < most → IsUntouched mid new a b
+    → HasStartedFewer old new b most
+has_started_fewer old mid new a b count most has lt untouched = record {
+  count = count;
+  fewer = lt;
+  started = has_started_still old mid new a b count has untouched;
+}
+
+pub has_started_last : (old mid new : Book) (a b : Telling) (count most : ℕ) → HasStarted old mid a count → count < most → NextIsStarted false mid new a b
+    → HasStartedAll false old new b most
+has_started_last old mid new a b count most has lt (none, same, untold) =
+    (has_started_fewer old mid new a b count most has lt (same, untold), subst (λ (book : Book). NoTaskIsAllowed book) (sym same) none)
+
 -- where no task is left, they are the last
-pub are_the_last : (old mid new : Book) (a b : Telling) (count most : ℕ) (settled : Bool) (front : List ℕ) (reply : Reply) → HasStarted old mid a count → count ≤ most
-    → NextIsStarted false mid new a b → (IsTrue settled ↔ AllAreOver new) → front ≡ last_tasks_front settled
-    → text_of reply ≡ front ++ string_bytes b.text ++ codes "]}\n" → lines_of reply ≡ string_bytes b.lines → IsMet old new (request.NextMany most) reply
-are_the_last old mid new a b count most settled front reply has le (none, same, untold) over is text lines =
-    let grows : new ≡ after old has.gained = same ∙ has.grows in
+pub are_the_last : (old new : Book) (telling : Telling) (most : ℕ) (settled : Bool) (front : List ℕ) (reply : Reply) → HasStartedAll false old new telling most
+    → (IsTrue settled ↔ AllAreOver new) → front ≡ last_tasks_front settled
+    → text_of reply ≡ front ++ string_bytes telling.text ++ codes "]}\n" → lines_of reply ≡ string_bytes telling.lines → IsMet old new (request.NextMany most) reply
+are_the_last old new telling most settled front reply (fewer, none) over is text lines =
+    let has : HasStarted old new telling fewer.count = fewer.started in
     record {
       gained = has.gained;
-      gains = record { grows = grows; logged = lines ∙ (untold.lines ∙ has.lines); back = has.back };
+      gains = record { grows = has.grows; logged = lines ∙ has.lines; back = has.back };
       meets = record {
         tasks = has.tasks;
         told = has.told;
-        within = omega (arith, has.counted, le);
+        within = omega (arith, has.counted, fewer.fewer);
         begin = has.begin;
         end = inl (record {
           none = subst (λ (book : Book). NoTaskIsAllowed book) has.grows none;
           settled = settled;
-          settled_is = subst (λ (book : Book). IsTrue settled ↔ AllAreOver book) grows over;
-          text_is = text ∙ (ap (λ l. l ++ string_bytes b.text ++ codes "]}\n") is
-              ∙ ap (λ l. last_tasks_front settled ++ l ++ codes "]}\n") (untold.text ∙ has.text));
+          settled_is = subst (λ (book : Book). IsTrue settled ↔ AllAreOver book) has.grows over;
+          text_is = text ∙ (ap (λ l. l ++ string_bytes telling.text ++ codes "]}\n") is
+              ∙ ap (λ l. last_tasks_front settled ++ l ++ codes "]}\n") has.text);
         });
       };
     }

@@ -1,10 +1,14 @@
 -- Many tasks that begin one after the other.
-use Rattle.std.specs.Prelude.{◌≡◌, ℕ, ◌<◌, ◌≤◌, ◌⊎◌, ◌↔◌, ◌∷◌, ◌++◌, [], List, Bool, IsTrue, length}
+use Rattle.std.specs.Prelude.{◌≡◌, ℕ, ◌<◌, ◌≤◌, ◌⊎◌, ◌↔◌, ◌∷◌, ◌++◌, [], List, Bool, true, false, IsTrue, codes, flat_map, length}
+use Rattle.std.specs.String.{string_bytes}
 use Rattle.saga_history.specs.declared.events.Event.{Event}
 use Rattle.saga_history.specs.declared.tasks.Task.{Task}
 use Rattle.saga_core.specs.Book.{Book}
 use Rattle.saga_core.specs.Tasks.{AllAreOver, IsFirstTask, NoTaskIsAllowed}
-use Rattle.saga_drive.specs.Starts.{Starts, after}
+use Rattle.saga_log.specs.Logs.{event_line}
+use Rattle.saga_views.specs.Words.{listed}
+use Rattle.saga_drive.specs.declared.tellings.Telling.{Telling}
+use Rattle.saga_drive.specs.Starts.{AreReadBack, Starts, after}
 use Rattle.saga_drive.specs.Replies.{last_tasks_text, tasks_text}
 
 -- tasks begin one after the other, each as the first that may, and each is told by a text
@@ -36,3 +40,40 @@ pub record TakesMany (book : Book) (most : ℕ) (gained : List Event) (text : Li
   pub within : length tasks ≤ most
   pub begin : StartInTurn tasks book gained told
   pub end : AreTheLast (after book gained) told text ⊎ AreTheFirst most told text
+
+-- ---- what is told while they begin
+
+-- nothing yet
+pub record IsUntold (telling : Telling) : Type 0 where
+  pub text : string_bytes telling.text ≡ []
+  pub lines : string_bytes telling.lines ≡ []
+  pub apart : telling.apart ≡ false
+
+abbrev pub is_some : List (List ℕ) → Bool
+is_some [] = false
+is_some (text ∷ told) = true
+
+-- so many tasks have begun, and those are told, with their lines of the log
+pub record HasStarted (old now : Book) (telling : Telling) (count : ℕ) : Type 0 where
+  pub tasks : List Task
+  pub told : List (List ℕ)
+  pub gained : List Event
+  pub counted : length tasks ≡ count
+  pub told_all : length told ≡ count
+  pub begin : StartInTurn tasks old gained told
+  pub grows : now ≡ after old gained
+  pub back : AreReadBack gained
+  pub text : string_bytes telling.text ≡ listed (codes ",") told
+  pub lines : string_bytes telling.lines ≡ flat_map event_line gained
+  pub apart : telling.apart ≡ is_some told
+
+-- fewer than so many have begun
+pub record HasStartedFewer (old now : Book) (telling : Telling) (most : ℕ) : Type 0 where
+  pub count : ℕ
+  pub fewer : count < most
+  pub started : HasStarted old now telling count
+
+-- just so many have begun; or fewer, and none is behind them
+abbrev pub HasStartedAll : Bool → Book → Book → Telling → ℕ → Type 0
+HasStartedAll true old now telling most = HasStarted old now telling most
+HasStartedAll false old now telling most = HasStartedFewer old now telling most × NoTaskIsAllowed now

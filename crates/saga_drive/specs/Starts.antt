@@ -1,5 +1,5 @@
 -- How a task begins: which events the history gains, and what is told of it.
-use Rattle.std.specs.Prelude.{◌≡◌, ℕ, ◌≤◌, ◌+◌, ◌*◌, ◌∷◌, ◌++◌, [], List, Bool, true, false, flat_map, length}
+use Rattle.std.specs.Prelude.{◌≡◌, ℕ, ◌∷◌, ◌++◌, [], List, Bool, true, false, flat_map}
 use Rattle.saga_case.specs.Right.{IsRight}
 use Rattle.saga_case.specs.Situation.{Situation}
 use Rattle.saga_case.specs.Terms.{terms_of}
@@ -22,11 +22,9 @@ use Rattle.saga_core.specs.Saga.{HasSaga, Saga}
 use Rattle.saga_core.specs.Tasks.{IsFirstTask, NoTaskIsAllowed, StandsAt, MayStart}
 use Rattle.saga_log.specs.Back.{IsReadBack}
 use Rattle.saga_log.specs.Logs.{event_line}
-use Rattle.saga_log.specs.Short.{max_line}
 use Rattle.saga_drive.specs.declared.tellings.Telling.{Telling}
 use Rattle.saga_views.specs.Tasks.{taken_text}
 use Rattle.saga_drive.specs.Replies.{plan_text}
-use Rattle.saga_drive.specs.Room.{answer_room}
 use Rattle.saga_drive.specs.Tellings.{TellsMore, TellsSame}
 
 -- the book after some events
@@ -49,13 +47,11 @@ pub record Takes (book : Book) (kind : Kind) (i s : ℕ) (gained : List Event) (
   pub is : HasSaga book i saga
   pub told_is : told ≡ taken_text kind saga s
 
--- a plan begins and ends, with an answer that is right for the present case, and of which the log's lines have the room that is kept
--- for it; it is told where the saga stands then
+-- a plan begins and ends, with an answer that is right for the present case; it is told where the saga stands then
 pub record Plans (book : Book) (i : ℕ) (gained : List Event) (told : List ℕ) : Type 0 where
   pub answer : Answer
   pub right : OfSaga book i (λ d l. IsRight (terms_of (present_case d l)) answer)
   pub both : gained ≡ event.StartPlan i ∷ event.Adopt i answer ∷ []
-  pub fits : OfSaga book i (λ d l. length (flat_map event_line gained) ≤ 2 * max_line + answer_room d)
   pub phase : Phase
   pub stands : StandsAt (after book gained) i phase
   pub told_is : told ≡ plan_text answer phase i

@@ -11,7 +11,6 @@ ghost use Rattle.saga_drive.specs.Starts.{Started, HoldsPlan, IsUntouched, NextI
 
 use crate::phases::{phase_in, word_of};
 use crate::replies::{item_of_plan, item_of_task};
-use crate::room::plan_fits;
 use crate::tellings::Telling;
 use saga_case::Case;
 use saga_check::{Verdict, verify};
@@ -117,9 +116,6 @@ pub fn plan_case<'d>(
 {
     let answer = plan(alloc, &case)?;
     let item = item_of_plan(alloc, saga, &answer)?;
-    if !plan_fits(case.definition(), item.lines.as_str()) {
-        return Err(AllocError);
-    }
     telling.make_room(&item)?;
     let Ok(verdict) = verify(case, answer) else {
         unreachable!()

@@ -1,4 +1,4 @@
--- What a drive comes to, over any outside.
+-- The result of a drive, for every operating system.
 pub mod Limits
 pub mod Outside
 pub mod Logs

@@ -1,4 +1,5 @@
-//! The definitions beside a log: what was read there is compared, and where nothing stands there the file is made.
+//! The definitions file beside a log. A drive compares it with its own definitions, and makes it if
+//! there is none.
 ghost use Rattle.std.specs.Prelude.{◌≡◌, ◌≢◌, ◌≤◌, ◌↔◌, IfErr, IfOk, IsTrue, Ok, OnOk, Some, None, length, map};
 ghost use Rattle.saga_texts.specs.Beside.{definitions_file};
 ghost use Rattle.saga_serve.specs.Drives.{BesideEnds, HaltsAs, IsDefined, IsDiffering};
@@ -21,7 +22,7 @@ fn is_same(one: &[u8], other: &[u8]) -> bool
     one == other
 }
 
-/// How a file that is not that of the definitions differs from it.
+/// Returns how a definitions file differs from the file of the given definitions.
 fn difference(alloc: Global, found: &[u8], definitions: &[&[u8]]) -> Result<Ending, AllocError>
     requires { found.now ≢ definitions_file (map (λ t. t.now) definitions.now) }
     ensures { IfOk result (IsDiffering found.now (map (λ t. t.now) definitions.now)) }
@@ -35,7 +36,7 @@ fn difference(alloc: Global, found: &[u8], definitions: &[&[u8]]) -> Result<Endi
     }
 }
 
-/// Compares what was read beside a log.
+/// Compares the definitions file that was read beside a log.
 fn compare(alloc: Global, found: &[u8], definitions: &[&[u8]]) -> Result<(), Halt>
     ensures same { IfOk result (λ _. found.now ≡ definitions_file (map (λ t. t.now) definitions.now)) }
     ensures other { IfErr result (HaltsAs (IsDiffering found.now (map (λ t. t.now) definitions.now))) }
@@ -47,7 +48,8 @@ fn compare(alloc: Global, found: &[u8], definitions: &[&[u8]]) -> Result<(), Hal
     Err(Halt::Early(difference(alloc, found, definitions)?))
 }
 
-/// Makes the file beside a log of which that was read, once that is found good over the definitions.
+/// Makes the definitions file beside a log. `text` is the content of the log. The file is made only
+/// if this content is valid for the definitions.
 fn make<W: Outside>(
     outside: &W,
     alloc: Global,
@@ -73,8 +75,9 @@ fn make<W: Outside>(
     }
 }
 
-/// Sees to it that the definitions are on the disk beside a log of which that was read: those that stand there are the same, or none
-/// stand there and the file is made.
+/// Ensures that the definitions are on the disk beside a log. `text` is the content of the log. If
+/// there is a definitions file, it must have the same definitions. If there is none, this call
+/// makes it.
 pub fn define<W: Outside>(
     outside: &W,
     alloc: Global,

@@ -1,4 +1,4 @@
-//! How a drive ends, and what is said of it.
+//! How a drive ends, and its output at the end.
 ghost use Rattle.std.specs.Prelude.{◌≡◌, ◌++◌, [], IfOk, option_map};
 ghost use Rattle.std.specs.String.{string_bytes};
 ghost use Rattle.saga_serve.specs.Drives.{cut_line, err_of, history_line, path_of, place_line, status_of, suffix_of};
@@ -11,34 +11,35 @@ use saga_text::TextFault;
 use saga_texts::{Output, numbered_line};
 use std::alloc::{AllocError, Global};
 
-/// What a drive reads and writes.
+/// A file or stream that a drive reads or writes.
 #[derive(Clone, Copy, Debug, PartialEq, Eq)]
 pub enum Stream {
-    /// Standard input, or standard output.
+    /// Standard input or standard output.
     Standard,
     Log,
-    /// The file of definitions beside the log.
+    /// The definitions file beside the log.
     Beside,
 }
 
 /// How a drive ends.
 #[derive(Debug, Drop)]
 pub enum Ending {
-    /// With standard input.
+    /// Standard input ended.
     Ended,
     TooManyDefinitions,
-    /// The first definition with a fault, from 0.
+    /// The index, from 0, of the first definition with an error, and its error.
     Definition { place: usize, why: TextFault },
     LogTooLong,
-    /// The first place, from 0, where the definitions are not those that are stored beside the log.
+    /// The first index, from 0, at which the definitions differ from those that are stored beside
+    /// the log.
     OtherDefinition(usize),
-    /// What stands beside the log is no file of definitions.
+    /// The file beside the log is not a definitions file.
     BadDefinitions,
-    /// The log has lines, and does not begin with the header.
+    /// The log has lines and does not start with the header.
     NoHeader,
-    /// The first faulty line of the log, from 1.
+    /// The number, from 1, of the first invalid line of the log, and its error.
     Line { line: usize, why: JsonFault },
-    /// The events of the log are no history that can be gone on with.
+    /// A book cannot continue from the events of the log.
     History(ReplayRefusal),
     /// Another process holds the log.
     Locked,
@@ -46,7 +47,7 @@ pub enum Ending {
     Unwritable(Stream),
 }
 
-/// The path of a stream, as it is told.
+/// Returns the path of a stream, as messages show it.
 fn path_of<'a>(log: Option<&'a str>, stream: Stream) -> &'a str
     ensures { result.now ≡ path_of (option_map (λ s. s.now) log.entry) stream }
 {
@@ -56,7 +57,7 @@ fn path_of<'a>(log: Option<&'a str>, stream: Stream) -> &'a str
     }
 }
 
-/// What is told behind the path.
+/// Returns the suffix that messages show after the path.
 fn suffix_of(stream: Stream) -> &'static str
     ensures { result.now ≡ suffix_of stream }
 {
@@ -66,7 +67,7 @@ fn suffix_of(stream: Stream) -> &'static str
     }
 }
 
-/// A line on a stream.
+/// Makes a message about a stream.
 fn stream_line(
     alloc: Global,
     start: &str,
@@ -83,14 +84,14 @@ fn stream_line(
     Ok(line)
 }
 
-/// A word for the event of a place.
+/// Makes a message with a word for the event at an index.
 fn place_line(alloc: Global, place: usize, word: &str) -> Result<String, AllocError>
     ensures { IfOk result (λ text. string_bytes text ≡ place_line place word.now) }
 {
     numbered_line(alloc, "sagas: log: no ", place, " ", word)
 }
 
-/// Why the events of a log are no history that can be gone on with.
+/// Makes the message that says why a book cannot continue from the events of a log.
 fn history_line(alloc: Global, why: ReplayRefusal) -> Result<String, AllocError>
     ensures { IfOk result (λ text. string_bytes text ≡ history_line why) }
 {
@@ -102,7 +103,7 @@ fn history_line(alloc: Global, why: ReplayRefusal) -> Result<String, AllocError>
     }
 }
 
-/// The note on what was taken away of a log.
+/// Makes the message that says how many bytes were removed from a log.
 pub fn cut_line(alloc: Global, count: usize) -> Result<String, AllocError>
     ensures { IfOk result (λ text. string_bytes text ≡ cut_line count) }
 {
@@ -151,7 +152,8 @@ fn status(ending: &Ending) -> u8
     }
 }
 
-/// What is said in the end: nothing on standard output, and at most one line on standard error.
+/// Returns the output at the end of a drive: nothing on standard output, and at most one line on
+/// standard error.
 pub fn output_of_drive(
     alloc: Global,
     log: Option<&str>,

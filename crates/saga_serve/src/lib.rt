@@ -1,9 +1,16 @@
-//! Serves another program that does the actions of sagas: the loop of `sagas drive`.
+//! The loop of `sagas drive`. It serves another program, which executes the actions of sagas.
 //!
-//! [`drive_texts`] reads the definitions of texts, goes on from a log where there is one, and answers requests, a line each, until
-//! they end. It does so over whatever [`Outside`] it is given. [`drive_log`], which it calls where there is a log, says that what was
-//! told survives, and which replies are told: those to all requests that have arrived, each once, in order. [`drive_lines`] writes no
-//! log: it shows the lines of each reply before it, for a program that stores them; [`show_log`], which it calls, says the same of them.
+//! [`drive_texts`] reads definitions, continues from a log if there is one, and replies to requests
+//! until standard input ends. Each request is one line. An implementation of [`Outside`] gives the
+//! files and streams.
+//!
+//! With a log, [`drive_texts`] calls [`drive_log`]. The contract of [`drive_log`] says two things.
+//! Each reply that was written survives a crash. The replies are those to all requests that
+//! arrived, each once, in order.
+//!
+//! [`drive_lines`] writes no log. Before each reply it shows the log lines of that reply, for a
+//! program that stores them. It calls [`show_log`], whose contract says which replies and lines it
+//! writes: those to all requests that arrived, each once, in order.
 #![tactic(auto)]
 
 mod besides;

@@ -1,13 +1,15 @@
 //! The limits of a drive.
 
-/// How many bytes of standard input are taken at once.
+/// The maximum number of bytes that one read takes from standard input.
 pub const AT_ONCE: usize = 65_536;
 
-/// How many bytes of replies may wait before they are written.
+/// The number of bytes of waiting replies from which on a drive writes them.
 pub const MAX_WAITING: usize = 1_048_576;
 
-/// How many bytes of a log are left free for the plans that starts drop: what sagas may write themselves is counted apart.
+/// The number of bytes of a log that are reserved for the plans that later starts drop. The bytes
+/// that open sagas may still write are counted separately.
 pub const SPARE: usize = 1_048_576;
 
-/// The most bytes of the file of definitions beside a log: 64 definitions of the most bytes, each with its line.
+/// The maximum size, in bytes, of the definitions file beside a log: 64 definitions of maximum
+/// size, each with its line.
 pub const MAX_BESIDE: usize = 67_112_960;

@@ -1,9 +1,9 @@
-//! Why a drive ends before standard input does.
+//! Why a drive ends before standard input ends.
 use crate::endings::Ending;
 use std::alloc::AllocError;
 use std::convert::From;
 
-/// Why a drive stops before standard input ends: by an ending that is told, or for want of memory.
+/// Why a drive stops before standard input ends: an ending with a message, or lack of memory.
 #[derive(Drop)]
 pub enum Halt {
     Early(Ending),

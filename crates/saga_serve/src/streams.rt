@@ -1,15 +1,16 @@
-//! Standard input and standard output, as a conversation sees them.
+//! Standard input and standard output, as a conversation uses them.
 ghost use Rattle.std.specs.Prelude.{◌≡◌, ◌⊎◌, ◌≤◌, ◌++◌, ℕ, List, [], IfOk, OnErr, length, take};
 
 use crate::outside::FileFault;
 
-/// Standard input as it arrives.
+/// Standard input, as it arrives.
 pub trait Requests: Drop {
-    /// All that has arrived.
+    /// Everything that has arrived.
     ghost arrived: { Self → List ℕ };
 
-    /// Waits until something has arrived, and takes what has, as far as the buffer goes; 0 at the end. Once anything has arrived, it
-    /// is waited only where no reply waits to be told.
+    /// Waits until something has arrived, and takes up to the length of the buffer. Returns the
+    /// number of bytes, which is 0 at the end of the input. After the first byte has arrived, a
+    /// caller may wait only if no reply waits to be written.
     fn take(&mut self, buffer: &mut [u8], waiting: &str) -> Result<usize, FileFault>
         requires { (waiting.now ≡ []) ⊎ (arrived self.old ≡ []) }
         ensures count { IfOk result (λ count. count ≤ length buffer.new) }
@@ -17,12 +18,12 @@ pub trait Requests: Drop {
         ensures none { OnErr result (arrived self.new ≡ arrived self.old) };
 }
 
-/// Standard output, where no log is written.
+/// Standard output of a drive that writes no log.
 pub trait Replies: Drop {
-    /// All that was written; the last of it maybe in part, where that failed.
+    /// Everything that was written. If the last write failed, its text may be there only in part.
     ghost told: { Self → List ℕ };
 
-    /// Writes a text; false where the rest of it cannot be written.
+    /// Writes a text. Returns false if it cannot be written completely.
     fn print(&mut self, text: &str) -> bool
         ensures { told self.new ≡ told self.old ++ text.now };
 }

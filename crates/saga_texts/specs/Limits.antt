@@ -6,7 +6,7 @@ abbrev pub max_certificate : ℕ
 max_certificate = 67108864
 
 abbrev pub max_log : ℕ
-max_log = 67108864
+max_log = 536870912
 
 -- how many definitions a shelf has at most
 abbrev pub max_shelf : ℕ

@@ -4,7 +4,7 @@
 pub const MAX_CERTIFICATE: usize = 67_108_864;
 
 /// The most bytes of a log.
-pub const MAX_LOG: usize = 67_108_864;
+pub const MAX_LOG: usize = 536_870_912;
 
 /// The most definitions of an audit.
 pub const MAX_SHELF: usize = 64;

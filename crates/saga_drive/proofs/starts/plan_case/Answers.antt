@@ -1,16 +1,10 @@
-use Rattle.std.proofs.Common.{◌≡◌, ◌∙◌, ◌+◌, ◌≤◌, ◌++◌, ◌∷◌, [], ℕ, List, ap, flat_map, length, refl, rules, string_bytes, subst}
-use Rattle.saga_def.specs.Contents.{Contents}
-use Rattle.saga_case.specs.Situation.{Situation}
-use Rattle.saga_history.specs.declared.events.Event.{Event}
-use Rattle.saga_history.specs.Turns.{present_case}
-use Rattle.saga_log.specs.Logs.{event_line}
+use Rattle.std.proofs.Common.{◌≡◌, ◌∙◌, ◌++◌, ◌∷◌, [], ap, refl, rules}
 use Rattle.saga_case.specs.declared.answers.Answer.{Answer}
 use Rattle.saga_history.specs.declared.events.Event.TheVariants as event
 use Rattle.saga_drive.proofs.PairLemmas.{right_is_paired}
-use Rattle.saga_drive.proofs.KnownLemmas.{known, weaker}
+use Rattle.saga_drive.proofs.KnownLemmas.{known}
 use Rattle.saga_drive.proofs.PlanLemmas.{grown, holds_plan, more_after, right_now, two_lines}
 use Rattle.saga_drive.specs.Replies.{plan_text}
-use Rattle.saga_drive.specs.Room.{answer_room}
 use Rattle.saga_drive.specs.Tellings.{told_of}
 use Rattle.saga_drive.proofs.starts.plan_case.Goals as goal
 
@@ -37,10 +31,6 @@ returns-clause-ok c =
     let same : c.in-Ok.verdict.answer ≡ answer = search rules in
     let all : c.end_plan.new.book ≡ record book { history = book.history ++ event.StartPlan c.args.saga ∷ event.Adopt c.args.saga answer ∷ [] } =
     grown book c.start_plan.new.book c.end_plan.new.book (event.StartPlan c.args.saga) (event.Adopt c.args.saga answer) begun (rw same at c.end_plan.ensures.adopted) in
-    let gained : List Event = event.StartPlan c.args.saga ∷ event.Adopt c.args.saga answer ∷ [] in
-    let lines : string_bytes item.lines ≡ flat_map event_line gained = c.in_ok-item.ensures.lines ∙ two_lines (event.StartPlan c.args.saga) (event.Adopt c.args.saga answer) in
-    let short : length (flat_map event_line gained) ≤ 128 + answer_room c.args.case.definition =
-    subst (λ (l : List ℕ). length l ≤ 128 + answer_room c.args.case.definition) (c.as_str.ensures.value ∙ lines) (rw c.definition.ensures.value at (c.if-not-plan_fits.ensures.0 refl)) in
     record {
       gained = event.StartPlan c.args.saga ∷ event.Adopt c.args.saga answer ∷ [];
       told = plan_text answer c.phase_in.result c.args.saga;
@@ -52,8 +42,6 @@ returns-clause-ok c =
       allowed = c.requires.allowed;
       begins = record {
         answer = answer;
-        fits = weaker book c.args.saga (λ d l. c.args.case ≡ present_case d l) (λ d l. length (flat_map event_line gained) ≤ 128 + answer_room d)
-            (λ d l same. subst (λ (d' : Contents). length (flat_map event_line gained) ≤ 128 + answer_room d') (ap (λ (s : Situation). s.definition) same) short) c.requires.case;
         right = right_now book c.args.saga c.args.case answer c.requires.case c.in_ok-answer.ensures.right;
         both = refl;
         phase = c.phase_in.result;

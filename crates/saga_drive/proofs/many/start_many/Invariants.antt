@@ -1,5 +1,5 @@
-use Rattle.saga_drive.proofs.ManyLemmas.{HasStarted}
-use Rattle.saga_drive.proofs.many.next_many.Given as goal
+use Rattle.saga_drive.specs.Many.{HasStarted}
+use Rattle.saga_drive.proofs.many.start_many.Given as goal
 
 abbrev pub invariant-loop-count : goal.invariant-loop-count
 invariant-loop-count l = HasStarted l.initial.book l.book l.telling l.count
