@@ -64,7 +64,7 @@ enum sagas_status {
 /* The most bytes of each text, and the most definitions of an audit or a coordinator. */
 #define SAGAS_MAX_DEFINITION 1048576
 #define SAGAS_MAX_CERTIFICATE 67108864
-#define SAGAS_MAX_LOG 67108864
+#define SAGAS_MAX_LOG 536870912
 #define SAGAS_MAX_DEFINITIONS 64
 #define SAGAS_MAX_REQUEST 65536
 
