@@ -4,6 +4,8 @@ from __future__ import annotations
 
 import builtins
 import json
+import os
+import secrets
 from collections.abc import Coroutine
 from types import TracebackType
 from typing import TYPE_CHECKING, Any, TypeVar
@@ -38,6 +40,7 @@ from sagas.storage.factory import FORM
 from sagas.storage.postgresql import caller_connection
 from sagas.storage.postgresql import connections as connections_module
 from sagas.storage.postgresql import key_finder, notifications, saga_requests, schema
+from sagas.storage.record_file import RecordFile, told_path
 
 if TYPE_CHECKING:
     from sagas.storage.postgresql.connections import Row
@@ -71,7 +74,7 @@ class Client(Schedules):
 
     def __init__(
         self, url: str, *, connections: int = 4, codec: Codec | None = None,
-        blobs: BlobStore | None = None,
+        blobs: BlobStore | None = None, record: str | os.PathLike[str] | None = None,
     ) -> None:  # fmt: skip
         """Make a client, to be entered by `async with`.
 
@@ -81,6 +84,7 @@ class Client(Schedules):
                 listens.
             codec: As of `sagas.open` (default: values are stored as JSON).
             blobs: As of `sagas.open`: where large results are read (default: in the database).
+            record: As of `sagas.open`: a file for the ends that it is told.
 
         Raises:
             InvalidStore: It is not a URL of PostgreSQL.
@@ -96,6 +100,7 @@ class Client(Schedules):
         self._reader = AsyncStoreReader(self._read, self._read)
         self._opened = Opened("the client")
         self._news: notifications.News | None = None
+        self._record = RecordFile.of(told_path(arguments.record(record)), secrets.token_hex(4))
         self._kinds: dict[str, Kind] = {}
         check_blobs(blobs, LEAST)
         self._payloads = payloads.checked(codec)
@@ -142,6 +147,8 @@ class Client(Schedules):
                     f"{self.path}: the store has no tables yet. Start a node, or run `sagas store "
                     "URL init`"
                 )
+            if self._record:
+                self._record.open()
         except BaseException:
             await self._asker.close()
             raise
@@ -166,6 +173,8 @@ class Client(Schedules):
                 await self._asker.close()
         finally:
             self._opened.end()
+            if self._record:
+                self._record.close()
 
     @property
     def _heard(self) -> notifications.News:
@@ -221,11 +230,9 @@ class Client(Schedules):
     async def _in_time(
         self, key: str, work: Coroutine[Any, Any, SagaResult], timeout: float | None
     ) -> SagaResult:
-        return (
-            await work
-            if timeout is None
-            else await timeouts.in_time(key, work, timeout, lambda: self.waits_for(key))
-        )
+        if timeout is None:
+            return await work
+        return await timeouts.in_time(key, work, timeout, lambda: self.waits_for(key))
 
     async def _wait(self, key: str, words: dict[str, Any] | None) -> SagaResult:
         turn, before = 0, None
@@ -234,6 +241,8 @@ class Client(Schedules):
             if words:
                 client_start.check_same(words, [(row.saga, row.input)])
             if row.phase is not None:
+                if self._record:
+                    self._record.seen(row.id, "client")
                 return await self._end(row)
             pending.check_refused(row)
             turn, before = (turn + 1 if row.id == before else 0), row.id

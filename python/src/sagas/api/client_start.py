@@ -10,8 +10,8 @@ from weakref import WeakKeyDictionary, WeakSet
 
 import psycopg
 
-from sagas.base.errors import StoreUnavailable, TooLarge
-from sagas.definition import arguments, capacity, children, definition_text
+from sagas.base.errors import StoreUnavailable
+from sagas.definition import arguments, children, definition_text
 from sagas.definition import serialization, shape_text, tracing, validation
 from sagas.definition.compiled import digest_of
 from sagas.definition.labels import Labels, checked
@@ -73,40 +73,31 @@ def check_same(words: dict[str, Any], rows: list[Row]) -> None:
             raise error
 
 
-def check_start(words: dict[str, Any], rows: list[Row], unfit: TooLarge | None) -> None:
-    """As `check_same`; raises `TooLarge` where nothing has the key yet, and the saga fits into
-    no log.
-    """
-    if unfit and not rows:
-        raise unfit
-    check_same(words, rows)
-
-
-async def start(link: Connection, words: dict[str, Any], unfit: TooLarge | None) -> bool:
+async def start(link: Connection, words: dict[str, Any]) -> bool:
     """A row, and then a look whether another has the key: in this order, so that no start of the
-    same key can pass unseen. What fits into no log gets none. Whether the row is there.
+    same key can pass unseen. Whether the row is there.
     """
-    own = [] if unfit else await caller_connection.rows(link, START, words)
+    own = await caller_connection.rows(link, START, words)
     rows = await caller_connection.rows(
         link, THERE, {"key": words["key"], "own": [id for (id,) in own]}
     )
     if rows and own:
         await psycopg.AsyncCursor(link).execute(BACK, {"own": [id for (id,) in own]})
-    check_start(words, rows, unfit)
+    check_same(words, rows)
     if is_renewed(words, rows):
         await caller_connection.rows(link, RENEW, words)
     return bool(own) and not rows
 
 
-def start_now(link: psycopg.Connection[Any], words: dict[str, Any], unfit: TooLarge | None) -> bool:
+def start_now(link: psycopg.Connection[Any], words: dict[str, Any]) -> bool:
     """As `start`, where it stands."""
-    own = [] if unfit else caller_connection.rows_now(link, START, words)
+    own = caller_connection.rows_now(link, START, words)
     rows = caller_connection.rows_now(
         link, THERE, {"key": words["key"], "own": [id for (id,) in own]}
     )
     if rows and own:
         psycopg.Cursor(link).execute(BACK, {"own": [id for (id,) in own]})
-    check_start(words, rows, unfit)
+    check_same(words, rows)
     if is_renewed(words, rows):
         caller_connection.rows_now(link, RENEW, words)
     return bool(own) and not rows
@@ -148,15 +139,14 @@ class ClientStarter:
 
     async def start(self, words: dict[str, Any], connection: Connection | None) -> bool:
         """Writes a start; whether the row is there."""
-        unfit = capacity.unfit(words["of"])
         if connection is None:
-            return await self._alone(words, unfit)
+            return await self._alone(words)
         store = [] if connection in self._checked else await self.database()
         with caller_connection.faults(connection, self._path):
             if store:
                 found = await caller_connection.rows(connection, caller_connection.HERE, {})
                 caller_connection.check_database(connection, found, store, self._path)
-            new = await start(connection, words, unfit)
+            new = await start(connection, words)
         self._checked.add(connection)
         return new
 
@@ -169,18 +159,18 @@ class ClientStarter:
             if store:
                 found = caller_connection.rows_now(connection, caller_connection.HERE, {})
                 caller_connection.check_database(connection, found, store, self._path)
-            new = start_now(connection, words, capacity.unfit(words["of"]))
+            new = start_now(connection, words)
         self._checked.add(connection)
         return new
 
-    async def _alone(self, words: dict[str, Any], unfit: TooLarge | None) -> bool:
+    async def _alone(self, words: dict[str, Any]) -> bool:
         """A start in a transaction of its own. Connections that the server has ended meanwhile are
         tried past, all that there may be: a start that is made twice is one, by its key."""
         for left in reversed(range(self._most + 1)):
             try:
                 with connections.faults(self._path):
                     async with self._asker.pool.connection() as link, link.transaction():
-                        return await start(link, words, unfit)
+                        return await start(link, words)
             except StoreUnavailable as error:
                 if not (left and connections.was_cut(error)):
                     raise

@@ -19,7 +19,7 @@ from sagas.base.errors import (
 )
 from sagas.core import attempts, attention, early_reports, exhaustion, progress, step_reports
 from sagas.core.batch import Asked, Batch, SagaRow, Wanted
-from sagas.core.early_reports import EarlyReport
+from sagas.core.early_reports import EarlyReport, Refusal
 from sagas.core.model import Attempt, SagaInstance
 from sagas.core.outcomes import Outcome
 from sagas.core.states import Action
@@ -67,8 +67,9 @@ class Commands:
             except KeyConflict:  # it was to be started otherwise than it was
                 continue
             _check_is(live, of)
-            if live.over or live.shard is None:
-                if live.over or inside.sagas.by_key.get(key) is live:
+            is_here = inside.sagas.by_key.get(key) is live  # its end is not in the store yet
+            if live.shard is None or (live.over and not is_here):
+                if live.over or is_here:
                     return False
                 continue
             try:
@@ -149,18 +150,22 @@ class Commands:
                 if attempt is not None:
                     why = progress.described(attempt, self._access.inside.clock())
                 raise StepNotWaiting(f"saga {key!r}, step {step!r} is not to be retried: {why}")
-            await self._access.inside.executor.retry(attempt, request)
-            return
+            try:
+                await self._access.inside.executor.retry(attempt, request)
+                return
+            except Moved:
+                continue
 
     async def _report_here(self, attempt: Attempt, outcome: Outcome, request: Wanted) -> None:
+        """Reports an attempt that is under way here. Raises `Moved` where it is over by now, or is
+        not here any more: the answer never rests on what the store may lack.
+        """
         inside, key, step = self._access.inside, attempt.instance.key, attempt.name
         while not attempts.is_asked(attempt):
-            if first := await inside.executor.earlier(attempt):
-                payloads = inside.shelf.payloads
-                step_reports.check(key, step, first, outcome, payloads=payloads)
-                return
-            if inside.sagas.by_key.get(key) is not attempt.instance:
-                raise Moved(f"saga {key!r}")
+            is_over = await inside.executor.until_kept(attempt)
+            is_here = attempt.instance.busy.get(attempt.word) is attempt
+            if is_over or not is_here or inside.sagas.by_key.get(key) is not attempt.instance:
+                raise Moved(f"saga {key!r}")  # what the store has of it counts
             if attempt is current_step.waiter(
                 inside.executor.calls.running
             ) and attempts.will_be_asked(attempt):
@@ -216,8 +221,7 @@ class Commands:
         unkept = live.shard.unkept() if live.shard else ()
         attempt = next((one for one in unkept if one.instance is live and one.word == word), None)
         if attempt is not None:
-            with contextlib.suppress(SagasError):  # it is looked at again
-                await inside.executor.kept.wait(attempt)
+            await inside.executor.until_kept(attempt)
         is_known = word[0] in live.results or word in live.busy or word in live.rare.final
         is_here = inside.sagas.by_key.get(live.key) is live
         if attempt is not None or not is_here or (is_known and word[1] == Action.RUN):
@@ -231,13 +235,15 @@ class Commands:
         inside, key, step = self._access.inside, live.key, live.kind.names[word[0]]
         why = early_reports.refusal(live, *word) if early else early_reports.NOT_STARTED
         if why is not None:
+            if live.shard is not None and live.committed:
+                await inside.executor.early.put(Refusal(live))
             raise StepNotWaiting(f"saga {key!r}, step {step!r}: {why}")
         first = early_reports.stored(live, word)
         if first is not None:
-            told, payloads = early_reports.STORED, live.kind.payloads
-            step_reports.check(key, step, first, outcome, told, payloads)
             if (kept := inside.executor.early.waiting(live, word)) is not None:
                 await asyncio.shield(kept)
+            told, payloads = early_reports.STORED, live.kind.payloads
+            step_reports.check(key, step, first, outcome, told, payloads)
         elif live.shard is None or not live.committed:
             with contextlib.suppress(KeyConflict):  # it is another saga's key
                 await inside.sagas.started(live)

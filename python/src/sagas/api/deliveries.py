@@ -6,6 +6,7 @@ import builtins
 from collections.abc import Callable
 
 from sagas.api.store_access import StoreAccess
+from sagas.core.announcements import ENDS
 from sagas.definition.compiled import Hooks
 from sagas.definition.shelf import Shelf
 from sagas.storage import deliveries as table
@@ -44,7 +45,12 @@ class Deliveries:
         """
         words = {"webhook": webhook, "most": limit, "lease": lease}
         rows = await self._table.change(table.CLAIM, **words)
-        return [Claimed(*row) for row in rows]
+        found = [Claimed(*row) for row in rows]
+        if record := self._access.inside.store.record:
+            for one in found:
+                if one.type in ENDS:
+                    record.seen(one.saga, "webhook")
+        return found
 
     async def settle(self, id: str, attempts: int, posted: Posted) -> bool:
         """Store how a post went.

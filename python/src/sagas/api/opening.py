@@ -42,6 +42,7 @@ def open(
     codec: Codec | None = None,
     blobs: BlobStore | None = None,
     blob_threshold: int = 65_536,
+    record: str | os.PathLike[str] | None = None,
 ) -> Store:
     """Open a store: `async with sagas.open("trips.db", [trip]) as store`.
 
@@ -77,6 +78,9 @@ def open(
             (default: they are stored as JSON).
         blobs: Where inputs and results over `blob_threshold` are kept (default: in the database).
         blob_threshold: Bytes of a value, as it is stored (default: 65,536).
+        record: PostgreSQL only: a file to which the node adds what it hears of its commits and
+            what it acknowledges, for `sagas store URL record` (default: the one that the
+            environment variable `SAGAS_RECORD` names, if any).
 
     Returns:
         The store, to be entered.

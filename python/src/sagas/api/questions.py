@@ -4,6 +4,7 @@ from __future__ import annotations
 
 import asyncio
 import builtins
+from collections.abc import Iterable
 from typing import TypeVar
 
 from sagas.api.schedules import Schedules
@@ -14,7 +15,7 @@ from sagas.core import history
 from sagas.core.batch import SagaRow
 from sagas.core.progress import active_attempts
 from sagas.core.results import ActiveAttempt, HistoryEvent, SagaResult, UnknownAttempt
-from sagas.definition import arguments
+from sagas.definition import arguments, folded_drawing
 from sagas.engine.plan import Plan
 from sagas.inspection import lists
 from sagas.inspection import saga as one_saga
@@ -114,11 +115,12 @@ class Questions(Schedules):
         """
         return await self._answer(one_saga.plan((await self._row(key))))
 
-    async def draw(self, key: str) -> str:
+    async def draw(self, key: str, *, unfold: Iterable[str] = ()) -> str:
         """Return a saga's last plan, or its definition, as text for Graphviz.
 
         Args:
             key: The saga's key.
+            unfold: As of `Saga.draw` (default: none).
 
         Raises:
             NoSuchSaga: No saga has the key.
@@ -128,9 +130,9 @@ class Questions(Schedules):
         """
         row = await self._row(key)
         if (found := await self._answer(one_saga.plan(row))) is not None:
-            return await asyncio.to_thread(found.draw)
+            return await asyncio.to_thread(found.draw, unfold=unfold)
         text = await self._answer(one_saga.definition(row.id))
-        return await asyncio.to_thread(program.draw, text)
+        return folded_drawing.fold(await asyncio.to_thread(program.draw, text), text, {*unfold})
 
     async def audit(self) -> dict[str, str]:
         """Audit every shard, also those that still grow.

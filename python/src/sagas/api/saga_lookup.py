@@ -6,6 +6,8 @@ import asyncio
 import builtins
 import contextlib
 import functools
+from collections.abc import Coroutine
+from typing import Any
 
 from sagas.api import timeouts
 from sagas.api.store_access import StoreAccess
@@ -57,15 +59,15 @@ class SagaLookup:
             raise NoSuchSaga(f"no saga has the key {key!r}{which}")
         return row
 
-    async def wait(self, key: str, timeout: float | None) -> SagaResult:
+    def wait(self, key: str, timeout: float | None) -> Coroutine[Any, Any, SagaResult]:
         """The end of a saga, at most so many seconds from now."""
         if timeout is not None:
             work = self.until_ended(key)
-            return await timeouts.in_time(key, work, timeout, lambda: self.waits_for(key))
+            return timeouts.in_time(key, work, timeout, lambda: self.waits_for(key))
         inside = self._access.here()
         if caller := current_step.waiter(inside.executor.calls.running):
-            return await inside.waits.during(caller, key, self.until_ended(key))
-        return await self.until_ended(key)
+            return inside.waits.during(caller, key, self.until_ended(key))
+        return self.until_ended(key)
 
     async def until_ended(self, key: str) -> SagaResult:
         """As `wait`, for callers that limit the time themselves."""
@@ -98,6 +100,8 @@ class SagaLookup:
             if live is None:
                 row = await retries.until_answered(lambda: self.row(key))
                 if row.phase is not None:
+                    if record := inside.store.record:
+                        record.seen(row.id, "wake")
                     return row
                 pending.check_refused(row)
                 if key not in self._access.inside.sagas.by_key:

@@ -117,7 +117,7 @@ class ServiceClient:
             InvalidInput: The first steps cannot read the input.
             InvalidLabel: A label is not valid.
             NotSerializable: The input is not JSON.
-            TooLarge: The saga fits into no shard.
+            TooLarge: The saga has too many steps or needs for its input.
             ServiceRefused: The service has no such definition, or refuses the token.
             ServiceUnavailable: No service answered in time. Repeat the call.
         """

@@ -3,19 +3,23 @@
 from __future__ import annotations
 
 import dataclasses
+from collections.abc import Coroutine
 from typing import Any
 
 from sagas.api.saga_lookup import SagaLookup
 from sagas.api.store_access import StoreAccess
 from sagas.base.errors import Closed, KeyConflict, StoreUnavailable
 from sagas.core.model import SagaInstance
-from sagas.definition import arguments, children, serialization
-from sagas.definition.shelf import Fitted, Shelf
+from sagas.definition import arguments, children, serialization, start_options
 from sagas.definition.labels import Labels, checked
 from sagas.definition.saga import Saga
+from sagas.definition.shelf import Fitted, Shelf
 from sagas.definition.start_options import Deadline, StartOptions, deadline_at
 from sagas.runtime import relocation
 from sagas.runtime.coordinator import Coordinator
+
+Begun = Coroutine[Any, Any, bool]
+"""Whether a start began the saga: to be awaited at once, since its key is taken by then."""
 
 
 class Starter:
@@ -28,10 +32,10 @@ class Starter:
         self._access, self._lookup, self._shelf = access, lookup, shelf
         self.accepts_new = accepts_new
 
-    async def start(
+    def start(
         self, saga: Saga, key: str, input: Any, labels: Labels | None, deadline: Deadline | None,
         traceparent: str | None = None,
-    ) -> bool:  # fmt: skip
+    ) -> Begun:  # fmt: skip
         """Starts a saga. Whether this start began it."""
         inside = self._access.here()
         arguments.key(key)
@@ -39,32 +43,46 @@ class Starter:
         fitted = self._shelf.fit(saga, input, text)
         if saga.has_children:
             children.check_key(key, saga)
-        time = deadline_at(saga.deadline if deadline is None else deadline, inside.clock())
-        options = StartOptions(checked(labels), time, None, fitted.shape, traceparent)
-        return await self._start(saga, fitted, key, text, options, self.accepts_new)
+        shape, options = fitted.shape, start_options.NONE
+        if deadline is None:
+            deadline = saga.deadline
+        if not (labels is None and deadline is None and shape is None and traceparent is None):
+            time = deadline_at(deadline, inside.clock())
+            options = StartOptions(checked(labels), time, None, shape, traceparent)
+        return self._start(inside, saga, fitted, key, text, options, self.accepts_new)
 
-    async def start_child(self, saga: Saga, key: str, input: Any, options: StartOptions) -> bool:
+    def start_child(self, saga: Saga, key: str, input: Any, options: StartOptions) -> Begun:
         """Starts a child, also where the store starts no new sagas: its parent is not new."""
+        inside = self._access.here()
         arguments.key(key)
         text = serialization.write(input, "input")
         fitted = self._shelf.fit(saga, input, text)
         if fitted.shape is not None:
             options = dataclasses.replace(options, shape=fitted.shape)
-        return await self._start(saga, fitted, key, text, options, accepts=True)
+        return self._start(inside, saga, fitted, key, text, options, accepts=True)
 
-    async def _start(
-        self, saga: Saga, fitted: Fitted, key: str, text: str, options: StartOptions, accepts: bool
-    ) -> bool:
-        inside, lookup, payloads = self._access.here(), self._lookup, self._shelf.payloads
+    def _start(
+        self, inside: Coordinator, saga: Saga, fitted: Fitted, key: str, text: str,
+        options: StartOptions, accepts: bool,
+    ) -> Begun:  # fmt: skip
         kind, _, wrong = fitted
-        text = payloads.encode(text)
-        live = inside.sagas.by_key.get(key)
-        is_sound = wrong is None and accepts
-        if live is None and is_sound and lookup.guessing.is_worth():
-            # the key is new, as far as the last ones tell
+        text = self._shelf.payloads.encode(text)
+        is_new = wrong is None and accepts and key not in inside.sagas.by_key
+        if is_new and self._lookup.guessing.is_worth():  # as far as the last ones tell
             assert kind
             new = inside.sagas.add(key, text, kind, options)
-            return await self._begin(inside, new, guessed=True)
+            return self._begin(inside, new, guessed=True)
+        return self._look(inside, saga, fitted, key, text, options, accepts)
+
+    async def _look(
+        self, inside: Coordinator, saga: Saga, fitted: Fitted, key: str, text: str,
+        options: StartOptions, accepts: bool,
+    ) -> bool:  # fmt: skip
+        """As `_start`, of a key that may be there."""
+        lookup, payloads = self._lookup, self._shelf.payloads
+        kind, _, wrong = fitted
+        live = inside.sagas.by_key.get(key)
+        is_sound = wrong is None and accepts
         if live is not None and live.is_doubtful:
             live = await lookup.live(key)
         # else it is looked for with others, where it is placed

@@ -63,6 +63,7 @@ class Store(RetryCalls):
         clock: Callable[[], float], program: str | None, node: str | None, lease: Seconds,
         retention: datetime.timedelta | None, archive_dir: str | os.PathLike[str] | None,
         context: Any, codec: Codec | None, blobs: BlobStore | None, blob_threshold: int,
+        record: str | os.PathLike[str] | None,
     ) -> None:  # fmt: skip
         threads = concurrency if threads is None else threads
         counts = {
@@ -82,6 +83,7 @@ class Store(RetryCalls):
         self._retention, self._archive_dir = retention, archive_dir
         check_blobs(blobs, blob_threshold)
         self._blobs = blobs, blob_threshold
+        self._record = arguments.record(record)
         self._shelf = Shelf(sagas, payloads.checked(codec, blobs is not None))
         self._words = {**counts, "idle": arguments.time("idle", idle), "clock": clock}
         self._tracer = tracing.tracer()
@@ -133,7 +135,7 @@ class Store(RetryCalls):
         where = program_module.path(self._program)
         most: Any = self._words["concurrency"]
         database = factory.make(
-            self._name, self._shelf, self._node, self._lease, most, transactions
+            self._name, self._shelf, self._node, self._lease, most, transactions, self._record
         )
         database = BlobDatabase.over(database, *self._blobs, self._shelf.payloads)
         self._access.path = database.path
@@ -210,6 +212,12 @@ class Store(RetryCalls):
         finally:
             self._access.opened.end()
 
+    def _replies(self, key: str) -> None:
+        """A service is about to answer that a saga is started: its record says so first."""
+        inside = self._inside
+        if acknowledgements := inside.executor.calls.acknowledgements:
+            acknowledgements.replied(inside.sagas.by_key.get(key))
+
     @property
     def _inside(self) -> Coordinator:
         return self._access.inside
@@ -262,7 +270,7 @@ class Store(RetryCalls):
         Raises:
             KeyConflict: The key belongs to a saga of another name or input.
             StoreUnavailable: The saga could not be written: repeat the call.
-            TooLarge: The saga has too many steps and needs.
+            TooLarge: The saga has too many steps or needs for its input.
             InvalidKey: The key is not valid.
             InvalidInput: The first steps cannot read the input.
             InvalidLabel: A label is not valid.

@@ -2,6 +2,7 @@
 
 from __future__ import annotations
 
+import os
 from types import TracebackType
 from typing import TYPE_CHECKING, Any
 
@@ -58,10 +59,10 @@ class SyncClient(Facade[Client]):
 
     def __init__(
         self, url: str, *, connections: int = 4, codec: Codec | None = None,
-        blobs: BlobStore | None = None,
+        blobs: BlobStore | None = None, record: str | os.PathLike[str] | None = None,
     ) -> None:  # fmt: skip
         """Make a client, to be entered by `with`. See `Client`."""
-        client = Client(url, connections=connections, codec=codec, blobs=blobs)
+        client = Client(url, connections=connections, codec=codec, blobs=blobs, record=record)
         remedy = "is not open. Use `with sagas.SyncClient(...) as client`"
         super().__init__(client, Loop(client.path, "the client", remedy))
 

@@ -77,7 +77,9 @@ def task_of(told: dict[str, Any], shared: Context) -> Task[Any]:
     result = serialization.write(told["result"]) if undo else None
     declared, key = told.get("declared_step", step), told.get("item_key")
     index = told.get("index") if key is None else key
-    place = None if declared == step else ToldPlace(declared, index, told.get("item"))
+    place = None
+    if declared != step:
+        place = ToldPlace(declared, index, told.get("item"), told.get("given"))
     task: Task[Any] = Task(
         Told(
             told["definition"],

@@ -20,7 +20,7 @@ SagasError
 |   |   `-- StoreSchemaTooNew it is of a later release
 |   |-- InvalidSchedule       a schedule is not well made (a ValueError, too)
 |   |-- InvalidLease          the lease was not issued for this task
-|   |-- TooLarge              a saga fits into no shard
+|   |-- TooLarge              a saga has too many steps or needs for its input
 |   |-- CannotDecode          a stored value cannot be read as its type
 |   `-- NotSerializable       a value is no JSON (a TypeError, too)
 |       |-- InvalidKey
@@ -169,9 +169,10 @@ class ConflictingReport(StepNotWaiting):
 
 
 class TooLarge(InvalidError):
-    """The saga has too many steps and needs to fit into a shard. Nothing was started.
+    """The saga has too many steps or needs for its input. Nothing was started.
 
-    The message has the limit. Use fewer steps or needs, or several sagas.
+    Only the start of a saga with `for_each` raises it. The message has the limit. Pass fewer
+    items, or start several sagas.
     """
 
 

@@ -175,11 +175,11 @@ class Texts:
 
 
 def run(
-    command: str, texts: Sequence[str], program: str | None = None
+    command: str, texts: Sequence[str], program: str | None = None, *, options: Sequence[str] = ()
 ) -> subprocess.CompletedProcess[str]:
-    """Runs `sagas COMMAND` over these texts, in the order of its words."""
+    """Runs `sagas COMMAND OPTIONS` over these texts, in the order of its words."""
     with contextlib.closing(Texts(texts)) as given:
-        words = [program or path(), command, *given.paths]
+        words = [program or path(), command, *options, *given.paths]
         return subprocess.run(
             words,
             capture_output=True,

@@ -16,6 +16,7 @@ from sagas.cli.snapshot import Snapshot
 from sagas.core.history import MISSES, was_called
 from sagas.core.results import Summary
 from sagas.core.states import known_state, state_text
+from sagas.definition import folded_drawing
 from sagas.engine.plan import certificate_text
 from sagas.inspection import lists, picture
 from sagas.inspection.views import SagaView, StepView
@@ -197,13 +198,19 @@ def plan(path: str, words: argparse.Namespace) -> int:
 
 
 def draw(path: str, words: argparse.Namespace) -> int:
-    """Print the last plan of a saga, or its definition, for Graphviz."""
+    """Print the last plan of a saga, or its definition, for Graphviz.
+
+    The items of a step, and the steps of an included saga, are one node.
+    """
     with Snapshot(path) as store:
         view = store.saga(words.key)
     if words.svg:
-        text = picture.document(view)
+        text = picture.document(view, words.unfold)
+    elif view.plan:
+        text = view.plan.draw(unfold=words.unfold)
     else:
-        text = view.plan.draw() if view.plan else program.draw(view.definition)
+        whole = program.draw(view.definition)
+        text = folded_drawing.fold(whole, view.definition, words.unfold)
     if words.json:
         show_json({"key": words.key, "svg" if words.svg else "dot": text})
     else:

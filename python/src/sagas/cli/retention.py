@@ -53,10 +53,13 @@ def prune(path: str, words: argparse.Namespace) -> int:
     if gone.other:
         raise Trouble("another program is deleting ended sagas of this store. Try again later")
     if words.json:
-        show_json({"shards": gone.logs, "sagas": gone.sagas, "more": gone.more})
+        told = {"shards": gone.logs, "sagas": gone.sagas, "refused_starts": gone.starts}
+        show_json(told | {"more": gone.more})
         return GOOD
+    starts = f" and {number(gone.starts, 'refused start')}" if gone.starts else ""
     where = f", exported to {words.export}" if words.export and gone.logs else ""
-    print(f"deleted {number(gone.sagas, 'saga')} ({number(len(gone.logs), 'shard')}){where}")
+    shards = number(len(gone.logs), "shard")
+    print(f"deleted {number(gone.sagas, 'saga')} ({shards}){starts}{where}")
     if gone.more:
         print("more sagas are due: run the command again", file=sys.stderr)
     return GOOD

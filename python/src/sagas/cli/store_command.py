@@ -22,6 +22,7 @@ from sagas.cli.deliveries import deliveries, words_of_deliveries
 from sagas.cli.formatting import CANNOT, INTERRUPTED, escape
 from sagas.cli.inspect import draw, export, list_sagas, log, plan, show
 from sagas.cli.maintenance import init, migrate, nodes
+from sagas.cli.records import record
 from sagas.cli.retention import prune, words_of_prune
 from sagas.cli.schedules import schedules, words_of_schedules
 from sagas.definition.serialization import clean
@@ -48,6 +49,7 @@ EXAMPLES = {
     "deliveries": "deliveries --state failed",
     "prune": "prune --older-than 30d",
     "init": "init --role shop",
+    "record": "record node-1.record node-2.record",
 }
 """The words of an example; of other commands just their names."""
 REFUSED = {
@@ -60,6 +62,7 @@ REFUSED = {
     ),
     "resolve": "a saga does not exist, or does not need to be resolved",
     "audit": "a shard has an event that was not allowed, or differs from the rows",
+    "record": "a record is not allowed, or something that was acknowledged is missing",
     "schedules": "no schedule has the name",
     "deliveries": "no delivery has the id",
     "prune": "another program is deleting ended sagas of this store",
@@ -69,7 +72,7 @@ REFUSED = {
 
 def ending(name: str) -> str:
     """An example of a command, and each exit status that it can have."""
-    store = "postgresql:///shop" if name in ("init", "nodes") else "shop.db"
+    store = "postgresql:///shop" if name in ("init", "nodes", "record") else "shop.db"
     usage = "invalid arguments" + ("" if store == "shop.db" else ", or the store is a file")
     told = {0: "done", 1: REFUSED.get(name), 2: usage, 4: CANNOT_USE, 130: "interrupted"}
     lines = [f"  {status:<3}  {what}" for status, what in told.items() if what]
@@ -107,6 +110,7 @@ def parser() -> argparse.ArgumentParser:
     words_of_schedules(add("schedules", schedules))
     words_of_deliveries(add("deliveries", deliveries))
     add("audit", audit)
+    add_files(add("record", record))
     add("nodes", nodes)
     add("migrate", migrate)
     nodes_module.words_of_role(add("init", init))
@@ -141,10 +145,21 @@ def add_looks(add: Add) -> None:
     add("plan", plan, key=True).add_argument(
         "--text", action="store_true", help="print it in the form that `sagas` reads to check it"
     )
-    add("draw", draw, key=True).add_argument(
+    part = add("draw", draw, key=True)
+    part.add_argument(
         "--svg",
         action="store_true",
         help="print the saga's state as an SVG picture, as the dashboard shows it",
+    )
+    part.add_argument(
+        "--unfold",
+        action="append",
+        default=[],
+        metavar="STEP",
+        help=(
+            "draw each item of this step, or each step of this included saga; * is all "
+            "(default: each is one node; repeat it for more)"
+        ),
     )
     add("stats", stats)
     add("definitions", definitions)
@@ -212,6 +227,21 @@ def add_steps(part: argparse.ArgumentParser, what: str) -> None:
     part.add_argument("--undo", action="store_true", help="report the step's compensation")
     add_note(part)
     add_timeout(part)
+
+
+def add_files(part: argparse.ArgumentParser) -> None:
+    """The files of a record, and what is claimed of the standby."""
+    part.add_argument(
+        "files", nargs="*", metavar="FILE", help="what a node or a client wrote by SAGAS_RECORD"
+    )
+    part.add_argument(
+        "--sync",
+        action="store_true",
+        help="claim that each server that may take over has each answered commit",
+    )
+    part.add_argument(
+        "--save", metavar="DIR", help="write the record of each shard into this folder"
+    )
 
 
 def add_early(part: argparse.ArgumentParser) -> None:

@@ -19,8 +19,9 @@ if TYPE_CHECKING:
 
 COMPLETED, RECOVERED = "saga.completed", "saga.recovered"
 STUCK, ATTENTION = "saga.stuck", "saga.attention"
-TYPES = (COMPLETED, RECOVERED, STUCK, ATTENTION)
-"""The types of what is told."""
+ENDS = (COMPLETED, RECOVERED, STUCK)
+TYPES = (*ENDS, ATTENTION)
+"""The types of what is told, and those of them that tell of an end."""
 ASKED = (Suspension.APPROVAL, Suspension.EXHAUSTED, Suspension.CANNOT_DECODE)
 """Suspensions that always need a person; an unknown outcome does where it has no time."""
 

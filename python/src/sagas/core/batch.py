@@ -3,7 +3,7 @@
 from __future__ import annotations
 
 import dataclasses
-from collections.abc import Callable, Sequence
+from collections.abc import Callable, Iterable, Sequence
 from typing import Any, NamedTuple, Optional, Union
 
 Key = tuple[int, str, int]
@@ -56,50 +56,64 @@ None
 """
 
 
-@dataclasses.dataclass(slots=True)
 class Rare:
-    """What most batches have nothing of."""
+    """What most batches have nothing of. A part is there from when it is first asked for: whoever
+    writes it looks into `parts` alone, since most of them are missing.
+    """
 
-    held: list[HeldRow] = dataclasses.field(default_factory=list)
-    freed: list[Freed] = dataclasses.field(default_factory=list)
-    labels: list[Label] = dataclasses.field(default_factory=list)
-    shapes: list[Shape] = dataclasses.field(default_factory=list)
-    defined: list[Defined] = dataclasses.field(default_factory=list)
+    held: list[HeldRow]
+    freed: list[Freed]
+    labels: list[Label]
+    shapes: list[Shape]
+    defined: list[Defined]
     """further definitions of the log"""
-    children: list[tuple[int, int]] = dataclasses.field(default_factory=list)
+    children: list[tuple[int, int]]
     """sagas that others started, each with the id of that one"""
-    answers: list[Told] = dataclasses.field(default_factory=list)
-    asked: list[tuple[Asked, str]] = dataclasses.field(default_factory=list)
+    answers: list[Told]
+    asked: list[tuple[Asked, str]]
     """requests that have no row yet, with their answers"""
-    notes: list[tuple[str, int]] = dataclasses.field(default_factory=list)
-    begun: list[tuple[int, int | None]] = dataclasses.field(default_factory=list)
+    notes: list[tuple[str, int]]
+    begun: list[tuple[int, int | None]]
     """starts of clients (`Start`) that are done with, each with the saga that it is, which is asked
     what was asked of the start; None where its key has another saga"""
-    offers: list[Offer] = dataclasses.field(default_factory=list)
+    offers: list[Offer]
     """attempts that others do from now on"""
-    cancelled: list[Cancelled] = dataclasses.field(default_factory=list)
+    cancelled: list[Cancelled]
     """sagas that are to be undone, whose workers are to hear so"""
-    suspended: list[tuple[str, int, str]] = dataclasses.field(default_factory=list)
+    suspended: list[tuple[str, int, str]]
     """of these the attempts of which nobody knows, their shard, and `suspended`, or `person` where
     a person has to say"""
-    settled: list[tuple[str, int, str | None]] = dataclasses.field(default_factory=list)
+    settled: list[tuple[str, int, str | None]]
     """of these the attempts that are over, their shard, and `succeeded` where they have. No report
     of them is taken any more. Where it is None, and a worker has reported a success before,
     nothing of the shard is written: what it did stands"""
-    progress: list[Advanced] = dataclasses.field(default_factory=list)
-    deliveries: list[Delivery] = dataclasses.field(default_factory=list)
+    progress: list[Advanced]
+    deliveries: list[Delivery]
     """what webhooks are told"""
-    spans: list[Spans] = dataclasses.field(default_factory=list)
-    work: list[Callable[[Any], object]] = dataclasses.field(default_factory=list)
+    spans: list[Spans]
+    work: list[Callable[[Any], object]]
     """what else is done in the transaction of a file, with its connection"""
     closed: tuple[int, str] | None = None
+
+    def __getattr__(self, part: str) -> Any:
+        if part.startswith("_"):
+            raise AttributeError(part)
+        found: list[Any] = []
+        setattr(self, part, found)
+        return found
+
+    @property
+    def parts(self) -> Iterable[str]:
+        """The names of the parts that there are."""
+        return vars(self)
 
 
 class Batch:
     """What one log gains at once.
 
     `guessed`: keys of sagas that it opens, which nobody has looked for: where one is taken,
-    nothing of the batch is written, as where the log is another's.
+    nothing of the batch is written, as where the log is another's. `lines`: how many `text` has,
+    once they are counted.
     """
 
     __slots__ = (
@@ -108,6 +122,7 @@ class Batch:
         "first",
         "epoch",
         "text",
+        "lines",
         "born",
         "opened",
         "results",
@@ -122,6 +137,7 @@ class Batch:
         self.first = first
         self.epoch = epoch
         self.text = ""
+        self.lines = 0
         self.born: Born | None = None
         self.opened: list[Opened] = []
         self.results: list[Result] = []
@@ -132,6 +148,11 @@ class Batch:
     def __bool__(self) -> bool:
         """Whether it holds anything."""
         return bool(self.text or self.opened or self.results or self.ended or self.rare)
+
+    def counted(self) -> int:
+        """Count its lines, and return how many there are."""
+        self.lines = self.text.count("\n")
+        return self.lines
 
     @property
     def more(self) -> Rare:

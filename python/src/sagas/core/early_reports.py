@@ -65,6 +65,17 @@ class EarlyReport:
         return (self.saga.id, *self.word, ATTEMPT, reason.value, 0, now, None, text)
 
 
+@dataclasses.dataclass(eq=False, slots=True)
+class Refusal:
+    """A report is about to be refused, because of what was decided of its saga so far.
+
+    Attributes:
+        saga: The saga, which the store has.
+    """
+
+    saga: SagaInstance
+
+
 def refusal(saga: SagaInstance, step: int, kind: str) -> str | None:
     """Why no report of a step is taken before it begins; None where one is.
 
@@ -108,14 +119,15 @@ def taken(attempt: Attempt) -> Outcome | None:
         return Outcome(OutcomeKind.CANNOT_DECODE, str(error)[:MOST_TEXT])
 
 
-def effects(driver: ShardDriver, report: EarlyReport, now: float) -> Effects:
-    """Keep a report: the batch is its row.
+def effects(driver: ShardDriver, report: EarlyReport | Refusal, now: float) -> Effects:
+    """Keep a report: the batch is its row. A refusal has none, and goes behind what was decided.
 
     Raises:
         NotSerializable: The codec failed.
     """
     found = driver.effects(now)
-    found.batch.more.held.append(report.row(now))
-    found.batch.answer(report.request, "true")
-    found.early = (report,)
+    if isinstance(report, EarlyReport):
+        found.batch.more.held.append(report.row(now))
+        found.batch.answer(report.request, "true")
+    found.more.early.append(report)
     return found

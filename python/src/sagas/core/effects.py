@@ -6,7 +6,7 @@ import dataclasses
 from collections.abc import Sequence
 
 from sagas.core.batch import Batch, Wanted
-from sagas.core.early_reports import EarlyReport
+from sagas.core.early_reports import EarlyReport, Refusal
 from sagas.core.model import Attempt, SagaInstance
 
 
@@ -26,54 +26,80 @@ class Abort:
 
 
 @dataclasses.dataclass(eq=False, slots=True)
-class Effects:
-    """What an answer of the engine comes to.
+class RareEffects:
+    """What most answers do not come to.
 
     Done at once:
         draining: These sagas drain: what waits of them and was not called is given up
             (`AttemptMachine.drain`).
         displaced: The shard has no room for these: another one opens them.
-        refused: These fit into no shard.
+
+    Done once the batch is durable, in this order:
+        suspended: The rows of their suspensions are kept.
+        offered: These attempts are offered to external workers.
+        early: These reports of steps that have not begun are stored, or refused.
+        aborted: These were answered, each with `done`.
+        planned: These sagas go by a plan that was adopted, their `answer`.
+    """
+
+    draining: list[SagaInstance] = dataclasses.field(default_factory=list)
+    displaced: list[SagaInstance] = dataclasses.field(default_factory=list)
+    suspended: list[Attempt] = dataclasses.field(default_factory=list)
+    offered: list[Attempt] = dataclasses.field(default_factory=list)
+    early: list[EarlyReport | Refusal] = dataclasses.field(default_factory=list)
+    aborted: list[Abort] = dataclasses.field(default_factory=list)
+    planned: list[SagaInstance] = dataclasses.field(default_factory=list)
+
+
+NOTHING_RARE = RareEffects()
+"""Of effects that have nothing of it; nothing is put into this one."""
+
+
+class Effects:
+    """What an answer of the engine comes to.
+
+    Done at once:
         unclaimed: So many tasks were asked for, and are not there.
 
     Done once the batch is durable, in this order:
         reported: Their reports are kept, each with its `event`.
-        suspended: The rows of their suspensions are kept.
-        offered: These attempts are offered to external workers.
-        early: These reports of steps that have not begun are stored.
-        aborted: These were answered, each with `done`.
         opened: These sagas are started.
-        planned: These sagas go by a plan that was adopted, their `answer`.
         ended: These sagas are over, with `phase` and `end`.
         dispatch: These attempts begin.
 
     Attributes:
         batch: What is to be made durable. It is false if there is nothing.
         is_written: Whether the batch is on its way to the store, or was (`ShardDriver.writes`).
+        rare: What else is done; `more` is what that is put into.
     """
 
-    batch: Batch
-    draining: list[SagaInstance] = dataclasses.field(default_factory=list)
-    displaced: list[SagaInstance] = dataclasses.field(default_factory=list)
-    refused: list[SagaInstance] = dataclasses.field(default_factory=list)
-    unclaimed: int = 0
-    reported: Sequence[Attempt] = ()
-    suspended: Sequence[Attempt] = ()
-    offered: Sequence[Attempt] = ()
-    early: Sequence[EarlyReport] = ()
-    aborted: Sequence[Abort] = ()
-    opened: Sequence[SagaInstance] = ()
-    planned: list[SagaInstance] = dataclasses.field(default_factory=list)
-    ended: list[SagaInstance] = dataclasses.field(default_factory=list)
-    dispatch: list[Attempt] = dataclasses.field(default_factory=list)
-    is_written: bool = False
+    __slots__ = (
+        "batch", "unclaimed", "reported", "opened", "ended", "dispatch", "is_written", "rare",
+    )  # fmt: skip
+
+    def __init__(self, batch: Batch) -> None:
+        self.batch = batch
+        self.unclaimed = 0
+        self.reported: Sequence[Attempt] = ()
+        self.opened: Sequence[SagaInstance] = ()
+        self.ended: list[SagaInstance] = []
+        self.dispatch: list[Attempt] = []
+        self.is_written = False
+        self.rare = NOTHING_RARE
+
+    @property
+    def more(self) -> RareEffects:
+        """What most have nothing of, to be put into."""
+        if self.rare is NOTHING_RARE:
+            self.rare = RareEffects()
+        return self.rare
 
 
-@dataclasses.dataclass(eq=False, slots=True)
 class Question:
     """What the engine was asked, and has not answered.
 
     Attributes:
+        lines: How many replies are to come.
         reports: How these attempts ended.
         aborts: To abort these sagas.
         opens: To open these sagas.
@@ -86,17 +112,16 @@ class Question:
         effects: What the replies came to so far.
     """
 
-    reports: Sequence[Attempt] = ()
-    aborts: Sequence[Abort] = ()
-    opens: Sequence[SagaInstance] = ()
-    defines: int = 0
-    claims: int = 0
-    plans: int = 0
-    looks: Sequence[int] = ()
-    shows: Sequence[int] = ()
-    effects: Effects | None = None
+    __slots__ = (
+        "lines", "reports", "aborts", "opens", "defines", "claims", "plans", "looks", "shows",
+        "effects",
+    )  # fmt: skip
 
-    def count(self) -> int:
-        """How many replies are to come."""
-        asked = len(self.reports) + len(self.aborts) + len(self.opens) + bool(self.claims)
-        return asked + self.defines + len(self.looks)
+    def __init__(self) -> None:
+        self.lines = self.defines = self.claims = self.plans = 0
+        self.reports: Sequence[Attempt] = ()
+        self.aborts: Sequence[Abort] = ()
+        self.opens: Sequence[SagaInstance] = ()
+        self.looks: Sequence[int] = ()
+        self.shows: Sequence[int] = ()
+        self.effects: Effects | None = None

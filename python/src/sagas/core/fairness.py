@@ -56,7 +56,8 @@ class FairQueue:
 
     def begin(self, tenant: Tenant, count: int = 1) -> None:
         """Count slots that a tenant has from now on."""
-        self.running[tenant] += count
+        if count:
+            self.running[tenant] += count
 
     def end(self, tenant: Tenant, count: int = 1) -> None:
         """Count slots that a tenant gave back."""

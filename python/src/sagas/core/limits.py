@@ -70,9 +70,11 @@ class Slots:
         """Take slots for so many attempts that wait for nothing else, or as many as there are;
         return how many.
         """
-        count = min(count, max(0, self.most - self.running))
-        if count:
-            self.running += count
+        left = self.most - self.running
+        if count > left:
+            count = max(0, left)
+        self.running += count
+        if self.is_fair:
             self._queued.begin(None, count)
         return count
 
@@ -98,14 +100,15 @@ class Slots:
 
     def _begin(self, attempt: Attempt) -> None:
         self.running += 1
-        self._queued.begin(attempt.instance.tenant)
+        if self.is_fair:
+            self._queued.begin(attempt.instance.tenant)
         self._start(attempt)
 
     def leave(self, attempt: Attempt) -> None:
         """Give up its slot: its function ended, or is not called; whose turn it is begins."""
         if self._limits:
             self.cancel(attempt)
-        self._left(attempt.instance.tenant, 1)
+        self._left(attempt.instance.tenant if self.is_fair else None, 1)
 
     def left(self, count: int) -> None:
         """As `leave`, of so many whose steps have no limit, and whose sagas have no tenant."""
@@ -113,7 +116,8 @@ class Slots:
 
     def _left(self, tenant: Tenant, count: int) -> None:
         self.running -= count
-        self._queued.end(tenant, count)
+        if self.is_fair:
+            self._queued.end(tenant, count)
         while self._queued and self.running < self.most:
             self._begin(self._queued.pop())
         if self.starved:

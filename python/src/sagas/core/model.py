@@ -8,6 +8,7 @@ from __future__ import annotations
 from collections.abc import Sequence
 from typing import TYPE_CHECKING, Any
 
+from sagas.base.errors import CannotDecode
 from sagas.core.outcomes import Outcome
 from sagas.core.saga_instance import SagaInstance as SagaInstance
 from sagas.core.states import ATTEMPT_TRANSITIONS, Action, AttemptState, Check, Suspension, check
@@ -30,7 +31,18 @@ CLAIMED, SUSPENDED, QUEUED = AttemptState.CLAIMED, AttemptState.SUSPENDED, Attem
 RUNNING, FINISHED = AttemptState.RUNNING, AttemptState.FINISHED
 
 
-class Attempt:
+class Acknowledged:
+    """Something that a program acknowledges.
+
+    Attributes:
+        rest: What an acknowledgement rests on. It is not set before a program with a record has it.
+    """
+
+    __slots__ = ("rest",)
+    rest: tuple[Any, int] | None
+
+
+class Attempt(Acknowledged):
     """One attempt of a step's action, or of its compensation, which its shard has as begun.
 
     Its methods write its state, and `start_all` and `finish_all` that of many; nothing else does.
@@ -149,6 +161,13 @@ class Attempt:
         """The operator's command that finished it."""
         return self.extras.request if self.extras else None
 
+    @property
+    def is_unkept(self) -> bool:
+        """Whether its report, if it is finished, is not known to be in the store."""
+        saga = self.instance
+        is_reported = saga.shard is not None and self in saga.shard.unkept()
+        return is_reported or saga.busy.get(self.word) is self
+
     # -- what it is
 
     @property
@@ -172,9 +191,17 @@ class Attempt:
 
     @property
     def index(self) -> int | str | None:
-        """The number of its item, or the item's key in a dict; None where it has none."""
+        """The number of its item, or the item's key in a dict; None where it has none. It is the
+        number, too, where what is kept of the items cannot be read.
+        """
         layout = self.instance.kind.layout
-        return None if layout is None else self.instance.shape.key(layout.spots[self.name])
+        if layout is None:
+            return None
+        spot = layout.spots[self.name]
+        try:
+            return self.instance.shape.key(spot)
+        except CannotDecode:
+            return spot.number
 
     @property
     def limit_name(self) -> tuple[str, str]:

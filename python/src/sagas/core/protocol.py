@@ -15,6 +15,8 @@ MOST_REQUEST = 65_536
 """Bytes."""
 NEXT = '{"do":"next"}'
 BUSY = '{"do":"busy"}'
+REPLY = "{"
+"""What each reply begins with. A line of the log begins with a plus, which sorts before it."""
 EVENT = '{"event":{'
 COMMIT = '{"event":{"event":"commit",'
 GOING = '"phase":"going"}'

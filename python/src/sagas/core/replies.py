@@ -40,10 +40,11 @@ class Reading:
     effects.
     """
 
-    __slots__ = ("_driver", "_effects", "_batch", "_over")
+    __slots__ = ("_driver", "_first", "_effects", "_batch", "_over")
 
     def __init__(self, driver: ShardDriver, effects: Effects) -> None:
         self._driver, self._effects, self._batch = driver, effects, effects.batch
+        self._first = effects.batch.log * SHARD_CAPACITY  # the id of the shard's first saga
         self._over: dict[int, None] = {}
 
     def replies(self, asked: Question, replies: Sequence[str]) -> Sequence[int]:
@@ -56,8 +57,8 @@ class Reading:
         Raises:
             Disagrees: The engine knows something else than this program.
         """
-        if asked.count() != len(replies):
-            raise Disagrees(f"{len(replies)} replies to {asked.count()} requests")
+        if asked.lines != len(replies):
+            raise Disagrees(f"{len(replies)} replies to {asked.lines} requests")
         left = iter(replies)
         if asked.aborts:
             self._aborts(asked.aborts, left)
@@ -65,11 +66,12 @@ class Reading:
             self._reports(asked.reports, left)
         if asked.opens:
             self._opens(asked.opens, left)
-        for _ in range(asked.defines):
-            self._driver.identity.definitions.defined(next(left))
+        if asked.defines:
+            for _ in range(asked.defines):
+                self._driver.identity.definitions.defined(next(left))
         if asked.claims:
             self._next(next(left))
-        for number, reply in zip(asked.looks, left):
+        for number, reply in zip(asked.looks, left) if asked.looks else ():
             if number in self._over:
                 del self._over[number]
                 self.shown(number, reply)
@@ -98,7 +100,7 @@ class Reading:
             saga, word = driver.sagas[task["saga"]], task["task"]
             if word == "plan":
                 saga.odd, saga.draining, saga.answer = True, False, task["answer"]
-                self._effects.planned.append(saga)
+                self._effects.more.planned.append(saga)
                 self._phase(saga, task["phase"])
             else:
                 attempt = Attempt(saga, task["step"], word, task["attempt"], fresh=True)
@@ -119,7 +121,7 @@ class Reading:
     # -- reports
 
     def _reports(self, attempts: Sequence[Attempt], replies: Iterator[str]) -> None:
-        rows, first = self._batch.results, self._driver.identity.number * SHARD_CAPACITY
+        rows, first = self._batch.results, self._first
         for attempt, reply in zip(attempts, replies):
             saga, outcome = attempt.instance, attempt.outcome
             told = protocol.event_and_phase(reply)
@@ -179,7 +181,7 @@ class Reading:
         if event in ("fail", "undo_fail"):
             saga.draining = True
             self._cancel(saga)
-            self._effects.draining.append(saga)
+            self._effects.more.draining.append(saga)
         elif outcome.called:
             saga.missed(attempt.word, attempt.at, json.loads(outcome.value))
 
@@ -192,19 +194,19 @@ class Reading:
                 abort.saga.odd = abort.saga.aborted = abort.saga.draining = True
                 self._cancel(abort.saga)
             self._batch.answer(abort.command, "true" if abort.done else "false")
-        self._effects.aborted = aborts
+        self._effects.more.aborted += aborts
 
     def _cancel(self, saga: SagaInstance) -> None:
         """What workers do of it may not be wanted any more."""
         if saga.kind.has_external:
-            row = (saga.why_draining, self._driver.number * SHARD_CAPACITY + saga.number)
+            row = (saga.why_draining, self._first + saga.number)
             self._batch.more.cancelled.append(row)
 
     # -- opens
 
     def _opens(self, sagas: Sequence[SagaInstance], replies: Iterator[str]) -> None:
-        driver, batch, there = self._driver, self._batch, list[SagaInstance]()
-        first = driver.identity.number * SHARD_CAPACITY
+        driver, batch, first = self._driver, self._batch, self._first
+        there: list[SagaInstance] = []
         is_passed = False
         for saga, reply in zip(sagas, replies):
             if reply.startswith(protocol.EVENT):
@@ -238,20 +240,17 @@ class Reading:
         self._effects.opened = there
 
     def _not_opened(self, saga: SagaInstance, reply: str) -> None:
-        """The shard is full, and another one takes the saga; or it fits into none."""
+        """The shard is full, and another one takes the saga."""
         driver = self._driver
+        if reply == LOG_FULL and not driver.opened:  # an empty log has room for any definition
+            raise Disagrees(f"an empty log was to take saga {saga.kind.name!r}: {reply}")
         del driver.sent[saga]
-        if reply == LOG_FULL and not driver.opened:  # no shard has more room than this one
-            saga.kind.fits = False
-        if saga.kind.fits and reply not in (FULL, LOG_FULL) and not driver.is_full:
+        if reply not in (FULL, LOG_FULL) and not driver.is_full:
             driver.opens.append(saga)  # it is asked for again, with the next number
             return
         driver.reserved -= 1
-        if saga.kind.fits:
-            driver.is_full = True
-            self._effects.displaced.append(saga)
-        else:
-            self._effects.refused.append(saga)
+        driver.is_full = True
+        self._effects.more.displaced.append(saga)
 
     # -- ends
 
@@ -279,7 +278,7 @@ class Reading:
         undo_failed: bool = False,
     ) -> None:  # fmt: skip
         saga.phase, saga.end = phase, end
-        batch, id = self._batch, self._driver.identity.number * SHARD_CAPACITY + saga.number
+        batch, id = self._batch, self._first + saga.number
         batch.ended.append((phase, end, recovered, undo_failed, batch.at, id))
         if saga.kind.hooks:
             told = announcements.of_end(saga, id, phase, recovered, batch.at)

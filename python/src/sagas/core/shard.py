@@ -198,14 +198,14 @@ class ShardDriver:
         """Keep why an attempt waits: the batch is its row."""
         effects = self.effects(now)
         suspension_rows.put(effects.batch, attempt, row, self.number)
-        effects.suspended = (attempt,)
+        effects.more.suspended.append(attempt)
         return effects
 
     def offered(self, attempt: Attempt, now: float) -> Effects:
         """Offer an attempt to external workers: the batch is its row."""
         effects = self.effects(now)
         effects.batch.more.offers.append(offers.offer(attempt, self.number, now))
-        effects.offered = (attempt,)
+        effects.more.offered.append(attempt)
         return effects
 
     def effects(self, now: float) -> Effects:
@@ -225,34 +225,34 @@ class ShardDriver:
         Returns:
             Lines for the engine; none if nothing is due. `asked` says what they ask.
         """
-        asked = self.asked = Question()
+        asked = Question()
         lines: list[str] = []
         if self.aborts:  # first: what is given up because of one has failed behind it
             asked.aborts, self.aborts = self.aborts, []
             self.aborting += asked.aborts
             lines += [protocol.abort_line(abort.saga.number) for abort in asked.aborts]
         if self.reports:
-            asked.reports = self._ask_reports(lines)
+            asked.reports = self._ask_reports(asked, lines)
         if self.opens:
             asked.opens = self._ask_opens(lines)
-        if self.is_undefined:  # its saga is opened by the next question, once the engine knows it
-            defines = self.identity.definitions.define_lines()
-            asked.defines = len(defines)
-            lines += defines
+            if self.is_undefined:  # its saga is opened by the next question, once that is known
+                defines = self.identity.definitions.define_lines()
+                asked.defines = len(defines)
+                lines += defines
         if lines:
             self.hungry = True
         if self.hungry and free_slots > 0:
             most = max(len(lines) + 1 + asked.plans, self._more)
             asked.claims = min(most, free_slots + asked.plans)
             lines.append(protocol.next_line(asked.claims))
-        lines += map(protocol.show_line, asked.looks)
-        if not lines:
-            self.asked = None
+        if asked.looks:
+            lines += map(protocol.show_line, asked.looks)
+        asked.lines = len(lines)
+        self.asked = asked if lines else None
         return lines
 
-    def _ask_reports(self, lines: list[str]) -> Sequence[Attempt]:
+    def _ask_reports(self, asked: Question, lines: list[str]) -> Sequence[Attempt]:
         """A lot of them, the first first."""
-        assert self.asked
         lot, self.reports = [*self.reports], {}
         if len(lot) > MOST_REPORTS:
             lot, self.reports = lot[:MOST_REPORTS], dict.fromkeys(lot[MOST_REPORTS:])
@@ -272,14 +272,15 @@ class ShardDriver:
                 saga.odd = True
                 odd.append(attempt)
         if odd:
-            self.asked.plans, self.asked.looks = endings.expected(odd)
+            asked.plans, asked.looks = endings.expected(odd)
         return lot
 
     def _ask_opens(self, lines: list[str]) -> Sequence[SagaInstance]:
         """As many as a question may have."""
         lot: list[SagaInstance] = []
-        while self.opens and not self.is_undefined and len(lines) < MOST_REPORTS:
-            saga = self.opens.popleft()
+        opens, known = self.opens, self.identity.definitions.known
+        while opens and opens[0].place < known and len(lines) < MOST_REPORTS:
+            saga = opens.popleft()
             self.sent[saga], saga.shard = None, self
             lines.append(protocol.open_line(saga.place, self.opened + len(lot)))
             lot.append(saga)
@@ -319,15 +320,15 @@ class ShardDriver:
         begun = len(effects.dispatch)
         effects.unclaimed = asked.claims - begun
         self._more = min(MOST_CLAIMS, 2 * begun) if self.hungry else 1
-        self.events += effects.batch.text.count("\n")
+        self.events += effects.batch.counted()
         self.asked = None
         return effects
 
     # -- to the store, and from there
 
     def writes(self, effects: Effects) -> None:
-        """Its batch is on its way to the store from now on, if there is anything in it."""
-        if effects.batch:
+        """Its batch is on its way to the store, or an answer without rows goes behind one."""
+        if effects.batch or (self.unwritten and (effects.rare.aborted or effects.rare.early)):
             effects.is_written = True
             self.unwritten += 1
 
@@ -338,9 +339,8 @@ class ShardDriver:
             self.born = None
         if self.reporting and self.reporting[0] is effects.reported:
             self.reporting.popleft()  # lots are written in the order of their reports
-        for abort in effects.aborted:
-            if abort in self.aborting:
-                self.aborting.remove(abort)
+        if self.aborting:
+            self.aborting = [one for one in self.aborting if one not in effects.rare.aborted]
         for saga in effects.opened:
             self.sent.pop(saga, None)
             saga.committed = True

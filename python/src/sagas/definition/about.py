@@ -87,9 +87,9 @@ class About(Protocol):
         """Where its step is in a saga whose steps come from its input; None in all others."""
 
 
-@dataclasses.dataclass(frozen=True, slots=True)
+@dataclasses.dataclass(slots=True)
 class Told:
-    """All of it at once, for a task of which nothing else is here."""
+    """All of it at once, for a task of which nothing else is here. Nothing changes it."""
 
     saga: str
     key: str

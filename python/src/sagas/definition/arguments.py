@@ -89,6 +89,17 @@ def path(value: Any) -> str:
     return told
 
 
+def record(value: Any) -> str | None:
+    """The file of a record."""
+    if value is None:
+        return None
+    if not isinstance(value, (str, os.PathLike)) or not isinstance(os.fspath(value), str):
+        raise TypeError(f"record={shown(value)}: must be the path of a file")
+    if not os.fspath(value):
+        raise ValueError(f"record={shown(value)}: must not be empty. Give the path of a file")
+    return os.fspath(value)
+
+
 def keeping(retention: Any, archive_dir: Any) -> None:
     """How long what is over is kept, and where it goes then."""
     if retention is not None and not (

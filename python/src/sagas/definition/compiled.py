@@ -2,6 +2,7 @@
 
 from __future__ import annotations
 
+import copy
 import dataclasses
 import hashlib
 import json
@@ -11,9 +12,8 @@ from typing import Any
 
 import tomllib
 
-from sagas.base.errors import CannotDecode, InvalidInput, TooLarge
+from sagas.base.errors import CannotDecode, InvalidInput
 from sagas.definition import (
-    capacity,
     decoders,
     mismatches,
     serialization,
@@ -111,11 +111,6 @@ class Action:
         self.is_external = self.is_remote or bool(step and step.manner(self.kind).external)
 
 
-def needs_in(steps: list[dict[str, Any]]) -> int:
-    """How many needs the steps of a definition have, in all."""
-    return sum(len(step.get("needs", ())) for step in steps)
-
-
 Hooks = Mapping[str, tuple[str, ...]]
 """The webhooks that are told, by the type of what is told."""
 
@@ -135,7 +130,7 @@ class Kind:
         self.declared = declared or Declared(saga)
         is_shaped = shape_text.is_shaped(text)
         listed = shape_text.steps(text) if is_shaped else tomllib.loads(text)["step"]
-        self.layout: Layout | None = shape_text.layout(listed) if is_shaped else None
+        self.layout: Layout | None = shape_text.layout(text, listed) if is_shaped else None
         self.text, self.name = text, name_of(text)
         self.names: list[str] = [step["name"] for step in listed]
         self.heads = [f'"{name}":' for name in self.names]
@@ -148,7 +143,6 @@ class Kind:
         self.below = self._below(
             [[place[need] for need in step.get("needs", ())] for step in listed]
         )
-        self.fits = capacity.fits(self.count, needs_in(listed))
         told_hints = [self.declared.hints(step) for step in self.steps]
         self.inputs = [hint for hint, _, _ in told_hints]
         undo_inputs = [hint for _, _, hint in told_hints]
@@ -179,6 +173,12 @@ class Kind:
         }
         # stored values are made into others
         self.reads = bool(payloads.reads or self.decoders or any(self.inputs) or any(undo_inputs))
+
+    def with_costs(self, text: str) -> Kind:
+        """Return the definition of a text that differs from this one's in its costs alone."""
+        kind = copy.copy(self)  # nothing else in it comes from costs
+        kind.text = text
+        return kind
 
     def _declared_steps(self, saga: Saga | None) -> list[Step[Any] | None]:
         """The steps as the program has them."""
@@ -302,10 +302,6 @@ class Kind:
             ):
                 return f"step {self.names[number]!r}: result{fault}"
         return None
-
-    def too_large(self) -> TooLarge:
-        """Why none can be started, where it does not fit into a log."""
-        return capacity.too_large(self.name, self.count, needs_in(tomllib.loads(self.text)["step"]))
 
     def lacks(self) -> str | None:
         """The first step without a function, or the first compensation that may be called and

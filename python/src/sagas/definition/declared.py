@@ -14,6 +14,9 @@ if TYPE_CHECKING:
     from sagas.definition.saga import Saga
     from sagas.definition.step import Step
 
+COSTS = ("run", "undo", "skip", "keep")
+ComputedCosts = Sequence[tuple[str, Callable[[Any], Any]]]
+"""The costs of a step that are functions, in the order of `COSTS`."""
 Hints = tuple[Decoder | None, Decoder | None, Decoder | None]
 """How a step's input is read, its result, and the input of its compensation."""
 
@@ -24,11 +27,12 @@ class Declared:
     """
 
     def __init__(self, saga: Saga | None) -> None:
-        self.root = saga
+        self.root: Saga | None = saga
         self._sagas: dict[tuple[str, ...], Saga | None] = {(): saga}
         self._hints: dict[Step[Any], Hints] = {}
         self._inputs: dict[Saga, Decoder | None] = {}
         self._items: dict[Any, Decoder | None] = {}
+        self._costs: dict[Step[Any], ComputedCosts] = {}
 
     def _within(self, names: tuple[str, ...]) -> Saga | None:
         if names not in self._sagas:
@@ -66,6 +70,13 @@ class Declared:
             own = decoders.hints(undo)[0] if undo else None
             self._hints[step] = (*children.hints(step), own)
         return self._hints[step]
+
+    def computed_costs(self, step: Step[Any]) -> ComputedCosts:
+        """Which costs of a step come from the input."""
+        if step not in self._costs:
+            given = ((word, step.declared_cost(word)) for word in COSTS)
+            self._costs[step] = [(word, cost) for word, cost in given if callable(cost)]
+        return self._costs[step]
 
     # -- as `place.Reading`
 

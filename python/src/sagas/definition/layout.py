@@ -3,7 +3,7 @@
 from __future__ import annotations
 
 import re
-from collections.abc import Callable, Iterator, Sequence
+from collections.abc import Callable, Collection, Iterator, Sequence
 from typing import TYPE_CHECKING, Any, NamedTuple
 
 if TYPE_CHECKING:
@@ -61,11 +61,18 @@ class Layout:
         spots: Where each step comes from, by its name, in order.
     """
 
-    def __init__(self, names: Sequence[str], spots: Sequence[Spot]) -> None:
-        self.spots = dict(zip(names, spots))
+    def __init__(
+        self, names: Sequence[str], spots: Sequence[Spot], giving: Collection[str] = ()
+    ) -> None:
+        self.spots, self._giving = dict(zip(names, spots)), giving
         self._groups: dict[tuple[Scope, str], dict[int | None, str]] = {}
         for name, spot in self.spots.items():
             self._groups.setdefault((spot.scope, spot.name), {})[spot.number] = name
+
+    def gives(self, scope: Scope) -> bool:
+        """Whether a function gives something to the saga in a scope, or to one around it."""
+        names = [name for name, _ in scope]
+        return any("/".join(names[: depth + 1]) in self._giving for depth in range(len(names)))
 
     def prefix(self, scope: Scope) -> str:
         """What the names of the steps in a scope begin with."""

@@ -15,6 +15,7 @@ from sagas.definition.shape_values import ShapeValues
 
 if TYPE_CHECKING:
     from sagas.definition.about import About
+    from sagas.definition.saga import Saga
 
 
 NO_ITEM = {"index": None, "item_key": None, "item": None}
@@ -22,7 +23,9 @@ NO_ITEM = {"index": None, "item_key": None, "item": None}
 
 
 class Reading(Protocol):
-    """How the values of a saga are read by its declaration."""
+    """How the values of a saga are read by its declaration: `root`, if the program has it."""
+
+    root: Saga | None
 
     def saga(self, scope: Scope) -> str:
         """The name of the saga in a scope."""
@@ -120,6 +123,11 @@ class Place:
                 return one(self.layout.own(scope, path[0], self.spot.number))
         return self.layout.gather(scope, path, self.values, one)
 
+    @property
+    def lacks_given(self) -> bool:
+        """Whether the definition has a function that gives something, and the program has none."""
+        return self._reading.root is None and self.layout.gives(self.spot.scope)
+
     def given(self, about: About) -> Any:
         """What the saga outside gives to the included one; None where it gives nothing."""
         from sagas.definition.task import Task
@@ -141,11 +149,12 @@ class Place:
 class ToldPlace(Place):
     """Where a task is, as a worker elsewhere was told: its results have names already."""
 
-    __slots__ = ("_index", "_item")
+    __slots__ = ("_index", "_item", "_given")
 
-    def __init__(self, declared: str, index: int | str | None, item: Any) -> None:
+    def __init__(self, declared: str, index: int | str | None, item: Any, given: Any) -> None:
         self.spot = Spot((), declared, None if index is None else 0)
         self._index, self._item = index, serialization.write(item)
+        self._given = serialization.write(given)
 
     @property
     def index(self) -> int | str | None:
@@ -165,5 +174,5 @@ class ToldPlace(Place):
         return one(step if isinstance(step, str) else step.path[-1])
 
     def given(self, about: About) -> Any:
-        """Nothing: the function is not here."""
-        return None
+        """What the service computed: a new object at each call."""
+        return serialization.read(self._given)

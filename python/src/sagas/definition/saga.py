@@ -13,6 +13,7 @@ from sagas.base.wording import number
 from sagas.definition import (
     collection,
     definition_text,
+    folded_drawing,
     serialization,
     shape,
     shape_text,
@@ -369,17 +370,20 @@ class Saga(WaitSteps, Inclusions):
         text = serialization.write(input, "input")
         return shape_text.write(shape.Shape(self, text))
 
-    def draw(self, input: Any = None) -> str:
+    def draw(self, input: Any = None, *, unfold: Iterable[str] = ()) -> str:
         """Return the saga as text for Graphviz, for example for `dot -Tsvg`.
 
         Args:
             input: As of `toml` (default: None).
+            unfold: The steps with items, and the included sagas, whose parts are nodes of their
+                own, by declared names such as `hotel/room`; `"*"`: all (default: none).
 
         Raises:
             DefinitionError: As `check`. For what else see `toml`.
             EngineError: The program `sagas` cannot be run.
         """
-        return program.draw(self.toml(input))
+        text = self.toml(input)
+        return folded_drawing.fold(program.draw(text), text, {*unfold})
 
     def __repr__(self) -> str:
         return f"<saga {self.name}, version {self.version}, {number(len(self.steps), 'step')}>"

@@ -30,7 +30,6 @@ if TYPE_CHECKING:
     from sagas.definition.saga import Saga
     from sagas.definition.step import Cost, Step
 
-COSTS = ("run", "undo", "skip", "keep")
 MOST_PAIRS = 256
 """Of two fan-outs each of whose items needs all of the other's, so many needs are written."""
 PLAIN = (dict, list, str, int, float, bool, type(None))
@@ -42,7 +41,6 @@ class Entry:
 
     index: int | None
     name: str
-    costs: tuple[Cost, ...] = ()
     inside: Level | None = None
 
 
@@ -64,7 +62,6 @@ class ShapedStep:
     name: str
     step: Step[Any]
     spot: Spot
-    costs: tuple[Cost, ...]
     needs: list[str]
 
 
@@ -74,7 +71,9 @@ class Shape:
     Attributes:
         saga: The saga.
         values: What is kept of it.
-        signature: What differs between shapes: two that have the same have the same definition.
+        structure: What decides which steps there are, and what they need: two shapes of a saga with
+            the same differ in costs alone.
+        costs: The costs that were computed, in the order of `steps` and `COSTS`.
         count: How many steps it has.
     """
 
@@ -92,7 +91,8 @@ class Shape:
         """
         self.saga, self.values = saga, ShapeValues()
         self._declared = declared or Declared(saga)
-        self.signature: list[Any] = []
+        self.structure: list[int] = []
+        self.costs: list[Cost] = []
         self.count = 0
         self._needs: dict[tuple[int, str, int | None], list[str]] = {}
         self._ends: dict[int, list[str]] = {}
@@ -115,7 +115,7 @@ class Shape:
             entries = level.entries[part.name] = {}
             if part.when is not None:
                 is_there = bool(_asked(part, "when", part.when, value))
-                self.signature.append(is_there)
+                self.structure.append(is_there)
                 if not is_there:
                     continue
             if part.for_each is None:
@@ -128,7 +128,7 @@ class Shape:
                 lists[part.for_each] = group, self._keep(part, group, value)
             self._check_types(level, part, lists[part.for_each][1])
             count = self.values.count(level.scope, part.name) or 0
-            self.signature.append(count)
+            self.structure.append(count)
             for index in range(count):
                 self._add(level, part, entries, index, value)
         return level
@@ -174,18 +174,17 @@ class Shape:
         self.count += 1
         if self.count > validation.MOST_STEPS:
             raise self._too_many()
-        entry.costs = tuple(self._cost(part, word, spot, value) for word in COSTS)
+        for word, given in self._declared.computed_costs(part):
+            self.costs.append(self._cost(part, word, given, spot, value))
 
-    def _cost(self, step: Step[Any], word: str, spot: Spot, value: Any) -> Cost:
-        given = step.declared_cost(word)
-        if not callable(given):
-            return step.cost(word)
+    def _cost(
+        self, step: Step[Any], word: str, given: Callable[[Any], Any], spot: Spot, value: Any
+    ) -> Cost:
         about = value if spot.number is None else self._item(step, spot)
         cost: Cost = _asked(step, word, given, about)
         if not shape_validation.is_cost(cost):
             rule = f"an integer from 0 to {validation.MOST_COST:,}, or sagas.NEVER"
             raise _invalid(step, f"{word}= returned a {type(cost).__name__} that is not {rule}")
-        self.signature.append(cost)
         return cost
 
     def _item(self, part: Part, spot: Spot) -> Any:
@@ -243,7 +242,7 @@ class Shape:
                 elif not isinstance(part, Inclusion):
                     spot = Spot(level.scope, part.name, index)
                     needs = self._needed(level, part, index)
-                    yield ShapedStep(entry.name, part, spot, entry.costs, needs)
+                    yield ShapedStep(entry.name, part, spot, needs)
 
     def _all_of(self, level: Level, part: Part) -> list[str]:
         """What stands for the whole of a part: all of its steps; or what it needs, where it is not
@@ -278,7 +277,7 @@ class Shape:
             spot = Spot(level.scope, part.name + joins.ENDING)
             step = joins.step_of(level.saga, spot.name)
             assert step is not None
-            self._joins[name] = level, ShapedStep(name, step, spot, (0, 0, 0, 0), names)
+            self._joins[name] = level, ShapedStep(name, step, spot, names)
         return name
 
     def _find_needs(self, level: Level, part: Part, index: int | None) -> list[str]:

@@ -3,27 +3,89 @@
 from __future__ import annotations
 
 import re
-from collections.abc import Iterator
+from collections.abc import Iterator, Sequence
 from typing import TYPE_CHECKING, Any
 
 from sagas.base.errors import TooLarge
 from sagas.definition import validation
+from sagas.definition.declared import COSTS
 from sagas.definition.layout import Layout, spot_of
-from sagas.definition.shape import COSTS, Shape, ShapedStep
+from sagas.definition.shape import Shape, ShapedStep
 
 if TYPE_CHECKING:
     from sagas.definition.parts import Inclusion
     from sagas.definition.saga import Saga
+    from sagas.definition.step import Cost
 
 OF = "# of "
 """Behind the name of a step: where it comes from."""
-INCLUDES = re.compile(r"^# includes (\S+) (\S+) (\d+)$", re.M)
-"""In the head, for each inclusion: its path, and the included saga's name and version."""
+INCLUDES = re.compile(r"^# includes (\S+) (\S+) (\d+)( given)?$", re.M)
+"""In the head, for each inclusion: its path, the included saga's name and version, and whether
+there is a `given=`."""
+
+COST_LINES = re.compile(r"^(?:run|undo|skip|keep) = .*\n", re.M)
 
 
 def is_shaped(text: str) -> bool:
     """Whether a definition is one of a saga whose steps come from its input."""
     return f"\n{OF}" in text
+
+
+class Template:
+    """The definitions of all shapes of one structure."""
+
+    __slots__ = ("_pieces", "_words")
+
+    def __init__(self, shape: Shape) -> None:
+        """Make it of one of the shapes.
+
+        Raises:
+            TooLarge: It has more needs than a saga can have.
+        """
+        self._pieces: list[str] = []  # a computed cost is between each two of them
+        self._words: list[str] = []
+        saga, needs = shape.saga, 0
+        lines = [f"# version {saga.version}"] if saga.version != 1 else []
+        lines += [
+            f"# includes {path} {part.inner.name} {part.inner.version}"
+            f"{' given' if part.given else ''}"
+            for path, part in inclusions(saga)
+        ]
+        lines += ["format = 2", f'name = "{saga.name}"']
+        for one in shape.steps():
+            needs += len(one.needs)
+            lines = self._step(one, lines)
+        if needs > validation.MOST_NEEDS:
+            raise TooLarge(
+                f"saga {saga.name!r} has {needs:,} needs for this input, and may have "
+                f"{validation.MOST_NEEDS:,}. Nothing was started. Put a step in between"
+            )
+        self._pieces.append(_joined(lines))
+
+    def _step(self, one: ShapedStep, lines: list[str]) -> list[str]:
+        """Put a step behind these lines. Return those that are behind the last computed cost."""
+        lines += ("", "[[step]]", f'name = "{one.name}"', f"{OF}{one.spot.word}")
+        if one.needs:
+            lines.append("needs = [" + ", ".join([f'"{need}"' for need in one.needs]) + "]")
+        for word in COSTS:
+            if callable(one.step.declared_cost(word)):
+                self._pieces.append(_joined(lines))
+                self._words.append(word)
+                lines = []
+            elif cost := _cost(word, one.step.cost(word)):
+                lines.append(cost[:-1])
+        if one.step.run.tries != 1:
+            lines.append(f"tries = {one.step.run.tries}")
+        if one.step.undo.tries != 1:
+            lines.append(f"undo_tries = {one.step.undo.tries}")
+        return lines
+
+    def text(self, costs: Sequence[Cost]) -> str:
+        """Return the definition with these computed costs."""
+        found = [self._pieces[0]]
+        for word, cost, piece in zip(self._words, costs, self._pieces[1:], strict=True):
+            found += (_cost(word, cost), piece)
+        return "".join(found)
 
 
 def write(shape: Shape) -> str:
@@ -32,39 +94,18 @@ def write(shape: Shape) -> str:
     Raises:
         TooLarge: It has more needs than a saga can have.
     """
-    saga, needs = shape.saga, 0
-    lines = [f"# version {saga.version}"] if saga.version != 1 else []
-    lines += [
-        f"# includes {path} {part.inner.name} {part.inner.version}"
-        for path, part in inclusions(saga)
-    ]
-    lines += ["format = 2", f'name = "{saga.name}"']
-    for one in shape.steps():
-        needs += len(one.needs)
-        lines += _step(one)
-    if needs > validation.MOST_NEEDS:
-        raise TooLarge(
-            f"saga {saga.name!r} has {needs:,} needs for this input, and may have "
-            f"{validation.MOST_NEEDS:,}. Nothing was started. Put a step in between"
-        )
-    return "\n".join(lines) + "\n"
+    return Template(shape).text(shape.costs)
 
 
-def _step(one: ShapedStep) -> Iterator[str]:
-    from sagas.definition.step import NEVER
+def _joined(lines: list[str]) -> str:
+    return "".join([f"{line}\n" for line in lines])
 
-    yield from ("", "[[step]]", f'name = "{one.name}"', f"{OF}{one.spot.word}")
-    if one.needs:
-        yield "needs = [" + ", ".join([f'"{need}"' for need in one.needs]) + "]"
-    for word, cost in zip(COSTS, one.costs):
-        if cost is NEVER:
-            yield f'{word} = "never"'
-        elif cost:
-            yield f"{word} = {cost}"
-    if one.step.run.tries != 1:
-        yield f"tries = {one.step.run.tries}"
-    if one.step.undo.tries != 1:
-        yield f"undo_tries = {one.step.undo.tries}"
+
+def _cost(word: str, cost: Cost) -> str:
+    """The line of a cost; none where it is 0, which is the default."""
+    if isinstance(cost, int):
+        return f"{word} = {cost}\n" if cost else ""
+    return f'{word} = "never"\n'
 
 
 def inclusions(saga: Saga, outer: str = "") -> Iterator[tuple[str, Inclusion]]:
@@ -80,7 +121,17 @@ def inclusions(saga: Saga, outer: str = "") -> Iterator[tuple[str, Inclusion]]:
 
 def included(text: str) -> dict[str, tuple[str, int]]:
     """The names and versions of the sagas that a definition includes, by path."""
-    return {path: (name, int(version)) for path, name, version in INCLUDES.findall(text)}
+    return {path: (name, int(version)) for path, name, version, _ in INCLUDES.findall(text)}
+
+
+def giving(text: str) -> frozenset[str]:
+    """The paths of the inclusions to which a function gives something."""
+    return frozenset(path for path, _, _, given in INCLUDES.findall(text) if given)
+
+
+def without_costs(text: str) -> str:
+    """What two definitions of `write` have in common if they differ in their costs alone."""
+    return COST_LINES.sub("", text)
 
 
 def steps(text: str) -> list[dict[str, Any]]:
@@ -102,6 +153,7 @@ def steps(text: str) -> list[dict[str, Any]]:
     return found
 
 
-def layout(steps: list[dict[str, Any]]) -> Layout:
-    """The layout of the steps that were read."""
-    return Layout([one["name"] for one in steps], [spot_of(one["of"]) for one in steps])
+def layout(text: str, steps: list[dict[str, Any]]) -> Layout:
+    """The layout of a definition, of which the steps were read."""
+    names, spots = [one["name"] for one in steps], [spot_of(one["of"]) for one in steps]
+    return Layout(names, spots, giving(text))

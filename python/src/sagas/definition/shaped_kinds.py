@@ -5,7 +5,7 @@ from __future__ import annotations
 import weakref
 from collections import OrderedDict
 from collections.abc import Iterator
-from typing import TYPE_CHECKING, Any, Protocol
+from typing import TYPE_CHECKING, Any, Protocol, TypeVar
 
 from sagas.definition import shape_text
 from sagas.definition.compiled import Hooks, Kind, name_of, version_of
@@ -18,7 +18,10 @@ if TYPE_CHECKING:
     from sagas.definition.saga import Saga
 
 MOST = 256
-"""Definitions that are kept at hand, beside those of the shards that are driven."""
+"""Definitions that are kept at hand, beside those of the shards that are driven; and what writes
+so many of them.
+"""
+T = TypeVar("T")
 
 
 class Known(Protocol):
@@ -38,7 +41,9 @@ class ShapedKinds:
     def __init__(self, known: Known) -> None:
         self._known = known
         self._kinds: weakref.WeakValueDictionary[str, Kind] = weakref.WeakValueDictionary()
+        self._alike: weakref.WeakValueDictionary[str, Kind] = weakref.WeakValueDictionary()
         self._recent: OrderedDict[tuple[Any, ...], Kind] = OrderedDict()
+        self._templates: OrderedDict[tuple[Any, ...], shape_text.Template] = OrderedDict()
         self._declared: dict[tuple[str, int], Declared] = {}
 
     def all(self) -> Iterator[Kind]:
@@ -49,10 +54,16 @@ class ShapedKinds:
         """The definition of a text."""
         kind = self._kinds.get(text)
         if kind is None:
-            known, declared = self._known, self._declaration(name_of(text), version_of(text))
-            kind = Kind(text, declared.root, known.context, known.payloads, declared)
-            kind.hooks = known.hooks(kind.name)
-            self._kinds[text] = kind
+            alike = shape_text.without_costs(text)
+            like = self._alike.get(alike)
+            kind = self._made(text) if like is None else like.with_costs(text)
+            self._kinds[text] = self._alike[alike] = kind
+        return kind
+
+    def _made(self, text: str) -> Kind:
+        known, declared = self._known, self._declaration(name_of(text), version_of(text))
+        kind = Kind(text, declared.root, known.context, known.payloads, declared)
+        kind.hooks = known.hooks(kind.name)
         return kind
 
     def _declaration(self, name: str, version: int) -> Declared:
@@ -70,12 +81,28 @@ class ShapedKinds:
             TooLarge: It gives it too many steps, or needs.
         """
         shape = Shape(saga, text, self._declaration(saga.name, saga.version))
-        signature = (saga.name, saga.version, *shape.signature)
+        structure = (saga.name, saga.version, *shape.structure)
+        signature = (structure, *shape.costs)
         kind = self._recent.get(signature)
         if kind is None:
-            kind = self._recent[signature] = self.kind(shape_text.write(shape))
-            if len(self._recent) > MOST:
-                self._recent.popitem(last=False)
+            text = self._template(structure, shape).text(shape.costs)
+            kind = _put(self._recent, signature, self.kind(text))
         else:
             self._recent.move_to_end(signature)
         return kind, self._known.payloads.encode(shape.values.text())
+
+    def _template(self, structure: tuple[Any, ...], shape: Shape) -> shape_text.Template:
+        """What writes the definitions of this structure."""
+        found = self._templates.get(structure)
+        if found is None:
+            return _put(self._templates, structure, shape_text.Template(shape))
+        self._templates.move_to_end(structure)
+        return found
+
+
+def _put(recent: OrderedDict[tuple[Any, ...], T], key: tuple[Any, ...], value: T) -> T:
+    """Keep a value, in place of the one that was not asked for the longest."""
+    recent[key] = value
+    if len(recent) > MOST:
+        recent.popitem(last=False)
+    return value

@@ -89,8 +89,10 @@ class Shelf:
         self._check_queues()
         self.room = SHARD_CAPACITY  # how many sagas a log takes, where they are small
         self.by_name = {(kind.name, kind.version): kind for kind in self.kinds}
-        self._by_saga = {
-            saga: self.by_name[name] for name, saga in self.sagas.items() if name in self.by_name
+        self._fitted = {
+            saga: Fitted(self.by_name[name], None, None)
+            for name, saga in self.sagas.items()
+            if name in self.by_name
         }
         self._sets = dict(self._divided())
 
@@ -142,11 +144,12 @@ class Shelf:
         Raises:
             DefinitionError: The store was not opened with this very saga.
         """
-        validation.check_given(saga)
-        kind = self._by_saga.get(saga)
-        if kind is not None:
+        if not isinstance(saga, Saga):
+            validation.check_given(saga)
+        fitted = self._fitted.get(saga)
+        if fitted is not None and (kind := fitted.kind) is not None:
             wrong = kind.misfit(input, text)
-            return Fitted(kind, None, wrong if wrong or kind.fits else kind.too_large())
+            return fitted if wrong is None else Fitted(kind, None, wrong)
         if self.sagas.get((saga.name, saga.version)) is not saga:
             raise DefinitionError(
                 f"{saga.where}: saga {saga.name!r}: the store was not opened with it. Add it "
@@ -156,8 +159,7 @@ class Shelf:
             kind, shape = self._shaped.of(saga, text)
         except SagasError as error:
             return Fitted(None, None, error)
-        wrong = kind.misfit(input, text)
-        return Fitted(kind, shape, wrong if wrong or kind.fits else kind.too_large())
+        return Fitted(kind, shape, kind.misfit(input, text))
 
     def announce(self, hooks: Callable[[str], Hooks]) -> None:
         """Let webhooks be told of sagas: `hooks` gives them by the name of the saga."""

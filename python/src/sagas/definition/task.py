@@ -385,5 +385,10 @@ class Task(Generic[I]):
         place = self._about.place
         return None if place is None else place.given(self._about)
 
+    @property
+    def lacks_given(self) -> bool:
+        """Whether the program does not have the function that computes `given`."""
+        return self._about.place is not None and self._about.place.lacks_given
+
     def __repr__(self) -> str:
         return f"<task {self.attempt_id} of {self.key!r}>"

@@ -5,7 +5,7 @@ from __future__ import annotations
 from collections.abc import Iterator
 from typing import TYPE_CHECKING, Any
 
-from sagas.definition import capacity, decoders
+from sagas.definition import decoders
 from sagas.definition.validation import MOST_TOLD, check_saga, place
 
 if TYPE_CHECKING:
@@ -18,11 +18,8 @@ def warnings(saga: Saga) -> list[str]:
     check_saga(saga)
     if saga.is_shaped:  # what else may be meant otherwise depends on the input
         return [*_unread(saga), *_short(saga), *_left_out(saga)]
-    unfit = capacity.unfit(saga)
-    found = [f"{saga.where}: {unfit}"] if unfit else []
     stays = _stays(saga)
     return [
-        *found,
         *_unread(saga),
         *_short(saga),
         *_never_called(saga, stays),

@@ -4,6 +4,7 @@ from __future__ import annotations
 
 import dataclasses
 import json
+from collections.abc import Iterable
 from typing import Any
 
 import tomllib
@@ -11,6 +12,7 @@ import tomllib
 from sagas.base import program
 from sagas.base.errors import EngineError
 from sagas.core.states import state_text, step_state
+from sagas.definition import folded_drawing
 
 Cost = int | None
 """A cost; None is never."""
@@ -142,13 +144,17 @@ class Plan:
             raise EngineError((done.stdout + done.stderr).strip())
         return done.stdout.strip()
 
-    def draw(self) -> str:
+    def draw(self, *, unfold: Iterable[str] = ()) -> str:
         """Return the plan as text for Graphviz, for example for `dot -Tsvg`.
+
+        Args:
+            unfold: As of `Saga.draw` (default: none).
 
         Raises:
             EngineError: The program `sagas` cannot be run.
         """
-        return program.draw(self.definition, json.dumps(self.case), json.dumps(self.answer))
+        whole = program.draw(self.definition, json.dumps(self.case), json.dumps(self.answer))
+        return folded_drawing.fold(whole, self.definition, {*unfold})
 
     def __str__(self) -> str:
         choices = self.choices

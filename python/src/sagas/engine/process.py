@@ -11,12 +11,13 @@ import select
 import subprocess
 import time
 from collections.abc import Sequence
-from typing import NamedTuple, Protocol
+from typing import Protocol
 
 from sagas.base.errors import EngineError
 from sagas.base.fork_guard import private
 from sagas.base.program import Texts, memory_file, not_runnable
 from sagas.core import protocol
+from sagas.core.protocol import REPLY
 
 PIPE = 1 << 20  # bytes
 READ = (
@@ -32,16 +33,10 @@ NOT_RUNNABLE = (errno.ENOEXEC, errno.EACCES, errno.ENOENT)
 or without its loader."""
 
 
-class Answer(NamedTuple):
-    """What an engine says to a question.
-
-    Attributes:
-        replies: One for each line that it was asked.
-        log_text: The event log's new lines.
-    """
-
-    replies: list[str]
-    log_text: str
+Answer = tuple[list[str], str]
+"""What an engine says to a question: a reply for each line that it was asked, and the event log's
+new lines.
+"""
 
 
 class Listener(Protocol):
@@ -194,17 +189,17 @@ class EngineProcess:
             return None
         came = (self._part + data.decode()).split("\n")  # all of ASCII: no character is cut
         self._part = came.pop()
-        replies, shown = self._replies, self._shown
-        for line in came:
-            if line[:1] == "+":  # a line of the log, shown before the reply that it belongs to
-                shown.append(line)
-            else:
-                replies.append(line)
-        if not self.asked or len(replies) < self.asked:
+        # a line of the log is shown before the reply that it belongs to
+        self._replies += [line for line in came if line >= REPLY]
+        self._shown += [line for line in came if line < REPLY]
+        if not self.asked or len(self._replies) < self.asked:
             return None
-        self._replies, self._shown, self.asked = [], [], 0
-        text = "\n".join([*shown, ""])[1:].replace("\n+", "\n")
-        return Answer(replies, text.removeprefix(protocol.HEADER))
+        replies, self._replies, self.asked = self._replies, [], 0
+        if not self._shown:
+            return replies, ""
+        self._shown.append("")
+        text, self._shown = "\n".join(self._shown)[1:].replace("\n+", "\n"), []
+        return replies, text.removeprefix(protocol.HEADER)
 
     def _die(self) -> None:
         if not self.dead:

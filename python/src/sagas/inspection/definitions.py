@@ -64,7 +64,7 @@ class AtStep:
 
 
 def at_steps(name: str) -> Question[dict[str, AtStep]]:
-    """By the names of the steps."""
+    """By the names with which the steps were declared."""
     rows = []
     for text in (HELD, OFFERED, *WITH_FAILURES):
         rows += yield Query(text, (name,))
@@ -72,7 +72,7 @@ def at_steps(name: str) -> Question[dict[str, AtStep]]:
     found = dict[str, Counter[str]]()
     for digest, step, what, count in rows:
         if digest in names:  # else it was let go meanwhile
-            named = names.of(digest)[step]
+            named = names.declared(digest)[step]
             found.setdefault(named, Counter())[what] += count
     return {step: AtStep(**counts) for step, counts in found.items()}
 

@@ -6,6 +6,7 @@ from collections.abc import Iterable
 
 import tomllib
 
+from sagas.definition.groups import Groups
 from sagas.inspection.question import Query, Question
 from sagas.storage.queries import OF_SHARD as OF_SHARD
 
@@ -21,6 +22,7 @@ class Names:
     def __init__(self, texts: dict[str, str]) -> None:
         self._texts = texts
         self._names: dict[str, list[str]] = {}
+        self._declared: dict[str, list[str]] = {}
 
     def __contains__(self, digest: str) -> bool:
         return digest in self._texts
@@ -34,6 +36,13 @@ class Names:
         if digest not in self._names:
             self._names[digest] = step_names(self.text(digest))
         return self._names[digest]
+
+    def declared(self, digest: str) -> list[str]:
+        """The names with which a definition's steps were declared: `hotel/room`."""
+        if digest not in self._declared:
+            spots = Groups.read(self.text(digest)).spots
+            self._declared[digest] = [spot.declared for spot in spots] or self.of(digest)
+        return self._declared[digest]
 
 
 def step_names(definition: str) -> list[str]:

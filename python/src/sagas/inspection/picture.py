@@ -3,15 +3,18 @@
 from __future__ import annotations
 
 import dataclasses
+from collections.abc import Collection
 from html import escape
 from typing import NamedTuple
 
 from sagas.core.outcomes import CANNOT_DECODE
 from sagas.core.states import WAITS_FOR
+from sagas.definition.groups import Groups
 from sagas.engine.plan import Choice
 from sagas.inspection import wording
 from sagas.inspection.activity import state_of
 from sagas.inspection.folding import folded
+from sagas.inspection.group_boxes import Box, Link, Told, blocks_of, boxes_of, urgency
 from sagas.inspection.layout import GAP_X, HEIGHT, WIDTH, Placed, Point, place
 from sagas.inspection.views import SagaView, Waits
 
@@ -47,18 +50,6 @@ color-scheme:light dark;
 .failed{--tone:var(--red)}.undone{--tone:var(--violet)}.undo_failed{--tone:var(--amber)}
 .person{--tone:var(--amber)}
 """
-
-
-class Told(NamedTuple):
-    """What a step's box says: its state in words, and why; its colour and its icon. `left`: it
-    is not run.
-    """
-
-    state: str
-    why: str
-    left: bool
-    tone: str
-    icon: str
 
 
 def cut(text: str, most: int) -> str:
@@ -184,52 +175,59 @@ def line(points: list[Point]) -> str:
     return " ".join(found)
 
 
-def boxes(names: list[str], tolds: list[Told], placed: Placed) -> list[str]:
-    """The steps."""
+def boxes(shown: list[Box], placed: Placed) -> list[str]:
+    """The steps. Where a box has a link, the table beside has it, too: nobody gets to it twice."""
     found = []
-    for step, told, (x, y) in zip(names, tolds, placed.corners):
+    for (step, told, _, href, _), (x, y) in zip(shown, placed.corners):
         spoken = escape(f"{step}: {told.state}{', ' + told.why if told.why else ''}")
         left, is_long = " left" if told.left else "", len(step) > 20
         name = escape(named(step, 22 if is_long else 20))
+        before, behind = (f'<a href="{escape(href)}" tabindex="-1">', "</a>") if href else ("", "")
         found.append(
-            f'<g class="step {told.tone}{left}" transform="translate({x:.0f} {y:.1f})">'
+            f'{before}<g class="step {told.tone}{left}" transform="translate({x:.0f} {y:.1f})">'
             f"<title>{spoken}</title>"
             f'<rect class="box" width="{WIDTH}" height="{HEIGHT}" rx="9"/>'
             f'<rect class="bar" x="0" y="12" width="4" height="{HEIGHT - 24}" rx="2"/>'
             f'<text class="name{" long" if is_long else ""}" x="15" y="24">{name}</text>'
             f'<g class="icon" transform="translate(21 41) scale(.95)">{ICONS[told.icon]}</g>'
             f'<text class="state" x="33" y="45">{escape(told.state)}</text>'
-            f'<text class="why" x="15" y="62">{escape(cut(told.why, 28))}</text></g>'
+            f'<text class="why" x="15" y="62">{escape(cut(told.why, 28))}</text></g>{behind}'
         )
     return found
 
 
-def titled(names: list[str]) -> str:
-    """The name of a box; of several steps their number and the first."""
-    return names[0] if len(names) == 1 else f"{len(names)} × {names[0]} …"
+def titled(some: list[Box]) -> Box:
+    """A box; of several equal ones their number and the first."""
+    first = some[0]
+    if len(some) == 1:
+        return first
+    return first._replace(title=f"{len(some)} × {first.title} …")
 
 
-def spoken(view: SagaView, tolds: list[Told]) -> str:
+def spoken(view: SagaView, shown: list[Box]) -> str:
     """The picture in words."""
     steps = "; ".join(
-        f"{step.name} {told.state}{' (' + told.why + ')' if told.why else ''}"
-        for step, told in zip(view.steps, tolds)
+        f"{box.title} {box.told.state}{' (' + box.told.why + ')' if box.told.why else ''}"
+        for box in shown
     )
     return f"{view.saga} {view.key}, {view.phase}: {steps}"
 
 
-def svg(view: SagaView, style: str = "", *, tolds: list[Told] | None = None) -> str:
-    """The picture; without a style it is for the page, whose style sheet has the same classes."""
+def svg(
+    view: SagaView, style: str = "", *, tolds: list[Told] | None = None,
+    groups: Groups | None = None, unfold: Collection[str] = (), link: Link | None = None,
+) -> str:  # fmt: skip
+    """The picture; without a style it is for the page, whose style sheet has the same classes.
+
+    `unfold`: the groups whose parts are drawn; `link`: where a click on a group leads.
+    """
     tolds = told_of(view) if tolds is None else tolds
+    groups = Groups.read(view.definition) if groups is None else groups
     steps = [(step.name, step.needs) for step in view.steps]
-    return drawn(steps, tolds, spoken(view, tolds), style)
-
-
-def urgency(told: Told) -> int:
-    """What failed comes first, then what asks a person, then what is under way."""
-    return {"failed": 0, "undo_failed": 0, "person": 1, "running": 2, "undoing": 2}.get(
-        told.tone, 3 if told.tone != "waiting" else 4
+    shown = boxes_of(
+        blocks_of(groups, len(steps), unfold), [step.name for step in view.steps], tolds, link
     )
+    return drawn(steps, shown, spoken(view, shown), style)
 
 
 def ordered(needs: list[list[int]], tolds: list[Told]) -> Placed:
@@ -241,14 +239,30 @@ def ordered(needs: list[list[int]], tolds: list[Told]) -> Placed:
     return dataclasses.replace(found, corners=corners)
 
 
-def drawn(
-    steps: list[tuple[str, list[str]]], tolds: list[Told], words: str, style: str = ""
-) -> str:
-    """Steps with their needs, what is told of each, and the picture in words."""
+def plain_boxes(steps: list[tuple[str, list[str]]], tolds: list[Told]) -> list[Box]:
+    """A box for each step."""
+    return [Box(name, told, [place]) for place, ((name, _), told) in enumerate(zip(steps, tolds))]
+
+
+def needs_of(steps: list[tuple[str, list[str]]], shown: list[Box]) -> list[list[int]]:
+    """The boxes that each box needs, by their places."""
     number = {name: place for place, (name, _) in enumerate(steps)}
-    some = folded([[number[need] for need in needs] for _, needs in steps], tolds)
-    placed = ordered([one.needs for one in some], [tolds[one.steps[0]] for one in some])
-    names = [titled([steps[step][0] for step in one.steps]) for one in some]
+    at = {step: place for place, box in enumerate(shown) for step in box.steps}
+    found = []
+    for place, box in enumerate(shown):
+        needed = (at[number[need]] for step in box.steps for need in steps[step][1])
+        found.append([one for one in dict.fromkeys(needed) if one != place])
+    return found
+
+
+def drawn(steps: list[tuple[str, list[str]]], shown: list[Box], words: str, style: str = "") -> str:
+    """Boxes of steps with their needs, and the picture in words. Many equal ones are one box, but
+    for those that stand alone.
+    """
+    looks = [object() if box.alone else box.told for box in shown]
+    some = folded(needs_of(steps, shown), looks)
+    joined = [titled([shown[place] for place in one.steps]) for one in some]
+    placed = ordered([one.needs for one in some], [box.told for box in joined])
     needs = [
         f'<path class="need" marker-end="url(#to)" d="{line(points)}"/>'
         for points in placed.lines.values()
@@ -264,11 +278,10 @@ def drawn(
     )
     inside = f"<style>{style}</style>" if style else ""
     label = escape(cut(words, 2000))
-    shown = [tolds[one.steps[0]] for one in some]
-    parts = [inside, arrow, *needs, *boxes(names, shown, placed)]
+    parts = [inside, arrow, *needs, *boxes(joined, placed)]
     return f'{head} aria-label="{label}">{"".join(parts)}</svg>'
 
 
-def document(view: SagaView) -> str:
+def document(view: SagaView, unfold: Collection[str] = ()) -> str:
     """The picture as a file of its own."""
-    return svg(view, STYLE)
+    return svg(view, STYLE, unfold=unfold)

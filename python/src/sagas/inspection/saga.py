@@ -35,7 +35,7 @@ from sagas.inspection import families
 from sagas.inspection.lists import waits
 from sagas.inspection.names import step_names
 from sagas.inspection.question import Query, Question
-from sagas.inspection.views import Note, SagaView, StepView
+from sagas.inspection.views import Note, Noted, SagaView, StepView
 from sagas.storage import queries
 
 MOST_HELD = 10_000
@@ -89,7 +89,7 @@ class _Kept:
 
     def __init__(self, row: SagaRow, rows: list[tuple[Any, ...]]) -> None:
         known = queries.known(rows, row.key)
-        self.row, self.definition = row, known.definition
+        self.row, self.definition, self.shape = row, known.definition, known.shape
         self.names = step_names(known.definition)
         self.lines = lines_of(known.chunks, row.id % SHARD_CAPACITY)
         self.attempts = attempts_of(self.names, known.results)
@@ -189,10 +189,10 @@ def _view(
         notes=done,
         definition=kept.definition,
         token=token,
-        spans=spans,
-        elsewhere=elsewhere,
+        noted=Noted(spans, elsewhere),
         parent=parent,
         children=children,
+        shape=kept.shape,
     )
 
 

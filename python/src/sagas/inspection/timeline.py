@@ -187,12 +187,12 @@ def _joined(ready: float, one: Stretch, marks: list[Span]) -> list[Span]:
 def _marks(view: SagaView) -> dict[Key, list[Span]]:
     """What was noted of each attempt, in the order of time. A mark has no end yet."""
     names, found = [step.name for step in view.steps], dict[Key, list[Span]]()
-    for step, action, number, offered, since, worker, lease in view.elsewhere:
+    for step, action, number, offered, since, worker, lease in view.noted.elsewhere:
         some = found.setdefault((names[step], action == "undo", number), [])
         some.append(_mark(Suspension.EXTERNAL.value, offered))
         if since is not None:
             some.append(_mark(LEASED_WORD, since, None, worker, lease))
-    for step, action, number, text in view.spans:
+    for step, action, number, text in view.noted.spans:
         some = found.setdefault((names[step], action == "undo", number), [])
         some += [_mark(*told) for told in json.loads(text)]
     for some in found.values():

@@ -2,9 +2,12 @@
 
 from __future__ import annotations
 
+import dataclasses
+from collections.abc import Iterable, Mapping
 from html import escape
 from typing import NamedTuple
 
+from sagas.base.wording import number
 from sagas.inspection import wording
 from sagas.inspection.picture import named
 from sagas.inspection.timeline import AttemptTimes, Span
@@ -32,21 +35,26 @@ def ticks(long: float) -> list[float]:
     return [count * step for count in range(int(long / step) + 1)]
 
 
-def rows_of(attempts: list[AttemptTimes], now: float) -> list[str]:
-    """The steps that are drawn, in the order in which they began."""
+def rows_of(attempts: list[AttemptTimes], now: float, titles: Mapping[str, str]) -> list[str]:
+    """The steps and groups that are drawn, in the order in which they began."""
     weights: dict[str, tuple[bool, float]] = {}
     for one in attempts:
-        is_bad, long = weights.get(one.step, (False, 0.0))
+        name = titles.get(one.step, one.step)
+        is_bad, long = weights.get(name, (False, 0.0))
         bad = one.outcome not in ("succeeded", "not_called")
-        weights[one.step] = is_bad or bad, long + (one.ended or now) - one.ready
+        weights[name] = is_bad or bad, long + (one.ended or now) - one.ready
     kept = sorted(weights, key=lambda step: weights[step], reverse=True)[:MOST_ROWS]
     return [step for step in weights if step in set(kept)]
 
 
-def drawn(attempts: list[AttemptTimes], started: float, now: float) -> str:
-    """A row for each step, and in it a bar for each span of its attempts."""
-    rows = {step: place for place, step in enumerate(rows_of(attempts, now))}
-    some = [one for one in attempts if one.step in rows]
+def drawn(
+    attempts: list[AttemptTimes], started: float, now: float, titles: Mapping[str, str] = {}
+) -> str:  # fmt: skip
+    """A row for each step, and in it a bar for each span of its attempts. `titles`: by the names of
+    steps, the groups that have a row in their place: there spans that overlap are one.
+    """
+    rows = {step: place for place, step in enumerate(rows_of(attempts, now, titles))}
+    some = [one for one in attempts if titles.get(one.step, one.step) in rows]
     if not some:
         return ""
     first = min(started, *(one.ready for one in some))
@@ -64,9 +72,12 @@ def drawn(attempts: list[AttemptTimes], started: float, now: float) -> str:
         f"{escape(named(name, MOST_NAME))}</text>"
         for name, row in rows.items()
     )
+    at = Scale(first, now, left, scale)
     bars = "".join(
-        bar(one, Scale(first, now, left, scale), TOP + ROW * rows[one.step]) for one in some
+        bar(one, at, TOP + ROW * rows[one.step]) for one in some if one.step not in titles
     )
+    for title, of in by_group(some, titles).items():
+        bars += group_bar(title, of, at, TOP + ROW * rows[title])
     label = (
         f"when the attempts of {len(rows)} steps were queued, ran, waited and backed off, over "
         f"{wording.span(last - first)}; the table of attempts has the same in words"
@@ -87,14 +98,71 @@ class Scale(NamedTuple):
     scale: float
 
 
-def bar(one: AttemptTimes, at: Scale, top: float) -> str:
-    """An attempt, a part for each of its spans."""
+def by_group(
+    attempts: Iterable[AttemptTimes], titles: Mapping[str, str]
+) -> dict[str, list[AttemptTimes]]:
+    """The attempts of the groups that have a row of their own."""
+    found: dict[str, list[AttemptTimes]] = {}
+    for one in attempts:
+        if one.step in titles:
+            found.setdefault(titles[one.step], []).append(one)
+    return found
+
+
+def tone_of(one: AttemptTimes) -> str:
+    """The colour of an attempt."""
     tone = TONES.get(one.outcome, one.outcome or "")
     tone = {"succeeded": "undone" if one.undo else "committed"}.get(tone, tone)
-    if tone == "failed" and one.undo:
-        tone = "undo_failed"
+    return "undo_failed" if tone == "failed" and one.undo else tone
+
+
+def bar(one: AttemptTimes, at: Scale, top: float) -> str:
+    """An attempt, a part for each of its spans."""
     parts = "".join(part(span, at, top) for span in one.spans)
-    return f'<g class="run {tone}"><title>{escape(told(one, at.now))}</title>{parts}</g>'
+    return f'<g class="run {tone_of(one)}"><title>{escape(told(one, at.now))}</title>{parts}</g>'
+
+
+ORDER = ("waiting", "committed", "undone", "running", "missed", "undo_failed", "failed")
+"""The colours of a group's bars: the later ones are above."""
+
+
+def group_bar(title: str, attempts: list[AttemptTimes], at: Scale, top: float) -> str:
+    """The attempts of a group: of each colour the spans of a state that overlap are one."""
+    found = []
+    for tone in ORDER:
+        some = [one for one in attempts if tone_of(one) == tone]
+        kinds: dict[tuple[str, bool], list[Span]] = {}
+        for span in (span for one in some for span in one.spans):
+            kinds.setdefault((span.state, span.why in PERSON), []).append(span)
+        parts = "".join(
+            part(span, at, top)
+            for state in STATES
+            for is_person in (False, True)
+            for span in merged(kinds.get((state, is_person), []), at.now)
+        )
+        if parts:
+            words = escape(f"{title}: {number(len(some), 'attempt')}, {SAID[tone]}")
+            found.append(f'<g class="run {tone}"><title>{words}</title>{parts}</g>')
+    return "".join(found)
+
+
+SAID = {
+    "waiting": "not called", "committed": "succeeded", "undone": "undone", "running": "under way",
+    "missed": "failed, and retried", "undo_failed": "whose compensation failed", "failed": "failed",
+}  # fmt: skip
+
+
+def merged(spans: list[Span], now: float) -> list[Span]:
+    """Spans of one kind, with those that overlap as one."""
+    found = list[Span]()
+    for span in sorted(spans, key=lambda one: one.began):
+        ended = now if span.ended is None else span.ended
+        last = found[-1] if found else None
+        if last is not None and last.ended is not None and span.began <= last.ended:
+            found[-1] = dataclasses.replace(last, ended=max(last.ended, ended))
+        else:
+            found.append(dataclasses.replace(span, ended=ended))
+    return found
 
 
 def part(span: Span, at: Scale, top: float) -> str:

@@ -5,7 +5,7 @@ from __future__ import annotations
 import dataclasses
 from collections import deque
 from collections.abc import Sequence
-from typing import Any
+from typing import Any, NamedTuple
 
 from sagas.core.attention import AttentionReason
 from sagas.core.history import Attempted, Line, Stretch
@@ -99,6 +99,13 @@ class StepView:
     early: str | None = None
 
 
+class Noted(NamedTuple):
+    """`spans`: what attempts did that were not simply called; `elsewhere`: what others did."""
+
+    spans: Sequence[tuple[Any, ...]] = ()
+    elsewhere: Sequence[tuple[Any, ...]] = ()
+
+
 @dataclasses.dataclass(frozen=True, slots=True)
 class SagaView:
     """All of a saga, of one moment. `plan` is the last one; `token`: of its shard's name and its
@@ -106,8 +113,8 @@ class SagaView:
 
     `parent`: the saga that started it; `children`: those that it started. `running`: steps, and
     whether their compensations, of which somebody knows that they are called now; of others that
-    have begun the store alone does not tell. `spans`: what attempts did that were not simply
-    called; `elsewhere`: those that others did (for `inspection.timeline`).
+    have begun the store alone does not tell. `noted`: for `inspection.timeline`. `shape`: what is
+    kept of its shape, as it is stored, where its steps come from its input.
     """
 
     summary: Summary
@@ -126,10 +133,10 @@ class SagaView:
     definition: str
     token: str
     running: frozenset[tuple[str, bool]] = frozenset()
-    spans: Sequence[tuple[Any, ...]] = ()
-    elsewhere: Sequence[tuple[Any, ...]] = ()
+    noted: Noted = Noted()
     parent: Relative | None = None
     children: list[Relative] = dataclasses.field(default_factory=list)
+    shape: str | None = None
 
     @property
     def id(self) -> int:

@@ -22,6 +22,7 @@ from sagas.definition import awaitables
 from sagas.definition.step import Manner
 from sagas.definition.tracing import Tracer
 from sagas.runtime import invocation
+from sagas.runtime.acknowledgements import Acknowledgements
 from sagas.runtime.current_step import CALLED
 from sagas.runtime.dispatcher import Dispatcher
 from sagas.runtime.executor_host import Host
@@ -63,6 +64,7 @@ class Calls:
 
     Attributes:
         running: The attempts that have a slot, each with the task that calls its function.
+        acknowledgements: What is acknowledged, if the program has a record.
     """
 
     def __init__(
@@ -73,9 +75,11 @@ class Calls:
         self._threads, self._remote = threads, remote
         self._teller, self._clock = host.teller, host.clock
         self._forks, self._tracer = private.forks, tracer
+        self.acknowledgements = Acknowledgements.of(host.store)
         self.running: dict[Attempt, asyncio.Task[None] | None] = {}
         self._alone = Dispatcher(self, host, self.running)
         self._inside = Dispatcher(self, host, self.running, host.store.inside)
+        self._has_inside = host.store.inside is not None
         self._holders: set[tuple[str, str, str]] = set()  # told that they held the loop
 
     def coming(self) -> int:
@@ -111,12 +115,13 @@ class Calls:
             return
         self.running.update(dict.fromkeys(attempts))
         start_all(attempts)
-        inside = [attempt for attempt in attempts if attempt.action.inside]
+        inside = [one for one in attempts if one.action.inside] if self._has_inside else ()
+        if not inside:
+            self._alone.call(attempts)
+            return
         if len(inside) < len(attempts):
-            alone = [attempt for attempt in attempts if not attempt.action.inside]
-            self._alone.call(alone)
-        if inside:
-            self._inside.call(inside)
+            self._alone.call([one for one in attempts if not one.action.inside])
+        self._inside.call(inside)
 
     async def _pass(self, attempt: Attempt, gate: Gate) -> None:
         """It is called if it gets a place of its step; else it waits without that and a slot."""
@@ -192,6 +197,8 @@ class Calls:
         if private.forks != self._forks:  # a function forked, and its child came back here
             os._exit(FORKED)
         if attempt.state is RUNNING and self._store.holds():
+            if self.acknowledgements is not None:
+                self.acknowledgements.called(attempt)
             if attempt.extras is not None:
                 spans.noted(attempt, self._clock())
             if self._teller.listens:

@@ -130,8 +130,6 @@ class Starts:
             assert wrong
             await self._store.refuse(id, str(wrong))
             return
-        if not kind.fits:  # it waits, as one of a saga that no node has
-            return
         options = StartOptions(labels, deadline, shape=shape, traceparent=traceparent)
         instance = self._sagas.add(key, text, kind, options)
         instance.start = id

@@ -4,7 +4,7 @@ from __future__ import annotations
 
 import asyncio
 from collections.abc import Sequence
-from typing import NamedTuple, Protocol
+from typing import Protocol
 
 from sagas.base.errors import Lost, SagasError, StoreUnavailable
 from sagas.base.events import Teller
@@ -43,11 +43,8 @@ class Load(Protocol):
         """Whether there is one saga, and no function runs: nothing else comes."""
 
 
-class Entry(NamedTuple):
-    """A batch that waits, or is being written."""
-
-    effects: Effects
-    owner: Owner | None
+Entry = tuple[Effects, Owner | None]
+"""A batch that waits, or is being written, with what hears how it fared."""
 
 
 class Waiter:
@@ -76,7 +73,8 @@ class Waiter:
 
 def _rows_of(entries: Sequence[Entry]) -> int:
     """How many sagas they open and results they have."""
-    return sum(len(one.effects.batch.results) + len(one.effects.batch.opened) for one in entries)
+    batches = [effects.batch for effects, _ in entries]
+    return sum(len(batch.results) + len(batch.opened) for batch in batches)
 
 
 class CommitQueue:
@@ -117,7 +115,9 @@ class CommitQueue:
         """
         if self._store.takes:
             self._policy.came(self._loop.time())
-        self._queue.append(Entry(effects, owner))
+        self._queue.append((effects, owner))
+        if self._is_under_way:
+            return
         self._is_urgent = at_once
         try:
             self.write()
@@ -141,7 +141,7 @@ class CommitQueue:
 
     def drop(self, shards: Sequence[int]) -> None:
         """Do not write what waits of these shards."""
-        self._queue = [one for one in self._queue if one.effects.batch.log not in shards]
+        self._queue = [entry for entry in self._queue if entry[0].batch.log not in shards]
 
     # -- written
 
@@ -149,24 +149,25 @@ class CommitQueue:
         """Write what waits, unless a commit is under way, or more is worth to wait for."""
         if not self._queue or self._is_under_way:
             return
-        if self._store.takes and self._holds():
+        takes = self._store.takes
+        if takes and self._holds(takes):
             return
         entries, self._queue = self._queue, []
         at_once, self._is_urgent, self._is_under_way = self._is_urgent, False, True
         self._under_way = entries
         try:
-            self._store.commit([one.effects.batch for one in entries], self._written, at_once)
+            self._store.commit([effects.batch for effects, _ in entries], self._written, at_once)
         except BaseException:
             self._settle_soon()
             raise
         if not at_once:
             self._settle_soon()
 
-    def _holds(self) -> bool:
+    def _holds(self, takes: float) -> bool:
         if self._load.is_alone():
             return False
         policy, now = self._policy, self._loop.time()
-        holds = policy.holds(self._load.coming(), _rows_of(self._queue), self._store.takes, now)
+        holds = policy.holds(self._load.coming(), _rows_of(self._queue), takes, now)
         if self._timer and not holds:
             self._timer.cancel()
             self._timer = None
@@ -190,17 +191,19 @@ class CommitQueue:
         if fault is not None or lost:
             entries = self._with_those_behind(entries, fault, lost)
         takes = self._store.takes
-        is_soon = bool(takes) and self._policy.is_soon(
-            _rows_of(entries), _rows_of(self._queue), takes
-        )
-        if fault is None and not is_soon:
-            self.write()
+        if self._queue and fault is None:
+            is_soon = takes and self._policy.is_soon(
+                _rows_of(entries), _rows_of(self._queue), takes
+            )
+            if not is_soon:
+                self.write()
         for effects, owner in entries:
             if owner is not None:
                 _tell(effects, owner, fault, fault is not None or effects.batch.log in lost)
         if takes:
             self._policy.committed(self._load.calls(), self._loop.time())
-        self.write()
+        if self._queue:
+            self.write()
 
     def _with_those_behind(
         self, entries: list[Entry], fault: BaseException | None, lost: frozenset[int]
@@ -210,8 +213,8 @@ class CommitQueue:
         """
         if fault is not None:
             self._teller.tell("commit_failed", detail=str(fault))
-        shards = {one.effects.batch.log for one in entries} if fault else lost
-        behind = [one for one in self._queue if one.effects.batch.log in shards]
+        shards = {effects.batch.log for effects, _ in entries} if fault else lost
+        behind = [entry for entry in self._queue if entry[0].batch.log in shards]
         self.drop(list(shards))
         return [*entries, *behind]
 

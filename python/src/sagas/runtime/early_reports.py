@@ -7,7 +7,7 @@ from collections.abc import Callable
 
 from sagas.base.errors import Moved, SagasError
 from sagas.core import early_reports
-from sagas.core.early_reports import EarlyReport
+from sagas.core.early_reports import EarlyReport, Refusal
 from sagas.core.model import SagaInstance
 from sagas.definition.compiled import Word
 from sagas.runtime.executor_host import Host
@@ -22,11 +22,11 @@ class EarlyReports:
 
     def __init__(self, host: Host, clock: Callable[[], float]) -> None:
         self._host, self._clock = host, clock
-        self._waiting: dict[EarlyReport, asyncio.Future[None]] = {}
+        self._waiting: dict[EarlyReport | Refusal, asyncio.Future[None]] = {}
 
-    def put(self, report: EarlyReport) -> asyncio.Future[None]:
-        """Return a future that is done once a report is in the store. It fails with `Moved` where
-        its caller has to look again.
+    def put(self, report: EarlyReport | Refusal) -> asyncio.Future[None]:
+        """Return a future that is done once a report is in the store, or what a refusal rests on.
+        It fails with `Moved` where its caller has to look again.
 
         Raises:
             Moved: The saga is not driven here.
@@ -44,11 +44,13 @@ class EarlyReports:
 
     def waiting(self, saga: SagaInstance, word: Word) -> asyncio.Future[None] | None:
         """Return the future of a report of this step that is on its way; None if there is none."""
-        found = (one for one in self._waiting if one.saga is saga and one.word == word)
-        return next((self._waiting[one] for one in found), None)
+        for one, future in self._waiting.items():
+            if isinstance(one, EarlyReport) and one.saga is saga and one.word == word:
+                return future
+        return None
 
-    def stored(self, report: EarlyReport) -> None:
-        """It is in the store."""
+    def stored(self, report: EarlyReport | Refusal) -> None:
+        """It is in the store, or what it rests on."""
         if (future := self._waiting.pop(report, None)) and not future.done():
             future.set_result(None)
 
@@ -61,5 +63,5 @@ class EarlyReports:
                 future.exception()  # whoever waited may be gone
 
 
-def _number(report: EarlyReport) -> int | None:
+def _number(report: EarlyReport | Refusal) -> int | None:
     return report.saga.shard.number if report.saga.shard else None

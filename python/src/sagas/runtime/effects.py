@@ -2,12 +2,12 @@
 
 from __future__ import annotations
 
-from collections.abc import Sequence
+from collections.abc import Collection, Sequence
 from typing import Protocol
 
 from sagas.base.errors import SagasError
 from sagas.base.events import Teller
-from sagas.core.effects import Abort, Effects
+from sagas.core.effects import NOTHING_RARE, Abort, Effects, RareEffects
 from sagas.core.model import Attempt, SagaInstance
 from sagas.core.recovery import Recovery
 from sagas.core.states import saga_phase, undo_failures
@@ -55,48 +55,67 @@ class EffectHandler:
     ) -> None:
         self._executor, self._slots, self._sagas = executor, executor.slots, sagas
         self._teller, self._home, self._offers = teller, home, offers
+        self._acknowledgements = executor.calls.acknowledgements
 
     def at_once(self, effects: Effects) -> None:
         """Do what does not wait for the commit."""
+        if self._acknowledgements is not None:
+            self._acknowledgements.decided(effects)
         if effects.unclaimed:
             self._slots.release(effects.unclaimed)
-        for saga in effects.draining:
-            self._executor.drain(saga)
-        for saga in effects.displaced:
-            self._home.place(saga)
-        for saga in effects.refused:
-            self._home.refuse(saga, saga.kind.too_large())
+        rare = effects.rare
+        if rare is not NOTHING_RARE:
+            for saga in rare.draining:
+                self._executor.drain(saga)
+            for saga in rare.displaced:
+                self._home.place(saga)
 
     def lost(self, effects: Effects) -> None:
         """The batch is not durable: nothing of it begins."""
+        if self._acknowledgements is not None:
+            self._acknowledgements.lost(effects)
         self._slots.release(len(effects.dispatch))
 
     def committed(self, effects: Effects) -> None:
         """Do what waits for the commit."""
+        rare = effects.rare
         if effects.reported:
             self._executor.reported(effects.reported)
-        for attempt in effects.suspended:
-            self._executor.stored(attempt)
-        for attempt in effects.offered:
-            self._offers.offered(attempt)
-        for report in effects.early:
-            self._executor.early.stored(report)
-        for abort in effects.aborted:
-            self._aborted(abort)
+        if rare is not NOTHING_RARE:
+            self._kept(rare)
         if effects.opened:
             self._opened(effects.opened)
-        for saga in effects.planned:
+        for saga in rare.planned:
             self._executor.planned(saga)
         if effects.ended:
             self._ended(effects.ended)
-        if effects.dispatch:
-            self._slots.release(len(effects.dispatch))
-            self._executor.begin_all(effects.dispatch)
+            self.over(effects.ended)
+        if dispatch := effects.dispatch:
+            self._slots.release(len(dispatch))
+            self._executor.begin_all(dispatch)
+
+    def _kept(self, rare: RareEffects) -> None:
+        """Rows, offers, reports and answers are in the store."""
+        for attempt in rare.suspended:
+            self._executor.stored(attempt)
+        for attempt in rare.offered:
+            self._offers.offered(attempt)
+        for report in rare.early:
+            self._executor.early.stored(report)
+        for abort in rare.aborted:
+            self._aborted(abort)
+
+    def over(self, sagas: Collection[SagaInstance]) -> None:
+        """Nothing is acknowledged of these any more."""
+        if self._acknowledgements is not None:
+            self._acknowledgements.over(sagas)
 
     # -- of a shard that was recovered
 
     def found(self, found: Recovery) -> None:
         """Do what was found of its sagas."""
+        if self._acknowledgements is not None:
+            self._acknowledgements.recovered(found)
         for before, saga in found.replaced:
             kind = saga.kind
             if error := conflict(saga.key, before.kind, before.text, kind.name, saga.text):

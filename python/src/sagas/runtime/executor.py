@@ -9,7 +9,7 @@ import logging
 from collections.abc import Sequence
 from concurrent.futures import Executor as Threads
 
-from sagas.base.errors import Closed, Lost, SagasError, StepNotWaiting
+from sagas.base.errors import Closed, Lost, Moved, SagasError, StepNotWaiting
 from sagas.core import exhaustion, outcomes, spans
 from sagas.core.attempts import AttemptMachine
 from sagas.core.batch import Wanted
@@ -214,7 +214,7 @@ class Executor:
     def succeeded(self, attempts: Sequence[Attempt]) -> None:
         """Report many that are finished, at once."""
         shards: dict[ShardDriver, None] = {}
-        is_awaited = bool(self.changes)
+        is_awaited = self.changes.futures
         for attempt in attempts:
             if is_awaited:
                 self.changes.tell(attempt)
@@ -250,16 +250,16 @@ class Executor:
         self._do(attempt, exhaustion.retry(attempt, self._clock()))
         await kept
 
-    async def earlier(self, attempt: Attempt) -> Outcome | None:
-        """Return what was reported of one that is finished, once that is in the store; else
-        None."""
+    async def until_kept(self, attempt: Attempt) -> bool:
+        """Wait until the report of a finished attempt is in the store, or does not come there from
+        here: only the store tells which. Return False of one that has no report.
+        """
         if attempt.state is not FINISHED or attempt.outcome is None:
-            return None
-        first = attempt.outcome
-        if attempt in self.kept:
-            with contextlib.suppress(SagasError):  # then it is looked at again
+            return False
+        if self._runner(attempt) and attempt.is_unkept:
+            with contextlib.suppress(SagasError):  # the store tells
                 await self.kept.wait(attempt)
-        return first
+        return True
 
     def withdrawn(self, attempt: Attempt) -> None:
         """No worker has it, and none gets it."""
@@ -341,7 +341,7 @@ class Executor:
     def reported(self, attempts: Sequence[Attempt]) -> None:
         """Their reports are in the store, each with its event."""
         tells = self._teller.wants("step_succeeded")
-        is_awaited = bool(self.kept)
+        is_awaited = self.kept.futures
         for attempt in attempts:
             if is_awaited:
                 self.kept.tell(attempt)
@@ -389,11 +389,11 @@ class Executor:
 
     def forget(self, attempt: Attempt) -> None:
         """The store does not have it: it had not begun, or its report is there; or another node
-        has its shard.
+        has its shard. Who waits for its report looks into the store.
         """
         self._drop_timer(attempt)
         self._gone(attempt)
-        self.kept.tell(attempt)
+        self.kept.tell(attempt, Moved(f"saga {attempt.key!r}"))
         self.changes.tell(attempt)
         attempt.forget()
         self.calls.forget(attempt)

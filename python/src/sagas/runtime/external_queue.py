@@ -12,7 +12,8 @@ import dataclasses
 from collections.abc import Sequence
 from typing import TYPE_CHECKING, Any
 
-from sagas.base.errors import LeaseLost, StoreUnavailable
+from sagas.base.errors import LeaseLost, SagasError, StoreUnavailable
+from sagas.base.logger import logger
 from sagas.core.lease_signature import Signer
 from sagas.core.model import Attempt
 from sagas.core.offers import task_name
@@ -24,6 +25,7 @@ from sagas.definition import shape_validation
 from sagas.definition.about import Told
 from sagas.definition.shape_values import ShapeValues
 from sagas.definition.task import Task
+from sagas.runtime import given_values
 from sagas.runtime.external_reports import ExternalReports
 from sagas.runtime.retries import until_answered
 from sagas.storage import queries
@@ -59,12 +61,14 @@ class LeasedTask:
         lease: The lease under which it is reported.
         until: When the lease ends, in seconds since 1970.
         task: What the step's function is called with.
+        given: `task.given` as JSON.
     """
 
     attempt_id: str
     lease: str
     until: float
     task: Task[Any]
+    given: str = "null"
 
 
 @dataclasses.dataclass(frozen=True, slots=True)
@@ -245,14 +249,16 @@ class ExternalQueue(ExternalReports):
         while True:
             self._raise_if_closed()
             claims = await self._claimed(tasks, most, seconds, worker)
-            if claims:
-                for task in tasks:  # there may be more than were taken
-                    self.wake(task)
-                return [await self._leased(claim, worker, holder) for claim in claims]
-            left = deadline - self.owner.loop.time()
-            if left <= 0:
-                return []
-            await self._come(tasks, left)
+            for task in tasks if claims else ():  # there may be more than were taken
+                self.wake(task)
+            leased = [await self._leased(claim, worker, holder) for claim in claims]
+            found, left = [one for one in leased if one], deadline - self.owner.loop.time()
+            if found or left <= 0:
+                return found
+            if claims:  # none of them could be handed out
+                await asyncio.sleep(min(left, 1.0))
+            else:
+                await self._come(tasks, left)
 
     async def _claimed(
         self, tasks: Sequence[str], most: int, seconds: float, worker: str
@@ -295,7 +301,8 @@ class ExternalQueue(ExternalReports):
                 if not waiting:
                     self._waiting.pop(task, None)
 
-    async def _leased(self, claim: Claim, worker: str, holder: str) -> LeasedTask:
+    async def _leased(self, claim: Claim, worker: str, holder: str) -> LeasedTask | None:
+        """What a worker is handed; None where that cannot be computed."""
         now, attempt = self.owner.clock(), self.find(claim.attempt)
         if attempt is None:
             task = await self._task(claim)
@@ -311,7 +318,17 @@ class ExternalQueue(ExternalReports):
             attempt=task.attempt,
         )  # fmt: skip
         lease = self._signer.issue(claim.attempt, claim.lease, holder)
-        return LeasedTask(claim.attempt, lease, now + claim.seconds, task)
+        try:
+            given = given_values.text_of(task)
+        except given_values.DeclarationMissing as error:
+            logger.warning("%s: %s", claim.attempt, error)
+            await self._give_back(claim)
+            return None
+        except Exception as error:  # of the user's function
+            with contextlib.suppress(SagasError):  # the lease ends, and it is handed out again
+                await self.report(claim.attempt, lease, holder, given_values.failure(error))
+            return None
+        return LeasedTask(claim.attempt, lease, now + claim.seconds, task, given)
 
     async def _task(self, claim: Claim) -> Task[Any]:
         """What a worker is handed of an attempt that another node drives."""

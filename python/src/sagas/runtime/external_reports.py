@@ -82,9 +82,13 @@ class ExternalReports:
         if shard is None or saga is None or step not in saga.kind.names:
             return None
         word = (saga.kind.names.index(step), kind)
-        finished = (one for one in shard.unkept() if one.instance is saga and one.word == word)
-        under = [saga.busy.get(word), *finished]
-        return next((one for one in under if one is not None and one.attempt == count), None)
+        busy = saga.busy.get(word)
+        if busy is not None and busy.attempt == count:
+            return busy
+        for one in shard.unkept():  # finished
+            if one.instance is saga and one.word == word and one.attempt == count:
+                return one
+        return None
 
     async def report(self, token: str, lease: str, holder: str, outcome: Outcome) -> bool:
         """As `Store.report`.
@@ -105,18 +109,17 @@ class ExternalReports:
     async def _apply(self, report: Report) -> None:
         """Reports it into its shard here, where it can be now, and waits until it is there."""
         attempt = self.find(report.attempt)
-        if attempt is None or not self._deliver(report):
+        if attempt is None or not self._deliver(report, attempt):
             return
         if attempt.state is FINISHED:
             with contextlib.suppress(SagasError):  # it is kept, and is looked at again
                 await self.owner.executor.kept.wait(attempt)
 
-    def _deliver(self, report: Report) -> bool:
+    def _deliver(self, report: Report, attempt: Attempt) -> bool:
         """Whether what was reported of an attempt that is under way here could be said of it
         now."""
-        attempt = self.find(report.attempt)
         outcome = Outcome(OutcomeKind(report.outcome), report.value)
-        if attempt is None or attempt.pending:
+        if attempt.pending:
             return False
         if (waiting := self._reports.get(report.attempt)) is not None:
             if not waiting.done():
@@ -143,7 +146,8 @@ class ExternalReports:
             while self._looks_again and not self.owner.closed:
                 self._looks_again = False
                 for report in await self._table.reported([*self.owner.shards.runners]):
-                    self._deliver(report)
+                    if attempt := self.find(report.attempt):
+                        self._deliver(report, attempt)
         except StoreUnavailable:
             pass  # the next look finds it
         finally:

@@ -21,6 +21,7 @@ class Instances:
         starts: Who waits until a saga is in the store.
         ends: Who waits until a saga's end is in the store.
         driven: Is told each saga that is in the store, and driven here.
+        answered: Is called before anybody is told what an abort came to, if it is set.
     """
 
     def __init__(self, loop: asyncio.AbstractEventLoop) -> None:
@@ -28,6 +29,7 @@ class Instances:
         self.starts: Waiters[SagaInstance] = Waiters(loop)
         self.ends: Waiters[SagaInstance] = Waiters(loop)
         self.driven: Callable[[SagaInstance], None] = lambda saga: None
+        self.answered: Callable[[Abort], object] | None = None
         self._loop = loop
         self._aborts: dict[Abort, asyncio.Future[bool]] = {}
         self._has_told = False
@@ -89,6 +91,8 @@ class Instances:
         """Whoever wanted it hears whether the saga is aborted by it."""
         future = self._aborts.pop(abort, None)
         if future and not future.done():
+            if self.answered:
+                self.answered(abort)
             future.set_result(bool(abort.done))
 
     def fail_abort(self, abort: Abort, error: SagasError) -> None:

@@ -134,6 +134,7 @@ class Relocation:
         driver.close_opens()
         for saga in opens:
             if not saga.committed:
+                saga.forget()
                 saga.number, saga.shard = -1, None
                 self._spawn(self._move(saga))
 

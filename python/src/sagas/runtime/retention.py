@@ -76,7 +76,8 @@ OF_LOG = (
 @dataclasses.dataclass
 class Gone:
     """What a run let go: the names of the logs, and how many sagas they had. `more`: there is
-    more, for another run; `other`: that is at work now; `blobs`: to which no row refers any more.
+    more, for another run; `other`: that is at work now; `blobs`: to which no row refers any more;
+    `starts`: how many starts of clients that were refused.
     """
 
     logs: list[str] = dataclasses.field(default_factory=list)
@@ -84,6 +85,7 @@ class Gone:
     more: bool = False
     other: bool = False
     blobs: list[str] = dataclasses.field(default_factory=list)
+    starts: int = 0
 
 
 def prune(
@@ -126,6 +128,7 @@ def prune(
                 gone.logs.append(log)
                 gone.sagas += sagas
             stop.wait(time.monotonic() - began)
+        gone.starts = link.drop_refused(before)
         if gone.logs:
             link.drop_definitions()
     return gone

@@ -97,7 +97,7 @@ class ShardRunner:
         self._shards.fill(self)
         if self.driver.state is not ACTIVE or engine.asked:  # another shard took its engine
             return
-        if self.driver.wants_engine:
+        if self.driver.opens and self.driver.wants_engine:
             self._renew()
             return
         lines = self._requests()
@@ -122,8 +122,8 @@ class ShardRunner:
     def _requests(self) -> list[str]:
         is_closing, driver = self._shards.is_closing, self.driver
         lines = driver.requests(0 if is_closing else self._slots.free())
-        if driver.asked and driver.asked.claims:
-            self._slots.reserve(driver.asked.claims)
+        if (asked := driver.asked) and asked.claims:
+            self._slots.reserve(asked.claims)
         elif driver.hungry and not is_closing:
             self._slots.starve(self)
         return lines
@@ -200,7 +200,7 @@ class ShardRunner:
         if not self.driver.unwritten:
             if self.driver.state is STALE:
                 self._load_soon()
-            if self.driver.wants_engine:
+            if self.driver.opens and self.driver.wants_engine:
                 self.poke()
             if self._engines.wanted:
                 self._offer()

@@ -152,8 +152,8 @@ class Shards:
 
     def runner(self, shard: ShardDriver) -> ShardRunner | None:
         """Return what drives a shard; None if it is not this program's any more."""
-        runner = self.runners.get(shard.number)
-        return runner if runner and runner.driver is shard else None
+        runner = self.runners.get(shard.identity.number)
+        return runner if runner is not None and runner.driver is shard else None
 
     def numbered(self, number: int) -> ShardDriver | None:
         """Return the shard with this number, if it is here."""
@@ -205,7 +205,7 @@ class Shards:
     def refuse(self, saga: SagaInstance, error: SagasError) -> None:
         """It was not begun, and its callers hear why."""
         self._sagas.leave(saga, error, error)
-        if saga.start is not None and saga.kind.fits:
+        if saga.start is not None:
             self.doubt()
 
     def doubt(self) -> None:
@@ -294,6 +294,7 @@ class Shards:
 
     def _stop(self, runner: ShardRunner) -> None:
         runner.stop()
+        self._parts.effects.over(runner.driver.sagas.values())
         self.runners.pop(runner.driver.number, None)
         self._placement.forget(runner)
 

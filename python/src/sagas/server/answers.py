@@ -20,14 +20,8 @@ from sagas.server.shapes import (
 
 PHASES = "open", "completed", "recovered", "stuck", "resolved"
 STATES = (
-    "waiting",
-    "begun",
-    "running",
-    "committed",
-    "failed",
-    "undoing",
-    "undone",
-    "undo_failed",
+    *("waiting", "begun", "running", "committed"),
+    *("failed", "undoing", "undone", "undo_failed"),
 )
 KINDS = "stuck", "undo_failed", "unknown", "exhausted", "cannot_decode", "approval"
 """What needs a person."""
@@ -35,6 +29,7 @@ NAME = Text(most=32, pattern=DEFINITION.pattern)
 COUNT = Number(least=0, whole=True)
 SECONDS = Number()
 COST = Nullable(COUNT)
+COSTS = ("run", "undo", "skip", "keep")
 MAYBE = Nullable(Text())
 
 
@@ -239,6 +234,7 @@ TASK = Record(
         "original_idempotency_key": Field(MAYBE, "in a compensation: the key of its step"),
         "traceparent": Field(MAYBE, "the W3C trace context that the saga was started in"),
         "input": Field(Anything(), "of the saga"),
+        "given": Field(Anything(), "what the saga that includes the step's saga gives; or null"),
         "results": Field(Mapped(Anything()), "of what it needs; of all items by the declared step"),
         "result": Field(Anything(), "in a compensation: the result to undo"),
     },
@@ -300,10 +296,13 @@ QUEUES = Record("Queues", {"queues": Field(Several(QUEUE))})
 STEP = Record(
     "StepDefinition",
     {
-        "name": Field(NAME),
+        "name": Field(Text(), "as it was declared: `car`, `hotel/room`"),
         "kind": Field(Choice(("worker", "approval", "wait", "child", "function")), "who does it"),
-        "needs": Field(Several(NAME)),
-        **{word: Field(COST, "null: never") for word in ("run", "undo", "skip", "keep")},
+        "needs": Field(Several(Text())),
+        **{word: Field(COST, "null: never, or computed") for word in COSTS},
+        "computed": Field(Several(Choice(COSTS)), "the costs that come from the input"),
+        "for_each": Field(Flag(), "whether it is there once for each item of the input"),
+        "conditional": Field(Flag(), "whether it is there for some inputs alone"),
         "tries": Field(COUNT),
         "undo_tries": Field(COUNT),
     },

@@ -4,7 +4,7 @@ from __future__ import annotations
 
 from starlette.requests import Request
 from starlette.responses import Response
-from starlette.routing import Router
+from starlette.routing import Route, Router
 
 from sagas.server import openapi, problems
 from sagas.server.connections import Connections
@@ -68,6 +68,24 @@ def answered(request: Request, problem: Problem) -> Response:
     return problems.response(problem)
 
 
+class Paths:
+    """The router, and before it the paths that have no parts of their own: each is found at once,
+    where the router would look at each path before it.
+    """
+
+    def __init__(self, routes: list[Route]) -> None:
+        self._router = Router(routes, redirect_slashes=False, default=nothing)
+        self._exact = {route.path: route.app for route in routes if not route.param_convertors}
+
+    async def __call__(self, scope: Scope, receive: Receive, send: Send) -> None:
+        app = self._exact.get(scope["path"]) if scope["type"] == "http" else None
+        if app is None:
+            await self._router(scope, receive, send)
+            return
+        scope["path_params"] = {}
+        await app(scope, receive, send)
+
+
 async def nothing(scope: Scope, receive: Receive, send: Send) -> None:
     """There is no such path."""
     await problems.response(not_found())(scope, receive, send)
@@ -76,7 +94,5 @@ async def nothing(scope: Scope, receive: Receive, send: Send) -> None:
 def application(settings: Settings, connections: Connections | None = None) -> tuple[App, Service]:
     """The application over a store, which whoever serves it opens and closes."""
     service = Service(settings)
-    router = Router(
-        resources([*API, *PAGES], answered, refused), redirect_slashes=False, default=nothing
-    )
-    return Guard(router, service, connections), service
+    paths = Paths(resources([*API, *PAGES], answered, refused))
+    return Guard(paths, service, connections), service

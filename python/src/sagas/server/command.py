@@ -85,6 +85,11 @@ def parser() -> argparse.ArgumentParser:
         "sagas (default: 10)",
     )  # fmt: skip
     found.add_argument(
+        "--record", metavar="FILE",
+        help="PostgreSQL only: file for what the service hears of its commits and acknowledges, "
+        "for `sagas store URL record` (default: $SAGAS_RECORD, or none)",
+    )  # fmt: skip
+    found.add_argument(
         "--log", choices=["json", "text"], default="json",
         help="format of the log on standard error (default: json)",
     )  # fmt: skip
@@ -240,6 +245,8 @@ def settings_of(words: argparse.Namespace) -> Settings:
             "postgresql://user@host/database"
         )
     if not factory.is_url(words.path):
+        if words.record:
+            raise Trouble("--record needs a postgresql:// URL: a file has one program, and no node")
         file = pathlib.Path(words.path)
         if file.is_dir():
             raise Trouble(f"{file} is a directory; pass the path of a file")
@@ -264,7 +271,9 @@ def settings_of(words: argparse.Namespace) -> Settings:
         most_connections=words.most_connections,
         rate=words.rate,
         trusted_proxies=words.trusted_proxies,
-        store=StoreSettings(words.node, words.lease, codec, blobs, words.blob_threshold),
+        store=StoreSettings(
+            words.node, words.lease, codec, blobs, words.blob_threshold, words.record
+        ),
     )  # fmt: skip
 
 

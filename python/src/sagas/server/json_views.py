@@ -5,6 +5,7 @@ from __future__ import annotations
 from typing import Any
 
 from sagas.core.results import Summary
+from sagas.definition import serialization
 from sagas.engine.plan import Plan
 from sagas.inspection import timeline as timeline_module
 from sagas.inspection.activity import state_of
@@ -174,6 +175,7 @@ def task(one: LeasedTask, now: float) -> dict[str, Any]:
         "original_idempotency_key": task.original_idempotency_key,
         "traceparent": task.traceparent,
         **task.plain,
+        "given": serialization.read(one.given),
     }
 
 

@@ -148,12 +148,13 @@ class Guard:
         """Why a request is not even looked at. Raises `ValueError` where its head cannot be
         read."""
         check_headers(scope)
-        forwarded(scope, self.settings.trusted_proxies)
+        told = headers(scope)
+        if b"x-forwarded-for" in told or b"x-forwarded-proto" in told:
+            forwarded(scope, self.settings.trusted_proxies)
         path = parted(scope.get("raw_path") or scope["path"].encode())
         if path is None:
             return Problem("MalformedRequest", "a part of the path is no UTF-8")
         scope["path"] = path
-        told = headers(scope)
         host = told.get(b"host", "")
         if self.settings.tokens is None and not names_loopback(host):
             return Problem(
@@ -186,8 +187,10 @@ def too_large(most: int) -> Problem:
 
 def has_body(scope: Scope) -> bool:
     """Whether a body may follow the head."""
-    told = headers(scope)
-    return told.get(b"content-length", "0") != "0" or b"transfer-encoding" in told
+    for name, value in scope["headers"]:
+        if name == b"transfer-encoding" or (name == b"content-length" and value != b"0"):
+            return True
+    return False
 
 
 class Passage:
@@ -281,10 +284,8 @@ class Passage:
         if message["type"] == "http.response.start":
             self.status = message["status"]
             there = {name.lower() for name, _ in message["headers"]}
-            message["headers"] = [
-                *message["headers"],
-                *(pair for pair in HEADERS if pair[0] not in there),
-            ]
+            more = [pair for pair in HEADERS if pair[0] not in there]
+            message["headers"] = [*message["headers"], *more]
             if self.guard.service.is_stopping and b"connection" not in there:
                 message["headers"].append((b"connection", b"close"))
         await self._send(message)

@@ -35,7 +35,7 @@ from sagas.server.shapes import (
 logger = logging.getLogger("sagas.server")
 
 
-@dataclasses.dataclass(frozen=True, slots=True)
+@dataclasses.dataclass(slots=True)
 class Call:
     """A request that was let in and read: who makes it, and the values of its parts."""
 
@@ -163,7 +163,7 @@ async def read_body(shape: Record, request: Request) -> dict[str, Any]:
     if is_empty and not text:
         return read_fields(shape.fields, {}, "")
     try:
-        value = json.loads(text, parse_constant=_no_constant)
+        value = _decoder.decode(text.decode(json.detect_encoding(text), "surrogatepass"))
     except (ValueError, RecursionError) as error:
         where = f" at line {error.lineno}" if isinstance(error, json.JSONDecodeError) else ""
         raise Problem("InvalidJson", f"the body is not JSON{where}: send an object") from None
@@ -175,6 +175,10 @@ async def read_body(shape: Record, request: Request) -> dict[str, Any]:
 
 def _no_constant(text: str) -> None:
     raise ValueError(text)
+
+
+_decoder = json.JSONDecoder(parse_constant=_no_constant)
+"""As `json.loads` makes one for each text."""
 
 
 def invalid(error: Invalid) -> Problem:

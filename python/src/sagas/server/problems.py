@@ -55,7 +55,7 @@ PROBLEMS = {
     "InvalidLabel": Kind(422, "A label is not valid"),
     "InvalidInput": Kind(422, "The input does not fit the first steps"),
     "NotSerializable": Kind(422, "A value cannot be stored as JSON"),
-    "TooLarge": Kind(422, "The saga does not fit into a shard"),
+    "TooLarge": Kind(422, "The saga has too many steps or needs for its input"),
     "TooManyRequests": Kind(429, "Too many requests", repeat=True),
     "InternalError": Kind(500, "The service has a fault", repeat=True),
     "TooManyStreams": Kind(503, "There are too many event streams", repeat=True),

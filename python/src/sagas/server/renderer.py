@@ -46,11 +46,18 @@ def _environment() -> Environment:
         wait=wording.wait,
         decision=lambda decision: wording.DECISIONS[decision],
         act=lambda what: wording.ACTS.get(what, what),
-        cost=lambda cost: "never" if cost is None else f"{cost:,}",
+        cost=cost_text,
         count=lambda number: f"{number:,}",
         path=lambda key: quote(key, safe=""),
     )
     return found
+
+
+def cost_text(cost: int | str | None) -> str:
+    """A cost; one that comes from the input is not known here."""
+    if isinstance(cost, str):
+        return f"by {cost}"
+    return "never" if cost is None else f"{cost:,}"
 
 
 def _static() -> dict[str, tuple[str, bytes, str]]:

@@ -10,6 +10,8 @@ from typing import Any
 from starlette.requests import Request
 from starlette.responses import Response
 
+_encoder = json.JSONEncoder(allow_nan=False, separators=(",", ":"))
+
 
 class Json(Response):
     """A line of JSON in plain ASCII, so that no text of a store can break it."""
@@ -17,7 +19,7 @@ class Json(Response):
     media_type = "application/json"
 
     def render(self, content: Any) -> bytes:
-        return json.dumps(content, allow_nan=False, separators=(",", ":")).encode() + b"\n"
+        return _encoder.encode(content).encode() + b"\n"
 
 
 def tagged(request: Request, content: Any) -> Response:

@@ -88,6 +88,7 @@ class Service:
             codec=settings.store.codec,
             blobs=settings.store.blobs,
             blob_threshold=settings.store.blob_threshold,
+            record=settings.store.record,
         )
         self.store.leased = True
         hooks = webhook_file.read(settings.webhooks) if settings.webhooks else []
@@ -295,9 +296,11 @@ class Service:
         """Starts a saga. Raises what `Store.start` raises; of a key's saga that is not theirs to
         see nothing is told."""
         try:
-            return await self.store.start(
+            run = await self.store.start(
                 saga, key, given, labels=labels, deadline=deadline, traceparent=traceparent
             )
+            self.store._replies(key)
+            return run
         except KeyConflict:
             if who.definitions is None:
                 raise

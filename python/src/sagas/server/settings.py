@@ -3,6 +3,7 @@
 from __future__ import annotations
 
 import dataclasses
+import functools
 import ipaddress
 import pathlib
 from typing import Union
@@ -30,13 +31,16 @@ class StreamSettings:
 
 @dataclasses.dataclass(frozen=True, slots=True)
 class StoreSettings:
-    """How the store is opened, as `sagas.open` has it. `node` and `lease` are of PostgreSQL."""
+    """How the store is opened, as `sagas.open` has it. `node`, `lease` and `record` are of
+    PostgreSQL.
+    """
 
     node: str | None = None
     lease: float = 10.0
     codec: Codec | None = None
     blobs: BlobStore | None = None
     blob_threshold: int = 65_536
+    record: str | None = None
 
 
 @dataclasses.dataclass(frozen=True, slots=True)
@@ -87,6 +91,7 @@ def is_address(host: str) -> bool:
     return True
 
 
+@functools.lru_cache(1024)
 def is_among(host: str, networks: tuple[Network, ...]) -> bool:
     """Whether an address is in one of these networks."""
     try:

@@ -41,6 +41,7 @@ UNUSED = """
 DELETE FROM definitions
 WHERE NOT EXISTS (SELECT 1 FROM shard_definitions d WHERE d.definition = definitions.definition)
 """
+REFUSED = "DELETE FROM pending_starts WHERE refused IS NOT NULL AND at < ?"
 STARTS_OF = "SELECT key FROM pending_starts WHERE node IS NULL AND labels @> CAST(? AS jsonb)"
 
 
@@ -110,6 +111,9 @@ class Source(Protocol):
 
     def drop_definitions(self) -> None:
         """Deletes the sets of definitions of which no shard is left."""
+
+    def drop_refused(self, before: float) -> int:
+        """Deletes the starts that were refused before this time; gives how many these were."""
 
     def close(self) -> None:
         """Ends the connection."""
@@ -247,6 +251,9 @@ class File:
     def drop_definitions(self) -> None:
         self.changed(UNUSED)
 
+    def drop_refused(self, before: float) -> int:
+        return 0  # a file has no clients
+
     def close(self) -> None:
         self.link.close()
 
@@ -353,6 +360,9 @@ class Base:
         with self.transaction():  # a commit that makes a shard has written both rows, or waits
             self.changed("LOCK TABLE definitions IN SHARE ROW EXCLUSIVE MODE")
             self.changed(UNUSED)
+
+    def drop_refused(self, before: float) -> int:
+        return self.changed(REFUSED, before)
 
     def close(self) -> None:
         self.link.close()

@@ -28,13 +28,14 @@ AT_ONCE = 8
 """Values that are put, or got, at the same time."""
 AGE = 86_400.0
 """Seconds after which a value without a row is an orphan: its commit was refused long ago."""
-INPUT, RESULT = 4, 5
-"""The places of the texts in the rows of sagas and attempts."""
+INPUT, RESULT, SHAPE = 4, 5, 1
+"""The places of the texts in the rows of sagas, attempts and shapes."""
 DONE = ("commit", "ok")
 PATTERN = HEAD + "%"
 REFERRED = (
     "SELECT input FROM sagas WHERE id >= ? AND id < ? AND input LIKE ? "
-    "UNION ALL SELECT value FROM attempts WHERE id >= ? AND id < ? AND value LIKE ?"
+    "UNION ALL SELECT value FROM attempts WHERE id >= ? AND id < ? AND value LIKE ? "
+    "UNION ALL SELECT shape FROM shapes WHERE id >= ? AND id < ? AND shape LIKE ?"
 )
 Row = tuple[Any, ...]
 
@@ -47,7 +48,7 @@ def referred(rows: Iterable[Row]) -> list[str]:
 
 def within(first: int, end: int) -> tuple[Any, ...]:
     """The words of `REFERRED` for the sagas of these ids."""
-    return (first, end, PATTERN) * 2
+    return (first, end, PATTERN) * 3
 
 
 class Blobs:
@@ -99,6 +100,10 @@ class Blobs:
             for place, result in enumerate(batch.results):
                 if result[4] in DONE and self.is_large(result[5]):
                     found.append((batch.results, place, RESULT))
+            shapes: list[Any] = batch.rare.shapes if batch.rare else []
+            for place, (_, shape) in enumerate(shapes):
+                if self.is_large(shape):
+                    found.append((shapes, place, SHAPE))
         return found
 
     async def put_all(self, large: Sequence[tuple[list[Any], int, int]]) -> None:
@@ -245,7 +250,9 @@ class BlobDatabase:
         return await self._whole(await self._inner.history(row))
 
     async def _whole(self, known: Known) -> Known:
-        return known._replace(results=cast(Any, await self.blobs.rows(known.results)))
+        shape = known.shape and await self.blobs.text(known.shape)
+        results = cast(Any, await self.blobs.rows(known.results))
+        return known._replace(results=results, shape=shape)
 
     async def read(self, query: str, *words: Any) -> list[Row]:
         """As of the database."""

@@ -31,6 +31,7 @@ class Claimed(NamedTuple):
     key: str
     body: str
     attempts: int
+    saga: int
 
 
 class Posted(NamedTuple):
@@ -48,7 +49,7 @@ UPDATE webhook_deliveries SET attempts = attempts + 1, due = {now} + :lease
 WHERE id IN (SELECT id FROM webhook_deliveries
   WHERE webhook = :webhook AND state = 'pending' AND due <= {now}
   ORDER BY due, at LIMIT :most{locked})
-RETURNING id, type, key, body, attempts
+RETURNING id, type, key, body, attempts, saga
 """
 SETTLE = """
 UPDATE webhook_deliveries SET state = :state, status = :status, error = :error,

@@ -11,6 +11,7 @@ from sagas.definition import definition_text
 from sagas.definition.compiled import digest_of
 from sagas.definition.shelf import Shelf
 from sagas.storage.interface import Database
+from sagas.storage.record_file import told_path
 from sagas.storage.sqlite.storage import Sqlite
 
 SCHEMES = ("postgresql:", "postgres:")
@@ -67,13 +68,20 @@ def make(
     lease: float,
     most: int,
     transactions: Callable[..., Any],
+    record: str | None = None,
 ) -> Database:
-    """The database of that name, not yet opened. `transactions`: as of `PostgreSQL`.
+    """The database of that name, not yet opened. `transactions` and `record`: as of `PostgreSQL`;
+    without the latter the environment says it.
 
     Raises `InvalidStore` where what it needs is not installed, and `DefinitionError`.
     """
     check_name(name)
     if not is_url(name):
+        if record:
+            raise InvalidStore(
+                f"record={record!r}: {name} is a SQLite file, and a record is of a store over "
+                "PostgreSQL. Open the file without it"
+            )
         for step in (
             step
             for saga in shelf.sagas.values()
@@ -89,7 +97,7 @@ def make(
         from sagas.storage.postgresql.storage import PostgreSQL
     except ImportError as error:
         raise missing(error) from error
-    names = {f"{kind.name}/{kind.version}": kind.text for kind in shelf.kinds if kind.fits}
+    names = {f"{kind.name}/{kind.version}": kind.text for kind in shelf.kinds}
     names |= {
         f"{saga.name}/{saga.version}": definition_text.declared(saga)
         for saga in shelf.sagas.values()
@@ -105,4 +113,5 @@ def make(
         kinds=kinds,
         version=shelf.shelf,
         transactions=transactions,
+        record=told_path(record),
     )

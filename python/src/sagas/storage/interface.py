@@ -33,6 +33,7 @@ from sagas.core.batch import (  # fmt: skip
 )
 from sagas.core.step_transactions import StepTransactions
 from sagas.storage.external import ExternalAttempts
+from sagas.storage.record_file import RecordFile
 
 if TYPE_CHECKING:
     from sagas.core.model import Attempt
@@ -196,6 +197,10 @@ class Database(CommitWriter, StoreReader, Protocol):
 
     external: ExternalAttempts
     """Work done elsewhere."""
+
+    @property
+    def record(self) -> RecordFile | None:
+        """Where the program writes what it heard of the store and acknowledged, if it does."""
 
     @property
     def blobs(self) -> Blobs | None:

@@ -17,6 +17,7 @@ from sagas.definition.payloads import Payloads
 from sagas.definition.saga import Saga
 from sagas.definition.shape import Shape
 from sagas.definition.start_options import deadline_at
+from sagas.testing import scripts
 from sagas.testing.engine import Engine
 from sagas.testing.simulation import Scenario, Simulation
 from sagas.testing.trial import Clock, Trial
@@ -38,6 +39,7 @@ class Family:
         """Run a saga.
 
         Raises:
+            KeyError: The scenario names an item that the input does not give.
             InvalidInput: The first steps cannot read the input.
             NotSerializable: The input is not JSON.
         """
@@ -50,6 +52,8 @@ class Family:
         kind = Kind(definition, saga, self._context, self._payloads)
         if wrong := kind.misfit(given, text):
             raise wrong
+        if kind.layout is not None:
+            scripts.check_there(saga, kind.layout, _named(scenario))
         text = kind.payloads.encode(text)
         name = f"test{len(self._members) or ''}"
         simulation = Simulation(key, text, kind, scenario, self._clock, self, name, kept)
@@ -97,3 +101,10 @@ class Family:
         simulation, kind, token = self._members[key]
         saga_instance = simulation.saga
         return children.undo_input(key, token, kind, saga_instance.text, saga_instance.results)
+
+
+def _named(scenario: Scenario) -> set[str]:
+    """The steps that a scenario names."""
+    found = {name for rules in scenario.rules.values() for name in rules}
+    found |= {*scenario.answers, *scenario.early}
+    return found | {scenario.abort} if scenario.abort else found

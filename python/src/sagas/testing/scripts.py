@@ -15,6 +15,7 @@ from sagas.core.outcomes import Outcome
 from sagas.core.states import OutcomeKind
 from sagas.definition import children, serialization, shape_validation, validation
 from sagas.definition.arguments import shown
+from sagas.definition.layout import Layout
 from sagas.definition.saga import Saga
 from sagas.definition.selection import Selection
 from sagas.definition.step import Step
@@ -91,6 +92,22 @@ def name_of(saga: Saga, step: object) -> str:
         names = [one.path for one in shape_validation.patterns(saga)]
         raise KeyError(f"saga {saga.name!r} has no step {name!r}{validation.meant(name, names)}")
     return name
+
+
+def check_there(saga: Saga, layout: Layout, named: Iterable[str]) -> None:
+    """Raise `KeyError` where a test names an item that the input does not give. A declared step
+    means all of its items, also if there are none.
+    """
+    for name in named:
+        declared = next(one.path for one in shape_validation.patterns(saga) if one.is_of(name))
+        if name == declared or name in layout.spots:
+            continue
+        there = [step for step, spot in layout.spots.items() if spot.declared == declared]
+        said = f"it has {', '.join(there[:3])}{' and others' * (len(there) > 3)}"
+        raise KeyError(
+            f"saga {saga.name!r} has no step {name!r} for this input: of step {declared!r} "
+            f"{said if there else 'there is none'}. Name one of these, or {declared!r} for each"
+        )
 
 
 def _step(saga: Saga, name: str) -> Step[Any]:

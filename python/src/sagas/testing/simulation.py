@@ -193,9 +193,7 @@ class Simulation:
             found = driver.replies(engine.ask(lines), "", self._clock())
             while isinstance(found, list):
                 found = driver.replies(engine.ask(found), "", self._clock())
-            if found.refused:
-                raise self._kind.too_large()
-            for saga in found.draining:
+            for saga in found.rare.draining:
                 self._drain(saga)
             self._commit(found)
 
@@ -218,9 +216,9 @@ class Simulation:
             declared = self._kind.declared_name(attempt.step)
             if attempt.event == "commit" and self._scenario.abort in (attempt.name, declared):
                 self._driver.abort(Abort(self._saga))
-        for attempt in effects.suspended:
+        for attempt in effects.rare.suspended:
             self._stored(attempt)
-        for abort in effects.aborted:
+        for abort in effects.rare.aborted:
             if abort.done:
                 self._drain(abort.saga)
         for attempt in effects.dispatch:

@@ -83,7 +83,7 @@ def run(
 
     Raises:
         DefinitionError: The definition is not valid.
-        KeyError: A step that is named does not exist.
+        KeyError: A step that is named does not exist, or is not there for this input.
         TypeError: A script or the answers do not have one of these forms.
         ValueError: A script cannot happen, for example a compensation that does not exist.
         InvalidInput: The first steps cannot read the input.

@@ -2,21 +2,26 @@
 
 from __future__ import annotations
 
+import dataclasses
 import functools
 import time
 from typing import Any
 
 from starlette.responses import Response
 
+from sagas.definition.groups import Block, Groups
 from sagas.definition.saga import Saga
 from sagas.inspection import definitions, picture
 from sagas.inspection.definitions import AtStep
+from sagas.inspection.group_boxes import Box, Told
 from sagas.inspection.lists import COUNTED
 from sagas.inspection.question import Question
+from sagas.server import declared_steps
 from sagas.server.dashboard_session import closed, looker, shows
+from sagas.server.declared_steps import DeclaredStep
 from sagas.server.operations import Call, Routes
-from sagas.server.routes import definitions as api
 from sagas.server.table_rows import folded
+from sagas.server.unfolding import FIELD, Unfolding
 
 routes = Routes("pages", is_page=True)
 
@@ -37,7 +42,7 @@ async def listed(call: Call) -> Response:
     )  # fmt: skip
 
 
-@routes.get("/ui/definitions/{name}")
+@routes.get("/ui/definitions/{name}", query={"unfold": FIELD})
 async def one(call: Call) -> Response:
     """One of them: its steps with what is at each, durations, and the costs of recoveries."""
     request, name = call.request, call.path["name"]
@@ -59,18 +64,74 @@ async def one(call: Call) -> Response:
     at, costs = await service.look(question())
     of = counts.get(name, dict.fromkeys(COUNTED, 0))
     over = of["completed"] + of["recovered"] + of["resolved"] + of["stuck"]
-    steps = [
-        (api.step_of(step), at.get(step.name, AtStep()), durations_of(call, saga, step.name))
-        for step in saga.steps
-    ]
-    rows = folded(steps, lambda row: (-row[1].person, -row[1].failed, -row[1].open))
+    declared = declared_steps.of(saga)
+    groups = Groups([one.spot for one in declared])
+    unfolding = Unfolding(groups, call.query["unfold"], f"/ui/definitions/{name}")
+    steps = rows_of(call, saga, declared, at, unfolding)
+    rows = folded(steps, lambda row: (-row.at.person, -row.at.failed, -row.at.open))
     more: dict[str, Any] = {"saga": saga, "of": of, "rows": rows, "costs": costs}
+    more |= {"unfolding": unfolding}
     more |= {"share": (over - of["completed"]) / over if over else None}
     more |= {"most": max((cost for _, _, cost in costs), default=0)}
-    more |= {"picture": await service.in_thread(functools.partial(drawn, saga, at))}
+    more |= {"picture": await service.in_thread(functools.partial(drawn, saga, declared, steps))}
     return shows(
         request, "definition.html", here="definitions", live="/ui/events", since=since, **more
     )
+
+
+@dataclasses.dataclass(frozen=True, slots=True)
+class Row:
+    """A step of a definition, or an included saga that is folded.
+
+    Attributes:
+        title: The declared name, or the group's title.
+        steps: The numbers of the steps.
+        needs: The names of what it needs.
+        at: What is at it.
+        step: The step; None of a group.
+        href: Where a click on a group leads.
+        durations: Of the action, and of the compensation.
+    """
+
+    title: str
+    steps: list[int]
+    needs: list[str]
+    at: AtStep
+    step: DeclaredStep | None = None
+    href: str | None = None
+    durations: tuple[Any, Any] = (None, None)
+
+
+def rows_of(
+    call: Call, saga: Saga, declared: list[DeclaredStep], at: dict[str, AtStep],
+    unfolding: Unfolding,
+) -> list[Row]:  # fmt: skip
+    """The rows of the table, which are the boxes of the picture."""
+    blocks = unfolding.groups.blocks(len(declared), unfolding.names)
+    name_of = {
+        declared[step].name: block.group.name if block.group else declared[step].name
+        for block in blocks
+        for step in block.steps
+    }
+
+    def row(block: Block) -> Row:
+        some = [declared[step] for step in block.steps]
+        own = {name_of[one.name] for one in some}
+        needed = dict.fromkeys(name_of[need] for one in some for need in one.needs)
+        needs = [name for name in needed if name not in own]
+        here = total([at.get(one.name, AtStep()) for one in some])
+        if block.group is not None:
+            href = unfolding.link(block.group)
+            return Row(block.group.title, block.steps, needs, here, href=href)
+        times = durations_of(call, saga, some[0].name)
+        return Row(some[0].name, block.steps, needs, here, some[0], durations=times)
+
+    return [row(block) for block in blocks]
+
+
+def total(some: list[AtStep]) -> AtStep:
+    """What is at several steps."""
+    return AtStep(*map(sum, zip(*map(dataclasses.astuple, some))))
 
 
 def durations_of(call: Call, saga: Saga, step: str) -> tuple[Any, Any]:
@@ -79,17 +140,19 @@ def durations_of(call: Call, saga: Saga, step: str) -> tuple[Any, Any]:
     return found.of((saga.name, step, False)), found.of((saga.name, step, True))
 
 
-def drawn(saga: Saga, at: dict[str, AtStep]) -> str:
+def drawn(saga: Saga, declared: list[DeclaredStep], rows: list[Row]) -> str:
     """The steps with what is at each."""
     boxes = []
-    for step in saga.steps:
-        here = at.get(step.name, AtStep())
+    for row in rows:
+        here = row.at
         state = f"{here.open:,} open" if here.open else "none open"
         state += f", {here.waits:,} wait" if here.waits else ""
         counts = ((here.person, "for a person"), (here.failed, "failed"))
-        why = ", ".join(f"{count:,} {word}" for count, word in counts if count)
+        note = row.step.note if row.step else ""
+        why = ", ".join([f"{count:,} {word}" for count, word in counts if count] or [note])
         tone = "person" if here.person else "failed" if here.failed else ""
         icon = "running" if here.open else "waiting"
-        boxes.append(picture.Told(state, why, False, tone or icon, icon))
-    needs = [(step.name, step.needs) for step in saga.steps]
+        told = Told(state, why, False, tone or icon, icon)
+        boxes.append(Box(row.title, told, row.steps, row.href, row.step is None))
+    needs = [(one.name, one.needs) for one in declared]
     return picture.drawn(needs, boxes, f"{saga.name}: its steps, and what is at each")

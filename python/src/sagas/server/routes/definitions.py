@@ -7,33 +7,35 @@ from typing import Any
 from starlette.responses import Response
 
 from sagas.definition.saga import Saga
-from sagas.definition.step import NEVER, Step
 from sagas.inspection.lists import COUNTED
-from sagas.server import answers
+from sagas.server import answers, declared_steps
 from sagas.server.auth import May
+from sagas.server.declared_steps import COMPUTED, DeclaredStep
 from sagas.server.operations import Answer, Call, Routes
 from sagas.server.responses import Json
 
 routes = Routes("definitions", "/v1")
 KINDS = {"approval": "approval", "wait": "wait", "child": "child"}
-COSTS = ("run", "undo", "skip", "keep")
 
 
 def told_of(saga: Saga, counts: dict[str, int]) -> dict[str, Any]:
     """A definition with its steps."""
-    steps = [step_of(step) for step in saga.steps]
+    steps = [step_of(one) for one in declared_steps.of(saga)]
     return {"name": saga.name, "version": saga.version, "steps": steps, "sagas": counts}
 
 
-def step_of(step: Step[Any]) -> dict[str, Any]:
+def step_of(one: DeclaredStep) -> dict[str, Any]:
     """A step with its costs."""
-    costs = {word: step.cost(word) for word in COSTS}
+    step, costs = one.step, one.costs
     kind = KINDS.get(step.kind) or ("worker" if step.run.external else "function")
     return {
-        "name": step.name,
+        "name": one.name,
         "kind": kind,
-        "needs": step.needs,
-        **{word: None if cost == NEVER else cost for word, cost in costs.items()},
+        "needs": one.needs,
+        **{word: None if cost == COMPUTED else cost for word, cost in costs.items()},
+        "computed": [word for word, cost in costs.items() if cost == COMPUTED],
+        "for_each": one.for_each,
+        "conditional": one.conditional,
         "tries": step.run.tries,
         "undo_tries": step.undo.tries,
     }

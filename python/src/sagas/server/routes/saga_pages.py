@@ -12,15 +12,18 @@ from starlette.responses import Response
 
 from sagas.base.errors import NoSuchSaga
 from sagas.definition.compiled import version_of
+from sagas.definition.groups import Groups
 from sagas.engine.plan import certificate_text
-from sagas.inspection import families, picture, timeline, timeline_picture, what_if
-from sagas.inspection.timeline import AttemptTimes
+from sagas.inspection import families, picture, step_items, timeline, timeline_picture, what_if
 from sagas.inspection.views import SagaView, StepView
 from sagas.server.dashboard_session import closed, looker, shows
+from sagas.server.history_rows import attempt_rows, event_rows
 from sagas.server.operations import Call, Routes
 from sagas.server.routes.pages import address_of
 from sagas.server.routes.sagas import kept_of
+from sagas.server.step_rows import StepTable
 from sagas.server.table_rows import FEW, folded
+from sagas.server.unfolding import FIELD, Unfolding
 
 routes = Routes("pages", is_page=True)
 MOST_EVENTS = 500
@@ -29,7 +32,7 @@ MOST_EFFECTS = 5
 """Questions to a person whose effects are computed: each takes a plan."""
 
 
-@routes.get("/ui/sagas/{key}")
+@routes.get("/ui/sagas/{key}", query={"unfold": FIELD})
 async def saga(call: Call) -> Response:
     """A saga with all that is kept of it."""
     request, key = call.request, call.key
@@ -45,22 +48,36 @@ async def saga(call: Call) -> Response:
         told: dict[str, Any] = {"title": "There is no such saga", "back": "/ui/sagas"}
         return shows(request, "fault.html", 404, text=f"No saga has the key {key}.", **told)
     approvals = service.approvals(view.saga, version_of(view.definition))
-    told = await service.in_thread(functools.partial(told_of, view, approvals, time.time()))
+    work = functools.partial(told_of, view, approvals, time.time(), call.query["unfold"])
+    told = await service.in_thread(work)
     return shows(request, "saga.html", since=since, **told)
 
 
-def told_of(view: SagaView, approvals: set[str], now: float) -> dict[str, Any]:
+def told_of(
+    view: SagaView, approvals: set[str], now: float, unfold: str | None
+) -> dict[str, Any]:  # fmt: skip
     """What the template of a saga asks for."""
     drawn, tolds = len(view.steps) <= MOST_DRAWN, picture.told_of(view)
     asks = [one for one in view.held if one.asks]
-    attempts, events = timeline.of(view, now), view.history
+    attempts = timeline.of(view, now)
     goes_on = view.phase == "open" and not view.aborted and view.plan is None
+    groups, base = Groups.read(view.definition), address_of(view.key)
+    unfolding = Unfolding(groups, unfold, base)
+    choices = {choice.step: choice for choice in view.plan.choices} if view.plan else {}
+    items = step_items.of(groups.spots, [step.name for step in view.steps], view.shape)
+    table = StepTable(unfolding, view.steps, tolds, choices, items)
+    titles = table.titles()
+    svg = functools.partial(
+        picture.svg, view, tolds=tolds, groups=groups, unfold=unfolding.names, link=unfolding.link
+    )
+    events = event_rows(view.history, titles)
     return {
         "here": "sagas",
         "now": now,
         "live": f"/ui/events?{urlencode({'key': view.key})}" if view.phase == "open" else None,
         "saga": view,
-        "base": address_of(view.key),
+        "base": base,
+        "unfolding": unfolding,
         "asks": asks,
         "helds": {one.step: one for one in view.held},
         "early": {
@@ -68,12 +85,12 @@ def told_of(view: SagaView, approvals: set[str], now: float) -> dict[str, Any]:
             for step in view.steps
             if goes_on and step.state == "waiting" and step.name in approvals and not step.early
         },
-        "choices": {choice.step: choice for choice in view.plan.choices} if view.plan else {},
+        "choices": choices,
         "failures": failures_of(view),
-        "rows": folded([*zip(view.steps, tolds)], lambda row: (picture.urgency(row[1]),)),
-        "picture": picture.svg(view, tolds=tolds) if drawn else "",
-        "timeline": timeline_picture.drawn(attempts, view.started, now),
-        "attempts": folded(attempts, attempt_urgency),
+        "rows": table.rows(),
+        "picture": svg() if drawn else "",
+        "timeline": timeline_picture.drawn(attempts, view.started, now, titles),
+        "attempts": folded(attempt_rows(attempts, titles, now), lambda row: (row.urgency,)),
         "undo_failed": [step for step in view.steps if step.state == "undo_failed"],
         "icons": picture.ICONS,
         "done": sum(step.state in ("committed", "undo_failed") for step in view.steps),
@@ -83,14 +100,6 @@ def told_of(view: SagaView, approvals: set[str], now: float) -> dict[str, Any]:
         "abort": effect(view, abort=True),
         "effects": effects(view, [(one.step, one.undo) for one in asks[:MOST_EFFECTS]]),
     }
-
-
-ORDER = ("failed", "retried", None, "not_called", "succeeded")
-
-
-def attempt_urgency(one: AttemptTimes) -> tuple[int, ...]:
-    """Attempts that failed come first, then those that are not over."""
-    return (ORDER.index(one.outcome),)
 
 
 def effect(view: SagaView, *, abort: bool = False, **step: str) -> str | None:

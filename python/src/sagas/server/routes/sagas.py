@@ -22,7 +22,7 @@ from sagas.inspection import families, lists
 from sagas.inspection import picture as picture_module
 from sagas.inspection import what_if as what_if_module
 from sagas.inspection.views import SagaView
-from sagas.server import answers, json_views, renderer
+from sagas.server import answers, json_views, renderer, unfolding
 from sagas.server.access import check_definition, check_still, is_still, maker, service_of
 from sagas.server.auth import May, Who
 from sagas.server.event_stream import CHECK, Listener
@@ -268,13 +268,15 @@ async def what_if(call: Call) -> Response:
 
 @routes.get(
     "/sagas/{key}/picture.svg", "getPicture", may=May.LOOK, problems=("NoSuchSaga",),
+    query={"unfold": unfolding.FIELD},
     answers={200: Answer("A picture.", media_type="image/svg+xml")},
 )  # fmt: skip
 async def picture(call: Call) -> Response:
     """Get a saga as a picture.
 
-    Its steps with their states, and what the plan keeps and why."""
-    text = picture_module.document(await view_of(call))
+    Its steps with their states, and what the plan keeps and why. The items of a step, and the
+    steps of an included saga, are one box."""
+    text = picture_module.document(await view_of(call), unfolding.names_in(call.query["unfold"]))
     return Response(
         renderer.sent(text),
         media_type="image/svg+xml",

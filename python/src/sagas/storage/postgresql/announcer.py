@@ -41,15 +41,21 @@ class Announcer:
         """A commit is in the store: the others hear of it."""
         if ended := commit.ended:
             self._say(notifications.payloads("ended", ended))
-        if any(row[6] for _, rare in commit.rare for row in rare.offers):
+        if commit.rare:
+            self._kept_rare(commit)
+
+    def _kept_rare(self, commit: Commit) -> None:
+        has = {part for _, rare in commit.rare for part in rare.parts}
+        if "offers" in has and any(row[6] for _, rare in commit.rare for row in rare.offers):
             self._say(["tasks"])
-        if any(rare.notes for _, rare in commit.rare):  # parents wait for that
+        if "notes" in has:  # parents wait for that
             self._say(["requests"])
-        for _, rare in commit.rare:
-            begun = [id for id, _ in rare.begun]
-            for what, ids in (("begun", begun), ("answered", [id for _, id in rare.answers])):
-                if ids:
-                    self._say(notifications.payloads(what, ids))
+        if "begun" in has:
+            begun = [id for _, rare in commit.rare for id, _ in rare.begun]
+            self._say(notifications.payloads("begun", begun))
+        if "answers" in has:
+            answered = [id for _, rare in commit.rare for _, id in rare.answers]
+            self._say(notifications.payloads("answered", answered))
 
     def _say(self, words: list[str]) -> None:
         """Tells the other nodes and the clients, behind the commit: a commit that tells takes a

@@ -17,145 +17,10 @@ import json
 from collections.abc import Callable, Iterable, Sequence
 from typing import Any
 
-from sagas.core.batch import Batch, HeldRow
-from sagas.definition.capacity import SHARD_CAPACITY
+from sagas.core.batch import Batch, Ended, HeldRow, Opened, Rare
 from sagas.definition.serialization import clean
-from sagas.storage import deliveries, external
-
-FREE = "(v.shard < 0 OR v.shard IN (SELECT shard FROM mine))"
-"""What is of no log, or of one that is still this node's."""
-
-ROWS = {
-    "born": "shard bigint, name text",
-    "guessed": "shard bigint, key text",
-    "definitions": "definition text, text text",
-    "defined": "shard bigint, place integer, definition text",
-    "lines": "shard bigint, first_seq integer, committed_at double precision, text text",
-    "opened": "id bigint, key text, saga text, definition_index integer, input text, "
-    "at double precision, deadline double precision, traceparent text",
-    "results": (
-        "id bigint, step integer, action text, number integer, event text, value text, at double "
-        "precision"
-    ),
-    "ended": (
-        "phase text, outcome text, recovered boolean, undo_failed boolean, ended double precision, "
-        "id bigint"
-    ),
-    "held": (
-        "id bigint, step integer, action text, number integer, reason text, count bigint, since "
-        "double precision, until double precision, detail text"
-    ),
-    "freed": "id bigint, step integer, action text, number integer",
-    "labels": "id bigint, name text, value text",
-    "shapes": "id bigint, shape text",
-    "children": "id bigint, parent bigint",
-    "progress": (
-        "id bigint, step integer, action text, number integer, fraction double precision, detail "
-        "text, at double precision"
-    ),
-    "offers": (
-        "attempt text, shard bigint, id bigint, step integer, action text, number integer, task "
-        "text, concurrency integer, lease bigint, offered_at double precision, cancelled text"
-    ),
-    "cancelled": "cancelled text, id bigint",
-    "suspended": "attempt text, shard bigint, outcome text",
-    "settled": "attempt text, shard bigint, came text",
-    "deliveries": (
-        "id text, webhook text, type text, saga bigint, key text, body text, at double precision"
-    ),
-    "spans": (
-        "id bigint, step integer, action text, number integer, at double precision, spans text"
-    ),
-    "answers": "shard bigint, answer text, id bigint",
-    "asked": "shard bigint, key text, command text, value text, at double precision, answer text",
-    "begun": "shard bigint, id bigint, saga bigint",
-    "notes": "note text, id bigint",
-    "closed": "shard bigint, closed smallint, audit text",
-}
-"""The columns of the rows of each part."""
-USUAL = "opened", "results", "ended"
-"""The parts that most commits have, beside lines: they stand in a batch as they are written."""
-COLUMNS = {
-    part: [
-        (name, kind) for name, _, kind in (column.partition(" ") for column in columns.split(", "))
-    ]
-    for part, columns in ROWS.items()
-}
-
-OF_LOG = f"JOIN mine ON mine.shard = v.id / {SHARD_CAPACITY}"
-PARTS = {
-    "definitions": "INSERT INTO definitions SELECT v.* FROM {rows} ON CONFLICT DO NOTHING",
-    "defined": (
-        "INSERT INTO shard_definitions SELECT v.* FROM {rows} JOIN mine USING (shard) "
-        "ON CONFLICT DO NOTHING"
-    ),
-    "lines": "INSERT INTO event_log SELECT v.* FROM {rows} JOIN mine USING (shard)",
-    "opened": (
-        "INSERT INTO sagas(id, key, saga, definition_index, input, at, deadline, traceparent) "
-        f"SELECT v.* FROM {{rows}} {OF_LOG}"
-    ),
-    "results": f"INSERT INTO attempts SELECT v.* FROM {{rows}} {OF_LOG} "
-    "ON CONFLICT (id, step, action, number) DO UPDATE SET event = excluded.event WHERE "
-    "attempts.event = 'ok'",
-    "ended": (
-        "UPDATE sagas SET phase = v.phase, outcome = v.outcome, recovered = v.recovered, "
-        f"undo_failed = v.undo_failed, ended = v.ended FROM {{rows}} {OF_LOG} WHERE sagas.id = v.id"
-    ),
-    "held": f"INSERT INTO suspensions SELECT v.* FROM {{rows}} {OF_LOG} "
-    "ON CONFLICT (id, step, action, number) DO UPDATE SET reason = excluded.reason, "
-    "count = excluded.count, since = excluded.since, until = excluded.until, "
-    "detail = excluded.detail",
-    "labels": f"INSERT INTO labels SELECT v.* FROM {{rows}} {OF_LOG}",
-    "shapes": f"INSERT INTO shapes SELECT v.* FROM {{rows}} {OF_LOG}",
-    "children": f"INSERT INTO children SELECT v.* FROM {{rows}} {OF_LOG}",
-    "freed": (
-        f"DELETE FROM suspensions USING {{rows}} {OF_LOG} WHERE suspensions.id = v.id AND "
-        "suspensions.step = v.step AND suspensions.action = v.action AND suspensions.number <= "
-        "v.number"
-    ),
-    "progress": f"INSERT INTO progress SELECT v.* FROM {{rows}} {OF_LOG} "
-    "ON CONFLICT (id, step, action, number) DO UPDATE SET fraction = excluded.fraction, "
-    "detail = excluded.detail, at = excluded.at",
-    "offers": f"INSERT INTO external_attempts AS e({external.OFFER}) "
-    "SELECT v.attempt, v.shard, v.id, v.step, v.action, v.number, v.task, v.concurrency, v.lease, "
-    "extract(epoch FROM clock_timestamp()), v.cancelled FROM {rows} JOIN mine USING (shard) "
-    f"ON CONFLICT (attempt) DO UPDATE SET {external.OFFERED_AGAIN}",
-    "cancelled": f"UPDATE external_attempts e SET cancelled = v.cancelled FROM {{rows}} {OF_LOG} "
-    "WHERE e.id = v.id AND e.action = 'run' AND e.outcome IS NULL",
-    "suspended": "UPDATE external_attempts e SET outcome = v.outcome, until = NULL "
-    "FROM {rows} JOIN mine USING (shard) WHERE e.attempt = v.attempt AND (e.outcome IS NULL OR "
-    "e.outcome IN ('unknown', 'suspended', 'failed', 'failed_permanently'))",
-    "settled": "UPDATE external_attempts e SET outcome = 'settled', value = NULL, "
-    "shard = CASE WHEN e.outcome IS DISTINCT FROM 'succeeded' OR v.came = 'succeeded' "
-    "THEN e.shard END "
-    "FROM {rows} JOIN mine USING (shard) WHERE e.attempt = v.attempt",
-    "deliveries": f"INSERT INTO webhook_deliveries({deliveries.COLUMNS}) SELECT v.* FROM {{rows}} "
-    f"JOIN mine ON mine.shard = v.saga / {SHARD_CAPACITY} ON CONFLICT DO NOTHING",
-    "spans": (
-        f"INSERT INTO attempt_spans SELECT v.* FROM {{rows}} {OF_LOG} ON CONFLICT DO NOTHING"
-    ),
-    "answers": (
-        "UPDATE operator_commands SET answer = v.answer FROM {rows} WHERE operator_commands.id "
-        f"= v.id AND operator_commands.answer IS NULL AND {FREE}"
-    ),
-    "asked": (
-        "INSERT INTO operator_commands(key, command, value, at, answer) SELECT v.key, v.command, "
-        f"v.value, v.at, v.answer FROM {{rows}} WHERE {FREE}"
-    ),
-    "begun": f"DELETE FROM pending_starts USING {{rows}} WHERE pending_starts.id = v.id AND {FREE} "
-    "RETURNING key, commands, v.saga",
-    "notes": "UPDATE sagas SET note = v.note FROM {rows} WHERE sagas.id = v.id "
-    "AND sagas.note IS NULL",
-    "closed": (
-        "UPDATE shards SET closed = v.closed, audit = v.audit FROM {rows} JOIN mine USING (shard) "
-        "WHERE shards.shard = v.shard"
-    ),
-}
-"""What becomes of them.
-
-`settled`: a worker's *done* gives way to nothing else. The row's shard would be null, which is
-refused, and with it all of the statement: also where the worker's transaction was open as this
-began."""
+from sagas.storage.postgresql import connections
+from sagas.storage.postgresql.commit_parts import COLUMNS, PARTS
 
 MOVED = """
 moved AS (INSERT INTO operator_commands(id, key, command, value, at, saga) OVERRIDING SYSTEM VALUE
@@ -172,8 +37,9 @@ LISTED = (
 """Whether a log is this node's still: the only one of a commit, or one of several."""
 BORN = (
     "INSERT INTO shards(shard, name, owner, epoch) SELECT v.shard, v.name, $2, 1 "
-    "FROM {rows}{free} ON CONFLICT DO NOTHING RETURNING shard"
+    "FROM {rows}{free} ON CONFLICT DO NOTHING RETURNING shard, epoch"
 )
+BIRTHS = connections.TAKEOVER.format(node="$2", last="-1", taken="born")
 TAKEN = (
     "SELECT v.shard FROM {rows} JOIN sagas s ON s.key = v.key UNION ALL SELECT v.shard FROM {rows} "
     "JOIN pending_starts i ON i.key = v.key"
@@ -209,7 +75,7 @@ def statement(parts: tuple[str, ...], form: str = "jsonb", alone: bool = False) 
     )
     if "born" in parts:
         born = BORN.format(rows=rows("born"), free=f" WHERE {_free('v')}" if guessed else "")
-        texts += [f"kept AS MATERIALIZED ({kept})", f"born AS ({born})"]
+        texts += [f"kept AS MATERIALIZED ({kept})", f"born AS ({born})", f"births AS ({BIRTHS})"]
         kept = "SELECT shard FROM kept UNION ALL SELECT shard FROM born"
     texts.append(f"mine AS MATERIALIZED ({kept})")
     texts += [
@@ -217,7 +83,8 @@ def statement(parts: tuple[str, ...], form: str = "jsonb", alone: bool = False) 
     ]
     if "begun" in parts:
         texts.append(MOVED)
-    return f"WITH {', '.join(texts)} SELECT shard FROM mine"
+    asked = "" if parts else f" WHERE $1::{form} IS NOT NULL"  # each word has a type
+    return f"WITH {', '.join(texts)} SELECT shard FROM mine{asked}"
 
 
 def _free(name: str) -> str:
@@ -245,6 +112,23 @@ def _rows_of_words(parts: tuple[str, ...]) -> Callable[[str], str]:
     return lambda part: f"(SELECT {cells[part]}) v"
 
 
+EXTERNAL = ("offers", "cancelled", "suspended", "settled")
+"""The parts of what others do: what one says of an attempt depends on the others."""
+PLAIN: dict[str, Callable[[int, Rare], Iterable[Any]]] = {
+    "shapes": lambda log, rare: rare.shapes,
+    "labels": lambda log, rare: rare.labels,
+    "children": lambda log, rare: rare.children,
+    "deliveries": lambda log, rare: rare.deliveries,
+    "spans": lambda log, rare: [(*row[:5], clean(row[5])) for row in rare.spans],
+    "answers": lambda log, rare: [(log, *answer) for answer in rare.answers],
+    "asked": lambda log, rare: [(log, *row, answer) for row, answer in rare.asked],
+    "begun": lambda log, rare: [(log, *one) for one in rare.begun],
+    "notes": lambda log, rare: [(clean(note), id) for note, id in rare.notes],
+    "closed": lambda log, rare: [(log, *rare.closed)] if rare.closed else [],
+}
+"""The rows of parts that stand by themselves, by the number of the log."""
+
+
 class Commit:
     """All that a list of batches writes, with what becomes of a row that more than one of them
     touches.
@@ -256,44 +140,83 @@ class Commit:
         self.events: dict[int, int] = {}
         self._before = events
         self._rows: dict[str, Sequence[Any]] = {}
-        self._lines()
-        one = batches[0] if len(batches) == 1 else None
-        for part in USUAL:
-            rows = (
-                getattr(one, part)
-                if one
-                else [row for batch in batches for row in getattr(batch, part)]
-            )
-            if rows:
-                self._rows[part] = rows
-        self.rare = [(batch.log, batch.rare) for batch in batches if batch.rare]
-        for batch in batches:
-            if batch.rare or batch.born or batch.guessed:
-                self._others()
-                break
+        self.rare: list[tuple[int, Rare]] = []
+        if len(batches) == 1:
+            self._put_one(batches[0])
+        else:
+            self._put_many(batches)
 
     @property
     def ended(self) -> list[int]:
         """The sagas that end in it."""
-        return [id for *_, id in self._rows.get("ended", ())]
+        return [row[-1] for row in self.rows("ended") or self.rows("ended_with")]
 
-    def _lines(self) -> None:
+    def rows(self, part: str) -> Sequence[Sequence[Any]]:
+        """The rows of a part."""
+        return self._rows.get(part, ())
+
+    def _put_one(self, batch: Batch) -> None:
+        rows = self._rows
+        if batch.text:
+            rows["lines"] = [(batch.log, self._lines(batch), batch.at, batch.text, batch.epoch)]
+        if batch.opened:
+            self._put_opened(batch.opened)
+        if batch.results:
+            rows["results"] = batch.results
+        if batch.ended:
+            self._put_ended(batch.ended)
+        if batch.guessed:
+            rows["guessed"] = [(batch.log, key) for key in batch.guessed]
+        if batch.rare:
+            self.rare.append((batch.log, batch.rare))
+        if batch.rare or batch.born:
+            self._others()
+
+    def _put_many(self, batches: Sequence[Batch]) -> None:
         chunks: dict[int, tuple[int, float, list[str]]] = {}
-        for batch in self.batches:
+        for batch in batches:
             if batch.text:
-                log = batch.log
-                had = self.events[log] if log in self.events else self._before(log)
-                if batch.first != had:
-                    raise ValueError(f"shard {log}: event {batch.first} behind {had}")
-                self.events[log] = had + batch.text.count("\n")
-                if len(self.batches) == 1:
-                    self._rows["lines"] = [(log, had, batch.at, batch.text)]
-                    return
-                chunks.setdefault(log, (had, batch.at, []))[2].append(batch.text)
-        if chunks:
-            self._rows["lines"] = [
-                (log, first, at, "".join(texts)) for log, (first, at, texts) in chunks.items()
-            ]
+                had = self._lines(batch)
+                chunks.setdefault(batch.log, (had, batch.at, []))[2].append(batch.text)
+        rows: dict[str, Sequence[Any]] = {
+            "lines": [
+                (log, first, at, "".join(texts), self.epochs[log])
+                for log, (first, at, texts) in chunks.items()
+            ],
+            "results": [row for batch in batches for row in batch.results],
+            "guessed": [(batch.log, key) for batch in batches for key in batch.guessed],
+        }
+        self._rows.update((part, found) for part, found in rows.items() if found)
+        self._put_opened([row for batch in batches for row in batch.opened])
+        self._put_ended([row for batch in batches for row in batch.ended])
+        self.rare += [(batch.log, batch.rare) for batch in batches if batch.rare]
+        if self.rare or any(batch.born for batch in batches):
+            self._others()
+
+    def _put_opened(self, rows: Sequence[Opened]) -> None:
+        for row in rows:
+            if row[6] is not None or row[7] is not None:
+                self._rows["opened_with"] = rows
+                return
+        if rows:
+            self._rows["opened"] = [row[:6] for row in rows]
+
+    def _put_ended(self, rows: Sequence[Ended]) -> None:
+        for row in rows:
+            if row[2] or row[3]:
+                self._rows["ended_with"] = rows
+                return
+        if rows:
+            self._rows["ended"] = [(*row[:2], *row[4:]) for row in rows]
+
+    def _lines(self, batch: Batch) -> int:
+        """How many events its log has before it."""
+        log = batch.log
+        had = self.events[log] if log in self.events else self._before(log)
+        if batch.first != had:
+            raise ValueError(f"shard {log}: event {batch.first} behind {had}")
+        self.events[log] = had + batch.text.count("\n")
+        return had
 
     def _held(self) -> None:
         """The last word of each held attempt."""
@@ -318,24 +241,35 @@ class Commit:
 
     def _others(self) -> None:
         """What most commits have nothing of."""
-        self._held()
-        for part, lists in self._lists():
-            rows = [row for rows in lists for row in rows]
-            if rows:
-                self._rows[part] = rows
+        has = {part for _, rare in self.rare for part in rare.parts}
+        if "held" in has or "freed" in has:
+            self._held()
+        if "defined" in has or any(batch.born for batch in self.batches):
+            self._definitions()
+        if not has.isdisjoint(EXTERNAL):
+            self._external()
+        if "progress" in has:
+            last = {row[:4]: row for _, rare in self.rare for row in rare.progress}
+            self._put("progress", [*last.values()])
+        for part, rows_of in PLAIN.items():
+            if part in has:
+                self._put(part, [row for log, rare in self.rare for row in rows_of(log, rare)])
 
-    def _lists(self) -> Iterable[tuple[str, Iterable[Sequence[Any]]]]:
+    def _put(self, part: str, rows: Sequence[Any]) -> None:
+        if rows:
+            self._rows[part] = rows
+
+    def _definitions(self) -> None:
         born = {batch.log: batch.born for batch in self.batches if batch.born}
-        yield "born", [[(log, name) for log, (name, _) in born.items()]]
+        self._put("born", [(log, name) for log, (name, _) in born.items()])
         defined = {(log, *one) for log, (_, of) in born.items() for one in of}
         defined |= {(log, *one) for log, rare in self.rare for one in rare.defined}
         # in order, so that two commits that make the same wait for one another and never crosswise
-        yield "definitions", [sorted({row[2:] for row in defined})]
-        yield "defined", [sorted({row[:3] for row in defined})]
-        yield "shapes", (rare.shapes for _, rare in self.rare)
-        yield "guessed", ([(batch.log, key) for key in batch.guessed] for batch in self.batches)
-        yield "labels", (rare.labels for _, rare in self.rare)
-        yield "children", (rare.children for _, rare in self.rare)
+        self._put("definitions", sorted({row[2:] for row in defined}))
+        self._put("defined", sorted({row[:3] for row in defined}))
+
+    def _external(self) -> None:
+        """What becomes of attempts that others do."""
         over = {row[0] for _, rare in self.rare for row in rare.settled}
         ended = {id: why for _, rare in self.rare for why, id in rare.cancelled}
         offers = {
@@ -344,33 +278,21 @@ class Commit:
             for row in rare.offers
             if row[0] not in over
         }
-        progress = {row[:4]: row for _, rare in self.rare for row in rare.progress}
-        yield "progress", [list(progress.values())]
-        yield "offers", [list(offers.values())]
-        yield "cancelled", [[(why, id) for id, why in ended.items()]]
-        yield "suspended", (
-            [row for row in rare.suspended if row[0] not in over] for _, rare in self.rare
-        )
-        yield "settled", (rare.settled for _, rare in self.rare)
-        yield "deliveries", (rare.deliveries for _, rare in self.rare)
-        yield "spans", ([(*row[:5], clean(row[5])) for row in rare.spans] for _, rare in self.rare)
-        yield "answers", ([(log, *answer) for answer in rare.answers] for log, rare in self.rare)
-        yield "asked", (
-            [(log, *row, answer) for row, answer in rare.asked] for log, rare in self.rare
-        )
-        yield "begun", ([(log, *one) for one in rare.begun] for log, rare in self.rare)
-        yield "notes", ([(clean(note), id) for note, id in rare.notes] for _, rare in self.rare)
-        yield "closed", ([(log, *rare.closed)] for log, rare in self.rare if rare.closed)
+        self._put("offers", [*offers.values()])
+        self._put("cancelled", [(why, id) for id, why in ended.items()])
+        suspended = (row for _, rare in self.rare for row in rare.suspended)
+        self._put("suspended", [row for row in suspended if row[0] not in over])
+        self._put("settled", [row for _, rare in self.rare for row in rare.settled])
 
-    def words(self, node: str) -> tuple[str, list[bytes | None]]:
+    def words(self, node: bytes) -> tuple[str, list[bytes | None]]:
         """The statement and its words."""
         parts, alone = tuple(sorted(self._rows)), len(self.epochs) == 1
         if alone:
             ((log, epoch),) = self.epochs.items()
-            mine = [node.encode(), b"%d" % log, b"%d" % epoch]
+            mine = [node, b"%d" % log, b"%d" % epoch]
         else:
             mine = [
-                node.encode(),
+                node,
                 *(
                     f"{{{','.join(map(str, numbers))}}}".encode()
                     for numbers in (self.epochs, self.epochs.values())

@@ -71,6 +71,17 @@ LINE = "left(pg_walfile_name(pg_current_wal_lsn()), 8)"
 committed last.
 """
 
+TAKEOVER = (
+    "INSERT INTO takeovers(shard, epoch, node, last_seq, timeline) "
+    f"SELECT shard, epoch, {{node}}, {{last}}, {LINE} FROM {{taken}}"
+)
+READ = TAKEOVER.format(node="%(node)s", last="last_seq(shard)", taken="mine")
+"""Notes who raised the epochs of the shards `mine`: a part of the statement that did, and that
+reads these shards.
+"""
+RAISED = TAKEOVER.format(node="%(node)s", last="NULL::integer", taken="mine")
+"""The same of a statement that reads none, and so does not wait until others let it."""
+
 ESCAPED = (
     "with % and two hex digits for what is special in a password, "
     'as urllib.parse.quote(password, safe="") gives it'

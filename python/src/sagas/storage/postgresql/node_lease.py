@@ -25,7 +25,7 @@ from sagas.base.wording import number
 from sagas.core.batch import LogRow
 from sagas.definition.capacity import SHARD_CAPACITY
 from sagas.definition.compiled import version_of
-from sagas.storage.postgresql.connections import LINE, Asker
+from sagas.storage.postgresql.connections import LINE, RAISED, Asker
 from sagas.storage.queries import OPENED
 
 if TYPE_CHECKING:
@@ -81,9 +81,11 @@ SELECT json_build_array(l.shard, {TEXTS}, {PLACES})::text FROM shards l
 WHERE {ORPHAN} AND l.shard <> ALL(%(left)s::bigint[]) ORDER BY l.shard LIMIT {LOT}
 """
 TAKE = f"""
-UPDATE shards SET owner = %(node)s, epoch = epoch + 1 WHERE shard IN (
+WITH mine AS (UPDATE shards SET owner = %(node)s, epoch = epoch + 1 WHERE shard IN (
   SELECT l.shard FROM shards l WHERE l.shard = ANY(%(logs)s::bigint[]) AND {ORPHAN}
-  ORDER BY l.shard FOR UPDATE SKIP LOCKED) RETURNING shard
+  ORDER BY l.shard FOR UPDATE SKIP LOCKED) RETURNING shard, epoch),
+noted AS ({RAISED})
+SELECT shard FROM mine
 """
 TAKEN = f"""
 SELECT json_build_array(shard, name, {TEXTS}, ({OPENED}), ({OPENED} AND phase IS NULL), epoch,
@@ -106,16 +108,19 @@ JOIN definitions USING (definition)
 WHERE l.shard = ANY(%(logs)s::bigint[]) GROUP BY 1 ORDER BY 1
 """
 """The definitions of the open sagas of these logs: of how many logs, and how many sagas."""
-LEAVE = """
-UPDATE shards SET owner = NULL, epoch = epoch + 1
-WHERE shard = ANY(%(logs)s::bigint[]) AND owner = %(node)s
+LEAVE = f"""
+WITH mine AS (UPDATE shards SET owner = NULL, epoch = epoch + 1
+  WHERE shard = ANY(%(logs)s::bigint[]) AND owner = %(node)s RETURNING shard, epoch)
+{RAISED}
 """
-SPARE = """
-UPDATE shards l SET owner = NULL, epoch = epoch + 1
-WHERE l.shard = %(log)s AND l.owner = %(node)s AND EXISTS (
-  SELECT 1 FROM nodes n
-  WHERE n.node <> %(node)s AND n.lease > now() AND n.since > to_timestamp(%(before)s))
-RETURNING extract(epoch FROM now())::float8, pg_notify('sagas_nodes', 'logs')
+SPARE = f"""
+WITH mine AS (UPDATE shards l SET owner = NULL, epoch = epoch + 1
+  WHERE l.shard = %(log)s AND l.owner = %(node)s AND EXISTS (
+    SELECT 1 FROM nodes n
+    WHERE n.node <> %(node)s AND n.lease > now() AND n.since > to_timestamp(%(before)s))
+  RETURNING shard, epoch),
+noted AS ({RAISED})
+SELECT extract(epoch FROM now())::float8, pg_notify('sagas_nodes', 'logs') FROM mine
 """
 """Gives a log back where another node has come since it was given back the last time."""
 GONE = """
@@ -124,9 +129,11 @@ old2 AS (DELETE FROM nodes n WHERE lease < now() - interval '1 day'
   AND NOT EXISTS (SELECT 1 FROM shards WHERE owner = n.node AND closed = 0))
 SELECT 1
 """
-HAND_OVER = """
+HAND_OVER = f"""
 WITH me AS (DELETE FROM nodes WHERE node = %(node)s),
-mine AS (UPDATE shards SET owner = NULL, epoch = epoch + 1 WHERE owner = %(node)s AND closed = 0),
+mine AS (UPDATE shards SET owner = NULL, epoch = epoch + 1 WHERE owner = %(node)s AND closed = 0
+  RETURNING shard, epoch),
+noted AS ({RAISED}),
 starts AS (UPDATE pending_starts SET node = NULL WHERE node = %(node)s)
 SELECT pg_notify('sagas_nodes', 'logs'), pg_notify('sagas_nodes', 'starts')
 """

@@ -12,7 +12,7 @@ from __future__ import annotations
 import asyncio
 from collections import deque
 from collections.abc import Callable, Sequence
-from typing import TYPE_CHECKING, NamedTuple, Optional
+from typing import TYPE_CHECKING, Optional
 
 from psycopg import errors, pq
 
@@ -32,12 +32,8 @@ MOST = 96
 GOOD = (pq.ExecStatus.TUPLES_OK, pq.ExecStatus.COMMAND_OK)
 
 
-class Job(NamedTuple):
-    """A statement that is under way, or waits for those before it."""
-
-    text: str
-    words: Words
-    then: Then
+Job = tuple[str, Words, Then]
+"""A statement that is under way, or waits for those before it, and what is told of it."""
 
 
 class Wire:
@@ -76,7 +72,7 @@ class Wire:
         """Does a statement behind those before. `then` hears what psycopg raises, or a
         `TimeoutError`.
         """
-        self._jobs.append(Job(text, words, then))
+        self._jobs.append((text, words, then))
         if self.closed:
             self._loop.call_soon(self._tell, errors.OperationalError("the connection is closed"))
         elif len(self._jobs) == 1:
@@ -107,17 +103,17 @@ class Wire:
         self._begin()
 
     def _begin(self) -> None:
-        job = self._jobs[0]
+        text, words, _ = self._jobs[0]
         try:
-            name = self._names.get(job.text)
+            name = self._names.get(text)
             if name is None and len(self._names) >= MOST:
                 self._lets_go = True
                 self._pgconn.send_query(b"DEALLOCATE ALL")
             elif name is None:
                 self._preparing = b"sagas%d" % len(self._names)
-                self._pgconn.send_prepare(self._preparing, job.text.encode())
+                self._pgconn.send_prepare(self._preparing, text.encode())
             else:
-                self._pgconn.send_query_prepared(name, job.words)
+                self._pgconn.send_query_prepared(name, words)
             self._flush()
         except Exception as error:
             self._loop.call_soon(self._break, error)
@@ -171,14 +167,14 @@ class Wire:
             self._begin()
             return
         if preparing and not fault:
-            self._names[self._jobs[0].text] = preparing
+            self._names[self._jobs[0][0]] = preparing
             self._begin()
             return
-        job = self._jobs.popleft()
+        _, _, then = self._jobs.popleft()
         rows = [] if fault else read(result)
         if self._jobs:
             self._go_on()
-        job.then(rows, fault)
+        then(rows, fault)
 
     # -- what goes wrong
 
@@ -205,8 +201,8 @@ class Wire:
 
     def _tell(self, error: Exception) -> None:
         jobs, self._jobs = self._jobs, deque()
-        for job in jobs:
-            job.then([], error)
+        for _, _, then in jobs:
+            then([], error)
 
 
 def read(result: PGresult) -> list[Values]:
@@ -214,6 +210,8 @@ def read(result: PGresult) -> list[Values]:
     count = result.ntuples
     if not count:
         return []
+    if count == 1 and result.nfields == 1:  # as of most commits
+        return [(result.get_value(0, 0),)]
     columns = range(result.nfields)
     return [tuple([result.get_value(row, column) for column in columns]) for row in range(count)]
 

@@ -38,7 +38,8 @@ pending_starts.id, key, saga, version, input, labels, deadline, traceparent
 meanwhile; as a join it would not be.
 """
 REFUSE = """
-UPDATE pending_starts SET refused = %(why)s, node = NULL WHERE id = %(id)s AND node = %(node)s
+UPDATE pending_starts SET refused = %(why)s, node = NULL, at = extract(epoch FROM clock_timestamp())
+WHERE id = %(id)s AND node = %(node)s
 """
 ANSWER = queries.named(operator_requests.ANSWER, "id", "start")
 ASK = queries.named(operator_requests.ASK, "what", "value", "id")

@@ -38,11 +38,25 @@ CREATE TABLE sagas.shards(
   closed smallint NOT NULL DEFAULT 0, audit text) WITH (fillfactor = 50);
 CREATE INDEX shards_open ON sagas.shards(shard) WHERE closed = 0;
 
--- The events of one commit, a line each; first_seq: how many events the shard has before them.
+-- The events of one commit, a line each; first_seq: how many events the shard has before them;
+-- epoch: under which epoch of the shard the commit says that it writes.
 CREATE TABLE sagas.event_log(
   shard bigint NOT NULL, first_seq integer NOT NULL, committed_at double precision NOT NULL,
-  text text NOT NULL,
+  text text NOT NULL, epoch bigint NOT NULL,
   PRIMARY KEY(shard, first_seq));
+
+-- Each new epoch of a shard, from its birth on: who made it, on which timeline of the server;
+-- last_seq: first_seq of the last commit before it, -1 where there is none; null: not looked at.
+CREATE TABLE sagas.takeovers(
+  shard bigint NOT NULL REFERENCES sagas.shards ON DELETE CASCADE,
+  id bigint GENERATED ALWAYS AS IDENTITY, epoch bigint NOT NULL, node text NOT NULL,
+  last_seq integer, timeline text NOT NULL, at timestamptz NOT NULL DEFAULT now(),
+  PRIMARY KEY(shard, id));
+
+-- first_seq of a shard's last commit. Volatile, so that it sees what was committed until the
+-- statement had the lock of the shard's row, and not only what was there as it began.
+CREATE FUNCTION sagas.last_seq(number bigint) RETURNS integer LANGUAGE sql VOLATILE AS
+  'SELECT coalesce(max(first_seq), -1) FROM sagas.event_log WHERE shard = number';
 
 -- definition_index: of its definition in the shard; deadline: when it is
 -- aborted; traceparent: the W3C trace context of its start; phase: null while open, then ended or
@@ -117,7 +131,8 @@ CREATE INDEX operator_commands_key ON sagas.operator_commands(key);
 -- the client's definition, null where the client has no steps of it: then any node takes it that
 -- has a saga of that name and version; commands: what is asked of it: a JSON list of lists with id,
 -- command, value and at. They go with the start, and to `operator_commands` in the commit that
--- opens its saga; refused: why the input gives the saga no steps: then no node takes it.
+-- opens its saga; refused: why the input gives the saga no steps: then no node takes it,
+-- and `at` is when it was refused.
 CREATE TABLE sagas.pending_starts(
   id bigint GENERATED ALWAYS AS IDENTITY PRIMARY KEY, key text NOT NULL UNIQUE,
   saga text NOT NULL, version integer NOT NULL,
@@ -194,6 +209,7 @@ TABLES = (
     "pending_starts",
     "shards",
     "event_log",
+    "takeovers",
     "sagas",
     "labels",
     "children",
@@ -284,6 +300,7 @@ def allow(link: psycopg.Connection[tuple[object, ...]], role: str) -> None:
                 )
             )
         link.execute(sql.SQL("GRANT USAGE ON ALL SEQUENCES IN SCHEMA sagas TO {}").format(name))
+        link.execute(sql.SQL("GRANT EXECUTE ON FUNCTION sagas.last_seq TO {}").format(name))
         given = (
             "has_schema_privilege(%(role)s, 'sagas', 'USAGE') "
             "AND has_table_privilege(%(role)s, 'sagas.shards', 'INSERT')"

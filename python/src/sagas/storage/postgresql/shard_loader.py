@@ -18,6 +18,7 @@ from sagas.core.batch import Born, HeldRow, Loaded, OpenRow, Result
 from sagas.definition.capacity import SHARD_CAPACITY
 from sagas.storage import queries
 from sagas.storage.postgresql import connections
+from sagas.storage.record_file import RecordFile
 
 MOST = 64
 """Logs that are taken up at once."""
@@ -28,9 +29,11 @@ SAGAS = (
     f"sagas s WHERE s.id >= l.shard * {SHARD_CAPACITY} AND s.id < (l.shard + 1) * {SHARD_CAPACITY}"
 )
 TOGETHER = f"""
-UPDATE shards SET epoch = epoch + 1 WHERE shard IN (
+WITH mine AS (UPDATE shards SET epoch = epoch + 1 WHERE shard IN (
   SELECT shard FROM shards WHERE {LOGS} AND {MINE} FOR NO KEY UPDATE SKIP LOCKED)
-RETURNING shard, epoch;
+  RETURNING shard, epoch),
+noted AS ({connections.READ})
+SELECT shard, epoch FROM mine;
 SELECT shard, {MINE},
   (SELECT string_agg(text, '' ORDER BY first_seq) FROM event_log WHERE event_log.shard = l.shard),
   (SELECT count(*) FROM {SAGAS}),
@@ -47,23 +50,27 @@ SELECT shard, {MINE},
 meanwhile nothing is. A log of which a commit is under way is passed over. A log's sagas are one
 text, since psycopg takes longer for some thousand cells than the server for all.
 """
-BORN = """
+NEW = connections.TAKEOVER.format(node="%(node)s", last="-1", taken="born")
+BORN = f"""
 WITH given AS (SELECT place, digest, text FROM unnest(%(places)s::integer[], %(digests)s::text[],
     %(texts)s::text[]) AS of(place, digest, text)),
 new AS (INSERT INTO definitions SELECT DISTINCT digest, text FROM given ORDER BY 1
   ON CONFLICT DO NOTHING),
 new2 AS (INSERT INTO shard_definitions SELECT %(log)s, place, digest FROM given
-  ON CONFLICT DO NOTHING)
-INSERT INTO shards(shard, name, owner, epoch)
-VALUES (%(log)s, %(name)s, %(node)s, %(epoch)s) ON CONFLICT DO NOTHING
+  ON CONFLICT DO NOTHING),
+born AS (INSERT INTO shards(shard, name, owner, epoch)
+  VALUES (%(log)s, %(name)s, %(node)s, %(epoch)s) ON CONFLICT DO NOTHING
+  RETURNING shard, epoch)
+{NEW}
 """
 """A log that is not in the store, as far as this node knows: the commit that was to hold it may
 come late, and then meets it, of a later epoch.
 """
 DEFINITIONS = "SELECT count(*) FROM shard_definitions WHERE shard = %(log)s"
 ALONE = (
-    f"UPDATE shards SET epoch = epoch + 1 WHERE {LOGS} AND {MINE} RETURNING epoch, "
-    f"{connections.LINE}"
+    f"WITH mine AS (UPDATE shards SET epoch = epoch + 1 WHERE {LOGS} AND {MINE} "
+    f"RETURNING shard, epoch), noted AS ({connections.READ}) "
+    f"SELECT epoch, {connections.LINE} FROM mine"
 )
 """Whatever its epoch is, here as above: this node may not have heard of the last one that it
 made.
@@ -102,31 +109,41 @@ class Loads:
         asker: connections.Asker,
         node: str,
         spawn: Callable[[Coroutine[Any, Any, None]], object],
+        record: RecordFile | None = None,
     ) -> None:
+        self._record = record
         self._asker, self._node, self._spawn = asker, node, spawn
         self._wanted: list[Want] = []
         self._is_loading = False
         # shards that are locked go one by one: each may hold for long a connection that others need
         self._one = asyncio.Lock()
 
-    async def take_up(self, log: int, epoch: int) -> tuple[str, int] | None:
-        """As `Database.take_up`."""
+    async def take_up(self, log: int, epoch: int, line: str) -> tuple[str, int] | None:
+        """As `Database.take_up`, from a server of this timeline."""
         rows = await self._asker.read(WAKE, log=log, node=self._node, epoch=epoch)
         if not rows[0][0]:
             return None
-        return queries.joined([(first, text) for _, first, text in rows if first is not None])
+        text, events = queries.joined(
+            [(first, text) for _, first, text in rows if first is not None]
+        )
+        if self._record:
+            self._record.read((log, epoch, line), events, text)
+        return text, events
 
     async def load(self, log: int, epoch: int, born: Born | None) -> Loaded | None:
         """As `Database.load`."""
         want = Want(log, epoch, born, asyncio.get_running_loop().create_future())
         if born:
             self._spawn(self._tell_alone(want))
-            return await want.came
-        self._wanted.append(want)
-        if not self._is_loading:
-            self._is_loading = True
-            self._spawn(self._load())
-        return await want.came
+        else:
+            self._wanted.append(want)
+            if not self._is_loading:
+                self._is_loading = True
+                self._spawn(self._load())
+        loaded = await want.came
+        if loaded and self._record:
+            self._record.took((log, loaded.epoch, loaded.line), loaded.events, loaded.text)
+        return loaded
 
     async def _load(self) -> None:
         """All that is wanted, one lot behind the other."""

@@ -9,17 +9,7 @@ from typing import Any
 
 from sagas.base.errors import StoreUnavailable
 from sagas.base.logger import logger
-from sagas.core.batch import (  # fmt: skip
-    Batch,
-    Born,
-    Grant,
-    Known,
-    Loaded,
-    LogRow,
-    Request,
-    SagaRow,
-    Start,
-)
+from sagas.core.batch import Batch, Born, Grant, Known, Loaded, LogRow, Request, SagaRow, Start
 from sagas.definition.serialization import cleaned
 from sagas.definition.step import Bounds
 from sagas.storage import queries
@@ -44,6 +34,7 @@ from sagas.storage.postgresql.reader import Reader
 from sagas.storage.postgresql.shard_loader import Loads
 from sagas.storage.postgresql.shard_numbers import ShardNumbers
 from sagas.storage.postgresql.writer import Writer
+from sagas.storage.record_file import RecordFile
 
 TEXT = "SELECT coalesce(string_agg(text, '' ORDER BY first_seq), '') FROM event_log WHERE shard = ?"
 
@@ -58,26 +49,22 @@ class PostgreSQL(queries.Questions):
     def __init__(
         self, url: str, *, node: str | None = None, lease: float = 10.0, sagas: Sequence[str] = (),
         kinds: Sequence[str] = (), version: str = "", most: int = 16,
-        transactions: MakesTransactions | None = None,
+        transactions: MakesTransactions | None = None, record: str | None = None,
     ) -> None:  # fmt: skip
         """`sagas`: the starts that it takes, each as saga/version, which is of those without a
         digest, or as saga/version/digest; `kinds`: its definitions, in the latter form.
-        `transactions` gives what calls functions in transactions."""
+        `transactions` gives what calls functions in transactions; `record`: a file."""
         self.url = url
         self.asker = connections.Asker(url, connections.named(url), 3)
         self.lease = Lease(self.asker, node, lease, version, kinds)
         self._sagas = list(sagas)
         self.external: ExternalAttempts = PostgreSQLExternalAttempts(self.asker)
         self._places = Places(self.asker, self.lease.node)
-        self._loads = Loads(self.asker, self.lease.node, self._spawn)
+        told = RecordFile.of(record, self.lease.node)
+        self._loads = Loads(self.asker, self.lease.node, self._spawn, told)
         self._line = ""
         self._writer = Writer(
-            url,
-            self.path,
-            self.lease.node,
-            self._check_server,
-            self._kept,
-            self._let_go,
+            url, self.path, self.lease.node, self._check_server, self._kept, self._let_go, told
         )
         self._transactions = (
             transactions(url, self.path, self.lease.node, lambda: self._line, most)
@@ -105,6 +92,11 @@ class PostgreSQL(queries.Questions):
         return self.url
 
     @property
+    def record(self) -> RecordFile | None:
+        """Its record."""
+        return self._writer.record
+
+    @property
     def inside(self) -> StepCaller | None:
         """What calls functions in transactions."""
         return self._transactions
@@ -121,11 +113,15 @@ class PostgreSQL(queries.Questions):
         this program drives them.
         """
         self._drives = drives
+        if self.record:
+            self.record.open()
         await asyncio.to_thread(self._migrate)
         await self.asker.open()
         await self._keys.open()  # at once: later there may be no connection for it
         await self._questions.open()
         self._line = await self.lease.begin()
+        if self.record:
+            self.record.timeline = self._line
         rows: list[LogRow] = []
         while taken := await self.lease.take(drives, [row.log for row in rows]):
             rows += taken
@@ -176,6 +172,8 @@ class PostgreSQL(queries.Questions):
         await self.asker.close()
         await self._questions.close()
         self._keys.close()
+        if self.record:
+            self.record.close()
         if self._jobs:  # who looked for a key hears that it is closed
             await asyncio.wait(list(self._jobs))
 
@@ -249,6 +247,8 @@ class PostgreSQL(queries.Questions):
             return True
         logger.warning("%s: another server has taken over. Opening its shards again", self.path)
         self._line = line
+        if self.record:
+            self.record.timeline = line
         self._writer.events.clear()  # so that what was decided before is not written
         self._keys.cut()
         self._let_go()
@@ -343,7 +343,7 @@ class PostgreSQL(queries.Questions):
     async def take_up(self, log: int, epoch: int) -> tuple[str, int] | None:
         """A log's lines and how many events they are; None where it is not this node's any more."""
         line = self._line
-        found = await self._loads.take_up(log, epoch)
+        found = await self._loads.take_up(log, epoch, line)
         if found is not None:
             self._check_line(line)
             self._writer.events[log] = found[1]

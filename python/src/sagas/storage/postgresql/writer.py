@@ -10,13 +10,13 @@ from collections.abc import Callable, Coroutine, Sequence
 from typing import Any, Optional
 
 from psycopg import errors
-
 from sagas.base.errors import StoreUnavailable
 from sagas.core.batch import Batch
 from sagas.storage.interface import Then
 from sagas.storage.postgresql import connections
 from sagas.storage.postgresql.commit_statement import Commit
 from sagas.storage.postgresql.prepared import Values, Wire
+from sagas.storage.record_file import RecordFile
 
 NONE: frozenset[int] = frozenset()
 OF_ONE = (errors.UniqueViolation, errors.NotNullViolation)
@@ -31,7 +31,7 @@ written.
 class Writer:
     """`events`: how many each log has, by what the server said. `check`: called with a new
     connection, and raises where it is not to be used; `refused`: called where there is none to
-    be had.
+    be had. `record`: what is sent and heard is written to it.
     """
 
     def __init__(
@@ -42,15 +42,11 @@ class Writer:
         check: Callable[[connections.Link], Coroutine[Any, Any, None]],
         kept: Callable[[Commit], object],
         refused: Callable[[], object],
+        record: RecordFile | None = None,
     ) -> None:
-        self._url, self._where, self._node, self._check, self._kept, self._refused = (
-            url,
-            where,
-            node,
-            check,
-            kept,
-            refused,
-        )
+        self._url, self._where, self._node = url, where, node.encode()
+        self._check, self._kept, self._refused = check, kept, refused
+        self.record = record
         self.commits = 0
         self.takes = 0.0
         """Seconds that a commit takes, in the middle of the last ones."""
@@ -137,6 +133,8 @@ class Writer:
         except Exception as error:  # told to the coordinator, which begins again from the database
             asyncio.get_running_loop().call_soon(came, NONE, error)
         else:
+            if self.record:
+                self.record.sent(commit.rows("lines"), commit.rows("born"))
             began = time.monotonic()
             wire.ask(text, words, lambda rows, fault: came(*self._read(commit, rows, fault, began)))
 
@@ -147,12 +145,26 @@ class Writer:
         if fault is not None:
             if not isinstance(fault, OF_ONE):
                 self.cut()
+            elif self.record:
+                self.record.failed()
             return NONE, fault
         mine = {int(log) for (log,) in rows if log is not None}
+        if self.record:
+            self.record.heard(commit.events, mine)
+            if commit.rare:
+                self._note_closed(self.record, commit, mine)
         self.commits += 1
-        self.events.update((log, events) for log, events in commit.events.items() if log in mine)
+        for log, events in commit.events.items():
+            if log in mine:
+                self.events[log] = events
         self._kept(commit)
-        return frozenset(commit.epochs.keys() - mine), None
+        lost = commit.epochs.keys() - mine
+        return frozenset(lost) if lost else NONE, None
+
+    def _note_closed(self, record: RecordFile, commit: Commit, mine: set[int]) -> None:
+        for log, *_ in commit.rows("closed"):
+            if log in mine:
+                record.closed((log, commit.epochs[log], record.timeline))
 
     def _came(
         self, batches: Sequence[Batch], then: Then, lost: frozenset[int], fault: Exception | None

@@ -14,7 +14,7 @@ from sagas.core.batch import Batch
 from sagas.storage.deliveries import Deliveries
 from sagas.storage.external import (
     OPEN,
-    REPORTED,
+    REPORTED_IN_PAIRS,
     TAKES,
     Beat,
     Claim,
@@ -48,10 +48,13 @@ WHERE attempt = ? AND lease = ? AND {OPEN} AND until IS NOT NULL
 LENGTHEN = "UPDATE external_attempts SET until = ?, given_back = ? WHERE attempt = ?"
 REPORT = f"""
 UPDATE external_attempts SET outcome = :outcome, value = :value, reported = :lease
-WHERE attempt = :attempt AND {TAKES.format(lease=":lease", outcome=":outcome")} RETURNING shard
+WHERE attempt = :attempt AND {TAKES.format(lease=":lease", outcome=":outcome")}
 """
+SHARD = "SELECT shard FROM external_attempts WHERE attempt = ?"
 FIND = "SELECT lease, outcome, value, reported FROM external_attempts WHERE attempt = ?"
-ALL_REPORTED = f"SELECT attempt, outcome, value, shard FROM external_attempts WHERE {REPORTED}"
+ALL_REPORTED = (
+    f"SELECT attempt, outcome, value, shard FROM external_attempts WHERE {REPORTED_IN_PAIRS}"
+)
 WAITING = f"""
 SELECT task, count(*) FILTER (WHERE until IS NULL OR until <= ?1),
   min(offered_at) FILTER (WHERE until IS NULL OR until <= ?1), count(*) FILTER (WHERE until > ?1)
@@ -145,8 +148,15 @@ class SqliteExternalAttempts:
 
     async def report(self, attempt: str, lease: int, outcome: str, value: str) -> int | None:
         words = {"attempt": attempt, "lease": lease, "outcome": outcome, "value": value}
-        rows: list[tuple[int]] = await self._within(lambda db: db.execute(REPORT, words).fetchall())
-        return rows[0][0] if rows else None
+
+        def kept(db: sqlite3.Connection) -> int | None:
+            if not db.execute(REPORT, words).rowcount:  # `RETURNING` would make a table for it
+                return None
+            ((shard,),) = db.execute(SHARD, (attempt,)).fetchall()
+            return int(shard)
+
+        found: int | None = await self._within(kept)
+        return found
 
     async def find(self, attempt: str) -> Row | None:
         rows = self._rows(FIND, attempt)

@@ -122,7 +122,7 @@ CREATE INDEX external_attempts_offered ON external_attempts(task, offered_at) WH
 CREATE INDEX external_attempts_bound ON external_attempts(task)
   WHERE outcome IS NULL AND concurrency IS NOT NULL;
 CREATE INDEX external_attempts_reported ON external_attempts(shard)
-  WHERE outcome IN ('succeeded', 'failed', 'failed_permanently', 'unknown');
+  WHERE (outcome IN ('succeeded', 'failed') OR outcome IN ('failed_permanently', 'unknown'));
 CREATE INDEX external_attempts_id ON external_attempts(id);
 
 -- What webhooks are told, written with what it tells of. state: pending, delivered or failed;

@@ -4,10 +4,13 @@ from __future__ import annotations
 
 import functools
 import sqlite3
-from collections.abc import Iterable, Sequence
+from collections.abc import Callable, Iterable, Sequence
+from typing import Any
 
-from sagas.core.batch import Defined
+from sagas.core.batch import Defined, Rare
+from sagas.definition.serialization import clean, cleaned
 from sagas.storage import external
+from sagas.storage.sqlite.deliveries import DELIVERIES
 
 LINES = "INSERT INTO event_log VALUES(?, ?, ?, ?)"
 OPENED = (
@@ -29,21 +32,13 @@ ON CONFLICT(attempt) DO UPDATE SET {external.OFFERED_AGAIN.replace("greatest", "
 CANCELLED = """
 UPDATE external_attempts SET cancelled = ? WHERE id = ? AND action = 'run' AND outcome IS NULL
 """
-OF_PARTS = (
-    (LABELS, "labels"),
-    (SHAPES, "shapes"),
-    (CHILDREN, "children"),
-    (OFFERS, "offers"),
-    (CANCELLED, "cancelled"),
-)
-"""Statements of which each row of a part of a batch has just the words."""
 FREED = "DELETE FROM suspensions WHERE id = ? AND step = ? AND action = ? AND number <= ?"
 SPANS = "INSERT OR IGNORE INTO attempt_spans VALUES(?, ?, ?, ?, ?, ?)"
 PROGRESS = "INSERT OR REPLACE INTO progress VALUES(?, ?, ?, ?, ?, ?, ?)"
 SUSPENDED = """
 UPDATE external_attempts SET outcome = ?2, until = NULL
 WHERE attempt = ?1 AND (outcome IS NULL
-  OR outcome IN ('unknown', 'suspended', 'failed', 'failed_permanently'))
+  OR outcome IN ('unknown', 'suspended') OR outcome IN ('failed', 'failed_permanently'))
 """
 SETTLED = """
 UPDATE external_attempts SET outcome = 'settled', value = NULL,
@@ -51,6 +46,35 @@ shard = CASE WHEN outcome IS NOT 'succeeded' OR ?2 = 'succeeded' THEN shard END 
 """
 """A worker's *done* gives way to nothing else: its shard would be null, which is refused."""
 DONE = "SELECT 1 FROM external_attempts WHERE attempt = ? AND outcome = 'succeeded'"
+
+HELD = "INSERT OR REPLACE INTO suspensions VALUES(?, ?, ?, ?, ?, ?, ?, ?, ?)"
+ANSWERS = "UPDATE operator_commands SET answer = ? WHERE id = ?"
+ASKED = "INSERT INTO operator_commands(key, command, value, at, answer) VALUES(?, ?, ?, ?, ?)"
+NOTES = "UPDATE sagas SET note = ? WHERE id = ? AND note IS NULL"
+CLOSED = "UPDATE shards SET closed = ?, audit = ? WHERE shard = ?"
+RowsOf = Callable[[int, Rare], Sequence[Sequence[Any]]]
+"""The words of a part of a batch, by the number of its log."""
+PARTS: dict[str, tuple[str, RowsOf]] = {
+    "held": (HELD, lambda log, of: [cleaned(row) for row in of.held]),
+    "freed": (FREED, lambda log, of: of.freed),
+    "progress": (PROGRESS, lambda log, of: of.progress),
+    "work": ("", lambda log, of: ()),
+    "labels": (LABELS, lambda log, of: of.labels),
+    "shapes": (SHAPES, lambda log, of: of.shapes),
+    "children": (CHILDREN, lambda log, of: of.children),
+    "offers": (OFFERS, lambda log, of: of.offers),
+    "cancelled": (CANCELLED, lambda log, of: of.cancelled),
+    "suspended": (SUSPENDED, lambda log, of: [(at, came) for at, _, came in of.suspended]),
+    "settled": (SETTLED, lambda log, of: [(at, came) for at, _, came in of.settled]),
+    "deliveries": (DELIVERIES, lambda log, of: [cleaned(row) for row in of.deliveries]),
+    "spans": (SPANS, lambda log, of: [cleaned(row) for row in of.spans]),
+    "answers": (ANSWERS, lambda log, of: of.answers),
+    "asked": (ASKED, lambda log, of: [(*row, answer) for row, answer in of.asked]),
+    "notes": (NOTES, lambda log, of: [(clean(note), id) for note, id in of.notes]),
+    "closed": (CLOSED, lambda log, of: [(*of.closed, log)] if of.closed else ()),
+}
+"""The statement of each part of a batch, in their order. `work` is done by itself; definitions are
+written before all (`define`)."""
 
 
 def define(db: sqlite3.Connection, logs: Iterable[tuple[int, Sequence[Defined]]]) -> None:

@@ -23,6 +23,7 @@ from sagas.definition.step import Bounds
 from sagas.storage import queries
 from sagas.storage.external import ExternalAttempts
 from sagas.storage.interface import Drives, Watcher
+from sagas.storage.record_file import RecordFile
 from sagas.storage.sqlite import limit_slots
 from sagas.storage.sqlite.external_attempts import SqliteExternalAttempts
 from sagas.storage.sqlite.schema import VERSION
@@ -71,6 +72,7 @@ class Sqlite(queries.Questions, queries.Rows):
     sought = 0
     inside = None
     blobs = None
+    record: RecordFile | None = None
 
     def __init__(self, path: str | os.PathLike[str]) -> None:
         self.path = os.fspath(path)

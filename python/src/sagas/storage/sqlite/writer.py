@@ -20,10 +20,8 @@ from collections.abc import Iterable, Sequence
 from typing import Any
 
 from sagas.core.batch import Batch, Ended, Rare
-from sagas.definition.serialization import clean, cleaned
 from sagas.storage.interface import Then
 from sagas.storage.sqlite import statements
-from sagas.storage.sqlite.deliveries import DELIVERIES
 
 BUSY = 5000  # ms: an operator's command may be writing
 CHECKPOINT = 750
@@ -235,7 +233,7 @@ class Writer:
     def _is_refused(self, batch: Batch) -> bool:
         """Whether a saga has a key that it guessed to be free, or a worker has reported *done* of
         an attempt that came to something else."""
-        settled = batch.rare.settled if batch.rare else []
+        settled = batch.rare.settled if batch.rare else ()
         tokens = [token for token, _, came in settled if came is None]
         is_done = (self._db.execute(statements.DONE, (token,)).fetchone() for token in tokens)
         return any(map(self._has, batch.guessed)) or any(is_done)
@@ -336,41 +334,16 @@ class Writer:
 
     def _put_rare(self, rare: Sequence[tuple[int, Rare]]) -> None:
         """Of the logs with these numbers."""
-        self._many(
-            "INSERT OR REPLACE INTO suspensions VALUES(?, ?, ?, ?, ?, ?, ?, ?, ?)",
-            ([cleaned(row) for row in of.held] for _, of in rare),
-        )
-        self._many(statements.FREED, (of.freed for _, of in rare))
-        statements.define(self._db, ((log, of.defined) for log, of in rare))
-        self._many(statements.PROGRESS, (of.progress for _, of in rare))
-        for _, of in rare:
-            for work in of.work:
-                work(self._db)
-        for statement, part in statements.OF_PARTS:
-            self._many(statement, (getattr(of, part) for _, of in rare))
-        self._many(
-            statements.SUSPENDED, ([(at, came) for at, _, came in of.suspended] for _, of in rare)
-        )
-        self._many(
-            statements.SETTLED, ([(at, came) for at, _, came in of.settled] for _, of in rare)
-        )
-        self._many(DELIVERIES, ([cleaned(row) for row in of.deliveries] for _, of in rare))
-        self._many(statements.SPANS, ([cleaned(row) for row in of.spans] for _, of in rare))
-        self._many(
-            "UPDATE operator_commands SET answer = ? WHERE id = ?", (of.answers for _, of in rare)
-        )
-        self._many(
-            "INSERT INTO operator_commands(key, command, value, at, answer) VALUES(?, ?, ?, ?, ?)",
-            ([(*row, answer) for row, answer in of.asked] for _, of in rare),
-        )
-        self._many(
-            "UPDATE sagas SET note = ? WHERE id = ? AND note IS NULL",
-            ([(clean(note), id) for note, id in of.notes] for _, of in rare),
-        )
-        self._many(
-            "UPDATE shards SET closed = ?, audit = ? WHERE shard = ?",
-            ([(*of.closed, log)] for log, of in rare if of.closed),
-        )
+        has = {part for _, of in rare for part in of.parts}
+        if "defined" in has:
+            statements.define(self._db, ((log, of.defined) for log, of in rare))
+        for part, (statement, rows_of) in statements.PARTS.items():
+            if part == "work" and part in has:
+                for _, of in rare:
+                    for work in of.work:
+                        work(self._db)
+            elif part in has:
+                self._many(statement, [rows_of(log, of) for log, of in rare])
 
     def _many(self, statement: str, lists: Iterable[Sequence[Sequence[Any]]]) -> None:
         rows = [row for rows in lists for row in rows]

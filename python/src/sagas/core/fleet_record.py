@@ -1,0 +1,318 @@
+"""Merges what a database has of a shard with the records of programs into one record.
+
+`sagas audit --fleet` judges that record. `core.record_lines` has the lines of programs. The order
+of the lines of a program is the order in which things happened in it. Between programs there is no
+clock: what a program heard is placed as early as what the database has allows, and the more is
+allowed then.
+"""
+
+from __future__ import annotations
+
+import bisect
+import dataclasses
+from collections import deque
+from collections.abc import Iterable, Mapping, Sequence
+from typing import NamedTuple
+
+from sagas.core.record_lines import Line, Note
+
+NOBODY = 999_999_999
+"""A session that never began, and more chunks than any shard has."""
+NONE = -1
+"""`last` of a takeover before which there was no chunk."""
+
+
+class Chunk(NamedTuple):
+    """What one commit wrote to a shard: under which epoch as it claims, behind how many events,
+    up to how many, and the digest of the event log up to there.
+    """
+
+    epoch: int
+    first: int
+    end: int
+    digest: int
+
+
+class Takeover(NamedTuple):
+    """A new epoch of a shard, as the database has it. `last`: `first` of the last chunk before,
+    `NONE` if there was none; None if nobody looked.
+    """
+
+    epoch: int
+    run: str
+    last: int | None
+    timeline: str
+
+
+@dataclasses.dataclass
+class _Session:
+    """What a node believes of a shard from one takeover on, as far as it is placed: `known` and
+    `asked` count chunks, `digest` is the one of what it sent last.
+    """
+
+    number: int
+    asked: int
+    notes: deque[Note]
+    known: int = 0
+    stage: str = "done"
+    digest: int = 0
+
+
+class Telling(NamedTuple):
+    """Something that was acknowledged: how, and on how many chunks it rests."""
+
+    edge: str
+    chunks: int
+
+
+class Loss(NamedTuple):
+    """What a server lacked that took over: how many chunks it had, and what was acknowledged that
+    rests on more.
+    """
+
+    had: int
+    told: list[Telling]
+
+
+class ShardRecord:
+    """The record of one shard, as far as it is made.
+
+    Attributes:
+        losses: What servers lacked that took over.
+    """
+
+    def __init__(self, notes: Mapping[Line, Sequence[Note]], is_synchronous: bool) -> None:
+        self._left = {line: deque(of) for line, of in notes.items()}
+        self._synchronous, self._safe = is_synchronous, 0
+        self._lines = [f"fleet 1 {'sync' if is_synchronous else 'async'}"]
+        self._ends, self._digests = [0], [0]
+        self._sessions: list[_Session] = []
+        self._of: dict[tuple[int, str], _Session] = {}  # by epoch and timeline
+        self._epoch = 0
+        self._tellings: list[Telling] = []
+        self.losses: list[Loss] = []
+
+    def text(self) -> str:
+        """The record, as `sagas audit --fleet` reads it."""
+        return "".join(f"{line}\n" for line in self._lines)
+
+    @property
+    def events(self) -> int:
+        """How many events it has."""
+        return len(self._lines) - 1
+
+    def make(
+        self, takeovers: Sequence[Takeover], chunks: Sequence[Chunk], timeline: str,
+        ends: Iterable[tuple[str, int]] = (),
+    ) -> None:  # fmt: skip
+        """Make it.
+
+        Args:
+            takeovers: Those that the database has, in order.
+            chunks: Those that it has, in order.
+            timeline: The one that it is on now.
+            ends: The edges at which others were told that sagas have ended, each with how many
+                events the end rests on.
+        """
+        left, places = deque(chunks), deque(self._looked(takeovers, chunks))
+        times = {timeline, *(one.timeline for one in takeovers)}
+        times |= {line.timeline for line in self._left}
+        for time in sorted(time for time in times if time <= timeline):
+            while places and places[0].timeline == time:
+                one = places.popleft()
+                self._write_before(one, left, time)
+                self._begin(one.epoch, time, self._left.pop(Line(one.run, one.epoch, time), None))
+            if self._sessions:  # what is there was written before another server took over
+                self._write_before(places[0] if places else None, left, time)
+            if time != timeline and self._is_known(time):
+                self._move(time)
+        self._end(ends)
+
+    def _looked(self, takeovers: Sequence[Takeover], chunks: Sequence[Chunk]) -> list[Takeover]:
+        """The takeovers, and of each what was before it. Of one that did not look it is what its
+        node read; if that is not recorded, all that is older by its epoch, and before the next one.
+        """
+        found, bound = list[Takeover](), NOBODY
+        for one in reversed(takeovers):
+            last = one.last
+            if last is None:
+                notes = self._left.get(Line(one.run, one.epoch, one.timeline), ())
+                read = next((note.number for note in notes if note.what == "took"), None)
+                last = NONE
+                for chunk in chunks:
+                    is_before = chunk.epoch < one.epoch if read is None else chunk.end <= read
+                    if not is_before or chunk.first > bound:
+                        break
+                    last = chunk.first
+            bound = last
+            found.append(one._replace(last=last))
+        return found[::-1]
+
+    def _write_before(self, one: Takeover | None, left: deque[Chunk], timeline: str) -> None:
+        """Place the chunks that the database has before a takeover; all, if there is none."""
+        last = NOBODY if one is None or one.last is None else one.last
+        while left and left[0].first <= last:
+            self._wrote(left.popleft(), timeline)
+
+    def _is_known(self, timeline: str) -> bool:
+        """Whether anything is known of a server's time."""
+        return bool(self._sessions) or any(line.timeline == timeline for line in self._left)
+
+    def _end(self, ends: Iterable[tuple[str, int]]) -> None:
+        for session in self._sessions:
+            self._drain(session, forced=True)
+        for line, notes in self._left.items():
+            self._unknown(line, notes)
+        for edge, events in ends:
+            self._seen(Telling(edge, self._chunks(events)))
+
+    # -- what the database has
+
+    def _begin(self, epoch: int, timeline: str, notes: deque[Note] | None) -> _Session:
+        """A session begins, which reads all chunks that are there: what it read by its record,
+        where it has one.
+        """
+        read, digest = len(self._ends) - 1, self._digests[-1]
+        if first := next((one for one in notes or () if one.what == "took"), None):
+            read, digest = self._chunks(first.number), first.digest
+        session = _Session(len(self._sessions), read, notes or deque())
+        self._sessions.append(session)
+        self._of[epoch, timeline] = session
+        self._lines.append(f"took {epoch} {read} {digest}")
+        self._epoch = epoch
+        self._drain(session)
+        return session
+
+    def _wrote(self, chunk: Chunk, timeline: str) -> None:
+        session = self._of.get((chunk.epoch, timeline))
+        if session is None:
+            self._lines.append(f"wrote {NOBODY} {len(self._ends) - 1} {chunk.digest}")
+            self._add(chunk.end, chunk.digest)
+            return
+        self._drain(session)
+        if session.stage != "sent" and not any(note.what == "sent" for note in session.notes):
+            if session.stage == "done" and not session.notes:  # it wrote on, so it had heard
+                self._heard(session)
+            self._sent(session, chunk.digest)
+        self._write(session, chunk.end, chunk.digest)
+        self._drain(session)
+
+    def _write(self, session: _Session, end: int, digest: int) -> None:
+        self._lines.append(f"wrote {session.number} {len(self._ends) - 1} {digest}")
+        session.stage = "done"
+        self._add(end, digest)
+
+    def _add(self, end: int, digest: int) -> None:
+        self._ends.append(end)
+        self._digests.append(digest)
+
+    # -- what programs noted
+
+    def _drain(self, session: _Session, forced: bool = False) -> None:
+        """Place what a session noted, as far as what the database has allows; all of it where
+        that is `forced`.
+        """
+        notes = session.notes
+        while notes:
+            note = notes[0]
+            if note.what in ("took", "heard"):
+                if not forced and not self._is_answered(session, note):
+                    return
+                self._heard(session)
+            elif note.what == "sent":
+                self._sent(session, note.digest)
+            elif note.what == "stale":
+                self._lines.append(f"stale {session.number}")
+                session.stage = "refused"
+            elif note.what == "told":
+                self._tell(session, Telling(note.edge, self._chunks(note.number)))
+            notes.popleft()
+
+    def _is_answered(self, session: _Session, note: Note) -> bool:
+        """Whether the database has done what a session heard of as done."""
+        if session.stage != "done":
+            return False
+        return note.what == "took" or self._chunks(note.number) == session.known + session.asked
+
+    def _sent(self, session: _Session, digest: int) -> None:
+        self._lines.append(f"sent {session.number} {digest}")
+        session.asked, session.stage, session.digest = 1, "sent", digest
+
+    def _heard(self, session: _Session) -> None:
+        known = session.known + session.asked
+        if self._synchronous and known > self._safe:  # as is claimed, since it was answered
+            self._safe = known
+            self._lines.append(f"safe {known}")
+        self._lines.append(f"heard {session.number}")
+        session.known, session.asked, session.stage = known, 0, "idle"
+
+    def _tell(self, session: _Session | None, telling: Telling) -> None:
+        self._lines.append(f"told {session.number if session else NOBODY} {telling.chunks}")
+        self._tellings.append(telling)
+
+    def _unknown(self, line: Line, notes: Iterable[Note]) -> None:
+        """A session that the database does not have: nobody may have heard of it as begun, or
+        been told what rests on it.
+        """
+        if _is_heard(line, notes):
+            self._lines.append(f"heard {NOBODY}")
+        for note in notes:
+            if note.what == "told":
+                self._tell(None, Telling(note.edge, self._chunks(note.number)))
+
+    def _chunks(self, events: int) -> int:
+        """How many chunks hold so many events; one more than there are where they do not."""
+        return bisect.bisect_left(self._ends, events)
+
+    def _seen(self, telling: Telling) -> None:
+        """An end that was told to others: it is known to the first session that has it; or to the
+        one that wrote it, since the database has shown it as done.
+        """
+        known = (one for one in self._sessions if one.known >= telling.chunks)
+        session = next(known, None)
+        if session is None:
+            last = [one for one in self._sessions if one.stage == "done"]
+            session = last[-1] if last else None
+            if session:
+                self._heard(session)
+        self._tell(session, telling)
+
+    # -- another server
+
+    def _move(self, timeline: str) -> None:
+        """Another server takes over, which has what is placed so far. What programs heard of the
+        one before beyond that stands before it.
+        """
+        had, epoch = len(self._ends) - 1, self._epoch
+        for session in self._sessions:
+            self._lose(session)
+        lines = [line for line in self._left if line.timeline == timeline]
+        for line in sorted(lines, key=lambda line: line.epoch):
+            notes = self._left.pop(line)
+            if line.epoch <= self._epoch or not _is_heard(line, notes):
+                self._unknown(line, notes)
+                continue
+            for between in range(self._epoch + 1, line.epoch):  # nobody noted them
+                self._begin(between, timeline, None)
+            self._lose(self._begin(line.epoch, timeline, notes))
+        self._lines.append(f"moved {had} {epoch}")
+        if lost := [one for one in self._tellings if one.chunks > had]:
+            self.losses.append(Loss(had, lost))
+        self._tellings = []
+        self._epoch = epoch
+        del self._ends[had + 1 :], self._digests[had + 1 :]
+
+    def _lose(self, session: _Session) -> None:
+        """Place what a session heard of as done, and what the database does not have any more."""
+        self._drain(session)
+        while session.notes:
+            if session.notes[0].what == "heard" and session.stage == "sent":
+                self._write(session, session.notes[0].number, session.digest)
+                self._drain(session)
+            else:
+                self._drain(session, forced=True)
+
+
+def _is_heard(line: Line, notes: Iterable[Note]) -> bool:
+    """Whether a program knows that its takeover was done: of a birth, only by a commit of it."""
+    return any(note.what == ("heard" if line.epoch == 1 else "took") for note in notes)

@@ -1,0 +1,116 @@
+"""The lines of the records of programs.
+
+A record of a program has a line for each event, whose
+fields are separated by single spaces:
+
+    sagas-record 1 RUN                                 a program begins; RUN is a word of its own
+    took RUN SHARD EPOCH TIMELINE EVENTS DIGEST        it has taken a shard up, and read so much
+    sent RUN SHARD EPOCH TIMELINE FIRST DIGEST         it sends a commit, behind FIRST events
+    heard RUN SHARD EPOCH TIMELINE EVENTS              the server answered: there are EVENTS now
+    stale RUN SHARD EPOCH TIMELINE                     it answered that the shard is another's
+    failed RUN SHARD EPOCH TIMELINE                    it answered that it wrote nothing
+    closed RUN SHARD EPOCH TIMELINE                    the shard is closed: it may be deleted
+    told RUN SHARD EPOCH TIMELINE EVENTS EDGE          something is told that rests on EVENTS
+    seen RUN SAGA EDGE                                 it is told that a saga has ended
+
+EDGE is `call`, `wake`, `reply`, `read`, `client` or `webhook`. A digest is the one of the whole
+event log up to there.
+"""
+
+from __future__ import annotations
+
+import dataclasses
+from collections.abc import Iterable
+from typing import NamedTuple
+
+FIELDS = {
+    "took": 7, "sent": 7, "heard": 6, "stale": 5, "failed": 5, "closed": 5, "told": 7, "seen": 4
+}  # fmt: skip
+"""How many words a line has."""
+SEEN = "seen"
+
+
+class BadLine(Exception):
+    """A line of a record is none."""
+
+
+class Note(NamedTuple):
+    """An event of a program's record about one shard, with its number, and its digest or edge."""
+
+    what: str
+    number: int = 0
+    digest: int = 0
+    edge: str = ""
+
+
+class Line(NamedTuple):
+    """What names a session: the program, the epoch and the timeline."""
+
+    run: str
+    epoch: int
+    timeline: str
+
+
+@dataclasses.dataclass
+class Records:
+    """The records of programs: the notes of each session, by shard, and the ends that were told
+    to others, by saga, each with how.
+    """
+
+    notes: dict[int, dict[Line, list[Note]]] = dataclasses.field(default_factory=dict)
+    seen: dict[int, set[str]] = dataclasses.field(default_factory=dict)
+
+    def add(self, line: str) -> None:
+        """Add a line.
+
+        Raises:
+            BadLine: It is none.
+        """
+        what, *words = line.split(" ")
+        if what == "sagas-record":
+            if words[:1] != ["1"]:
+                raise BadLine("its format is not 1")
+            return
+        if FIELDS.get(what) != 1 + len(words):
+            raise BadLine("it is no event")
+        if what == SEEN:
+            self.seen.setdefault(_number(words[1]), set()).add(words[2])
+            return
+        run, shard, epoch, timeline, *rest = words
+        at = Line(run, _number(epoch), timeline)
+        if what == "told":
+            note = Note(what, _number(rest[0]), edge=rest[1])
+        else:
+            numbers = [*map(_number, rest), 0, 0]
+            note = Note(what, numbers[0], numbers[1])
+        self._put(_number(shard), at, note)
+
+    def shards(self) -> Iterable[int]:
+        """Those of which something was recorded."""
+        return self.notes.keys()
+
+    def is_closed(self, shard: int) -> bool:
+        """Whether a shard was closed."""
+        notes = self.notes.get(shard, {}).values()
+        return any(note.what == "closed" for of in notes for note in of)
+
+    def ends(self, first: int, end: int) -> list[tuple[int, str]]:
+        """The sagas from a number on and before another whose ends were told, each with how."""
+        found = ((id, edge) for id, edges in self.seen.items() for edge in sorted(edges))
+        return sorted((id, edge) for id, edge in found if first <= id < end)
+
+    def _put(self, shard: int, at: Line, note: Note) -> None:
+        notes = self.notes.setdefault(shard, {}).setdefault(at, [])
+        if note.what != "failed":
+            notes.append(note)
+            return
+        # what was sent was not written, as the server says; meanwhile something may be told
+        last = next((at for at in reversed(range(len(notes))) if notes[at].what != "told"), None)
+        if last is not None and notes[last].what == "sent":
+            del notes[last]
+
+
+def _number(word: str) -> int:
+    if not (word.isascii() and word.isdigit()):
+        raise BadLine(f"{word[:20]!r} is not a number")
+    return int(word)

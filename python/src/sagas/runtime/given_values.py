@@ -1,0 +1,37 @@
+"""What an included saga is given by the one that includes it, for workers elsewhere."""
+
+from __future__ import annotations
+
+from typing import Any
+
+from sagas.base.errors import Fail
+from sagas.core import outcomes
+from sagas.core.outcomes import Outcome
+from sagas.definition import serialization
+from sagas.definition.task import Task
+
+
+class DeclarationMissing(LookupError):
+    """This program does not have the function that `given=` names."""
+
+
+def text_of(task: Task[Any]) -> str:
+    """Return `task.given` as JSON. It is computed at each claim.
+
+    Raises:
+        DeclarationMissing: The program does not have this version of the saga.
+        Exception: Whatever the function raises.
+    """
+    if task.lacks_given:
+        raise DeclarationMissing(
+            f"step {task.step!r} of saga {task.saga!r} cannot be handed out here, because this "
+            "program does not have the version that the saga was started with. Claim it at a node "
+            "that has it"
+        )
+    return serialization.write(task.given, "what given= returned")
+
+
+def failure(error: Exception) -> Outcome:
+    """Return what the attempt comes to: the worker was not asked."""
+    said = f"given= raised {outcomes.described(error)}"
+    return outcomes.failure(said, final=isinstance(error, Fail))

@@ -1,0 +1,85 @@
+"""The steps of a definition as they are declared, also where they come from the input."""
+
+from __future__ import annotations
+
+import dataclasses
+from collections.abc import Iterator
+from typing import Any, Union
+
+from sagas.definition.layout import Scope, Spot
+from sagas.definition.parts import Inclusion
+from sagas.definition.saga import Saga
+from sagas.definition.shape_validation import need_name
+from sagas.definition.step import NEVER, Step
+
+COSTS = ("run", "undo", "skip", "keep")
+COMPUTED = "input"
+"""In place of a cost that comes from the input."""
+Told = Union[int, str, None]
+
+
+@dataclasses.dataclass(frozen=True, slots=True)
+class DeclaredStep:
+    """A step, or one of an included saga.
+
+    Attributes:
+        spot: Where it is.
+        step: The step.
+        needs: The declared names of the steps that it needs, also outside of its own saga.
+        for_each: Whether it is there once for each item, by itself or in an included saga.
+        conditional: Whether it, or the saga that has it, is there only for some inputs.
+    """
+
+    spot: Spot
+    step: Step[Any]
+    needs: list[str]
+    for_each: bool
+    conditional: bool
+
+    @property
+    def name(self) -> str:
+        """The declared name: `hotel/room`."""
+        return self.spot.declared
+
+    @property
+    def costs(self) -> dict[str, Told]:
+        """Its costs: a number, None (never), or `COMPUTED`."""
+        return {word: _cost(self.step, word) for word in COSTS}
+
+    @property
+    def note(self) -> str:
+        """What decides whether it is there, in words."""
+        return ", ".join(["for each item"] * self.for_each + ["for some inputs"] * self.conditional)
+
+
+def _cost(step: Step[Any], word: str) -> Told:
+    if callable(step.declared_cost(word)):
+        return COMPUTED
+    cost = step.cost(word)
+    return None if cost is NEVER else cost
+
+
+def of(saga: Saga) -> list[DeclaredStep]:
+    """The steps of a saga, and of those that it includes, in their order."""
+    return [*_within(saga, (), [], False, False)]
+
+
+def _within(
+    saga: Saga, scope: Scope, outer: list[str], for_each: bool, conditional: bool
+) -> Iterator[DeclaredStep]:
+    """Those in a scope. `outer`: what the first ones need outside."""
+    ends: dict[str, list[str]] = {}
+    for part in saga.parts:
+        needs = [end for need in part._needs for end in ends[need_name(need)]] or outer
+        is_each = for_each or part.for_each is not None
+        is_some = conditional or part.when is not None
+        if isinstance(part, Inclusion):
+            below = (*scope, (part.name, None))
+            inner = [*_within(part.inner, below, needs, is_each, is_some)]
+            needed = {need for one in inner for need in one.needs}
+            ends[part.name] = [one.name for one in inner if one.name not in needed]
+            yield from inner
+        else:
+            one = DeclaredStep(Spot(scope, part.name), part, needs, is_each, is_some)
+            ends[part.name] = [one.name]
+            yield one

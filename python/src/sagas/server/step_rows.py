@@ -1,0 +1,179 @@
+"""The table of a saga's steps: a row for each, and for each group."""
+
+from __future__ import annotations
+
+import dataclasses
+from collections import Counter
+from collections.abc import Mapping, Sequence
+from typing import Union
+
+from sagas.definition.groups import Block, Group
+from sagas.engine.plan import Choice
+from sagas.inspection import wording
+from sagas.inspection.group_boxes import Told, counted, urgency
+from sagas.inspection.views import StepView
+from sagas.server.table_rows import FEW, Rows, folded
+from sagas.server.unfolding import Unfolding
+
+
+@dataclasses.dataclass(frozen=True, slots=True)
+class StepRow:
+    """A row: of a step, or of a group.
+
+    Attributes:
+        title: The step's name; of a group its name and how many it has.
+        told: The state.
+        needs: The names of the steps and groups that it needs.
+        attempts: How often the action began.
+        step: The step; None of a group.
+        item: Of which item it is, in words.
+        href: Where a click on a group leads.
+        is_open: Whether the group is unfolded.
+        note: What is said of a group: its first error.
+        decision: What the plan decided of a group.
+        depth: In how many unfolded groups it is.
+    """
+
+    title: str
+    told: Told
+    needs: list[str]
+    attempts: int
+    step: StepView | None = None
+    item: str | None = None
+    href: str | None = None
+    is_open: bool = False
+    note: str = ""
+    decision: str = ""
+    depth: int = 0
+
+
+@dataclasses.dataclass(slots=True)
+class Node:
+    """An unfolded group with what is in it."""
+
+    group: Group
+    parts: list[Part] = dataclasses.field(default_factory=list)
+
+
+Part = Union[Block, Node]
+
+
+class StepTable:
+    """The rows of a saga's steps.
+
+    Attributes:
+        blocks: What is shown as one.
+    """
+
+    def __init__(
+        self, unfolding: Unfolding, steps: Sequence[StepView], tolds: Sequence[Told],
+        choices: Mapping[str, Choice], items: Mapping[str, str],
+    ) -> None:  # fmt: skip
+        self._unfolding, self._steps, self._tolds = unfolding, steps, tolds
+        self._choices, self._items = choices, items
+        self.blocks = unfolding.groups.blocks(len(steps), unfolding.names)
+        self._name_of = {
+            steps[step].name: block.group.name if block.group else steps[step].name
+            for block in self.blocks
+            for step in block.steps
+        }
+
+    def titles(self) -> dict[str, str]:
+        """By the names of the steps that are folded, the titles of their groups."""
+        return {
+            self._steps[step].name: block.group.title
+            for block in self.blocks
+            if block.group
+            for step in block.steps
+        }
+
+    def rows(self) -> Rows:
+        """The rows. Of many the urgent ones come first, and the others are folded."""
+        top = self._tree()
+        few = folded(top, lambda part: (self._urgency(part),))
+        shown, more = list[StepRow](), list[StepRow]()
+        for part in few.shown:
+            self._add(part, 0, shown, more)
+        for part in few.more:
+            self._add(part, 0, more, more)
+        return Rows(shown, more)
+
+    def _tree(self) -> list[Part]:
+        top, nodes = list[Part](), dict[str, Node]()
+        for block in self.blocks:
+            parts, some = top, self._unfolding.groups.of(block.steps[0])
+            for group in some[: some.index(block.group)] if block.group else some:
+                if group.name not in nodes:
+                    nodes[group.name] = Node(group)
+                    parts.append(nodes[group.name])
+                parts = nodes[group.name].parts
+            parts.append(block)
+        return top
+
+    def _urgency(self, part: Part) -> int:
+        """Of a group it is that of its most urgent step; an unfolded one stays in sight."""
+        if isinstance(part, Node):
+            return 0
+        return min(urgency(self._tolds[step]) for step in part.steps)
+
+    def _add(self, part: Part, depth: int, shown: list[StepRow], more: list[StepRow]) -> None:
+        """Adds the rows of a part; items behind the first ones are among the others."""
+        if isinstance(part, Block):
+            of = part.group
+            shown.append(self._group(of, depth) if of else self._step(part.steps[0], depth))
+            return
+        shown.append(self._group(part.group, depth))
+        items = [one for one in part.parts if isinstance(one, Block) and one.item_of]
+        for place, one in enumerate(sorted(items, key=self._urgency)):
+            self._add(one, depth + 1, shown if place < FEW else more, more)
+        for other in part.parts:
+            if not (isinstance(other, Block) and other.item_of):
+                self._add(other, depth + 1, shown, more)
+
+    def _needs(self, steps: Sequence[int]) -> list[str]:
+        own = {self._name_of[self._steps[step].name] for step in steps}
+        needed = (self._name_of[need] for step in steps for need in self._steps[step].needs)
+        return [name for name in dict.fromkeys(needed) if len(steps) == 1 or name not in own]
+
+    def _step(self, number: int, depth: int) -> StepRow:
+        step = self._steps[number]
+        return StepRow(
+            step.name, self._tolds[number], self._needs([number]), step.attempts, step,
+            self._items.get(step.name), depth=depth,
+        )  # fmt: skip
+
+    def _group(self, group: Group, depth: int) -> StepRow:
+        steps = [self._steps[step] for step in group.steps]
+        return StepRow(
+            group.title, counted([self._tolds[step] for step in group.steps]),
+            self._needs(group.steps), sum(step.attempts for step in steps),
+            href=self._unfolding.link(group), is_open=group.name in self._unfolding.names,
+            note=errors(steps), decision=self._decisions(steps), depth=depth,
+        )  # fmt: skip
+
+    def _decisions(self, steps: list[StepView]) -> str:
+        """What the plan decided of a group's steps, and what that costs."""
+        some = [self._choices[step.name] for step in steps if step.name in self._choices]
+        counts = Counter(wording.DECISIONS[choice.decision] for choice in some)
+        cost = sum(
+            (choice.cost_to_keep if choice.kept else choice.cost_to_drop) or 0 for choice in some
+        )
+        told = ", ".join(f"{word} {count:,}" for word, count in counts.items())
+        return f"{told}: costs {cost:,}" if cost else told
+
+
+def errors(steps: Sequence[StepView]) -> str:
+    """The first error of a group's steps, and how many more there are."""
+    found = [f"{step.name}: {step.raised or step.said}" for step in steps if _is_bad(step)]
+    if not found:
+        return ""
+    more = f" and {len(found) - 1:,} more" if len(found) > 1 else ""
+    return wording.short(found[0]) + more
+
+
+def _is_bad(step: StepView) -> bool:
+    return step.state in ("failed", "undo_failed")
+
+
+Titles = Mapping[str, str]
+"""By the names of the steps that are folded, the titles of their groups."""

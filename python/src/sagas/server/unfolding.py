@@ -1,0 +1,62 @@
+"""Which groups of steps a page shows in parts, as its address says, and the links to others."""
+
+from __future__ import annotations
+
+from collections.abc import Iterable
+from urllib.parse import urlencode
+
+from sagas.definition.groups import ALL, Group, Groups
+from sagas.server.shapes import Field, Text
+
+FIELD = Field(
+    Text(most=8192),
+    "the groups whose parts are drawn, by declared names with commas between them; * is each",
+    default=None,
+)
+PLACE = "steps"
+"""The part of a page at which a link leads."""
+
+
+def names_in(text: str | None) -> frozenset[str]:
+    """The declared names in a text with commas between them."""
+    return frozenset(part for part in (text or "").split(",") if part)
+
+
+class Unfolding:
+    """The unfolded groups of a page.
+
+    Attributes:
+        groups: All groups.
+        names: The names of those that are unfolded.
+    """
+
+    def __init__(self, groups: Groups, asked: str | None, base: str) -> None:
+        self.groups, self._base = groups, base
+        names = names_in(asked)
+        self.names = frozenset(groups.found) if ALL in names else groups.known(names)
+
+    def link(self, group: Group) -> str:
+        """The page with a group unfolded, or folded with all that is in it."""
+        if group.name in self.names:
+            inner = f"{group.name}/"
+            return self._address(
+                name for name in self.names if name != group.name and not name.startswith(inner)
+            )
+        return self._address({*self.names, group.name})
+
+    @property
+    def all(self) -> str | None:
+        """The page with all groups unfolded; None if they are, or there are none."""
+        if self.names == frozenset(self.groups.found):
+            return None
+        return f"{self._base}?{urlencode({'unfold': ALL}, safe=ALL)}#{PLACE}"
+
+    @property
+    def none(self) -> str | None:
+        """The page with all groups folded; None if they are."""
+        return f"{self._base}#{PLACE}" if self.names else None
+
+    def _address(self, names: Iterable[str]) -> str:
+        some = ",".join(sorted(names))
+        query = f"?{urlencode({'unfold': some}, safe=',/')}" if some else ""
+        return f"{self._base}{query}#{PLACE}"
