@@ -32,6 +32,10 @@ import time
 from collections import Counter
 from dataclasses import dataclass, field
 
+if __name__ == "__main__":
+    sys.path.insert(0, str(pathlib.Path(__file__).resolve().parent.parent / "src"))
+
+import fleet
 from brokers import BROKERS, Broker, Program, broker_at
 from driving import program
 from judge import judge
@@ -80,7 +84,7 @@ class Strikes:
         self.store = self.server.create() if self.server else str(self.folder / "store.db")
         told = {"STORE": self.store, "SOCKET": self.folder / "socket", "BROKER": self.broker.url, "QUEUE": self.queue}
         self.environment = os.environ | {f"SAGAS_TEST_{word}": str(value) for word, value in told.items()}
-        self.environment |= {"PYTHONPATH": path, "SAGAS_PROGRAM": program(), "PYTHONUNBUFFERED": "1"} | ({} if self.wrong is None else {"SAGAS_TEST_PLAIN": "1"})
+        self.environment |= {"PYTHONPATH": path, "SAGAS_PROGRAM": program(), "PYTHONUNBUFFERED": "1", "SAGAS_RECORD": str(self.folder / "record")} | ({} if self.wrong is None else {"SAGAS_TEST_PLAIN": "1"})
 
     @property
     def is_late(self) -> bool:
@@ -220,6 +224,8 @@ def play(kind: str, seed: int, broker: Broker, sagas: int, *, server: Server | N
     with witness_at(folder / "socket", folder / "notes"):
         trouble = strikes.until_over()
     verdict = judge(strikes.store, folder / "notes", sagas)
+    if server:
+        verdict.faults += fleet.judged(strikes.store, [folder / "record"])[1]
     if trouble:
         verdict.fault("not-over", trouble)
     if "Traceback" in (folder / "owner.log").read_text(errors="replace"):

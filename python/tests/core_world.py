@@ -319,7 +319,7 @@ class World:
                 return
             found = driver.replies(*self.engine.ask(found), self.now)
         driver.writes(found)
-        for saga in found.draining:
+        for saga in found.rare.draining:
             self._drain(saga)
         self._put(found)
 
@@ -415,9 +415,9 @@ class World:
     # -- what the executor does
 
     def _done(self, effects: Effects) -> None:
-        for attempt in effects.suspended:
+        for attempt in effects.rare.suspended:
             self._do(attempt, self.machine.stored(attempt))
-        for abort in effects.aborted:
+        for abort in effects.rare.aborted:
             if abort.done:
                 self._drain(abort.saga)
         for attempt in effects.dispatch:

@@ -10,6 +10,8 @@ Both nodes start the same sagas, and each is started again until it has seen the
 - `server` stops the server at once, as if its machine had failed, and starts it;
 - `relay` delays, cuts, and cuts between a statement, a commit too, and its answer;
 - `sessions` has the server end the nodes' sessions; `lock` locks tables for a while.
+
+Each node records what it hears and acknowledges; the records are judged with what the database has, and by that alone.
 """
 
 from __future__ import annotations
@@ -28,6 +30,10 @@ import time
 from collections import Counter
 from dataclasses import dataclass
 
+if __name__ == "__main__":
+    sys.path.insert(0, str(pathlib.Path(__file__).resolve().parent.parent / "src"))
+
+import fleet
 import psycopg
 from judge import judge
 from kills import Round, Striker
@@ -59,6 +65,7 @@ class NodeStriker(Striker):
         assert self.server and self.relay
         through = self.server.url(self.url.rpartition("/")[2], port=self.relay.port)
         self.words[2] = through
+        self.environment["SAGAS_RECORD"] = str(self.folder / "record")
         self.words += ["--eye", self.url, "--node", "same" if self.kind == "names" else self.name, "--lease", str(LEASE)]
 
     def _strike(self, process: subprocess.Popen[bytes]) -> None:
@@ -145,6 +152,11 @@ def play(kind: str, seed: int, sagas: int, server: Server, *, most: float = 180,
             thread.join()
     twice = noted(url, folder / "notes")
     verdict = judge(url, folder / "notes", sagas)
+    for files in ([one.folder / "record" for one in strikers], []):
+        shards, faults = fleet.judged(url, files)
+        verdict.faults += faults
+        verdict.figures["records" if files else "records of the database alone"] += len(shards)
+        verdict.figures["recorded events"] += sum(one.events for one in shards)
     for token in twice:
         verdict.faults.append(f"inside-twice: {token}")
     for trouble in troubles:

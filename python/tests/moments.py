@@ -14,6 +14,7 @@ from collections import defaultdict
 from collections.abc import AsyncIterator, Awaitable, Callable, Iterator, Sequence
 from typing import Any
 
+import fleet
 import psycopg
 from cases import until
 from judge import judge
@@ -27,6 +28,7 @@ import sagas
 from sagas.runtime.coordinator import Coordinator
 from sagas.storage.postgresql import (
     commit_statement,
+    connections,
     node_lease,
     shard_loader,
     step_commit,
@@ -34,6 +36,7 @@ from sagas.storage.postgresql import (
     storage,
 )
 
+TAKEOVER = connections.TAKEOVER.format(node="node", last="last_seq(shard)", taken="mine")
 COMMIT = b'"event":"commit"'  # as a word of its own: there is one row of each kind
 """What stands in the statement that keeps a step's end."""
 
@@ -108,7 +111,7 @@ class Stage:
 
     def __init__(self, server: Server, url: str, socket: pathlib.Path, wrong: bool) -> None:
         self.server, self.url, self.wrong = server, url, wrong
-        self._socket = str(socket)
+        self._socket, self.record = str(socket), socket.parent / "record"
         self.found: set[str] = set()
 
     @contextlib.asynccontextmanager
@@ -117,7 +120,7 @@ class Stage:
     ) -> AsyncIterator[tuple[Node, sagas.Store]]:
         """A node, until the block ends. `room`: how many sagas it puts into a log."""
         node = Node(Witness(self._socket), self.url, gates, inside)
-        store = sagas.open(url or self.url, node.sagas, node=name, lease=600, idle=600)
+        store = sagas.open(url or self.url, node.sagas, node=name, lease=600, idle=600, record=self.record)
         await store.__aenter__()
         if room:
             inner(store).shelf.room = room
@@ -157,7 +160,8 @@ class Stage:
         """The log of a saga is another node's from now on, who hears of it; who had it does not."""
         of = "shard = (SELECT id / 1000 FROM sagas.sagas WHERE key = %s)"
         with psycopg.connect(self.url) as link:
-            taken = link.execute(f"UPDATE sagas.shards SET owner = node, epoch = epoch + 1 FROM sagas.nodes n WHERE {of} AND n.name = %s", (key, name))
+            link.execute("SET search_path = sagas")
+            taken = link.execute(f"WITH mine AS (UPDATE shards SET owner = n.node, epoch = epoch + 1 FROM nodes n WHERE {of} AND n.name = %s RETURNING shard, epoch, n.node) {TAKEOVER}", (key, name))
             assert taken.rowcount == 1
             link.execute("NOTIFY sagas_nodes, 'logs'")
 
@@ -264,8 +268,8 @@ async def a_commit_of_two_logs_comes_late(stage: Stage) -> int:
                 late = await until(lambda: not inner(store).commits._queue and stage.waiting())
                 relay.before = 1.0
                 relay.cut()
-                with psycopg.connect(stage.url) as link:
-                    link.execute("UPDATE sagas.shards SET epoch = epoch + 1")
+                with psycopg.connect(stage.url, options="-csearch_path=sagas") as link:
+                    link.execute(f"WITH mine AS (UPDATE shards SET epoch = epoch + 1 RETURNING shard, epoch, owner AS node) {TAKEOVER}")
             await stage.gone(late)
             if stage.ask("SELECT 1 FROM attempts JOIN sagas USING (id) WHERE key IN ('k2', 'k3')"):
                 stage.found.add("came-late")
@@ -472,5 +476,7 @@ def play(server: Server, name: str, wrong: str | None = None) -> tuple[set[str],
         if noted(url, notes):
             stage.found.add("inside-twice")
         verdict = judge(url, notes, count)
+        _, faults = fleet.judged(url, [stage.record])
     server.drop(url)
-    return verdict.names | stage.found, verdict.faults
+    found = {"record"} if faults else set[str]()
+    return verdict.names | stage.found | found, verdict.faults + faults

@@ -32,6 +32,7 @@ if __name__ == "__main__":
     sys.path.insert(0, str(pathlib.Path(__file__).resolve().parent.parent / "src"))
 sys.path.insert(0, str(pathlib.Path(__file__).resolve().parents[2] / "clients" / "contract"))
 
+import fleet
 import service_actor
 from harness import commands, languages
 from judge import Verdict, judge
@@ -143,7 +144,8 @@ class Round:
 
     def _service(self, name: str, url: str) -> Served:
         (self.folder / name).mkdir()
-        return Served(self.folder / name, texts(), "--node", name, "--lease", str(NODE_LEASE), store=url)
+        words = ["--node", name, "--lease", str(NODE_LEASE), "--record", str(self.folder / name / "record")]
+        return Served(self.folder / name, texts(), *words, store=url)
 
     def _worker(self, place: int) -> subprocess.Popen[bytes]:
         service = self.services[place % len(self.services)]
@@ -178,6 +180,8 @@ class Round:
                 self._end()
         verdict = judge(self.services[0].store, self.folder / "notes", self.sagas)
         verdict.faults += callers.faults
+        if self.url:
+            verdict.faults += fleet.judged(self.url, [service.folder / "record" for service in self.services])[1]
         for path in (*(service.errors for service in self.services), self.folder / "worker-errors"):
             text = path.read_text(errors="replace")
             if "Traceback" in text or '"trace"' in text:

@@ -199,6 +199,68 @@ def test_large_values_are_outside(
     run(main())
 
 
+def basket() -> sagas.Saga:
+    """Steps of large items, and one that waits before them."""
+    saga = sagas.Saga("basket")
+    sign = saga.approval(name="sign", backoff=QUICK)(lambda task: None)
+
+    @saga.step(for_each="parcels", needs=[sign], undo=0, backoff=QUICK)
+    def weigh(task: sagas.ItemTask[Any, str]) -> list[Any]:
+        return [task.index, len(task.item)]
+
+    @saga.step(needs=[weigh], undo=0)
+    def total(task: Task) -> int:
+        return sum(weight for _, weight in task.result_of(weigh).values())
+
+    return saga
+
+
+@pytest.mark.parametrize("codec", [None, Reverse()], ids=["plain", "codec"])
+def test_large_items_are_outside(place: str, tmp_path: pathlib.Path, codec: Any) -> None:
+    """They are kept outside of the database as inputs are, and read by later programs. Without the
+    blob store the attempts that need them are parked; retention takes them behind the rows."""
+    saga, folder = basket(), tmp_path / "blobs"
+    blobs = sagas.FolderBlobStore(folder)
+    given = {"parcels": {f"key {number}": "x" * THRESHOLD for number in range(3)}}
+
+    def files() -> int:
+        return sum(len(names) for _, _, names in os.walk(folder))
+
+    async def shapes(store: sagas.Store) -> list[str]:
+        inner: Any = store._access.inside.store._inner  # type: ignore[attr-defined]
+        return [text for (text,) in await inner.read("SELECT shape FROM shapes")]
+
+    async def main() -> None:
+        async with at(place, blobs, saga, codec=codec) as store:
+            await store.start(saga, "large", given)
+            await store.start(saga, "small", {"parcels": {"a": "b"}})
+            found = await shapes(store)
+            assert sum(Reference.of(text) is not None for text in found) == 1 and files() == 2
+            assert max(map(len, found)) < THRESHOLD and "xxx" not in "".join(found)
+        async with at(place, None, saga, codec=codec) as store:
+            await store.complete("large", "sign")
+            waits = await until(lambda: parked(store))
+            assert {one.step for one in waits} == {"weigh-0", "weigh-1", "weigh-2"}
+        async with at(place, blobs, saga, codec=codec) as store:
+            end = await store.wait("large", 60)
+            assert end.results["total"] == 3 * THRESHOLD
+            assert end.each("weigh") == {f"key {n}": [f"key {n}", THRESHOLD] for n in range(3)}
+            assert await store._access.inside.store.swept() == 0  # type: ignore[attr-defined]
+            await store.complete("small", "sign")
+            await store.wait("small", 60)
+        async with at(place, blobs, saga, codec=codec) as store:
+            assert (await store.wait("large")).each("weigh")["key 1"] == ["key 1", THRESHOLD]
+        nothing = datetime.timedelta(0)
+        async with at(place, blobs, saga, codec=codec, retention=nothing):
+            await until(lambda: files() == 0)
+
+    async def parked(store: sagas.Store) -> list[sagas.Attention]:
+        found = [one for one in await store.attention() if one.step != "sign"]
+        return found if len(found) == 3 else []
+
+    run(main())
+
+
 def test_it_is_away(place: str) -> None:
     """A start says so, and writes nothing; a result waits until it is there again. What was put is
     missing: the attempt is parked. An input that looks as a reference is refused."""

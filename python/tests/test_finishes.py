@@ -3,12 +3,15 @@
 from __future__ import annotations
 
 import asyncio
-from collections.abc import Callable
+import contextlib
+import signal
+from collections.abc import AsyncIterator, Awaitable, Callable, Iterator
 from contextlib import AsyncExitStack
 from typing import Any
 
+import psycopg
 import pytest
-from cases import QUICK, run, until
+from cases import QUICK, Task, run, until
 
 import sagas
 
@@ -122,5 +125,172 @@ def test_two_answers_at_once(place: str, who: str) -> None:
                 *(say("k", "print", n) for n in range(2)), return_exceptions=True
             )
             assert sorted(type(one).__name__ for one in both) == ["ConflictingReport", "NoneType"]
+
+    run(main())
+
+
+def is_stopped(url: str) -> bool:
+    """Whether a statement waits for a lock."""
+    asks = "SELECT 1 FROM pg_stat_activity WHERE wait_event_type = 'Lock' AND datname = "
+    with psycopg.connect(url) as link:
+        return bool(link.execute(asks + "current_database()").fetchall())
+
+
+def is_kept(url: str, step: int) -> bool:
+    """Whether the store has how a step ended, or what was said of it before."""
+    asks = (
+        "SELECT FROM sagas.attempts WHERE step = %(step)s UNION ALL "
+        "SELECT FROM sagas.suspensions WHERE step = %(step)s AND number = 0"
+    )
+    with psycopg.connect(url) as link:
+        return bool(link.execute(asks, {"step": step}).fetchall())
+
+
+@contextlib.contextmanager
+def held(url: str, *, lost: bool = False) -> Iterator[Callable[[], Awaitable[None]]]:
+    """Nothing is stored of any shard until the block ends; then the shards are `lost`: another
+    node had them, and has left them. What it gives waits until something is to be stored."""
+    raised = "epoch = epoch + 1, owner = NULL" if lost else "epoch = epoch"
+    with psycopg.connect(url) as stranger:
+        stranger.execute(f"UPDATE sagas.shards SET {raised}")
+        yield lambda: until(lambda: asyncio.to_thread(is_stopped, url))
+
+
+@contextlib.asynccontextmanager
+async def busy(store: sagas.Store, saga: sagas.Saga) -> AsyncIterator[None]:
+    """The engine of the one shard does not answer until the block ends, and is asked nothing."""
+    [runner] = store._access.inside.shards.runners.values()
+    assert runner.engine
+    process = runner.engine.process
+    process.send_signal(signal.SIGSTOP)
+    try:
+        other = asyncio.create_task(store.start(saga, "other"))
+        await until(lambda: runner.engine and runner.engine.asked)
+        yield
+    finally:
+        process.send_signal(signal.SIGCONT)
+    await other
+
+
+@pytest.mark.parametrize("lost", [False, True], ids=["stored", "lost"])
+@pytest.mark.parametrize("where", ["store", "engine"])
+@pytest.mark.parametrize("step", ["print", "sign"])
+def test_the_second_of_two_is_answered_once_the_first_is_stored(
+    url: str, step: str, where: str, lost: bool
+) -> None:
+    """Also where the shard moves before that, with the first on its way to the store, or to the
+    engine: then both are said again of where it is."""
+    saga, places = signed(), {"print": 0, "sign": 1}
+
+    async def main() -> None:
+        async with sagas.open(url, [saga], lease=2) as store:
+            await store.start(saga, "k")
+            await asked(store, "print")
+            if step == "sign":
+                await store.complete("k", "print", 1)
+                await asked(store, "sign")
+
+            async def say() -> bool:
+                await store.complete("k", step, "yes")
+                return is_kept(url, places[step])
+
+            async with AsyncExitStack() as stack:
+                if where == "engine":
+                    await stack.enter_async_context(busy(store, saga))
+                reached = stack.enter_context(held(url, lost=lost))
+                first = asyncio.create_task(say())
+                if where == "store":
+                    await reached()
+                second = asyncio.create_task(say())
+                done, _ = await asyncio.wait([first, second], timeout=0.3)
+                assert not done
+            assert await asyncio.wait_for(asyncio.gather(first, second), 60) == [True, True]
+
+    run(main())
+
+
+@pytest.mark.parametrize("same", [True, False], ids=["same", "other"])
+def test_what_the_function_said_is_told_once_it_is_stored(url: str, same: bool) -> None:
+    """Whoever reports a step while its function runs waits for it; it answers itself."""
+    saga, gate, calls = sagas.Saga("asks"), asyncio.Event(), list[str]()
+
+    @saga.approval(name="sign")
+    async def sign(task: Task) -> sagas.Approved:
+        calls.append(task.attempt_id)
+        await gate.wait()
+        return sagas.Approved("yes")
+
+    async def main() -> None:
+        async with sagas.open(url, [saga]) as store:
+            await store.start(saga, "k")
+            await until(lambda: calls)
+            says = asyncio.create_task(store.complete("k", "sign", "yes" if same else "no"))
+            await asyncio.sleep(0.1)
+            with held(url) as reached:
+                gate.set()
+                await reached()
+                done, _ = await asyncio.wait([says], timeout=0.3)
+                assert not done
+            if same:
+                await says
+            else:
+                with pytest.raises(sagas.ConflictingReport, match="it has succeeded"):
+                    await says
+            assert is_kept(url, 0) and (await store.wait("k")).results["sign"] == "yes"
+
+    run(main())
+
+
+def test_a_refusal_is_told_once_what_it_rests_on_is_stored(url: str) -> None:
+    """A step that does not start any more, because another one failed."""
+    saga, gate, calls = sagas.Saga("fails"), asyncio.Event(), list[str]()
+
+    @saga.step(skip=9)
+    async def first(task: Task) -> None:
+        calls.append(task.attempt_id)
+        await gate.wait()
+        raise sagas.Fail("for good")
+
+    saga.approval(name="sign", needs=[first])(lambda task: None)
+
+    async def main() -> None:
+        async with sagas.open(url, [saga]) as store:
+            await store.start(saga, "k")
+            await until(lambda: calls)
+            with held(url) as reached:
+                gate.set()
+                await reached()
+                says = asyncio.create_task(store.complete("k", "sign", "yes"))
+                done, _ = await asyncio.wait([says], timeout=0.3)
+                assert not done
+            with pytest.raises(sagas.StepNotWaiting):
+                await says
+
+    run(main())
+
+
+def test_a_retry_is_said_again_of_where_the_shard_is(url: str) -> None:
+    """It was on its way to the store when the shard moved."""
+    saga, calls = sagas.Saga("retried"), list[str]()
+
+    @saga.step(on_exhausted="ask")
+    async def call(task: Task) -> str:
+        calls.append(task.attempt_id)
+        if len(calls) == 1:
+            raise ValueError("fails")
+        return "done"
+
+    async def main() -> None:
+        async with sagas.open(url, [saga], lease=2) as store:
+            await store.start(saga, "k")
+            await until(lambda: has_waited(store))
+            with held(url, lost=True) as reached:
+                says = asyncio.create_task(store.retry("k", "call"))
+                await reached()
+            await asyncio.wait_for(says, 60)
+            assert (await store.wait("k", 60)).results["call"] == "done"
+
+    def has_waited(store: sagas.Store) -> bool:
+        return any(one.waits and one.waits != "worker" for one in store.active_attempts("k"))
 
     run(main())

@@ -57,11 +57,13 @@ def test_a_thousand_steps_are_drawn() -> None:
     for steps in (wide, chains):
         tolds = [FAILED if number == 500 else PLAIN for number in range(len(steps))]
         began = time.process_time()
-        text = picture.drawn(steps, tolds, "many")
+        text = picture.drawn(steps, picture.plain_boxes(steps, tolds), "many")
         assert time.process_time() - began < 1.0
         assert "failed" in text
     assert "1021 × s0 …" in picture.drawn(
-        wide, [FAILED if n == 500 else PLAIN for n in range(1024)], ""
+        wide,
+        picture.plain_boxes(wide, [FAILED if n == 500 else PLAIN for n in range(1024)]),
+        "",
     )
 
 

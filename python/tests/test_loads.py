@@ -108,7 +108,7 @@ def test_a_log_whose_commit_is_under_way(url: str, logs: list[int]) -> None:
                     assert all(await asyncio.gather(*(loads.load(log, 1, None) for log in rest)))
                     assert await loads.load(logs[0], 2, None)
                 assert not waits.done()
-                commit.execute("INSERT INTO sagas.event_log SELECT shard, 1000, 0, text FROM sagas.event_log WHERE shard = %s AND first_seq = 0", (logs[2],))
+                commit.execute("INSERT INTO sagas.event_log SELECT shard, 1000, 0, text, epoch FROM sagas.event_log WHERE shard = %s AND first_seq = 0", (logs[2],))
                 commit.commit()
                 loaded = await waits
                 assert loaded and loaded.epoch == 2 and loaded.text.count('"open"') == ROOM + 1

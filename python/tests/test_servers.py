@@ -14,6 +14,7 @@ from collections import Counter, defaultdict
 from collections.abc import AsyncIterator, Callable, Coroutine, Iterator, Sequence
 from typing import Any, LiteralString
 
+import fleet
 import psycopg
 import pytest
 from cases import Task, ended, run, simple, until
@@ -27,11 +28,12 @@ from sagas.base import program
 
 
 def test_a_synchronous_standby_takes_over(tmp_path: pathlib.Path) -> None:
-    """The primary fails while sagas are under way, and its standby is promoted: nothing that was told is lost, by witness and judge."""
+    """The primary fails while sagas are under way, and its standby is promoted: nothing that was told is lost, by witness, judge and record."""
+    record = tmp_path / "record"
 
     async def main(url: str) -> None:
         node = Node(Witness(str(tmp_path / "socket")), url, gates=True)
-        async with sagas.open(url, node.sagas, concurrency=64, lease=60) as store:
+        async with sagas.open(url, node.sagas, concurrency=64, lease=60, record=record) as store:
             work = [asyncio.create_task(node.one(store, number)) for number in range(40)]
             await until(lambda: len(node.called) == 40)
             for number in range(20):  # some are over, some at their second step, some at their first
@@ -50,12 +52,16 @@ def test_a_synchronous_standby_takes_over(tmp_path: pathlib.Path) -> None:
             run(main(url))
         verdict = judge(url, tmp_path / "notes", 40)
         assert not verdict.faults, verdict.faults[:5]
+        assert fleet.judged(url, [record], sync=True)[1] == []
+        assert "\nmoved " in "".join(fleet.texts(url, [record], sync=True))
 
 
 @pytest.mark.parametrize("room", [1, 1000])
-def test_an_asynchronous_standby_may_lack_the_last_commits(monkeypatch: pytest.MonkeyPatch, room: int) -> None:
+def test_an_asynchronous_standby_may_lack_the_last_commits(monkeypatch: pytest.MonkeyPatch, tmp_path: pathlib.Path, room: int) -> None:
     """A saga of which the standby knows goes back to what it knows, and its step is called again with its token; one that it lacks is not there, and is
-    started again. The store goes on, also where a whole log is lacking, and gives no saga another's tokens."""
+    started again. The store goes on, also where a whole log is lacking, and gives no saga another's tokens. The node's record is allowed, and says what was
+    acknowledged and lost; it is not allowed where a synchronous standby is claimed."""
+    record = tmp_path / "record"
     monkeypatch.setattr("sagas.definition.shelf.SHARD_CAPACITY", room)
     calls: Counter[tuple[str, str]] = Counter()
     whose: dict[str, set[str]] = defaultdict(set)
@@ -75,7 +81,7 @@ def test_an_asynchronous_standby_may_lack_the_last_commits(monkeypatch: pytest.M
         return task.result_of(a)
 
     async def main(url: str) -> None:
-        async with sagas.open(url, [kind], lease=60) as store:
+        async with sagas.open(url, [kind], lease=60, record=record) as store:
             await store.start(kind, "there")
             await until(lambda: calls["there", "a"])
             await asyncio.to_thread(pair.hold_back)
@@ -93,7 +99,18 @@ def test_an_asynchronous_standby_may_lack_the_last_commits(monkeypatch: pytest.M
             assert all(len(keys) == 1 for keys in whose.values()), whose
 
     with paired(synchronous=False) as pair:
-        run(main(pair.url(pair.primary.create().rpartition("/")[2])))
+        url = pair.url(pair.primary.create().rpartition("/")[2])
+        run(main(url))
+        check_losses(url, record, room)
+
+
+def check_losses(url: str, record: pathlib.Path, room: int) -> None:
+    """By its record, the saga `there` goes on behind its first commit, and `lacking` begins anew."""
+    shards, faults = fleet.judged(url, [record])
+    assert all(one.good for one in shards) and len(faults) == sum(len(one.losses) for one in shards)
+    lost = [(loss.had, {telling.edge for telling in loss.told}) for one in shards for loss in one.losses]
+    assert lost == [(1, {"call", "wake"})] + [(0, {"call", "wake"})] * (room == 1)
+    assert fleet.reasons(fleet.judged(url, [record], sync=True)[1]) == {"FewerThanShipped"}
 
 
 def test_a_log_that_is_about_to_be_closed(

@@ -570,7 +570,7 @@ def test_it_stops_although_clients_ask_on(tmp_path: pathlib.Path) -> None:
             time.sleep(1.0)
             began = time.monotonic()
             assert service.stop() == 0
-            assert time.monotonic() - began < 10
+            assert time.monotonic() - began < LONG
         finally:
             over.set()
             for thread in threads:

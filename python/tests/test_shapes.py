@@ -34,6 +34,8 @@ from shaped import (
 )
 
 import sagas
+from sagas.definition import serialization
+from sagas.definition.shelf import Shelf
 
 
 def names(saga: sagas.Saga, input: Any) -> dict[str, list[str]]:
@@ -95,6 +97,15 @@ def test_scripts_name_all_items_or_one() -> None:
     assert sagas.testing.run(order, parcels(3), fail={"ship-1": 2}).states["ship-1"] == "failed"
     with pytest.raises(KeyError, match="did you mean 'ship'"):
         sagas.testing.run(order, parcels(3), fail={"shop": 1})
+    said = "no step 'ship-7' for this input: of step 'ship' it has ship-0, ship-1, ship-2. Name"
+    for words in ({"fail": {"ship-7": 1}}, {"abort": "ship-7"}, {"unknown_undo": {"ship-7": 1}}):
+        with pytest.raises(KeyError, match=said):
+            sagas.testing.run(order, parcels(3), **words)
+    with pytest.raises(KeyError, match="of step 'ship' there is none"):
+        sagas.testing.run(order, parcels(0), fail={"ship-0": 1})
+    with pytest.raises(KeyError, match="it has ship-0, ship-1, ship-2 and others"):
+        sagas.testing.run(order, parcels(4), fail={"ship-04": 1})
+    assert sagas.testing.run(order, parcels(0), fail={ship: 1, "wrap": 1}).ok
 
 
 def test_a_dict_gives_keys_beside_the_numbers() -> None:
@@ -315,7 +326,7 @@ def test_an_inclusion_of_nothing_is_passed_through() -> None:
 
 def test_the_versions_of_included_sagas_are_in_the_definition() -> None:
     text = trip.toml(Trip(Package(Hotel("Rome", []))))
-    assert "# includes p/hotel booking 1\n" in text and "# of p/hotel/confirm\n" in text
+    assert "# includes p/hotel booking 1 given\n" in text and "# of p/hotel/confirm\n" in text
 
 
 def test_an_inclusion_for_each_item_needs_that_of_the_same() -> None:
@@ -513,3 +524,39 @@ def test_a_wrong_type_of_items_is_found(tmp_path: pathlib.Path) -> None:
     ]  # fmt: skip
     (error,) = [line for line in told if ": error: " in line]
     assert "ItemTask[Order, Letter]" in error and "ItemTask[Any, Parcel]" in error
+
+
+def test_definitions_that_differ_in_costs_share_the_rest() -> None:
+    """Each has the text that it has if it is written alone, also read back from a store."""
+    saga = sagas.Saga("costs")
+
+    def cost(item: int) -> Any:
+        return sagas.NEVER if item % 3 == 2 else item % 3
+
+    first = saga.step(
+        name="first", run=lambda given: len(given["items"]), undo=sagas.NEVER, keep=7
+    )(lambda task: None)  # fmt: skip
+    work = saga.step(
+        name="work", for_each="items", needs=[first], skip=cost, undo=cost, keep=cost, tries=2
+    )(lambda task: None)  # fmt: skip
+    work.compensation(lambda task: None)
+    saga.step(name="last", when=lambda given: given["last"], needs=[first], undo=0, skip=3)(
+        lambda task: None
+    )
+    inputs = [
+        {"items": [number, *range(count)], "last": bool(last)}
+        for number in range(4)
+        for count in range(3)
+        for last in (0, 1)
+    ]
+    shelf, again = Shelf([saga]), Shelf([saga])
+    kinds = [shelf.fit(saga, given, serialization.write(given)).kind for given in inputs]
+    shared: dict[int, list[str]] = {}
+    for given, kind in zip(inputs, kinds):
+        assert kind is not None
+        assert kind.text == saga.toml(given) == again.kind(kind.text).text
+        assert kind.lacks() is None and again.kind(kind.text).lacks() is None
+        assert kind.names == [step["name"] for step in tomllib.loads(kind.text)["step"]]
+        shared.setdefault(id(kind.actions), []).append(kind.text)
+    assert len(shared) == 6  # so many structures
+    assert all(len({*texts}) == 3 for texts in shared.values())  # 0 and 3 cost the same

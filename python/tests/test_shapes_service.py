@@ -124,3 +124,65 @@ def test_events_of_items(tmp_path: pathlib.Path) -> None:
     asyncio.run(main())
     found = {(event.step, event.index) for event in events if event.name in ("step_succeeded", "step_failed")}
     assert found == {("ship", "a"), ("ship", "b"), ("bill", None)}
+
+
+GIVING = """
+import sagas
+order = sagas.Saga("order")
+ship = order.step(external=True, name="ship", for_each="parcels", tries=2, undo=1, skip=1,
+                  backoff=sagas.Backoff(initial=0.01))
+ship.compensation(external=True)
+trip = sagas.Saga("trip")
+
+@trip.step(undo=0)
+def flight(task):
+    return {"number": task.input["flight"]}
+
+def given(task):
+    if task.input["flight"] == "bad":
+        raise ValueError("no given here")
+    if task.input["flight"] == "never":
+        raise sagas.Fail("nothing to give")
+    return object() if task.input["flight"] == "none" else task.result_of(flight)
+
+trip.include(order, name="box", needs=[flight], given=given)
+outer = sagas.Saga("outer")
+outer.include(trip, name="inner", for_each="trips")
+store = sagas.open("unused.db", [order, trip, outer])
+"""
+
+
+def test_what_is_given_to_a_worker(tmp_path: pathlib.Path) -> None:
+    """`given=` is computed where a task is handed out, also of a compensation, and two deep; if it raises, the attempt fails, as a function that raises."""
+    (tmp_path / "shop.py").write_text(GIVING)
+    with served(tmp_path, {"one.toml": ONE}, "--app", "shop:store") as service, service.client() as client:
+        start(client, "order", "plain", {"parcels": ["p"]})
+        (task,) = take(client, "order/ship")
+        assert task["given"] is None
+        report(client, task)
+        start(client, "trip", "good", {"flight": "LH1", "parcels": ["a", "b"]})
+        tasks = [take(client, "trip/box/ship")[0] for _ in range(2)]
+        assert [task["given"] for task in tasks] == [{"number": "LH1"}] * 2
+        report(client, tasks[0], result=1)
+        report(client, tasks[1], "fail", error="no", final=True)
+        assert client.get("/v1/sagas/good/wait?seconds=60").json()["over"]
+        for flight, said in (("bad", "ValueError: no given here"), ("never", "sagas.Fail: nothing to give"), ("none", "NotSerializable")):
+            start(client, "trip", flight, {"flight": flight, "parcels": ["a"]})
+            assert client.post("/v1/tasks/claim", json={"steps": ["trip/box/ship"], "wait": 2, "worker": "w"}).json()["tasks"] == []
+            end = client.get(f"/v1/sagas/{flight}/wait?seconds=60").json()
+            assert end["phase"] == "recovered" and "given= raised" in end["errors"]["box-ship-0"]
+            assert said in end["errors"]["box-ship-0"]
+        attempts = [one for one in client.get("/v1/sagas/bad/timeline").json()["attempts"] if one["step"] == "box-ship-0"]
+        assert len(attempts) == 2
+        start(client, "outer", "deep", {"trips": [{"flight": "X", "parcels": {"k": 1}}]})
+        worker = sagas.Worker(service.url, wait=1.0)
+        found: list[Any] = []
+
+        @worker.step("outer", "inner/box/ship")
+        def ship(task: sagas.Task[Any]) -> Any:
+            found.append((task.given, task.given is task.given, task.item, task.index))
+            return None
+
+        with working(worker):
+            assert client.get("/v1/sagas/deep/wait?seconds=60").json()["phase"] == "completed"
+        assert found == [({"number": "X"}, False, 1, "k")]

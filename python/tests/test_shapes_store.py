@@ -5,8 +5,10 @@ from __future__ import annotations
 import asyncio
 import contextlib
 import dataclasses
+import datetime
 import pathlib
 import random
+import time
 from typing import Any
 
 import psycopg
@@ -16,6 +18,7 @@ from cases import run, surely_ended, until
 from shaped import Hotel, Order, Package, Parcel, Trip, booking, order, parcels, plain, ship, trip
 
 import sagas
+from sagas.cli import store_command
 from sagas.storage import admin
 
 ALL = [order, plain, trip, booking, shaped.package, shaped.hire]
@@ -369,6 +372,50 @@ def test_a_start_that_raises_in_the_node_is_refused(url: str) -> None:
     run(prepared())
     run(main())
     run(withdrawn())
+
+
+def test_refused_starts_go_as_ended_sagas_do(url: str, capsys: pytest.CaptureFixture[str]) -> None:
+    """By their age since they were refused, by the command and by an open store; others stay."""
+    mine, theirs = other_code()
+
+    async def refused(client: sagas.Client, *keys: str) -> None:
+        for key in keys:
+            await client.start(mine, key, {"items": [1]})
+            with pytest.raises(sagas.InvalidInput):
+                await client.wait(key, 60)
+
+    async def main() -> None:
+        async with sagas.Client(url) as client, sagas.open(url, [theirs]):
+            await refused(client, "old", "new")
+            with psycopg.connect(url) as link:
+                link.execute("UPDATE sagas.pending_starts SET at = at - 7200 WHERE key = 'old'")
+            words = [url, "prune", "--older-than", "1h"]
+            assert await asyncio.to_thread(store_command.main, words) == 0
+            assert await client.get("old") is None
+            with pytest.raises(sagas.NoSuchSaga):
+                await client.wait("old", 1)
+            with pytest.raises(sagas.InvalidInput):
+                await client.wait("new", 1)
+        async with sagas.Client(url) as client:  # its age is counted from the refusal on
+            await client.start(mine, "slow", {"items": [1]})
+            with psycopg.connect(url) as link:
+                link.execute("UPDATE sagas.pending_starts SET at = 7 WHERE key = 'slow'")
+            async with sagas.open(url, [theirs]):
+                with pytest.raises(sagas.InvalidInput):
+                    await client.wait("slow", 60)
+            ((at,),) = rows(url, "SELECT at FROM pending_starts WHERE key = 'slow'")
+            assert abs(at - time.time()) < 600
+        nothing = datetime.timedelta(0)
+        async with sagas.open(url, [theirs], retention=nothing):
+            await until(lambda: not rows(url, "SELECT 1 FROM pending_starts"))
+
+    async def prepared() -> None:
+        async with sagas.open(url, [plain]):
+            pass
+
+    run(prepared())
+    run(main())
+    assert capsys.readouterr().out == "deleted 0 sagas (0 shards) and 1 refused start\n"
 
 
 def test_another_node_takes_over(url: str) -> None:

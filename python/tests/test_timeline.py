@@ -133,7 +133,7 @@ def test_functions(place: str) -> None:
             reader = StoreReader(store.reader())
             view = reader.ask(one_saga.view("one"))
             reader.close()
-            assert view and len(view.spans) == 2
+            assert view and len(view.noted.spans) == 2
             return timeline.of(view, store.now())
 
     asyncio.run(first())

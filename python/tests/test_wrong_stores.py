@@ -27,7 +27,8 @@ def test_the_right_store_does_right(postgresql: Server, name: str) -> None:
 
 @pytest.mark.parametrize("name", NAMES)
 def test_a_wrong_store_is_found(postgresql: Server, name: str) -> None:
-    """By one of the names that it gives."""
+    """By one of the names that it gives, and by what its nodes recorded."""
     module = importlib.import_module(f"wrong_stores.{name}")
     names, faults = play(postgresql, module.MOMENT, name)
     assert names & module.FINDS, f"{name} was not found by {module.FINDS}, but by {faults}"
+    assert ("record" in names) != hasattr(module, "UNRECORDED"), faults

@@ -132,17 +132,18 @@ def test_no_more_tasks_are_claimed_than_there_are_slots() -> None:
 
 
 def test_a_shard_that_is_full_takes_no_more() -> None:
-    """Others take those that it was asked for; one that fits into no shard is refused."""
+    """Others take those that it was asked for. An empty one has room for any saga: an engine that says otherwise is not the one of this package."""
     shard, lives = driver(), [instance(f"k{number}") for number in range(3)]
     for saga in lives:
         shard.open(saga)
     shard.requests(0)
     effects = come(shard, opened(0), '{"refused":"full"}', '{"refused":"number"}')
-    assert effects.displaced == lives[1:] and shard.is_full and not shard.has_room(1000) and shard.reserved == shard.opened == 1
+    assert effects.rare.displaced == lives[1:] and shard.is_full and not shard.has_room(1000) and shard.reserved == shard.opened == 1
     empty, saga = driver(), SagaInstance("k", "1", two().kinds[0], 0)
     empty.open(saga)
     empty.requests(0)
-    assert come(empty, '{"refused":"log-full"}').refused == [saga] and not saga.kind.fits and empty.reserved == 0
+    with pytest.raises(Disagrees, match="an empty log was to take saga"):
+        empty.replies(['{"refused":"log-full"}'], "", NOW)
 
 
 def test_an_engine_that_knows_something_else() -> None:
@@ -193,13 +194,13 @@ def test_a_saga_that_fails_drains_and_its_end_is_asked() -> None:
     report, _, look = shard.requests(8)
     assert '"outcome":"fail"' in report and look == '{"do":"show","saga":0}' and saga.odd
     effects = kept(shard, come(shard, event("fail", "planning"), '{"tasks":[]}', shown("planning", None, [])))
-    assert effects.draining == [saga] and saga.draining and "no" in saga.rare.errors[0]
+    assert effects.rare.draining == [saga] and saga.draining and "no" in saga.rare.errors[0]
     shard.requests(8)
     plan = {"answer": {"kind": "plan", "cost": 3}, "phase": "ended", "saga": 0, "task": "plan"}
     (show,) = shard.replies([json.dumps({"settled": True, "tasks": [plan]})], "plan\n", NOW)  # type: ignore[misc]
     assert show == '{"do":"show","saga":0}'
     effects = kept(shard, come(shard, shown("ended", plan["answer"], ["fixed", "waiting"]), text=""))
-    assert effects.planned == [saga] and effects.ended == [saga] and effects.batch.text == "plan\n"
+    assert effects.rare.planned == [saga] and effects.ended == [saga] and effects.batch.text == "plan\n"
     ((phase, told, recovered, undo_failed, at, id),) = effects.batch.ended
     assert told == '{"aborted":false,"answer":{"cost":3,"kind":"plan"},"kept":[],"states":["fixed","waiting"]}'
     assert (phase, recovered, undo_failed, at, id) == ("ended", True, True, NOW, 7000) and not shard.sagas
@@ -214,7 +215,7 @@ def test_an_abort_is_answered() -> None:
         shard.abort(abort)
         shard.requests(0)
         effects = come(shard, reply)
-        assert effects.aborted == [abort] and abort.done is done and shard.aborting == [abort] and saga.aborted is done
+        assert effects.rare.aborted == [abort] and abort.done is done and shard.aborting == [abort] and saga.aborted is done
         assert effects.batch.rare and effects.batch.rare.answers == [("true" if done else "false", 4)]
         kept(shard, effects)
         assert shard.aborting == []
@@ -226,7 +227,7 @@ def test_a_suspension_is_kept_by_itself() -> None:
     attempt = begun(shard)
     effects = shard.suspended(attempt, SuspensionRow(Suspension.UNKNOWN, 60.0, "lost"), NOW)
     assert effects.batch.rare and effects.batch.rare.held == [(7000, 0, "run", 1, "unknown", 0, 0.0, 60.0, "lost")]
-    assert effects.suspended == (attempt,) and effects.batch.first == 1 and not effects.batch.text
+    assert effects.rare.suspended == [attempt] and effects.batch.first == 1 and not effects.batch.text
 
 
 def test_a_state_that_may_not_follow(monkeypatch: pytest.MonkeyPatch) -> None:
@@ -332,7 +333,7 @@ def test_labels_go_with_the_row_of_their_saga() -> None:
         labels = effects.batch.rare.labels if effects.batch.rare else []
         id = NUMBER * 1000
         rows = [(id, "customer", "7"), (id, "region", "north")]
-        assert labels == ([] if one is full else rows) and bool(effects.displaced) is (one is full)
+        assert labels == ([] if one is full else rows) and bool(effects.rare.displaced) is (one is full)
         assert [row[-2:] for row in effects.batch.opened] == ([] if one is full else [(5.0, TRACE)])
     shard.open(instance("other"))
     shard.requests(0)

@@ -126,6 +126,7 @@ def test_slots_are_shared_among_tenants() -> None:
     saga = sagas.Saga("fair", fair_by=lambda given: given)
     saga.step(name="a", undo=0)(wide.run.function)
     kind, store = Shelf([saga]).kinds[0], Store(3)
+    store.slots.is_fair = True
     waiting: dict[str | None, list[Attempt]] = {}
     for number in range(600):
         running = [one for one in store.called if one.state is AttemptState.RUNNING]

@@ -9,6 +9,7 @@ from sagas.storage.postgresql import step_commit
 
 FINDS = {"not-its-own", "inside-twice"}
 MOMENT = "another_node_has_the_logs_of_steps_inside"
+UNRECORDED = "a step's own transaction has no event, so no record has it"
 
 
 def apply() -> None:

@@ -6,6 +6,7 @@ from sagas.storage.postgresql import node_lease
 
 FINDS = {"called-again"}
 MOMENT = "a_node_lives"
+UNRECORDED = "a shard may be taken over at any time; leases say when it is worth it"
 
 
 def apply() -> None:

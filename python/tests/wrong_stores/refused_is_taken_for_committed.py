@@ -11,6 +11,7 @@ from sagas.storage.postgresql.step_connections import AsyncStepLink
 
 FINDS = {"no-effect"}
 MOMENT = "the_commit_of_a_step_inside_is_refused"
+UNRECORDED = "a step's own transaction has no event, so no record has it"
 
 
 def apply() -> None:

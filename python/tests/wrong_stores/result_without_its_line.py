@@ -15,7 +15,7 @@ def apply() -> None:
     """Leaves lines out."""
     right, turns = Commit.words, itertools.count(1)
 
-    def words(self: Commit, node: str) -> tuple[str, list[bytes | None]]:
+    def words(self: Commit, node: bytes) -> tuple[str, list[bytes | None]]:
         if "results" in self._rows and next(turns) % 5 == 0:
             self._rows.pop("lines", None)
         return right(self, node)

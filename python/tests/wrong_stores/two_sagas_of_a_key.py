@@ -7,6 +7,7 @@ from sagas.storage.postgresql import commit_statement
 FINDS = {"keys"}
 STRIKES = "nodes"
 MOMENT = "two_nodes_start_a_key_at_once"
+UNRECORDED = "each record is of one shard, and the two sagas are in two"
 
 
 def apply() -> None:

@@ -1,0 +1,62 @@
+"""Judges what nodes and clients recorded over a database: by the reference model, and by the program, which have to agree."""
+
+from __future__ import annotations
+
+import functools
+import pathlib
+import subprocess
+import tempfile
+from collections.abc import Sequence
+
+import fleet_model
+
+from sagas.base import program
+from sagas.cli import records
+from sagas.cli.records import Judged
+from sagas.cli.snapshot import Snapshot
+
+
+@functools.cache
+def has_program() -> bool:
+    """Whether the program judges records; `test_fleet_records.py` asks that it does."""
+    done = subprocess.run([program.path(), "audit", "--help"], capture_output=True, text=True, check=False)
+    return "--fleet" in done.stdout
+
+
+def by_both(text: str) -> tuple[bool, str]:
+    """What the model says of a record; the program says the same."""
+    fault = fleet_model.judge(text)
+    if has_program():
+        good, answer = records.judged(text)
+        begins = "yes sessions " if fault is None else f"no line {fault[0]} "
+        assert good == (fault is None) and answer.startswith(begins), f"{answer}, and the model says {fault}"
+    return fault is None, "" if fault is None else f"line {fault[0]}: {fault[1]}: {text.splitlines()[max(0, fault[0] - 8) : fault[0]]}"
+
+
+def shards_of(url: str, files: Sequence[pathlib.Path], sync: bool, folder: str | None = None) -> list[Judged]:
+    """The shards of a store with their records."""
+    notes = records.read([str(file) for file in files if file.exists()])
+    with Snapshot(url) as store:
+        return records.Judge(store, notes, sync, folder, by_both).all()
+
+
+def judged(url: str, files: Sequence[pathlib.Path] = (), *, sync: bool = False) -> tuple[list[Judged], list[str]]:
+    """The shards; and what is not allowed in the record of each, or is lost."""
+    found, faults = shards_of(url, files, sync), list[str]()
+    for one in found:
+        faults += [] if one.good else [f"record: shard {one.shard}, {one.answer}"]
+        faults += [f"record: shard {one.shard}: lost {loss}" for loss in one.losses]
+        faults += [f"record: shard {one.shard}: the end of saga {id} is lost" for id in one.ends_lost]
+    return found, faults
+
+
+def texts(url: str, files: Sequence[pathlib.Path], *, sync: bool = False) -> list[str]:
+    """The records themselves."""
+    with tempfile.TemporaryDirectory() as folder:
+        shards_of(url, files, sync, folder)
+        return [path.read_text() for path in sorted(pathlib.Path(folder).iterdir())]
+
+
+def reasons(faults: Sequence[str]) -> set[str]:
+    """The names of what is not allowed."""
+    return {fault.split(": ")[2] for fault in faults if ", line " in fault}
