@@ -111,7 +111,8 @@ class Driver:
     ) -> Words:  # fmt: skip
         one = sagas.Worker(url, token, concurrency=concurrency, lease=lease, wait=wait, name=worker)
         for step in steps:
-            saga, name, *undo = step.split("/")
+            saga, _, name = step.partition("/")
+            undo, name = name.endswith("/undo"), name.removesuffix("/undo")
             declare = one.compensation if undo else one.step
             declare(saga, name)(self.play(worker, step, quiet))
         faults: list[Exception] = []
@@ -157,6 +158,9 @@ class Driver:
                         "results": task.results,
                         "result": task.result,
                         "traceparent": task.traceparent,
+                        "declared_step": task.declared_step,
+                        "given": task.given,
+                        **item_of(task),
                     }
                 )
             given = task.input
@@ -214,6 +218,14 @@ NAMES = "key", "phase", "over", "aborted", "input", "states", "results", "errors
 
 def saga_of(saga: sagas.ServiceSaga) -> Words:
     return {"definition": saga.saga, **{name: getattr(saga, name) for name in NAMES}}
+
+
+def item_of(task: sagas.Task[Any]) -> Words:
+    """The item of a task, as the service has it: the name of the step ends with its number."""
+    if not task.has_item:
+        return {"index": None, "item_key": None, "item": None}
+    key = task.index if isinstance(task.index, str) else None
+    return {"index": int(task.step.rpartition("-")[2]), "item_key": key, "item": task.item}
 
 
 def told_of(error: Exception) -> Words:

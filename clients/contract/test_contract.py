@@ -38,6 +38,17 @@ DEFINITIONS = {
     "asked.toml": 'format = 2\nname = "asked"\n[[step]]\nname = "sign"\nundo = "never"\n',
     "asked.service.toml": '[step.sign]\nkind = "approval"\n',
 }  # fmt: skip
+SHOP = """import sagas
+order = sagas.Saga("order")
+ship = order.step(external=True, name="ship", for_each="parcels", undo=1, keep=9, skip=2)
+ship.compensation(external=True)
+order.step(external=True, name="mail", needs=[ship], undo=0)
+fair = sagas.Saga("fair")
+fair.include(order, name="stall", given=lambda task: {"from": task.key})
+store = sagas.open("unused.db", [order, fair])
+"""
+"""Sagas whose steps come from their input."""
+ITEMS = ["order/ship", "order/ship/undo", "order/mail", "fair/stall/ship", "fair/stall/ship/undo", "fair/stall/mail"]
 STEPS = ["pair/a", "pair/a/undo", "pair/b"]
 SOLO = [step.replace("pair", "solo") for step in STEPS]
 """The same definition twice: all cases share a worker of `pair`, and have workers of their own for `solo`."""
@@ -74,7 +85,9 @@ def service(request: pytest.FixtureRequest, tokens: dict[str, str], tmp_path_fac
         if request.param == "postgresql":
             server = stack.enter_context(serving())
             url = server.create()
-        one = Served(folder, DEFINITIONS, "--token-file", str(folder / "tokens.toml"), store=url)
+        (folder / "shop.py").write_text(SHOP)
+        words = ("--token-file", str(folder / "tokens.toml"), "--app", "shop:store")
+        one = Served(folder, DEFINITIONS, *words, store=url)
         one.start()
         stack.callback(one.kill)
         yield one
@@ -188,6 +201,32 @@ ODD = [
     True, None, [], {}, {"": {"ß/~": [1, [2, {"x": None}]]}}, "9007199254740993", "1" * 40, nested(60),
     {"bigint:": 12345678901234567890}, [1234567890123456789, "\\\"1234567890123456789"], "y" * 900_000,
 ]  # fmt: skip
+
+
+def test_items(driver: Driver, service: Served, operator: str) -> None:
+    """A task has its declared step, and its item with number and key; also its compensation, and one of an included saga, which has what it is given."""
+    work(driver, service.url, operator, "items", steps=ITEMS)
+    listed, keyed, fair = fresh("items"), fresh("items"), fresh("items")
+    said = {"script": {"ship-0": ["ok"], "mail": ["fail"]}, "parcels": [{"to": "Rome"}, 7]}
+    assert driver.ask("start", definition="order", key=listed, input=said)["new"]
+    assert driver.ask("wait", key=listed, timeout=LONG)["phase"] == "recovered"
+    calls = {one["step"]: one for one in driver.calls(listed, "order/ship")}
+    assert {(one["declared_step"], one["index"], one["item_key"]) for one in calls.values()} == {("ship", 0, None), ("ship", 1, None)}
+    assert (calls["ship-0"]["item"], calls["ship-1"]["item"], calls["ship-1"]["given"]) == ({"to": "Rome"}, 7, None)
+    (mail,) = driver.calls(listed, "order/mail")
+    assert mail["results"]["ship"] == [{"done": "ship-0"}, {"done": "ship-1"}]
+    assert (mail["declared_step"], mail["index"], mail["item_key"], mail["item"]) == ("mail", None, None, None)
+    said = {"script": {"ship-1": ["fail"]}, "parcels": {"a b": 1, "c/ü": [2]}}
+    assert driver.ask("start", definition="order", key=keyed, input=said)["new"]
+    assert driver.ask("wait", key=keyed, timeout=LONG)["phase"] == "recovered"
+    found = {(one["index"], one["item_key"]): one["item"] for one in driver.calls(keyed, "order/ship")}
+    assert found == {(0, "a b"): 1, (1, "c/ü"): [2]}
+    assert driver.ask("start", definition="fair", key=fair, input={"script": {}, "parcels": ["x"]})["new"]
+    assert driver.ask("wait", key=fair, timeout=LONG)["phase"] == "completed"
+    (one,) = driver.calls(fair, "fair/stall/ship")
+    assert (one["step"], one["declared_step"], one["item"]) == ("stall-ship-0", "stall/ship", "x")
+    assert one["given"] == {"from": fair}
+    driver.ask("stop", worker="items")
 
 
 def test_inputs(driver: Driver) -> None:

@@ -20,8 +20,15 @@ type Task[In any] struct {
 	Saga string
 	// Key is the saga's key.
 	Key string
-	// Step is the name of the step.
+	// Step is the name of the step. If the step is there for items, the name has the number of the
+	// item behind it, as ship-2.
 	Step string
+	// DeclaredStep is the name as it was declared: ship, or hotel/room of an included saga.
+	DeclaredStep string
+	// Index is the number of the step's item, from 0; -1 if it has none.
+	Index int
+	// ItemKey is the key of the item, if the items are of an object; else it is empty. See Item.
+	ItemKey string
 	// Attempt is the number of the attempt, from 1.
 	Attempt int
 	// IdempotencyKey is the key to pass to other services. It is the same for all attempts, and
@@ -59,6 +66,27 @@ func (t Task[In]) Results() map[string]json.RawMessage {
 	return found
 }
 
+// Item returns the item of a step that is there for items. If it has none, the error is ErrNoItem.
+func Item[T, In any](task Task[In]) (T, error) {
+	var value T
+	if task.Index < 0 || task.held == nil {
+		return value, fmt.Errorf("%w: %s", ErrNoItem, task.Step)
+	}
+	err := decode(task.held.Item, &value, "item")
+	return value, err
+}
+
+// Given returns what the saga that includes the step's saga gives to it; the zero value if it gives
+// nothing.
+func Given[T, In any](task Task[In]) (T, error) {
+	var value T
+	if task.held == nil || len(task.held.Given) == 0 {
+		return value, nil
+	}
+	err := decode(task.held.Given, &value, "given")
+	return value, err
+}
+
 // Progress says how far the function is, from 0 to 1, with a text for people. The next heartbeat
 // sends it; only the last one counts. It does not block.
 func (t Task[In]) Progress(fraction float64, detail string) {
@@ -93,6 +121,11 @@ type leased struct {
 	Definition  string                     `json:"definition"`
 	Key         string                     `json:"key"`
 	Step        string                     `json:"step"`
+	Declared    string                     `json:"declared_step"`
+	Index       *int                       `json:"index"`
+	ItemKey     string                     `json:"item_key"`
+	Item        json.RawMessage            `json:"item"`
+	Given       json.RawMessage            `json:"given"`
 	Attempt     int                        `json:"attempt"`
 	Input       json.RawMessage            `json:"input"`
 	Results     map[string]json.RawMessage `json:"results"`
@@ -114,6 +147,10 @@ func taskOf[In any](h *held) (Task[In], error) {
 	task := Task[In]{
 		Saga: h.Definition, Key: h.Key, Step: h.Step, Attempt: h.Attempt, AttemptID: h.AttemptID,
 		IdempotencyKey: h.Idempotency, Deadline: h.Deadline, Traceparent: h.Traceparent, held: h,
+		DeclaredStep: h.Declared, Index: -1, ItemKey: h.ItemKey,
+	}
+	if h.Index != nil {
+		task.Index = *h.Index
 	}
 	return task, decode(h.Input, &task.Input, "input")
 }

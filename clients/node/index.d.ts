@@ -1,9 +1,14 @@
 /** Sagas over HTTP: a client for callers, and a worker that executes steps. */
 
-/** What a definition's sagas have: the type of their input, and of each step's result. */
+/**
+ * What a definition's sagas have: the type of their input, and of each step's result; of a step that is there for
+ * items a list of results, or an object by the keys of the items.
+ */
 export interface Definition {
   input: unknown;
   results: object;
+  /** The type of the items of each step that has some. */
+  items?: object;
 }
 
 /** What holds if you pass no types. */
@@ -14,6 +19,13 @@ type Name<T> = Extract<keyof T, string>;
 export type Definitions<D> = Record<keyof D, Definition>;
 type Input<D extends Definitions<D>, S extends Name<D>> = D[S]["input"];
 type Results<D extends Definitions<D>, S extends Name<D>> = D[S]["results"];
+type Items<D extends Definitions<D>, S extends Name<D>> = D[S] extends { items: infer T } ? T : unknown;
+/** The item of a step: `null` if it has none, `any` without types. */
+type Item<D extends Definitions<D>, S extends Name<D>, P> =
+  unknown extends Items<D, S> ? (string extends keyof Results<D, S> ? any : null) : P extends keyof Items<D, S> ? Items<D, S>[P] : null;
+/** What the function of a step returns: of one with items the result of one item. */
+type Returned<D extends Definitions<D>, S extends Name<D>, P extends Name<Results<D, S>>> =
+  P extends keyof Items<D, S> ? (Results<D, S>[P] extends readonly (infer E)[] ? E : Results<D, S>[P][keyof Results<D, S>[P]]) : Results<D, S>[P];
 
 export type Phase = "open" | "completed" | "recovered" | "stuck" | "resolved";
 export type State = "waiting" | "begun" | "running" | "committed" | "failed" | "undoing" | "undone" | "undo_failed";
@@ -218,13 +230,24 @@ export class Client<D extends Definitions<D> = AnyDefinitions> {
 }
 
 /** What a step's function is called with. */
-export interface Task<I = any, R = Record<string, any>, Result = any> {
+export interface Task<I = any, R = Record<string, any>, Result = any, Item = any> {
   /** `trip/car`, or `trip/car/undo`. */
   readonly name: string;
   readonly attemptId: string;
   readonly definition: string;
   readonly key: string;
+  /** Of a step that is there for items the name with the number of the item: `ship-2`. */
   readonly step: string;
+  /** As the step was declared: `ship`, or `hotel/room` of an included saga. */
+  readonly declaredStep: string;
+  /** The number of the step's item, from 0; `null` if it has none. */
+  readonly index: number | null;
+  /** The key of the item, if the items are of an object. */
+  readonly itemKey: string | null;
+  /** The step's item; `null` if it has none. */
+  readonly item: Item;
+  /** What the saga that includes the step's saga gives to it, or `null`. */
+  readonly given: any;
   readonly isCompensation: boolean;
   /** From 1. */
   readonly attempt: number;
@@ -277,11 +300,11 @@ export class Worker<D extends Definitions<D> = AnyDefinitions> {
   /** Declares the function of a step. */
   step<S extends Name<D>, P extends Name<Results<D, S>>>(
     saga: S, step: P,
-    run: (task: Task<Input<D, S>, Results<D, S>, null>) => Results<D, S>[P] | Promise<Results<D, S>[P]>,
+    run: (task: Task<Input<D, S>, Results<D, S>, null, Item<D, S, P>>) => Returned<D, S, P> | Promise<Returned<D, S, P>>,
   ): this;
   /** Declares the function that undoes a step. Its task has the step's `result`. */
   compensation<S extends Name<D>, P extends Name<Results<D, S>>>(
-    saga: S, step: P, run: (task: Task<Input<D, S>, Results<D, S>, Results<D, S>[P]>) => unknown,
+    saga: S, step: P, run: (task: Task<Input<D, S>, Results<D, S>, Returned<D, S, P>, Item<D, S, P>>) => unknown,
   ): this;
   /**
    * Works until `stop`, or until `signal` is aborted; then running functions end and are reported.

@@ -70,7 +70,8 @@ const WORDS = {
 function play(worker, quiet) {
   return (task) => {
     const { name, key, step, isCompensation: undo, attempt, idempotencyKey: idempotency_key, results, result, input, traceparent } = task;
-    if (!quiet) say({ note: "called", worker, name, key, step, undo, attempt, idempotency_key, results, result, traceparent });
+    const { declaredStep: declared_step, index, itemKey: item_key, item, given } = task;
+    if (!quiet) say({ note: "called", worker, name, key, step, undo, attempt, idempotency_key, results, result, traceparent, declared_step, index, item_key, item, given });
     const script = input?.script;
     if (!script) return WORDS.echo(worker, task);
     const place = undo ? `${step}/undo` : step;
@@ -138,7 +139,7 @@ const COMMANDS = {
     const logger = { warn: (text) => process.stderr.write(`${name}: ${text}\n`) };
     const one = new Worker(url, { token: token ?? undefined, concurrency, lease, wait, name, logger });
     for (const step of steps) {
-      const [saga, of, undo] = step.split("/");
+      const [, saga, of, undo] = step.match(/^([^/]+)\/(.+?)(\/undo)?$/);
       one[undo ? "compensation" : "step"](saga, of, act ? actAt(act) : play(name, quiet));
     }
     const ended = one.run();

@@ -17,6 +17,7 @@ const LOOK = 0.5; // seconds after which tasks that do not begin are given back;
 const LATE = 40; // seconds that an answer may take beyond the wait
 const HEARTBEAT = 10; // seconds that a heartbeat may take
 const WORD = /^[a-z][a-z0-9_-]{0,31}$/;
+const PATH = /^[a-z][a-z0-9_-]{0,31}(\/[a-z][a-z0-9_-]{0,31}){0,8}$/; // a step, also of an included saga: `hotel/room`
 
 const between = (what, value, least, most) => {
   if (typeof value !== "number" || !(value >= least && value <= most)) throw new InvalidArgument(`${what}: it is a number from ${least} to ${most}`);
@@ -69,8 +70,8 @@ export class Worker {
   }
 
   #declare(word, names, run) {
-    for (const one of names) {
-      if (!WORD.test(one)) throw new InvalidArgument(`${JSON.stringify(one)}: a name has 1 to 32 of a-z, 0-9, _ and -, and begins with a letter`);
+    for (const [place, one] of names.entries()) {
+      if (!(place ? PATH : WORD).test(one)) throw new InvalidArgument(`${JSON.stringify(one)}: a name has 1 to 32 of a-z, 0-9, _ and -, and begins with a letter`);
     }
     if (typeof run !== "function") throw new InvalidArgument(`${word}: pass a function of the task`);
     if (this.#functions.has(word)) throw new InvalidArgument(`${word} is declared twice. Remove one of the declarations`);

@@ -67,3 +67,26 @@ async function plan(): Promise<string | undefined> {
 }
 
 void [call, plan];
+
+interface Order {
+  input: { parcels: Record<string, { to: string }> };
+  items: { ship: { to: string }; "box/pack": number };
+  results: { ship: Record<string, { number: string }>; "box/pack": boolean[]; mail: number };
+}
+
+new Worker<{ order: Order }>("http://127.0.0.1:8080")
+  .step("order", "ship", (task) => ({ number: `${task.item.to} ${task.index?.toFixed()} ${task.itemKey?.length}` }))
+  .compensation("order", "ship", (task) => task.result.number + task.item.to)
+  .step("order", "box/pack", (task) => task.item > 3 && task.declaredStep !== "box/pack")
+  .step("order", "mail", (task) => {
+    const sent: string | undefined = task.results.ship?.["a b"]?.number;
+    const packed: boolean | undefined = task.results["box/pack"]?.[0];
+    const none: null = task.item;
+    return sent && packed && !none ? 1 : 0;
+  })
+  // @ts-expect-error: the item has another type
+  .step("order", "ship", (task) => ({ number: task.item.from }))
+  // @ts-expect-error: the result of an item has another type
+  .step("order", "ship", () => ({ number: 7 }));
+
+new Worker("http://127.0.0.1:8080").step("any", "step", (task) => task.item.anything + task.results.step.anything);

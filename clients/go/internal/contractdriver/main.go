@@ -282,9 +282,10 @@ func (d *driver) work(ctx context.Context, c command) error {
 		return err
 	}
 	for _, word := range c.Steps {
-		parts := strings.Split(word, "/")
-		if len(parts) == 3 {
-			sagas.Compensation(worker, parts[0], parts[1], func(ctx context.Context, task sagas.CompensationTask[json.RawMessage, json.RawMessage]) error {
+		saga, step, _ := strings.Cut(word, "/")
+		if strings.HasSuffix(step, "/undo") {
+			step = strings.TrimSuffix(step, "/undo")
+			sagas.Compensation(worker, saga, step, func(ctx context.Context, task sagas.CompensationTask[json.RawMessage, json.RawMessage]) error {
 				if c.Act != "" {
 					_, err := act(c.Act, task.Task, true, task.Result, task.OriginalIdempotencyKey)
 					return err
@@ -293,7 +294,7 @@ func (d *driver) work(ctx context.Context, c command) error {
 				return err
 			})
 		} else {
-			sagas.Step(worker, parts[0], parts[1], func(ctx context.Context, task sagas.Task[json.RawMessage]) (any, error) {
+			sagas.Step(worker, saga, step, func(ctx context.Context, task sagas.Task[json.RawMessage]) (any, error) {
 				if c.Act != "" {
 					return act(c.Act, task, false, nil, "")
 				}
@@ -337,8 +338,18 @@ func (d *driver) perform(ctx context.Context, c command, task sagas.Task[json.Ra
 		suffix = "/undo"
 	}
 	if !c.Quiet {
+		var index, itemKey any
+		item, _ := sagas.Item[any](task)
+		given, _ := sagas.Given[any](task)
+		if task.Index >= 0 {
+			index = task.Index
+		}
+		if task.ItemKey != "" {
+			itemKey = task.ItemKey
+		}
 		say(object{
-			"note": "called", "worker": c.Worker, "name": task.Saga + "/" + task.Step + suffix, "key": task.Key,
+			"declared_step": task.DeclaredStep, "index": index, "item_key": itemKey, "item": item, "given": given,
+			"note": "called", "worker": c.Worker, "name": task.Saga + "/" + task.DeclaredStep + suffix, "key": task.Key,
 			"step": task.Step, "undo": undo, "attempt": task.Attempt, "idempotency_key": task.IdempotencyKey,
 			"results": task.Results(), "result": result, "traceparent": traced(task.Traceparent),
 		})
