@@ -1,0 +1,94 @@
+"""What a node's record costs: processor time of a node over PostgreSQL, without and with a record, in turns.
+
+    PYTHONPATH=python/src python3 bench/record.py [--turns N] [--at 1,16,256] [--sagas N]
+
+One program has two stores open over one server, of which one has a record. It runs sagas of three steps, so many at once, in the one store and then in the
+other, and compares the processor time of each two turns, of the system too. In odd turns the store with the record is first.
+"""
+
+from __future__ import annotations
+
+import argparse
+import asyncio
+import pathlib
+import statistics
+import sys
+import tempfile
+import time
+
+sys.path.insert(0, str(pathlib.Path(__file__).resolve().parents[1] / "python" / "tests"))
+
+from server import Server, serving  # noqa: E402
+
+import sagas  # noqa: E402
+
+NAMES = ("no record", "a record")
+
+
+def three() -> sagas.Saga:
+    """Three steps in a row, each of which does nothing."""
+    kind = sagas.Saga("three")
+
+    async def work(task: sagas.Task[object]) -> None:
+        ...
+
+    first = kind.step(name="a")(work)
+    second = kind.step(name="b", needs=[first])(work)
+    kind.step(name="c", needs=[second])(work)
+    return kind
+
+
+async def some(store: sagas.Store, kind: sagas.Saga, name: str, at: int, count: int) -> float:
+    """Milliseconds of the processor a saga, of so many, so many at once."""
+
+    async def one(lane: int) -> None:
+        for number in range(count // at):
+            assert (await (await store.start(kind, f"{name}-{lane}-{number}")).wait()).ok
+
+    began = time.process_time()
+    await asyncio.gather(*(one(lane) for lane in range(at)))
+    return 1000 * (time.process_time() - began) / (count // at * at)
+
+
+async def turns(server: Server, at: int, count: int, number: int) -> dict[str, list[float]]:
+    """The times of each store, turn by turn."""
+    found: dict[str, list[float]] = {name: [] for name in NAMES}
+    with tempfile.TemporaryDirectory() as folder:
+        files = {"no record": None, "a record": pathlib.Path(folder) / "record"}
+        kinds = {name: three() for name in NAMES}
+        opened = {name: sagas.open(server.create(), [kinds[name]], concurrency=max(16, at), record=files[name], lease=600) for name in NAMES}
+        async with opened["no record"], opened["a record"]:
+            for turn in range(-1, number):
+                for name in NAMES if turn % 2 == 0 else NAMES[::-1]:
+                    took = await some(opened[name], kinds[name], f"t{turn}", at, count)
+                    if turn >= 0:  # the first one warms it up
+                        found[name].append(took)
+    return found
+
+
+def row(what: str, values: list[float], unit: str) -> None:
+    """Prints a row: the median, the lowest and the highest value."""
+    cells = ",".join(f"{one:.4f}" for one in (statistics.median(values), min(values), max(values)))
+    print(f"{what},{cells},{unit}", flush=True)
+
+
+def main() -> None:
+    """The command."""
+    parser = argparse.ArgumentParser(description=__doc__, formatter_class=argparse.RawDescriptionHelpFormatter)
+    parser.add_argument("--turns", type=int, default=30)
+    parser.add_argument("--at", default="1,16,256")
+    parser.add_argument("--sagas", type=int, default=256, help="of a turn; an eighth of that where one is open")
+    words = parser.parse_args()
+    with serving({"fsync": "off"}) as server:
+        print("measurement,condition,median,low,high,unit")
+        for at in map(int, words.at.split(",")):
+            count = words.sagas if at > 1 else max(1, words.sagas // 8)
+            found = asyncio.run(turns(server, at, count, words.turns))
+            for name, times in found.items():
+                row(f"processor time of a node,{at} open; {name}", times, "ms a saga")
+            ratios = [one / other for one, other in zip(found["a record"], found["no record"])]
+            row(f"a record compared with none,{at} open", ratios, "times")
+
+
+if __name__ == "__main__":
+    main()

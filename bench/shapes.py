@@ -1,0 +1,171 @@
+"""What a definition of its own costs: sagas whose steps come from their input, each with another definition, beside fixed sagas of as many steps.
+
+    PYTHONPATH=python/src /usr/bin/python3 bench/shapes.py [--turns N] [--at 64] [--sagas N] [--definitions 64,128] [--store sqlite|postgresql]
+
+needs the package's program (`SAGAS_PROGRAM`, or dist/sagas); for PostgreSQL also psycopg and Debian's postgresql, of which it starts a server of its
+own. A saga has a first step, one to five items that need it, and a last step that needs all items; none does anything. The fixed ones are five
+sagas, one for each number of items. The others are one saga with `for_each=`, whose last step has a cost that comes from the input, which is
+another one for each. Each turn runs both, each over an empty store; in odd turns the fixed ones are second. `--definitions`: how many definitions a
+shard takes, instead of what it does.
+"""
+
+from __future__ import annotations
+
+import argparse
+import asyncio
+import contextlib
+import pathlib
+import statistics
+import sys
+import tempfile
+import time
+from collections.abc import Iterator
+from typing import Any, NamedTuple
+
+sys.path.insert(0, str(pathlib.Path(__file__).resolve().parents[1] / "python" / "tests"))
+
+from server import Server, serving  # noqa: E402
+
+import sagas  # noqa: E402
+from sagas.core import shard_definitions  # noqa: E402
+from sagas.runtime import shard_parts  # noqa: E402
+
+FIXED, OWN = "fixed", "a definition of its own"
+MOST_ITEMS = 5
+WARM = 10
+"""So many sagas run before those that are timed."""
+
+
+class Turn(NamedTuple):
+    """What a run took.
+
+    Attributes:
+        rate: Sagas a second.
+        cpu: Microseconds of the Python process, a saga.
+        engines: Engines that were started, a thousand sagas.
+    """
+
+    rate: float
+    cpu: float
+    engines: float
+
+
+class Engines:
+    """Counts the engines that are started."""
+
+    started = 0
+
+    class Counted(shard_parts.EngineProcess):
+        """One of them."""
+
+        def __init__(self, *words: Any) -> None:
+            Engines.started += 1
+            super().__init__(*words)
+
+
+async def nothing(task: sagas.Task[Any]) -> None:
+    """A step that has nothing to do."""
+
+
+def fixed(items: int) -> sagas.Saga:
+    """A saga of so many items, each a step that is declared."""
+    saga = sagas.Saga(f"fixed{items}")
+    first = saga.step(name="first", undo=0)(nothing)
+    needs = [saga.step(name=f"item-{item}", needs=[first], undo=0)(nothing) for item in range(items)]
+    saga.step(name="last", needs=needs, undo=0)(nothing)
+    return saga
+
+
+def own() -> sagas.Saga:
+    """The same, of which the input says how many items there are, and what the last step costs."""
+    saga = sagas.Saga("own")
+    first = saga.step(name="first", undo=0)(nothing)
+    item = saga.step(name="item", for_each="items", needs=[first], undo=0)(nothing)
+    saga.step(name="last", needs=[item], undo=0, skip=lambda given: given["number"])(nothing)
+    return saga
+
+
+def kinds(way: str) -> list[sagas.Saga]:
+    """The sagas of a way, by the number of items less one."""
+    return [own()] * MOST_ITEMS if way == OWN else [fixed(1 + items) for items in range(MOST_ITEMS)]
+
+
+async def turn(place: str, way: str, at: int, count: int) -> Turn:
+    """So many sagas from their start to their end, so many at once."""
+    of = kinds(way)
+    async with sagas.open(place, [*dict.fromkeys(of)], concurrency=max(16, at)) as store:
+
+        async def lane(numbers: Iterator[int]) -> None:
+            for number in numbers:
+                items = number % MOST_ITEMS
+                given = {"items": [0] * (1 + items), "number": number}
+                assert (await (await store.start(of[items], f"k{number}", given)).wait()).ok
+
+        numbers = iter(range(WARM + count))
+        await asyncio.gather(*(lane(iter([next(numbers)])) for _ in range(WARM)))
+        engines, cpu, began = Engines.started, time.process_time(), time.perf_counter()
+        await asyncio.gather(*(lane(numbers) for _ in range(at)))
+        took, cpu = time.perf_counter() - began, time.process_time() - cpu
+    return Turn(count / took, cpu / count * 1e6, (Engines.started - engines) * 1000 / count)
+
+
+@contextlib.contextmanager
+def empty(server: Server | None) -> Iterator[str]:
+    """An empty store: a file, or a database."""
+    if server is None:
+        with tempfile.TemporaryDirectory(prefix="sagas-bench-") as folder:
+            yield f"{folder}/sagas.db"
+    else:
+        url = server.create()
+        yield url
+        server.drop(url)
+
+
+def measure(server: Server | None, words: argparse.Namespace) -> None:
+    """Both ways over one kind of store, for each number of definitions."""
+    name = "SQLite" if server is None else "PostgreSQL"
+    for most in map(int, words.definitions.split(",")):
+        shard_definitions.MOST_DEFINITIONS = most
+        found: dict[str, list[Turn]] = {FIXED: [], OWN: []}
+        for number in range(words.turns):
+            for way in (FIXED, OWN) if number % 2 == 0 else (OWN, FIXED):
+                with empty(server) as place:
+                    found[way].append(asyncio.run(turn(place, way, words.at, words.sagas)))
+        where = f"{words.at} open; {name}; up to {most} definitions a shard"
+        for way, turns in found.items():
+            row(f"{way},{where}", [one.rate for one in turns], "sagas a second", 0)
+        rates = [one.rate / other.rate for one, other in zip(found[OWN], found[FIXED])]
+        row(f"own compared with fixed,{where}", rates, "times", 2)
+        for way, turns in found.items():
+            row(f"processor time of Python: {way},{where}", [one.cpu for one in turns], "us a saga", 0)
+        for way, turns in found.items():
+            row(f"engines: {way},{where}", [one.engines for one in turns], "a thousand sagas", 1)
+
+
+def row(what: str, values: list[float], unit: str, digits: int) -> None:
+    """Prints a row: the median, the lowest and the highest value."""
+    cells = (statistics.median(values), min(values), max(values))
+    print(",".join([what, *(f"{one:.{digits}f}" for one in cells), unit]), flush=True)
+
+
+def main() -> None:
+    """The command."""
+    parser = argparse.ArgumentParser(description=__doc__, formatter_class=argparse.RawDescriptionHelpFormatter)
+    parser.add_argument("--turns", type=int, default=5)
+    parser.add_argument("--at", type=int, default=64)
+    parser.add_argument("--sagas", type=int, default=600, help="of a turn")
+    parser.add_argument("--definitions", default=str(shard_definitions.MOST_DEFINITIONS))
+    parser.add_argument("--store", choices=["sqlite", "postgresql"], action="append")
+    words = parser.parse_args()
+    shard_parts.EngineProcess = Engines.Counted  # type: ignore[misc]
+    print("measurement,condition,median,low,high,unit")
+    stores = words.store or ["sqlite", "postgresql"]
+    if "sqlite" in stores:
+        measure(None, words)
+    if "postgresql" in stores:
+        with serving() as server:
+            measure(server, words)
+
+
+if __name__ == "__main__":
+    main()
