@@ -214,6 +214,10 @@ def named(name, saga):
     return {"do": "open", "name": name, "saga": saga}
 
 
+def defining(text):
+    return {"definition": text, "do": "define"}
+
+
 def event(word, saga, step=None, phase="going"):
     return {"event": {"event": word, "saga": saga} | ({} if step is None else {"step": step}), "phase": phase}
 
@@ -458,7 +462,7 @@ def converse(state, name, definitions, pairs):
 
 # The keys of each request, those that it may have besides, and the bounds of numbers.
 KEYS = {"open": [], "next": [], "take": ["saga"], "report": ["outcome", "saga", "step"], "abort": ["saga"], "show": ["saga"], "busy": []}
-KEYS |= {"ready": [], "list": [], "status": []}
+KEYS |= {"ready": [], "list": [], "status": [], "define": ["definition"]}
 OPTIONAL = {"open": ["def", "name", "saga"], "next": ["most"], "take": ["step"], "report": ["attempt", "task"]}
 OPTIONAL |= {"ready": ["from"], "list": ["from", "phase"]}
 BOUNDS = {"def": 2**32, "saga": 2**32, "from": 2**32, "step": 65536, "attempt": 65536, "most": 1001}
@@ -469,7 +473,7 @@ def is_of_type(key, value):
     """Whether a request may have this value at a key."""
     if key in WORDS:
         return value in WORDS[key]
-    if key == "name":
+    if key in ("name", "definition"):
         return isinstance(value, str)
     return type(value) is int and (key == "most") <= value < BOUNDS[key]
 
@@ -495,14 +499,14 @@ def hostile(state):
     """Each prefix of each request, each request with one byte changed, and objects of random keys and values, in their usual spelling and in
     another one: the fault that has to come."""
     draw = random.Random(state.seed)
-    asked = [named("a", 0), many(64), report(0, 0, "ok", task("run", 0, 0, "a")), BUSY, {"do": "ready", "from": 0}, {"do": "list", "phase": "stuck"}, {"do": "status"}]
+    asked = [named("a", 0), many(64), report(0, 0, "ok", task("run", 0, 0, "a")), BUSY, {"do": "ready", "from": 0}, {"do": "list", "phase": "stuck"}, {"do": "status"}, defining("x")]
     shortest = [written(request).encode() for request in (opening(0), opening(0) | {"saga": 0}, NEXT, report(0, 0, "ok"), aborting(0), shown(0), *asked)]
     lines = [text[:place] for text in shortest for place in range(len(text))]
     lines += [text[:place] + byte + text[place + 1 :] for text in shortest for place in range(len(text)) for byte in (b"\0", b"\xff", b"}")]
     values = [0, 1, 3, 65535, 65536, 2**32 - 1, 2**32, -1, 1.5, "ok", "fail", "run", "going", "0", "", None, True, [], {}, {"do": "next"}]
     for _ in range(2000):
         word = draw.choice([*KEYS, *KEYS, "close", 7])
-        others = ["def", "name", "saga", "step", "outcome", "task", "attempt", "most", "from", "phase", "x"]
+        others = ["def", "definition", "name", "saga", "step", "outcome", "task", "attempt", "most", "from", "phase", "x"]
         keys = [*KEYS.get(word, []), *OPTIONAL.get(word, []), *draw.sample(others, draw.choice([0, 0, 0, 1]))]
         pairs = [("do", word)] + [(key, draw.choice(values)) for key in keys if draw.random() < 0.9]
         draw.shuffle(pairs)
@@ -724,6 +728,8 @@ def random_request(draw, book):
         return random_report(draw, book)
     if number < 0.93:
         return aborting(draw.randrange(sagas + 1))
+    if number < 0.95:
+        return defining(draw.choice(["x", "", 'format = 1\nname = "more"\nstep = [{ name = "x" }]\n']))
     return draw.choice([b"{\n", b'{"do":"close"}\n', b'{"do":"open","def":0,"x":1}\n', b'{"do":"next","most":0}\n'])
 
 
@@ -793,31 +799,53 @@ def ran_with_lines(state, definitions, text, begun=None):
     return run.returncode, lines, b"".join(line for line in printed if not line.startswith(b"+")), run.stderr
 
 
+def drawn_lines(draw, book, driven, added):
+    """Random requests as lines, each with its reply if it asks for a definition. Such a request puts the next of the added definitions on
+    the shelf, or has a fault if there is no next one. The drive has these definitions from the start, and is asked the other requests."""
+    asked, coming = [], list(added)
+    while len(asked) < 100:
+        request = defining("") if draw.random() < 0.04 else random_request(draw, book)
+        if isinstance(request, bytes):
+            asked.append((request, None))
+        elif request["do"] == "define":
+            request = defining(coming.pop(0).read_text(encoding="utf-8") if coming else "x")
+            asked.append((line_of(request), book.replied(request, {})))
+        elif request.get("def", 0) < len(book.definitions):
+            book.replied(request, driven.ask(request))
+            asked.append((line_of(request), None))
+    return asked
+
+
+def with_places(asked, replies, more):
+    """The replies to all requests: those to the others, and those to requests for a definition, over a shelf with so many more."""
+    others = iter(replies.splitlines(True))
+    return b"".join(next(others) if reply is None else line_of(reply | {"def": reply["def"] + more}) for _, reply in asked)
+
+
 def lines_of_a_conversation(state, seed):
     """Random requests: with lines they have the replies and the log that they have with a file, from nothing and from each of some
-    beginnings of the log."""
+    beginnings of the log. A definition that a request puts on the shelf serves as one that was there from the start."""
     draw = random.Random(seed)
     name, log = f"lines {seed}", state.folder / f"lines{seed}"
     definitions = state.defined(*draw.sample(["trip", "order", "server", "licence", "pair"], 2))
-    book, asked = follower.Book(definitions), []
-    driven = Driven(state, definitions, log)
-    for _ in range(100):
-        request = random_request(draw, book)
-        if not isinstance(request, bytes):
-            book.replied(request, driven.ask(request))
-        asked.append(line_of(request))
+    added = [random_definition(draw, state.folder / f"lines{seed}.{place}.toml") for place in range(3)]
+    longer = [*definitions, *added]
+    driven = Driven(state, longer, log)
+    asked = drawn_lines(draw, follower.Book(definitions, grows=True), driven, added)
     state.expect(f"{name}: the end", driven.end(), (0, ""))
-    text, whole = b"".join(asked), whole_lines(log)
+    text, whole = b"".join(line for line, _ in asked), whole_lines(log)
+    others = b"".join(line for line, reply in asked if reply is None)
     for count in [None, 0, 1, draw.randrange(1, len(whole)), len(whole)]:
         begun = None if count is None else b"".join(whole[:count])
+        shelf = longer if begun else definitions
         file = state.folder / f"lines{seed}.{count}"
         file.write_bytes(begun or b"")
-        status, replies, said = state.ran(definitions, file, text)
+        status, replies, said = state.ran(longer, file, others)
         left = begun or b""
         if said:  # a plan that its last line begins is made anew
             left = b"".join(whole[: count - 1])
-        wanted = (status, file.read_bytes().removeprefix(left), replies, said)
-        state.expect(f"{name}: from {count} lines", ran_with_lines(state, definitions, text, begun), wanted)
+        wanted = (status, file.read_bytes().removeprefix(left), with_places(asked, replies, len(shelf) - len(definitions)), said)
+        state.expect(f"{name}: from {count} lines", ran_with_lines(state, shelf, text, begun), wanted)
     return 5 * len(asked)
 
 

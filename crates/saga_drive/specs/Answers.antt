@@ -20,6 +20,7 @@ use Rattle.saga_core.specs.Tasks.{AllAreOver, IsFirstTask, MayStart, NoTaskIsAll
 use Rattle.saga_core.specs.declared.refusals.OpenRefusal.TheVariants as opening
 use Rattle.saga_core.specs.declared.refusals.SagaRefusal.TheVariants as saga
 use Rattle.saga_log.specs.Logs.{event_line}
+use Rattle.saga_logged.specs.BookLog.{IsBookLog}
 use Rattle.saga_drive.specs.declared.attempts.Attempt.{Attempt}
 use Rattle.saga_drive.specs.declared.openings.Wanted.{Wanted}
 use Rattle.saga_views.specs.Busy.{busy_text}
@@ -31,6 +32,8 @@ use Rattle.saga_drive.specs.declared.replies.Reply.{Reply}
 use Rattle.saga_drive.specs.declared.requests.Request.{Request}
 use Rattle.saga_drive.specs.declared.requests.Request.TheVariants as request
 use Rattle.saga_drive.specs.declared.requests.RequestFault.{RequestFault}
+use Rattle.saga_drive.specs.declared.responses.Response.{Response}
+use Rattle.saga_drive.specs.declared.responses.Response.TheVariants as response
 use Rattle.saga_drive.specs.Attempts.{IsMeant, IsNotTaken, IsOtherAttempt, number_of}
 use Rattle.saga_drive.specs.Starts.{AreReadBack, Starts, after, task_of}
 use Rattle.saga_drive.specs.Many.{TakesMany}
@@ -143,6 +146,7 @@ Meets book request.Busy = IsSaid (busy_text book)
 Meets book (request.Ready from) = Tells (TellsReady book from)
 Meets book (request.Sagas from phase) = Tells (TellsList book from phase)
 Meets book request.Status = Tells (TellsStatus book)
+Meets book (request.Define text) = IsRefusal (codes "fixed-shelf")
 
 -- ---- the room of the log
 
@@ -196,3 +200,24 @@ pub record LacksMemory (old new : Book) (reply : Reply) : Type 0 where
 abbrev pub IsAnswer : Book → Book → ℕ → List ℕ → Reply → Type 0
 IsAnswer old new room line reply =
     ((read : Result Request RequestFault) × ReadsRequest line read × IsReplied old new room read reply) ⊎ LacksMemory old new reply
+
+-- ---- over a shelf that may grow
+
+-- the shelf stays as it is, and so does the numbering
+abbrev pub KeepsShelf : Book → Book → Type 0
+KeepsShelf old new = new ≡ record old { history = new.history }
+
+-- the line asks that the definition of a text is put on the shelf
+abbrev pub Defines : List ℕ → List ℕ → Type 0
+Defines line text = ReadsRequest line (Ok (request.Define text))
+
+-- the answer to a line that asks for no definition, want of memory apart; or the text of one, and nothing happened
+abbrev pub IsResponse : Book → Book → ℕ → List ℕ → Response → Type 0
+IsResponse old new room line (response.Reply reply) =
+    IsAnswer old new room line reply × ((text : List ℕ) → Defines line text → text_of reply ≡ fault_text memory_word)
+IsResponse old new room line (response.Define text) = (new ≡ old) × Defines line text
+
+-- with the lines of the reply the log of the one book is the log of the other
+abbrev pub LogsReply : Book → Book → Response → Type 0
+LogsReply old new (response.Reply reply) = (l : List ℕ) → IsBookLog old l → IsBookLog new (l ++ lines_of reply)
+LogsReply old new (response.Define text) = (l : List ℕ) → IsBookLog old l → IsBookLog new l

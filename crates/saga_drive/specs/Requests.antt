@@ -18,7 +18,7 @@ use Rattle.saga_drive.specs.declared.requests.Request.{Request}
 use Rattle.saga_drive.specs.declared.requests.Request.TheVariants as request
 use Rattle.saga_drive.specs.declared.requests.RequestFault.{RequestFault}
 use Rattle.saga_drive.specs.declared.requests.RequestFault.TheVariants.{TooLong, Form}
-use Rattle.saga_drive.specs.Fields.{attempt_of, most_of, u32_if, wanted_of}
+use Rattle.saga_drive.specs.Fields.{attempt_of, bytes_of, most_of, u32_if, wanted_of}
 use Rattle.saga_drive.specs.Verbs.{verb_named, keys_of, optional_keys_of}
 
 -- in bytes
@@ -99,6 +99,9 @@ fields_of verb.Sagas value = do
   from ← from_of value
   sagas_of from value
 fields_of verb.Status value = Ok request.Status
+fields_of verb.Define value = do
+  text ← at_key bytes_of (codes "definition") value
+  Ok (request.Define text)
 
 unfoldable pub request_of_verb : Verb → Data → Result Request JsonFault
 request_of_verb verb value = do

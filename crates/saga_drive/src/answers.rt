@@ -1,12 +1,12 @@
 //! Answers: a request is met, and the reply tells what happened.
 //!
 //! What will be told is written before it happens, so where memory lacks, nothing has happened.
-ghost use Rattle.std.specs.Prelude.{◌≡◌, ◌≤◌, ◌-◌, ◌++◌, ℕ, List, IfOk, MatchOption, OnErr, length};
+ghost use Rattle.std.specs.Prelude.{◌≡◌, ◌≤◌, ◌-◌, ◌⊎◌, ◌++◌, ℕ, List, IfOk, MatchOption, OnErr, length};
 ghost use Rattle.saga_history.specs.declared.tasks.Task.TheVariants as task;
 ghost use Rattle.saga_core.specs.Tasks.{MayStart, NoTaskIsAllowed};
 ghost use Rattle.saga_logged.specs.BookLog.{IsBookLog};
 ghost use Rattle.saga_drive.specs.Replies.{lines_of};
-ghost use Rattle.saga_drive.specs.Answers.{IsAnswer, IsDone, IsMet, IsOpened};
+ghost use Rattle.saga_drive.specs.Answers.{IsAnswer, IsDone, IsMet, IsOpened, IsResponse, KeepsShelf, LacksMemory, LogsReply};
 ghost use Rattle.saga_drive.specs.Room.{IsEnough};
 ghost use Rattle.saga_drive.specs.Starts.{task_of};
 ghost use Rattle.saga_drive.specs.declared.requests.Request.TheVariants as request;
@@ -18,6 +18,7 @@ use crate::questions::{busy, ready, sagas, show, status};
 use crate::replies::{Reply, out_of_memory, reply_of_idle, reply_to_fault};
 use crate::reports::report;
 use crate::requests::{Request, read_request};
+use crate::responses::Response;
 use crate::room::has_room;
 use crate::starts::{plan_case, start_next, start_step};
 use crate::tellings::Telling;
@@ -170,6 +171,17 @@ fn meet(
         Request::Ready(from) => ready(alloc, book, from),
         Request::Sagas { from, phase } => sagas(alloc, book, from, phase),
         Request::Status => status(alloc, book),
+        Request::Define(_) => Ok(Reply::Refusal("{\"refused\":\"fixed-shelf\"}\n")),
+    }
+}
+
+/// A request is met, or memory lacks.
+fn reply_to(alloc: Global, book: &mut Book<'_>, room: u64, request: Request) -> Reply
+    ensures { IsDone book.old book.new room request result ⊎ LacksMemory book.old book.new result }
+{
+    match meet(alloc, book, room, request) {
+        Ok(reply) => reply,
+        Err(AllocError) => out_of_memory(),
     }
 }
 
@@ -177,13 +189,23 @@ fn meet(
 fn answer_to(alloc: Global, book: &mut Book<'_>, room: u64, line: &[u8]) -> Reply
     ensures { IsAnswer book.old book.new room line.now result }
 {
+    match read_request(alloc, line) {
+        Ok(request) => reply_to(alloc, book, room, request),
+        Err(fault) => reply_to_fault(fault),
+    }
+}
+
+/// What a line of input asks is done, or the reply says why not; but for a definition that is to be put on the shelf.
+fn response_to(alloc: Global, book: &mut Book<'_>, room: u64, line: &[u8]) -> Response
+    ensures { IsResponse book.old book.new room line.now result }
+{
     let request = match read_request(alloc, line) {
         Ok(request) => request,
-        Err(fault) => return reply_to_fault(fault),
+        Err(fault) => return Response::Reply(reply_to_fault(fault)),
     };
-    match meet(alloc, book, room, request) {
-        Ok(reply) => reply,
-        Err(AllocError) => out_of_memory(),
+    match request {
+        Request::Define(text) => Response::Define(text),
+        request => Response::Reply(reply_to(alloc, book, room, request)),
     }
 }
 
@@ -200,6 +222,7 @@ fn answer_to(alloc: Global, book: &mut Book<'_>, room: u64, line: &[u8]) -> Repl
 /// the sagas (`busy`, `ready`, `list`, `status`), and for `show`, which goes back over the events to the saga's last answer.
 pub fn answer(alloc: Global, book: &mut Book<'_>, room: u64, line: &[u8]) -> Reply
     ensures answer { IsAnswer book.old book.new room line.now result }
+    ensures shelf { KeepsShelf book.old book.new }
     ensures log { (l : List ℕ) → IsBookLog book.old l → IsBookLog book.new (l ++ lines_of result) }
     ensures keeps { IsEnough book.old room → (length (lines_of result) ≤ room) × IsEnough book.new (room - length (lines_of result)) }
 {
@@ -209,4 +232,18 @@ pub fn answer(alloc: Global, book: &mut Book<'_>, room: u64, line: &[u8]) -> Rep
     // it is legal
     let _history = book.history();
     reply
+}
+
+/// The answer to a line of input over a shelf that may grow: as [`answer`] gives it, but for a line that asks that a definition is put
+/// on the shelf. There nothing happens, and its text is handed back: whoever owns the shelf reads it, and goes on with a longer one.
+pub fn respond(alloc: Global, book: &mut Book<'_>, room: u64, line: &[u8]) -> Response
+    ensures response { IsResponse book.old book.new room line.now result }
+    ensures shelf { KeepsShelf book.old book.new }
+    ensures log { LogsReply book.old book.new result }
+{
+    let _before = book.history();
+    let response = response_to(alloc, book, room, line);
+    // it is legal
+    let _history = book.history();
+    response
 }

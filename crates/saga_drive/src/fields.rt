@@ -35,7 +35,7 @@ pub fn u32_if(value: &Value, key: &str) -> Result<Option<u32>, JsonFault>
 }
 
 /// A text of its own.
-fn name_of(alloc: Global, value: &Value) -> Result<Text, JsonFault>
+pub fn bytes_of(alloc: Global, value: &Value) -> Result<Text, JsonFault>
     ensures { Gives (λ t. t) result (spec.bytes_of (view value.now)) }
 {
     match value {
@@ -49,7 +49,7 @@ pub fn wanted_of(alloc: Global, value: &Value) -> Result<Wanted, JsonFault>
     ensures { Gives (λ w. w) result (spec.wanted_of (view value.now)) }
 {
     if !has(value, "def") {
-        return Ok(Wanted::Name(name_of(alloc, value_at(value, "name")?)?));
+        return Ok(Wanted::Name(bytes_of(alloc, value_at(value, "name")?)?));
     }
     if has(value, "name") {
         return Err(JsonFault::UnknownKey);

@@ -6,10 +6,11 @@ ghost use Rattle.saga_json.specs.Reads.{Gives};
 ghost use Rattle.saga_drive.specs.Requests as spec;
 
 use crate::attempts::Attempt;
-use crate::fields::{attempt_of, has, most_of, u32_if, wanted_of};
+use crate::fields::{attempt_of, bytes_of, has, most_of, u32_if, wanted_of};
 use crate::openings::Wanted;
 use crate::plain::plain_request;
 use crate::verbs::Verb;
+use saga_def::Text;
 use saga_history::{Outcome, Phase};
 use saga_json::{JsonFault, check_keys, text_at, u16_at, u32_at, value_at, value_of_text};
 use serde_json::Value;
@@ -58,6 +59,8 @@ pub enum Request {
     },
     /// Tell how the book stands as a whole.
     Status,
+    /// Put the definition of a text on the shelf.
+    Define(Text),
 }
 
 /// Why a line is no request.
@@ -187,6 +190,7 @@ fn fields_of(alloc: Global, verb: Verb, value: &Value) -> Result<Request, JsonFa
         Verb::Ready => Ok(Request::Ready(from_of(value)?)),
         Verb::Sagas => sagas_of(from_of(value)?, value),
         Verb::Status => Ok(Request::Status),
+        Verb::Define => Ok(Request::Define(bytes_of(alloc, value_at(value, "definition")?)?)),
     }
 }
 

@@ -15,6 +15,7 @@ pub enum Verb {
     Ready,
     Sagas,
     Status,
+    Define,
 }
 
 impl Verb {
@@ -33,6 +34,7 @@ impl Verb {
             "ready" => Some(Verb::Ready),
             "list" => Some(Verb::Sagas),
             "status" => Some(Verb::Status),
+            "define" => Some(Verb::Define),
             _ => None,
         }
     }
@@ -46,6 +48,7 @@ impl Verb {
             Verb::Take | Verb::Abort | Verb::Show => &["do", "saga"],
             Verb::Open | Verb::Next | Verb::Busy => &["do"],
             Verb::Ready | Verb::Sagas | Verb::Status => &["do"],
+            Verb::Define => &["do", "definition"],
         }
     }
 

@@ -1,67 +1,77 @@
--- The result of a conversation: which replies are written to what has arrived.
-use Rattle.std.specs.Prelude.{◌≡◌, ◌⊎◌, ℕ, ◌+◌, ◌-◌, Bool, true, List, [], ◌∷◌, ◌++◌, Result, Ok, Err, length, take}
+-- What a conversation comes to: what has arrived, and what is told of it.
+use Rattle.std.specs.Prelude.{◌≡◌, ◌≢◌, ◌⊎◌, ℕ, ◌+◌, ◌-◌, Bool, true, false, List, [], ◌∷◌, ◌++◌, Option, Some, None, Result, Ok, Err, length, string_bytes, take}
 use Rattle.saga_bytes.proofs.LineLemmas.{has_no_feed}
 use Rattle.saga_core.specs.Book.{Book}
 use Rattle.saga_def.specs.Contents.{Contents}
-use Rattle.saga_drive.specs.Answers.{IsAnswer}
+use Rattle.saga_drive.specs.Answers.{Defines, IsAnswer, IsResponse}
 use Rattle.saga_drive.specs.Drops.{DropsPlans, NoneIsPlanned, next_of}
 use Rattle.saga_drive.specs.Replies.{lines_of, text_of}
 use Rattle.saga_drive.specs.Requests.{max_request}
 use Rattle.saga_drive.specs.declared.replies.Reply.{Reply}
+use Rattle.saga_drive.specs.declared.responses.Response.TheVariants as response
+use Rattle.saga_history.specs.declared.events.Event.{Event}
 use Rattle.saga_logged.specs.Fed.{AreLines, fed}
 use Rattle.saga_drive.specs.Restarts.{IsRestarted}
 use Rattle.saga_drive.specs.declared.restarts.Restart.{Restart}
+use Rattle.saga_serve.specs.Inputs.{Input}
 use Rattle.saga_serve.specs.Limits.{max_written}
+use Rattle.saga_serve.specs.declared.growing.Due.{Due}
+use Rattle.saga_serve.specs.Shelves.{IsPut, IsWelcome}
 use Rattle.saga_serve.specs.Shown.{shown}
 
--- the first text is the beginning of the second
+-- the one is how the other begins
 abbrev pub IsFront : List ℕ → List ℕ → Type 0
 IsFront front all = (rest : List ℕ) × (all ≡ front ++ rest)
 
--- the texts that were written to the other program, one after the other
+-- the texts that were told over a log, one after the other
 abbrev pub texts_of : List (List ℕ × List ℕ) → List ℕ
 texts_of [] = []
 texts_of (told ∷ more) = told.0 ++ texts_of more
 
 -- ---- what has arrived
 
--- the bytes are these lines and the beginning of one more line
+-- bytes are those lines and the beginning of one more
 pub record IsSplit (bytes : List ℕ) (lines : List (List ℕ)) (last : List ℕ) : Type 0 where
   pub is : bytes ≡ fed lines ++ last
   pub lines_are : AreLines lines
   pub last_is : has_no_feed last ≡ true
 
--- the last line, which may lack its line feed; an empty rest is not a line
+-- a last line that may lack its line feed; nothing is no line
 abbrev pub last_of : List ℕ → List (List ℕ)
 last_of [] = []
 last_of (byte ∷ rest) = (byte ∷ rest) ∷ []
 
 -- ---- what is answered
 
--- the state of a conversation: the book, and the free bytes of its log
+-- where a conversation stands: the book, and the room of its log
 abbrev pub Stand : Type 0
 Stand = Book × ℕ
 
--- the reply to a request leads from one state to the next; the text is the reply, after its log
--- lines if these are shown
+-- What a request asks is done, and replied to. Where lines are shown, it may ask for a definition: that is put on the shelf, behind the
+-- others. Elsewhere the shelf stays as it is.
+abbrev pub Does : Bool → Book → Book → ℕ → List ℕ → Reply → Type 0
+Does false old new room request reply = IsAnswer old new room request reply
+Does true old new room request reply =
+    IsResponse old new room request (response.Reply reply) ⊎ ((text : List ℕ) × Defines request text × IsPut old new text reply)
+
+-- a request is answered by a text, before it the lines of the log, where they are shown; that leads from the one to the other
 pub record Says (shows : Bool) (old : Stand) (request : List ℕ) (new : Stand) (text : List ℕ) : Type 0 where
   pub reply : Reply
-  pub answer : IsAnswer old.0 new.0 old.1 request reply
+  pub answer : Does shows old.0 new.0 old.1 request reply
   pub room : new.1 ≡ old.1 - length (lines_of reply)
   pub text_is : text ≡ shown shows (lines_of reply) ++ text_of reply
 
--- the part of a line that is kept: it shows whether the line is too long
+-- of a line that is too long the beginning tells that it is
 abbrev pub request_of : List ℕ → List ℕ
 request_of line = take (max_request + 1) line
 
--- a text has the replies to lines: to each once, in order, each from the state after the one before
+-- lines are answered by a text: each of them once, in their order, each where the one before has led
 abbrev pub Answers : Bool → Stand → List (List ℕ) → Stand → List ℕ → Type 0
 Answers shows old [] new text = (new ≡ old) × (text ≡ [])
 Answers shows old (line ∷ lines) new text =
     (mid : Stand) × (first rest : List ℕ) × Says shows old (request_of line) mid first × Answers shows mid lines new rest × (text ≡ first ++ rest)
 
--- before the first request, the started plans are dropped; this writes only log lines, and only if
--- they are shown
+-- before the first request the plans that were begun are dropped; of that nothing is told but the lines of the log, where they are shown
 pub record Begins (shows : Bool) (old new : Stand) (text : List ℕ) : Type 0 where
   pub dropped : Reply
   pub drops : DropsPlans old.0 new.0 (lines_of dropped)
@@ -70,7 +80,7 @@ pub record Begins (shows : Bool) (old new : Stand) (text : List ℕ) : Type 0 wh
   pub room : new.1 ≡ old.1 - length (lines_of dropped)
   pub text_is : text ≡ shown shows (lines_of dropped) ++ text_of dropped
 
--- after `before`, exactly the replies to all that has arrived are written
+-- behind what was told before, all is told by which all that has arrived is answered, and nothing else
 pub record IsAnswered (shows : Bool) (start : Stand) (before arrived told : List ℕ) : Type 0 where
   pub begun : Stand
   pub first : List ℕ
@@ -83,8 +93,7 @@ pub record IsAnswered (shows : Bool) (start : Stand) (before arrived told : List
   pub answers : Answers shows begun (lines ++ last_of last) end text
   pub told_is : told ≡ before ++ (first ++ text)
 
--- the first lines of what has arrived, with a line feed after it, have replies, and the beginning
--- of these is written
+-- the first lines of what has arrived, with a line feed behind it, are answered, and of that the beginning is told
 pub record IsPartlyAnswered (shows : Bool) (start : Stand) (before arrived told : List ℕ) : Type 0 where
   pub begun : Stand
   pub first : List ℕ
@@ -98,50 +107,47 @@ pub record IsPartlyAnswered (shows : Bool) (start : Stand) (before arrived told 
   pub answers : Answers shows begun lines end text
   pub told_is : IsFront told (before ++ (first ++ text))
 
--- a conversation stops early: only a beginning of `before` is written, or `before` and a beginning
--- of the replies
+-- where a conversation stops early: not all that was to be told before it is; or the beginning of the answers
 abbrev pub IsCutShort : Bool → Stand → List ℕ → List ℕ → List ℕ → Type 0
 IsCutShort shows start before arrived told = IsFront told before ⊎ IsPartlyAnswered shows start before arrived told
 
 -- ---- from the text of a log
 
--- the state in which a conversation continues from a log
+-- where a conversation begins that goes on from a log
 abbrev pub start_of : Restart → Stand
 start_of restart = (restart.book, max_written - (restart.whole + length restart.missing.now))
 
--- the book of the text replies to all that has arrived; if log lines are shown, those that a start
--- adds come first
+-- all that has arrived is answered by the book to which the text leads; where lines are shown, what is added to the text comes first
 pub record IsServed (shows : Bool) (shelf : List Contents) (text arrived told : List ℕ) : Type 0 where
   pub restart : Restart
   pub restarted : IsRestarted shelf text restart
   pub answered : IsAnswered shows (start_of restart) (shown shows restart.missing.now) arrived told
 
--- only the beginning of that is written
+-- or of that only the beginning is told
 pub record IsServedInPart (shows : Bool) (shelf : List Contents) (text arrived told : List ℕ) : Type 0 where
   pub restart : Restart
   pub restarted : IsRestarted shelf text restart
   pub answered : IsCutShort shows (start_of restart) (shown shows restart.missing.now) arrived told
 
--- a drive stops early: nothing is written, or only the beginning
+-- where it stops early nothing is told, or only the beginning
 abbrev pub IsServedShort : Bool → List Contents → List ℕ → List ℕ → List ℕ → Type 0
 IsServedShort shows shelf text arrived told = (told ≡ []) ⊎ IsServedInPart shows shelf text arrived told
 
 -- ---- within a conversation
 
--- a text is added after what was written and what waits; or a call failed, and only a beginning of
--- all that is written
+-- a text comes behind what is told and what waits to be; or a call failed, and the beginning of all that is told
 abbrev pub Adds : {T E : Type 0} → Result T E → List ℕ → List ℕ → List ℕ → List ℕ → List ℕ → Type 0
 Adds (Ok done) told waiting told_then waiting_then text = told_then ++ waiting_then ≡ (told ++ waiting) ++ text
 Adds (Err why) told waiting told_then waiting_then text = IsFront told_then ((told ++ waiting) ++ text)
 
--- the started plans are dropped; or a call failed, before or after that
+-- the plans that were begun are dropped; or a call failed, before that or behind it
 abbrev pub Opens : {T E : Type 0} → Result T E → Bool → Stand → Stand → List ℕ → List ℕ → List ℕ → List ℕ → Type 0
 Opens (Ok done) shows old new told waiting told_then waiting_then =
     (text : List ℕ) × Begins shows old new text × (told_then ++ waiting_then ≡ (told ++ waiting) ++ text)
 Opens (Err why) shows old new told waiting told_then waiting_then =
     IsFront told_then (told ++ waiting) ⊎ ((text : List ℕ) × Begins shows old new text × IsFront told_then ((told ++ waiting) ++ text))
 
--- the lines of the bytes that arrived have replies, and the beginning of one more line is kept
+-- bytes have arrived and their lines are answered; of one more the beginning is there
 pub record Heard (shows : Bool) (old : Stand) (bytes : List ℕ) (new : Stand) (line text : List ℕ) : Type 0 where
   pub lines : List (List ℕ)
   pub last : List ℕ
@@ -149,7 +155,7 @@ pub record Heard (shows : Bool) (old : Stand) (bytes : List ℕ) (new : Stand) (
   pub line_is : line ≡ request_of last
   pub answers : Answers shows old lines new text
 
--- only the first of these lines have replies
+-- or only some of their lines are
 pub record HeardSome (shows : Bool) (old : Stand) (bytes : List ℕ) (new : Stand) (text : List ℕ) : Type 0 where
   pub lines : List (List ℕ)
   pub rest : List ℕ
@@ -157,12 +163,39 @@ pub record HeardSome (shows : Bool) (old : Stand) (bytes : List ℕ) (new : Stan
   pub lines_are : AreLines lines
   pub answers : Answers shows old lines new text
 
-abbrev pub Hears : {T E : Type 0} → Result T E → Bool → Stand → List ℕ → Stand → List ℕ → List ℕ → Type 0
-Hears (Ok done) shows old bytes new line text = Heard shows old bytes new line text
-Hears (Err why) shows old bytes new line text = HeardSome shows old bytes new text
+-- a request asks for this definition, which may be put on the shelf, and nothing has happened
+pub record IsAsked (shows : Bool) (book : Book) (request : List ℕ) (put : Contents) : Type 0 where
+  pub shown : shows ≡ true
+  pub definition : List ℕ
+  pub asks : Defines request definition
+  pub welcome : IsWelcome book definition put
 
--- a conversation in progress: all lines that arrived have replies, and the replies that are not yet
--- written wait
+-- a request is answered, or asks for such a definition
+abbrev pub Meets : {E : Type 0} → Result (Option Contents) E → Bool → Stand → List ℕ → Stand → List ℕ → List ℕ → List ℕ → List ℕ → Type 0
+Meets (Ok None) shows old request new told waiting told_then waiting_then =
+    (text : List ℕ) × Says shows old request new text × (told_then ++ waiting_then ≡ (told ++ waiting) ++ text)
+Meets (Ok (Some put)) shows old request new told waiting told_then waiting_then =
+    IsAsked shows old.0 request put × (new ≡ old) × (told_then ++ waiting_then ≡ told ++ waiting)
+Meets (Err why) shows old request new told waiting told_then waiting_then =
+    (text : List ℕ) × Says shows old request new text × IsFront told_then ((told ++ waiting) ++ text)
+
+-- or the lines are answered up to one that asks for such a definition; these bytes stand behind it
+pub record HeardUntil (shows : Bool) (old : Stand) (bytes : List ℕ) (new : Stand) (left : List ℕ) (put : Contents) (text : List ℕ) : Type 0 where
+  pub lines : List (List ℕ)
+  pub request : List ℕ
+  pub is : bytes ≡ fed lines ++ (request ++ 10 ∷ left)
+  pub lines_are : AreLines lines
+  pub request_is : has_no_feed request ≡ true
+  pub answers : Answers shows old lines new text
+  pub asked : IsAsked shows new.0 (request_of request) put
+
+-- what was waiting and those answers are told or wait
+abbrev pub Hears : {E : Type 0} → Result (Option Contents) E → Bool → Stand → List ℕ → Stand → List ℕ → List ℕ → List ℕ → Type 0
+Hears (Ok None) shows old bytes new line left text = Heard shows old bytes new line text × (left ≡ [])
+Hears (Ok (Some put)) shows old bytes new line left text = HeardUntil shows old bytes new left put text
+Hears (Err why) shows old bytes new line left text = HeardSome shows old bytes new text
+
+-- a conversation that goes on: all lines that have arrived are answered, and what is not told of that waits
 pub record IsTalk (shows : Bool) (start : Stand) (before arrived : List ℕ) (now : Stand) (line told waiting : List ℕ) : Type 0 where
   pub begun : Stand
   pub first : List ℕ
@@ -170,3 +203,74 @@ pub record IsTalk (shows : Bool) (start : Stand) (before arrived : List ℕ) (no
   pub text : List ℕ
   pub heard : Heard shows begun arrived now line text
   pub told_is : told ++ waiting ≡ before ++ (first ++ text)
+
+-- standard input ends within a line
+pub record EndsWithin (arrived : List ℕ) : Type 0 where
+  pub lines : List (List ℕ)
+  pub last : List ℕ
+  pub split : IsSplit arrived lines last
+  pub some : last ≢ []
+
+-- these bytes are all that has arrived; where standard input has ended within a line, its line feed stands behind
+abbrev pub IsAll : Bool → List ℕ → List ℕ → Type 0
+IsAll false arrived bytes = bytes ≡ arrived
+IsAll true arrived bytes = EndsWithin arrived × (bytes ≡ arrived ++ 10 ∷ [])
+
+-- a conversation that goes on, and of what has arrived some is not heard yet
+pub record IsUnderway (shows : Bool) (start : Stand) (before arrived : List ℕ) (input : Input) (now : Stand) (line told waiting : List ℕ) : Type 0 where
+  pub heard : List ℕ
+  pub all : IsAll input.ended arrived (heard ++ input.left)
+  pub talk : IsTalk shows start before heard now line told waiting
+
+-- it goes on with more; or all is heard
+abbrev pub Goes : Bool → Bool → Stand → List ℕ → List ℕ → Input → Stand → List ℕ → List ℕ → List ℕ → Type 0
+Goes true shows start before arrived input now line told waiting = IsUnderway shows start before arrived input now line told waiting
+Goes false shows start before arrived input now line told waiting = (told_then : List ℕ) → told_then ≡ told ++ waiting → IsAnswered shows start before arrived told_then
+
+-- a conversation that stands at a request for a definition, which may be put on the shelf
+pub record IsDue (shows : Bool) (start : Stand) (before arrived : List ℕ) (input : Input) (now : Stand) (put : Contents) (told waiting : List ℕ) : Type 0 where
+  pub begun : Stand
+  pub first : List ℕ
+  pub begins : Begins shows start begun first
+  pub lines : List (List ℕ)
+  pub request : List ℕ
+  pub all : IsAll input.ended arrived ((fed lines ++ (request ++ 10 ∷ [])) ++ input.left)
+  pub lines_are : AreLines lines
+  pub request_is : has_no_feed request ≡ true
+  pub text : List ℕ
+  pub answers : Answers shows begun lines now text
+  pub asked : IsAsked shows now.0 (request_of request) put
+  pub told_is : told ++ waiting ≡ before ++ (first ++ text)
+
+-- it has ended; or it stands at such a request; or it stopped early
+abbrev pub Comes : {E : Type 0} → Result (Option Contents) E → Bool → Stand → List ℕ → List ℕ → Input → Stand → List ℕ → List ℕ → Type 0
+Comes (Ok None) shows start before arrived input now told waiting = IsAnswered shows start before arrived told
+Comes (Ok (Some put)) shows start before arrived input now told waiting = IsDue shows start before arrived input now put told waiting
+Comes (Err why) shows start before arrived input now told waiting = IsCutShort shows start before arrived told
+
+-- ---- between two shelves
+
+-- where a conversation stands over a shelf, by its history and its room
+abbrev pub stand_over : List Contents → List Event → ℕ → Stand
+stand_over shelf history room = (record { shelf = shelf; first = 0; stride = 1; history = history }, room)
+
+-- it shows the lines, and no line has begun
+abbrev pub IsShowing : Due → Type 0
+IsShowing due = (due.pending.shows ≡ true) × (due.line ≡ [])
+
+-- a conversation over a shelf has ended; or it is left where a definition is to be put there
+abbrev pub CameTo : Option Due → List Contents → Stand → List ℕ → List ℕ → Input → List ℕ → Type 0
+CameTo None shelf start before arrived input told = IsAnswered true start before arrived told
+CameTo (Some due) shelf start before arrived input told =
+    IsDue true start before arrived input (stand_over shelf due.history.items due.room) due.put told (string_bytes due.pending.replies)
+
+-- or it stopped early
+abbrev pub IsParted : {E : Type 0} → Result (Option Due) E → List Contents → Stand → List ℕ → List ℕ → Input → List ℕ → Type 0
+IsParted (Ok came) shelf start before arrived input told = CameTo came shelf start before arrived input told
+IsParted (Err why) shelf start before arrived input told = IsCutShort true start before arrived told
+
+-- from a text over a first shelf, a conversation came there over this one
+pub record CameFrom (came : Option Due) (first shelf : List Contents) (text arrived : List ℕ) (input : Input) (told : List ℕ) : Type 0 where
+  pub restart : Restart
+  pub restarted : IsRestarted first text restart
+  pub came_to : CameTo came shelf (start_of restart) (shown true restart.missing.now) arrived input told

@@ -16,14 +16,14 @@ use Rattle.saga_texts.specs.declared.audits.AuditConclusion.{AuditConclusion}
 use Rattle.saga_texts.specs.declared.audits.AuditTexts.{AuditTexts}
 use Rattle.saga_texts.specs.declared.audits.AuditConclusion.TheVariants.{TooManyDefinitions, LogTooLong, Log, Definition, Answered}
 use Rattle.saga_texts.specs.declared.outputs.Output.{Output}
-use Rattle.saga_texts.specs.Limits.{max_log, max_shelf}
+use Rattle.saga_texts.specs.Limits.{max_log, max_long_shelf}
 use Rattle.saga_texts.specs.Lines.{line_feed}
 use Rattle.saga_texts.specs.Outputs.{IsOutputWith}
 use Rattle.saga_texts.specs.Shelves.{AreDefinitions, IsFirstFaulty}
 
 -- few enough definitions, and a log that is short enough
 pub record AreWithin (log : List ℕ) (definitions : List (List ℕ)) : Type 0 where
-  pub few : length definitions ≤ max_shelf
+  pub few : length definitions ≤ max_long_shelf
   pub short : length log ≤ max_log
 
 -- the texts hold a history and a shelf, and the auditor answers this: yes exactly where the history is legal over it
@@ -38,8 +38,8 @@ pub record IsAudited (log : List ℕ) (definitions : List (List ℕ)) (answer : 
 
 -- the first fault in the order number of definitions, log, definitions; or the auditor's answer
 abbrev pub AuditsTo : List ℕ → List (List ℕ) → AuditConclusion → Type 0
-AuditsTo log definitions TooManyDefinitions = max_shelf < length definitions
-AuditsTo log definitions LogTooLong = (length definitions ≤ max_shelf) × (max_log < length log)
+AuditsTo log definitions TooManyDefinitions = max_long_shelf < length definitions
+AuditsTo log definitions LogTooLong = (length definitions ≤ max_long_shelf) × (max_log < length log)
 AuditsTo log definitions (Log line why) = AreWithin log definitions × (log_of log ≡ Err (BadLine line why))
 AuditsTo log definitions (Definition place why) =
     AreWithin log definitions × ((events : List Event) × (log_of log ≡ Ok events)) × IsFirstFaulty definitions place why

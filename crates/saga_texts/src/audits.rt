@@ -5,7 +5,7 @@ ghost use Rattle.saga_texts.specs.Audits.{AuditsTo, HoldAudit, LackAudit, answer
 ghost use Rattle.saga_texts.specs.Lines.{line_feed};
 ghost use Rattle.saga_texts.specs.Outputs.{IsOutputWith};
 
-use crate::limits::{AUDITORS, MAX_LOG, MAX_SHELF};
+use crate::limits::{AUDITORS, MAX_LOG, MAX_LONG_SHELF};
 use crate::outputs::Output;
 use crate::shelves::{ShelfFault, read_shelf};
 use saga_audit::{AuditAnswer, audit, audit_with};
@@ -47,7 +47,7 @@ fn texts_of(
         (λ given. MatchResult given (HoldAudit log.now (map (λ t. t.now) definitions.now))
         (LackAudit log.now (map (λ t. t.now) definitions.now))) }
 {
-    if definitions.len() > MAX_SHELF {
+    if definitions.len() > MAX_LONG_SHELF {
         return Ok(Err(AuditConclusion::TooManyDefinitions));
     }
     if log.len() > MAX_LOG {

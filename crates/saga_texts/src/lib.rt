@@ -17,7 +17,7 @@ mod texts;
 pub use audits::numbered_line;
 pub use beside::{definitions_file, definitions_of, first_other};
 pub use drawings::Scene;
-pub use limits::{MAX_CERTIFICATE, MAX_LOG, MAX_SHELF};
+pub use limits::{MAX_CERTIFICATE, MAX_LOG, MAX_LONG_SHELF, MAX_SHELF};
 pub use outputs::Output;
 pub use runs::RunOutput;
 pub use shelves::{ShelfFault, read_shelf};
