@@ -1,5 +1,5 @@
-//! Books that are called at random, against a plain search of what may happen next and the plain follower; and a history of four
-//! sagas that is changed in each event, judged by the auditor and by the follower.
+//! Tests of books. Random calls on books are compared with a simple search for the next task and with the simple
+//! follower. A history of four sagas is changed at each event, and audited by the auditor and by the follower.
 ghost use Rattle.std.specs.Prelude.{◌<◌};
 
 use saga_audit::{AuditAnswer, audit, audit_with};
@@ -15,7 +15,7 @@ use std::alloc::{AllocError, Global};
 use std::test::Fail;
 use std::thread::Threads;
 
-/// Six steps that cost nothing, with needs between them, each tried twice.
+/// Six steps with costs 0 and with needs between them. Each has two tries.
 const WEB: &str = "format = 2
 name = \"web\"
 step = [
@@ -68,7 +68,7 @@ const FOUR: &str = r#"{"format":2}
 {"event":"drop_plan","saga":3}
 "#;
 
-/// A shelf of the definitions of these texts.
+/// A shelf with the definitions in these texts.
 fn shelf_of(alloc: Global, texts: &[&str]) -> Result<Vec<Definition>, AllocError> {
     let mut shelf = Vec::new(alloc);
     for text in texts {
@@ -121,7 +121,7 @@ fn first_going(book: &Book, definition: &Definition, saga: u32) -> Option<Task> 
     None
 }
 
-/// The first task of a book whose sagas are numbered 0, 1 and so on, by a search over its sagas and their steps.
+/// The first task of a book whose sagas are numbered from 0, found by a search over its sagas and their steps.
 fn first_by_search(book: &Book) -> Option<Task> {
     for saga in 0..1000 {
         let task = match (book.phase(saga), book.definition(saga)) {
@@ -139,7 +139,7 @@ fn first_by_search(book: &Book) -> Option<Task> {
     None
 }
 
-/// Numbers that look drawn (Knuth's linear congruential generator).
+/// Pseudorandom numbers (Knuth's linear congruential generator).
 #[derive(Drop)]
 struct Draws {
     state: u64,
@@ -158,7 +158,7 @@ impl Draws {
     }
 }
 
-/// Begins a plan, and drops it or adopts an answer. Gives whether that went well.
+/// Starts a plan, and drops it or adopts an answer. Returns whether that succeeded.
 fn plan_at(alloc: Global, book: &mut Book, saga: u32, drops: bool) -> bool {
     let Ok(case) = book.take_plan(saga) else {
         return false;
@@ -172,7 +172,7 @@ fn plan_at(alloc: Global, book: &mut Book, saga: u32, drops: bool) -> bool {
     }
 }
 
-/// Makes one call. Gives whether it went as it must.
+/// Makes one random call. Returns whether its result is as required.
 fn call_at_random(alloc: Global, book: &mut Book, draws: &mut Draws) -> bool {
     let saga = draws.next(4) as u32;
     if draws.next(40) == 0 {
@@ -199,8 +199,8 @@ fn call_at_random(alloc: Global, book: &mut Book, draws: &mut Draws) -> bool {
     }
 }
 
-/// The number of the first of many random calls that goes wrong, or after which `next` differs from the search; the number of
-/// calls where the history is not one by the follower.
+/// The number of the first of many random calls whose result is wrong, or after which `next` differs from the search.
+/// It is the number of calls if the follower does not accept the history.
 fn first_difference(
     alloc: Global,
     shelf: &[Definition],
@@ -238,7 +238,8 @@ fn random_runs(rt: HostRuntime) -> Result<(), Fail> {
     Ok(())
 }
 
-/// A text of which the lines of a place and of the next one give way to some of them: 0 is the one, and 1 the other.
+/// A text in which the line at an index and the next line are replaced by the chosen ones of these two: 0 is the first
+/// and 1 the second.
 fn changed(
     alloc: Global,
     text: &str,
@@ -265,7 +266,7 @@ fn changed(
     Ok(out)
 }
 
-/// Whether the auditor, alone and by several workers, names the event that the follower names, or none.
+/// Whether the auditor, alone and with several workers, returns the same first event as the follower, or none.
 fn agree(
     rt: &(impl Threads + Sync),
     alloc: Global,
@@ -285,7 +286,7 @@ fn agree(
     })
 }
 
-/// Each event is left out, comes twice, or comes after the next one.
+/// Each event is left out, duplicated, or swapped with the next one.
 #[test]
 fn each_event_changed(rt: HostRuntime) -> Result<(), Fail> {
     let alloc = rt.alloc();

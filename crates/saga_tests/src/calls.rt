@@ -1,6 +1,6 @@
-//! Runs by an actor that counts its calls. What it was asked is compared with what the books hold: each attempt once, an abort
-//! after each job that is done, and no abort that it did not ask for. One that it asked for is left out only where other
-//! workers ended the saga before it came.
+//! Runs with an actor that counts its calls. The calls are compared with the books: each attempt is made once, each job
+//! that succeeded is followed by one question about an abort, and no saga is aborted without a request. A requested
+//! abort may be missing only if other workers ended the saga before it.
 use crate::samples::{Needs, shelf_of, within};
 use saga_core::Book;
 use saga_desk::Job;
@@ -13,16 +13,16 @@ use std::sync::atomic::{AtomicU64, Ordering};
 use std::test::Fail;
 use std::thread::Threads;
 
-/// The places of a saga's attempts: three at each action and each compensation of three steps.
+/// The number of counters of a saga: three for each action and each compensation of three steps.
 const PLACES: usize = 18;
 
-/// The place of an attempt among those of all sagas.
+/// The index of an attempt among the counters of all sagas.
 fn place(saga: u32, step: u16, is_undo: bool, attempt: u64) -> usize {
     let attempt = attempt.min(3) as usize;
     saga as usize * PLACES + step as usize * 6 + is_undo as usize * 3 + attempt
 }
 
-/// How often each attempt was made, how often an abort was asked about after it, and how often asked for.
+/// How often each attempt was made, and how often an abort after it was asked about and requested.
 #[derive(Drop)]
 struct Counting {
     attempts: Vec<AtomicU64>,
@@ -37,8 +37,8 @@ fn count(counts: &[AtomicU64], place: usize) {
 }
 
 impl Counting {
-    /// The last step of each third saga fails, the first step of each second saga and the compensations of each fifth one are
-    /// missed once.
+    /// The last step of every third saga fails. The first step of every second saga and the compensations of every
+    /// fifth saga are missed once.
     fn outcome(&self, job: &Job<'_>) -> Outcome {
         let (saga, step, attempt) = (job.saga(), job.step(), job.attempt());
         count(&self.attempts, place(saga, step, job.is_undo(), attempt));
@@ -70,7 +70,8 @@ impl Actor for Counting {
         self.outcome(job)
     }
 
-    /// After the first step of each seventh saga, and after the first compensation of each seventh.
+    /// An abort is requested after the first step of every seventh saga, and after the first compensation of every
+    /// seventh saga.
     fn asks_abort(&self, job: &Job<'_>) -> bool {
         let (saga, step) = (job.saga(), job.step());
         let at = place(saga, step, job.is_undo(), job.attempt());
@@ -95,7 +96,7 @@ fn zeros<R: Abort + Alloc<A = Global>>(rt: &R, len: usize) -> Vec<AtomicU64> {
     counts
 }
 
-/// Counts what the books hold: each end of an action or a compensation is its next attempt.
+/// Counts the events of the books: each end of an action or a compensation is its next attempt.
 fn counted<R: Abort + Alloc<A = Global>>(rt: &R, sagas: u32, books: &[Book<'_>]) -> Counting {
     let places = sagas as usize * PLACES;
     let held = Counting {
@@ -137,7 +138,7 @@ fn counted<R: Abort + Alloc<A = Global>>(rt: &R, sagas: u32, books: &[Book<'_>])
     held
 }
 
-/// So many sagas, by so many workers on so many shards.
+/// The numbers of sagas, workers and shards of each run.
 const RUNS: &[(u32, u32, u32)] = &[(1, 1, 1), (8, 1, 1), (300, 4, 3), (300, 16, 16)];
 
 fn check<R: Abort + Threads + Wait + Sync + Alloc<A = Global>>(

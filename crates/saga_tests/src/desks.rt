@@ -1,5 +1,5 @@
-//! Desks, call by call: ends of what another seat claimed, verdicts that come too late, and desks that end with other seats than
-//! their own.
+//! Desks, call by call: reports of jobs that another seat claimed, verdicts that come too late, and desks that are
+//! ended with foreign seats.
 use crate::samples::{Needs, lengths, shelf_of, text, told, within};
 use saga_check::verify;
 use saga_desk::{AdoptionRefused, Claim, Desk, FinishRefused, Seat};
@@ -11,37 +11,38 @@ use std::{process, test};
 
 /// A call by a seat of a desk.
 enum Call {
-    /// Opens a saga on a shard, by a definition.
+    /// Opens a saga on a shard, with a definition.
     Open(u32, u32),
-    /// Claims what there is.
+    /// Claims a task.
     Take,
-    /// Ends what was claimed, by its place among all claims from 0, well: a job is done, or a plan is adopted.
+    /// Ends a claim with success, given by its index among all claims: a job is done, or a plan is adopted.
     Do(usize),
-    /// The job failed, or the plan is given back.
+    /// Ends a claim with failure: the job failed, or the plan is given back.
     Fail(usize),
     Abort(u32),
 }
 
 use Call::{Abort, Do, Fail, Open, Take};
 
-/// Two desks of two seats each, over a definition of so many steps without needs. The seats of the first desk are 0 and 1, those
-/// of the second one 2 and 3.
+/// Two desks with two seats each, with a definition of `steps` steps without needs. The seats of the first desk are 0
+/// and 1, those of the second desk 2 and 3.
 struct Talk {
     name: &'static str,
     steps: u32,
     tries: u64,
     shards: u32,
-    /// The seat, its call, and the answer.
+    /// The seat, its call, and the expected result.
     calls: &'static [(usize, Call, &'static str)],
-    /// The places in the receipts of a seat, in the end.
+    /// The indices in the receipts of a seat at the end.
     numbers: &'static [(usize, &'static [usize])],
-    /// The seats that are handed to the first desk to end it, and how it ends, until it has ended.
+    /// The seats with which the first desk is ended, and the expected result, until it has ended.
     ends: &'static [(&'static [usize], &'static str)],
 }
 
 const OK: &str = "Ok(())";
 
-/// The orders of the seats of the first desk, and of the second one's that would fit it, cross.
+/// Each seat of the first desk opens a saga on both shards, in opposite orders. Seat 2 of the second desk has the same
+/// receipts as seat 0, but in an order that contradicts the histories.
 const CROSSING: &[(usize, Call, &str)] = &[
     (0, Open(0, 0), "Ok(0)"),
     (1, Open(0, 0), "Ok(2)"),
@@ -325,7 +326,7 @@ const TALKS: &[Talk] = &[
     },
 ];
 
-/// What a claim is: its saga, and of a job its step and attempt.
+/// The contents of a claim: its saga, and for a job its step and attempt.
 fn kind_of<R: process::Abort + Alloc<A = Global>>(rt: &R, claim: &Claim<'_>) -> String {
     let alloc = rt.alloc();
     let text = match claim {
@@ -342,7 +343,7 @@ fn kind_of<R: process::Abort + Alloc<A = Global>>(rt: &R, claim: &Claim<'_>) -> 
     text.expect(rt, "a text")
 }
 
-/// Ends what was claimed, well or not, and answers why it was not taken; it then is what it was.
+/// Ends a claim, with success or failure, and returns why it was refused. After a refusal the claim is unchanged.
 fn end<'d, R: process::Abort + Wait + Alloc<A = Global>>(
     rt: &R,
     desk: &Desk<'d>,
@@ -383,7 +384,7 @@ fn end<'d, R: process::Abort + Wait + Alloc<A = Global>>(
     }
 }
 
-/// Makes a call, and puts what it claims behind what was claimed before.
+/// Makes a call, and appends its claim to the earlier claims.
 fn make<'d, R: process::Abort + Wait + Alloc<A = Global>>(
     rt: &R,
     desk: &Desk<'d>,
@@ -414,7 +415,7 @@ fn make<'d, R: process::Abort + Wait + Alloc<A = Global>>(
     }
 }
 
-/// Makes the calls, and looks at the receipts that they leave.
+/// Makes the calls, and checks the receipts.
 fn speak<'d, R: process::Abort + Wait + Alloc<A = Global>>(
     rt: &R,
     desk: &Desk<'d>,
@@ -448,7 +449,7 @@ fn speak<'d, R: process::Abort + Wait + Alloc<A = Global>>(
     }
 }
 
-/// How a desk ends; one that is not ended comes back, with the seats.
+/// The result of the end of a desk. If the desk is not ended, it is returned with the seats.
 fn ended<'d, R: process::Abort + Alloc<A = Global>>(
     rt: &R,
     desk: Desk<'d>,
@@ -463,7 +464,7 @@ fn ended<'d, R: process::Abort + Alloc<A = Global>>(
     }
 }
 
-/// Ends a desk with the seats that are picked, until it has ended.
+/// Ends a desk with the chosen seats, until it has ended.
 fn end_all<R: process::Abort + Alloc<A = Global>>(
     rt: &R,
     desk: Desk<'_>,
@@ -520,11 +521,11 @@ const OTHER_ATTEMPT: &Talk = &Talk {
     ends: &[(&[0, 1], "books 5 0")],
 };
 
-/// Sagas of one step on the last of so many shards, of which each is opened, run and settled before the next one.
+/// Sagas with one step on the last of several shards. Each is opened, run and settled before the next one.
 struct Turns {
     shards: u32,
     tries: u64,
-    /// Another seat has begun the first one's action, and does not end it.
+    /// Another seat has started the action of the first saga, and does not end it.
     is_one_held: bool,
 }
 
@@ -539,7 +540,7 @@ const TURNS: &[Turns] = &[
         tries: 1,
         is_one_held: false,
     },
-    // More than 4,096 events, while an action is on its way.
+    // more than 4,096 events while an action is in progress
     Turns {
         shards: 3,
         tries: 9,
@@ -547,7 +548,7 @@ const TURNS: &[Turns] = &[
     },
 ];
 
-/// Runs 300 sagas in turn. Each action fails but in its last attempt.
+/// Runs 300 sagas in turn. Each action fails except in its last attempt.
 fn take_turns<R: process::Abort + Wait + Alloc<A = Global>>(rt: &R, turns: &Turns) {
     let shelf = shelf_of(rt, 1, turns.tries, Needs::Nothing);
     let shards = within(turns.shards);

@@ -1,5 +1,5 @@
-//! Tests of what neither the program's rows nor the trials can show: faults that only a caller of the crates can cause, and what
-//! actors, bells and several threads see.
+//! Tests of cases that neither the program's tests nor the trials cover: faults that only a caller of the crates can
+//! cause, and the behavior of actors, bells and several threads.
 #![tactic(auto)]
 
 #[cfg(test)]

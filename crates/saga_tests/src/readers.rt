@@ -23,7 +23,7 @@ fn an_endless_reader_gives_one_more(rt: HostRuntime) -> Result<(), Fail> {
     Ok(())
 }
 
-/// A reader that is interrupted before each byte, and fails after so many.
+/// A reader that is interrupted before each byte, and fails after a number of bytes.
 #[derive(Drop)]
 struct Failing {
     left: usize,

@@ -1,4 +1,4 @@
-//! Definitions whose steps cost nothing, and what tests look at.
+//! Definitions whose costs are all 0, and helpers of tests.
 ghost use Rattle.std.specs.Prelude.{◌<◌, ◌≤◌};
 
 use saga_core::Book;
@@ -21,19 +21,19 @@ fn step<R: Abort + Alloc<A = Global>>(rt: &R, place: u32, tries: u64) -> Step {
     }
 }
 
-/// What the steps of a definition need.
+/// The needs of the steps of a definition.
 #[derive(Clone, Copy)]
 pub enum Needs {
     Nothing,
-    /// Each needs the one before it.
+    /// Each step needs the one before it.
     InARow,
-    /// Each but the first needs the first.
+    /// Each step except the first needs the first.
     First,
-    /// Behind the first, each two need the last one before them.
+    /// After the first step, the steps form pairs. Each step of a pair needs the last step before the pair.
     Pairs,
 }
 
-/// A shelf of one definition, of so many steps, each of which, and its compensation, is tried so often.
+/// A shelf with one definition of `count` steps. Each step and its compensation have `tries` tries.
 pub fn shelf_of<R: Abort + Alloc<A = Global>>(
     rt: &R,
     count: u32,
@@ -62,19 +62,19 @@ pub fn shelf_of<R: Abort + Alloc<A = Global>>(
     shelf
 }
 
-/// How many events the first two books have.
+/// The numbers of events of the first two books.
 pub fn lengths<R: Abort + Alloc<A = Global>>(rt: &R, books: &[Book<'_>]) -> String {
     let first = books.first().map_or(0, |book| book.history().len());
     let second = books.get(1).map_or(0, |book| book.history().len());
     format!(in rt.alloc(); "books {first} {second}").expect(rt, "a text")
 }
 
-/// A value as it is printed to whoever mends a program.
+/// A value in its debug format.
 pub fn told<R: Abort + Alloc<A = Global>, T: Debug>(rt: &R, value: &T) -> String {
     format!(in rt.alloc(); "{value:?}").expect(rt, "a text")
 }
 
-/// A word as a text of its own.
+/// A word as an owned text.
 pub fn text<R: Abort + Alloc<A = Global>>(rt: &R, word: &str) -> String {
     String::from_str(rt.alloc(), word).expect(rt, "a text")
 }

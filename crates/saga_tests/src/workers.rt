@@ -1,5 +1,5 @@
-//! Runs whose actions wait for each other, which they can only where as many begin side by side; and runs that are asked for what
-//! there is not.
+//! Runs in which actions wait for each other, which is possible only if that many run concurrently; and runs of
+//! requests for definitions that do not exist.
 use crate::samples::{Needs, lengths, shelf_of, told, within};
 use saga_def::Definition;
 use saga_desk::{Desk, Job, Seat};
@@ -17,24 +17,25 @@ use std::time::{Clock, Duration};
 #[derive(Drop)]
 struct Waiting<'a, R: Abort + Clock> {
     rt: &'a R,
-    /// How many actions have begun; where two sagas cross, compensations of saga 1.
+    /// The number of actions that have started. If two sagas cross, it counts the compensations of saga 1.
     begun: AtomicU64,
-    /// Each action waits until so many have begun.
+    /// Each action waits until this number of actions have started.
     wanted: u64,
-    /// Then each action fails, and asks for an abort, which is not heard after a failure.
+    /// After that, each action fails, and requests an abort, which is ignored after a failure.
     fails: bool,
-    /// But the first step's action, which begins before the others and lasts a while.
+    /// An exception is the first step's action, which starts before the others and takes a while.
     first_alone: bool,
-    /// In place of all that, the first action of saga 0 waits until a compensation of saga 1 has begun, whose second action
-    /// fails.
+    /// Instead of all that, the first action of saga 0 waits until a compensation of saga 1 has started, and the second
+    /// action of saga 1 fails.
     crosses: bool,
-    /// Or the actions of saga 0 wait for each other in pairs, and those of other sagas last until all of them have begun.
+    /// Or the actions of saga 0 wait for each other in pairs, and those of other sagas last until all of them have
+    /// started.
     in_pairs: bool,
 }
 
 impl<R: Abort + Clock> Waiting<'_, R> {
-    /// Waits until so many have begun, and answers whether they did. It gives up after 20 seconds or more, so that a processor
-    /// that is busy with other work is not taken for a worker that does not come.
+    /// Waits until this number of actions have started, and returns whether they did. It gives up after 20 seconds or
+    /// more, so that a busy processor is not mistaken for a missing worker.
     fn waits(&self, wanted: u64) -> bool {
         for turn in 0..120_000u32 {
             if self.begun.load(Ordering::SeqCst) >= wanted {
@@ -49,9 +50,10 @@ impl<R: Abort + Clock> Waiting<'_, R> {
         false
     }
 
-    /// A step's action in pairs. The second of a pair, on which the next one rests, lasts a little longer than the first, each
-    /// time another while; so who did the first looks for something to do while the second is reported. The others last three
-    /// times as long as a pair may wait, since what they report would call a worker that was left alone.
+    /// An action of a pair. The second action of a pair, which the next pair needs, takes a little longer than the
+    /// first, each time by another amount. So the worker of the first searches for a task while the second is reported.
+    /// The other actions take three times as long as a pair may wait, because their reports would wake a worker that
+    /// was left waiting.
     fn pair(&self, saga: u32, step: u16) {
         if saga > 0 {
             for _ in 0..300_000u32 {
@@ -125,13 +127,13 @@ impl<R: Abort + Clock> Actor for Waiting<'_, R> {
     }
 }
 
-/// A run of sagas by one definition of so many steps.
+/// A run of sagas of one definition with `steps` steps.
 struct Row {
     name: &'static str,
     steps: u32,
     needs: Needs,
     sagas: usize,
-    /// Behind the sagas a definition is asked for that there is not.
+    /// After the sagas, a definition is requested that does not exist.
     unknown: bool,
     workers: u32,
     shards: u32,
@@ -140,10 +142,10 @@ struct Row {
     first_alone: bool,
     crosses: bool,
     in_pairs: bool,
-    /// How often it is run.
+    /// The number of runs.
     times: u32,
     ends: &'static str,
-    /// How many actions have begun in the end.
+    /// The number of started actions at the end.
     begun: u64,
 }
 
@@ -186,7 +188,7 @@ const SIXTEEN: Row = Row {
     ..ONE
 };
 
-/// All have begun before one fails, so each has failed when a plan is made.
+/// All actions have started before one fails, so each has failed when a plan is made.
 const FAILING: Row = Row {
     name: "sixteen actions fail at once",
     steps: 16,
@@ -198,7 +200,7 @@ const FAILING: Row = Row {
     ..ONE
 };
 
-/// Fifteen workers wait for the first step, and all have to be woken when it is done.
+/// Fifteen workers wait for the first step, and all must be woken when it is done.
 const WOKEN: Row = Row {
     name: "sixteen actions wait for a first one, and then for each other",
     steps: 17,
@@ -222,9 +224,9 @@ const CROSSING: Row = Row {
     ..ONE
 };
 
-/// Two workers need each other twenty times, while the others hold an action each on shards of their own. So one of the two that finds
-/// nothing on the first shard looks at all the others before it waits, and what is reported on the first one meanwhile has to keep it
-/// from that. Where it waits all the same, the other one is left alone.
+/// Two workers need each other twenty times, while each of the others runs an action on its own shard. A worker of the
+/// two that finds no task on the first shard looks at all other shards before it waits. A report on the first shard in
+/// the meantime must prevent the wait. If the worker waits nevertheless, the other one is left alone.
 const PAIRS: Row = Row {
     name: "actions in pairs, each of which begins where another worker has just found nothing",
     steps: 41,
@@ -295,10 +297,10 @@ const ROWS: &[Row] = &[
     },
 ];
 
-/// How many sagas are aborted while they are planned.
+/// The number of sagas that are aborted while a plan is in progress.
 const LATE: u32 = 32;
 
-/// How a run ends.
+/// The result of a run.
 fn end_of<R: Abort + Clock + Threads + Wait + Sync + Alloc<A = Global>>(
     rt: &R,
     shelf: &[Definition],
@@ -315,7 +317,7 @@ fn end_of<R: Abort + Clock + Threads + Wait + Sync + Alloc<A = Global>>(
     }
 }
 
-/// Aborts each saga that a worker has begun, a little later.
+/// Aborts each saga that a worker has started, a little later.
 fn abort_all<R: Abort + Clock + Wait>(
     rt: &R,
     desk: &Desk<'_>,
@@ -335,8 +337,8 @@ fn abort_all<R: Abort + Clock + Wait>(
     seat
 }
 
-/// A worker runs sagas whose first action fails, and plans each of them, while the other seat aborts it: a plan that comes too
-/// late is given back, and made again.
+/// A worker runs sagas whose first action fails, and plans each of them, while the other seat aborts it: a plan that
+/// comes too late is given back, and made again.
 fn abort_while_planned<R: Abort + Clock + Threads + Wait + Sync + Alloc<A = Global>>(rt: &R) {
     let alloc = rt.alloc();
     let shelf = shelf_of(rt, 512, 1, Needs::InARow);
