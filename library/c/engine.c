@@ -8,7 +8,8 @@
  *
  * What it prints, and its status, are those of the program `sagas` for the same texts: 0 ok, 1 rejected, 3 a text is not of its form, 4 the system or
  * memory refused something, 2 it was called otherwise. It keeps no log: `drive --log`, `run` and a certificate on standard input are not there; and a
- * drive without --lines has the room of a log, too.
+ * drive without --lines has the room of a log, too. A drive has the definitions that it was started with: with --lines, too, `define` is refused as
+ * `fixed-shelf`.
  */
 #include <signal.h>
 #include <stdint.h>
@@ -30,7 +31,7 @@
 #define SAGAS_VERSION "of engine.c"
 #endif
 
-enum { MISUSED = 2, INVALID = 3, CANNOT = 4, FIRST_SIZE = 65536, MOST_WAITING = 1048576 };
+enum { MISUSED = 2, INVALID = 3, CANNOT = 4, FIRST_SIZE = 65536, MOST_WAITING = 1048576, MOST_WITHOUT_LINES = 64 };
 
 struct text {
     uint8_t *bytes;
@@ -284,7 +285,7 @@ static int run_drive(int count, char **words) {
     if (!read_words(&drive, count, words)) {
         return MISUSED;
     }
-    if (drive.count > SAGAS_MAX_DEFINITIONS) {
+    if (drive.count > (drive.shows ? SAGAS_MAX_DEFINITIONS : MOST_WITHOUT_LINES)) {
         fputs("sagas: too many definitions\n", stderr);
         return INVALID;
     }
@@ -305,7 +306,7 @@ struct asked {
     enum command command;
     struct text texts[3];
     int count;
-    struct sagas_span spans[SAGAS_MAX_DEFINITIONS + 1];
+    struct sagas_span spans[SAGAS_MAX_DEFINITIONS];
     size_t span_count;
 };
 
