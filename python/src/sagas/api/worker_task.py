@@ -15,7 +15,7 @@ from sagas.base.errors import NotSerializable
 from sagas.core import outcomes
 from sagas.core.states import OutcomeKind
 from sagas.definition import awaitables, context, serialization
-from sagas.definition.about import Told
+from sagas.definition.task_data import Told
 from sagas.definition.arguments import shown
 from sagas.definition.context import Context
 from sagas.definition.place import ToldPlace

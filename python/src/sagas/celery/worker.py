@@ -17,7 +17,7 @@ from sagas.core.dispatch import Begun, Order, Settled
 from sagas.core.outcomes import Outcome
 from sagas.core.states import OutcomeKind
 from sagas.definition import awaitables, decoders, tokens, tracing
-from sagas.definition.about import Told
+from sagas.definition.task_data import Told
 from sagas.definition.compiled import Kind
 from sagas.definition.place import Place
 from sagas.definition.shape_values import ShapeValues

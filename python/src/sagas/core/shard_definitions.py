@@ -6,7 +6,7 @@ from collections.abc import Sequence
 
 from sagas.core import protocol
 from sagas.core.batch import Defined
-from sagas.definition.capacity import MOST_DEFINITIONS
+from sagas.definition.capacity import MOST_ADDED
 from sagas.definition.compiled import Kind, digest_of
 
 
@@ -35,7 +35,7 @@ class ShardDefinitions:
 
     def has_room(self, kind: Kind) -> bool:
         """Whether it has this one, or may get it."""
-        return kind.text in self._places or len(self.texts) < MOST_DEFINITIONS
+        return kind.text in self._places or len(self.texts) < MOST_ADDED
 
     def place(self, kind: Kind) -> int:
         """Return the place of one, which it has from now on."""

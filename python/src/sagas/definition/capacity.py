@@ -11,6 +11,11 @@ SHARD_CAPACITY = 1000
 """How many sagas a log has at most. A saga's id is its log's number times this, and its number
 in that log."""
 MOST_DEFINITIONS = 64
-"""How many definitions a log has at most."""
+"""How many definitions a log has at most, if it gets none later."""
+MOST_ADDED = 128
+"""How many definitions a log has at most, if it gets them one by one, for sagas whose steps come
+from their input. With fewer, more shards share what is under way, and their batches are smaller.
+With more, an engine takes longer for each new definition, because it reads its events again.
+"""
 HEADER = '{"format":2}\n'
 """The first line of each log."""

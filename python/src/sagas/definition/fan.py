@@ -15,13 +15,14 @@ class Fan:
 
     Args:
         layout: The layout of the definition, or None.
-        values: What is kept of the saga's shape.
+        text: What is kept of the saga's shape, if it is known. It is read once, when it is needed.
     """
 
-    __slots__ = ("_layout", "_values")
+    __slots__ = ("_layout", "_text", "_values")
 
-    def __init__(self, layout: Layout | None, values: ShapeValues | None = None) -> None:
-        self._layout, self._values = layout, values or ShapeValues()
+    def __init__(self, layout: Layout | None, text: str | None = None) -> None:
+        self._layout, self._text = layout, text
+        self._values: ShapeValues | None = None
 
     def gather(self, step: Selection[Any] | str, one: Callable[[str], Any]) -> Any:
         """Return what `one` gives of the steps that are meant, as `Layout.gather`.
@@ -35,6 +36,8 @@ class Fan:
         if layout is None or name in layout.spots:
             return one(name)
         path = (step,) if isinstance(step, str) else step.path
+        if self._values is None:
+            self._values = ShapeValues() if self._text is None else ShapeValues.read(self._text)
         return layout.gather((), path, self._values, one)
 
 

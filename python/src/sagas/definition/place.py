@@ -14,7 +14,7 @@ from sagas.definition.selection import Selection
 from sagas.definition.shape_values import ShapeValues
 
 if TYPE_CHECKING:
-    from sagas.definition.about import About
+    from sagas.definition.task_data import About
     from sagas.definition.saga import Saga
 
 
@@ -138,7 +138,7 @@ class Place:
             return None
         outer = Spot(scope[:-1], *scope[-1])
         place = Place(outer, self.layout, self.values, self._reading, self._input)
-        from sagas.definition.about import whole
+        from sagas.definition.task_data import whole
 
         told = dataclasses.replace(
             whole(about), place=place, input=place.input, hint=self._reading.input(outer.scope)

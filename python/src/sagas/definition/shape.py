@@ -8,19 +8,18 @@ from __future__ import annotations
 
 import dataclasses
 import traceback
-from collections.abc import Callable, Iterator, Mapping
+from collections.abc import Callable, Iterator, Mapping, Sequence
 from typing import TYPE_CHECKING, Any
 
 from sagas.base.errors import InvalidInput, SagasError, TooLarge
 from sagas.definition import (
-    item_types,
     joins,
     mismatches,
     serialization,
     shape_validation,
     validation,
 )
-from sagas.definition.declared import Declared
+from sagas.definition.declaration import Declared
 from sagas.definition.layout import Scope, Spot
 from sagas.definition.parts import Inclusion
 from sagas.definition.shape_values import ShapeValues
@@ -30,9 +29,10 @@ if TYPE_CHECKING:
     from sagas.definition.saga import Saga
     from sagas.definition.step import Cost, Step
 
+ONE = (None,)
 MOST_PAIRS = 256
 """Of two fan-outs each of whose items needs all of the other's, so many needs are written."""
-PLAIN = (dict, list, str, int, float, bool, type(None))
+PLAIN = frozenset({dict, list, str, int, float, bool, type(None)})
 
 
 @dataclasses.dataclass(slots=True)
@@ -44,15 +44,41 @@ class Entry:
     inside: Level | None = None
 
 
-@dataclasses.dataclass(slots=True, eq=False)
 class Level:
-    """The parts of a saga, or of an included one: then `owner` is where."""
+    """The parts of a saga, or of an included one: then `owner` is where.
 
-    saga: Saga
-    scope: Scope
-    prefix: str
-    entries: dict[str, dict[int | None, Entry]]
-    owner: tuple[Level, Inclusion, Entry] | None = None
+    Attributes:
+        found: The numbers of the items of each part: `ONE` without items, none if it is not there.
+        inner: The included sagas, by the part and the number.
+    """
+
+    __slots__ = ("saga", "scope", "prefix", "owner", "found", "inner", "_entries")
+
+    def __init__(
+        self, saga: Saga, scope: Scope, prefix: str,
+        owner: tuple[Level, Inclusion, int | None] | None = None,
+    ) -> None:  # fmt: skip
+        self.saga, self.scope, self.prefix, self.owner = saga, scope, prefix, owner
+        self.found: dict[str, Sequence[int | None]] = {}
+        self.inner: dict[tuple[str, int | None], Level] = {}
+        self._entries: dict[str, dict[int | None, Entry]] | None = None
+
+    def name(self, part: str, index: int | None) -> str:
+        """The name of one of a part."""
+        return self.prefix + part + ("" if index is None else f"-{index}")
+
+    @property
+    def entries(self) -> dict[str, dict[int | None, Entry]]:
+        """All of each part. They are made when a definition is: most shapes have one already."""
+        if self._entries is None:
+            self._entries = {
+                part: {
+                    index: Entry(index, self.name(part, index), self.inner.get((part, index)))
+                    for index in indices
+                }
+                for part, indices in self.found.items()
+            }
+        return self._entries
 
 
 @dataclasses.dataclass(frozen=True, slots=True)
@@ -101,7 +127,7 @@ class Shape:
             value = serialization.read(text, self._declared.input(()))
         except Exception as error:  # of the type's own code
             raise InvalidInput(f"saga {saga.name!r}: input{mismatches.of(error)}") from None
-        self.root = self._level(saga, value, Level(saga, (), "", {}))
+        self.root = self._fill(Level(saga, (), ""), value)
         if not self.count:
             raise InvalidInput(
                 f"saga {saga.name!r} has no step for this input. Declare one that is always there"
@@ -109,29 +135,48 @@ class Shape:
 
     # -- made
 
-    def _level(self, saga: Saga, value: Any, level: Level) -> Level:
-        lists: dict[Any, tuple[str, set[str]]] = {}
-        for part in saga.parts:
-            entries = level.entries[part.name] = {}
-            if part.when is not None:
-                is_there = bool(_asked(part, "when", part.when, value))
-                self.structure.append(is_there)
-                if not is_there:
-                    continue
-            if part.for_each is None:
-                self._add(level, part, entries, None, value)
+    def _fill(self, level: Level, value: Any) -> Level:
+        kept: dict[Any, tuple[str, int, set[str]]] = {}
+        for part in level.saga.parts:
+            level.found[part.name] = indices = self._indices(level, part, value, kept)
+            if isinstance(part, Inclusion):
+                for index in indices:
+                    inside = self._inside(level, part, index, value)
+                    level.inner[part.name, index] = inside
                 continue
-            group = Spot(level.scope, part.name).word
-            if part.for_each in lists:
-                self.values.items[group] = lists[part.for_each][0]
-            else:
-                lists[part.for_each] = group, self._keep(part, group, value)
-            self._check_types(level, part, lists[part.for_each][1])
-            count = self.values.count(level.scope, part.name) or 0
-            self.structure.append(count)
-            for index in range(count):
-                self._add(level, part, entries, index, value)
+            self.count += len(indices)
+            if self.count > validation.MOST_STEPS:
+                raise self._too_many()
+            if costs := self._declared.computed_costs(part):
+                for index in indices:
+                    spot = Spot(level.scope, part.name, index)
+                    self.costs += [
+                        self._cost(part, word, cost, spot, value) for word, cost in costs
+                    ]
         return level
+
+    def _indices(
+        self, level: Level, part: Part, value: Any, kept: dict[Any, tuple[str, int, set[str]]]
+    ) -> Sequence[int | None]:
+        """The numbers of a part's items, which are kept; `ONE` if it has none."""
+        if part.when is not None:
+            is_there = bool(_asked(part, "when", part.when, value))
+            self.structure.append(is_there)
+            if not is_there:
+                return ()
+        if part.for_each is None:
+            return ONE
+        group = Spot(level.scope, part.name).word if level.scope else part.name
+        if part.for_each in kept:
+            self.values.items[group], count, types = kept[part.for_each]
+        else:
+            types = self._keep(part, group, value)
+            count = len(self.values.items[group])
+            kept[part.for_each] = group, count, types
+        if types:
+            self._check_types(level, part, types)
+        self.structure.append(count)
+        return range(count)
 
     def _keep(self, part: Part, group: str, value: Any) -> set[str]:
         """Keep the items of a fan-out. Return the names of their types that JSON does not have."""
@@ -161,22 +206,6 @@ class Shape:
                 "returns",
             )
 
-    def _add(
-        self, level: Level, part: Part, entries: dict[int | None, Entry], index: int | None,
-        value: Any,
-    ) -> None:  # fmt: skip
-        name = level.prefix + part.name + ("" if index is None else f"-{index}")
-        entry = entries[index] = Entry(index, name)
-        spot = Spot(level.scope, part.name, index)
-        if isinstance(part, Inclusion):
-            entry.inside = self._inside(level, part, entry, value)
-            return
-        self.count += 1
-        if self.count > validation.MOST_STEPS:
-            raise self._too_many()
-        for word, given in self._declared.computed_costs(part):
-            self.costs.append(self._cost(part, word, given, spot, value))
-
     def _cost(
         self, step: Step[Any], word: str, given: Callable[[Any], Any], spot: Spot, value: Any
     ) -> Cost:
@@ -193,20 +222,19 @@ class Shape:
         except Exception as error:  # of the type's own code
             raise _invalid(part, f"item {spot.number}{mismatches.of(error)}") from None
 
-    def _inside(self, level: Level, part: Inclusion, entry: Entry, value: Any) -> Level:
-        spot = Spot(level.scope, part.name, entry.index)
-        given = value if entry.index is None else self._item(part, spot)
+    def _inside(self, level: Level, part: Inclusion, index: int | None, value: Any) -> Level:
+        spot = Spot(level.scope, part.name, index)
+        given = value if index is None else self._item(part, spot)
         if part.input is not None:
             given = _asked(part, "input", _reader(part.input), given)
         plain = self.values.inputs[spot.word] = _plain(part, "its input", given)
-        scope = (*level.scope, (part.name, entry.index))
-        inner = Level(part.inner, scope, f"{entry.name}-", {}, (level, part, entry))
+        scope, prefix = (*level.scope, (part.name, index)), f"{level.name(part.name, index)}-"
         try:
             text = serialization.write(plain)
             value = serialization.read(text, self._declared.input(scope))
         except Exception as error:  # of the type's own code
             raise _invalid(part, f"input{mismatches.of(error)}") from None
-        return self._level(part.inner, value, inner)
+        return self._fill(Level(part.inner, scope, prefix, (level, part, index)), value)
 
     # -- needs
 
@@ -298,8 +326,8 @@ class Shape:
                     names = [self._join(level, other, names)]
             found.update(dict.fromkeys(names))
         if not found and level.owner:
-            outer, inclusion, entry = level.owner
-            return self._needed(outer, inclusion, entry.index)
+            outer, inclusion, index = level.owner
+            return self._needed(outer, inclusion, index)
         return [*found]
 
 
@@ -339,6 +367,10 @@ def _asked(part: Part, word: str, function: Callable[[Any], Any], value: Any) ->
 
 def _plain(part: Part, what: str, value: Any) -> Any:
     """A value as JSON has it."""
+    if value is None or type(value) is bool:
+        return value
+    if type(value) is int and value.bit_length() <= 64:  # a longer one may have no text
+        return value
     try:
         return serialization.read(serialization.write(value, what))
     except SagasError as error:

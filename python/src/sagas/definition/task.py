@@ -8,9 +8,9 @@ from typing import Any, Generic, TypeVar, overload
 
 from sagas.base.errors import CannotDecode, ResultNotSerializable, StepFailed
 from sagas.definition import mismatches, serialization, tokens
-from sagas.definition.about import About as About
-from sagas.definition.about import Told as Told
-from sagas.definition.about import whole as whole
+from sagas.definition.task_data import About as About
+from sagas.definition.task_data import Told as Told
+from sagas.definition.task_data import whole as whole
 from sagas.definition.collection import Collection, of_names
 from sagas.definition.control import Cancellation, Progress
 from sagas.definition.place import NO_ITEM, Place

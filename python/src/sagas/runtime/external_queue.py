@@ -18,11 +18,10 @@ from sagas.core.lease_signature import Signer
 from sagas.core.model import Attempt
 from sagas.core.offers import task_name
 from sagas.core.suspensions import Lease
-from sagas.definition.capacity import SHARD_CAPACITY
 from sagas.definition.compiled import Kind
 from sagas.definition.control import Progress
 from sagas.definition import shape_validation
-from sagas.definition.about import Told
+from sagas.definition.task_data import Told
 from sagas.definition.shape_values import ShapeValues
 from sagas.definition.task import Task
 from sagas.runtime import given_values

@@ -6,7 +6,7 @@ import asyncio
 import contextlib
 import re
 from collections.abc import Awaitable, Callable, Iterator, Mapping, Sequence
-from typing import Any, TypeVar
+from typing import Any, Protocol, TypeVar
 
 import psycopg
 from psycopg import conninfo, errors
@@ -263,12 +263,23 @@ def pool(url: str, most: int) -> AsyncConnectionPool:
     )
 
 
+class Attached(Protocol):
+    """A connection that is renewed and closed together with a pool."""
+
+    def cut(self) -> None:
+        """End it at once. The next one is made when it is needed."""
+
+    async def finish(self) -> None:
+        """End it for good, after what is under way, unless that takes long."""
+
+
 class Asker:
     """Short statements over a pool."""
 
     def __init__(self, url: str, where: str, most: int) -> None:
         self.where, self._url, self._most = where, url, most
         self.pool = pool(url, most)
+        self._attached: list[Attached] = []
         self._under_way: set[asyncio.Task[list[Row]]] = set()
 
     async def open(self) -> None:
@@ -280,10 +291,16 @@ class Asker:
                 await (await connect(self._url)).close()  # raises what the pool keeps to itself
                 raise
 
+    def attach(self, *some: Attached) -> None:
+        """Renew and close these connections with the pool."""
+        self._attached += some
+
     async def renew(self) -> None:
-        """Others are connected from now on: those that are there end, each once nothing is asked
-        over it.
+        """Connect anew, since another server has taken over. Attached connections end at once, and
+        those of the pool after what is under way.
         """
+        for one in self._attached:
+            one.cut()
         old, self.pool = self.pool, pool(self._url, self._most)
         await self.pool.open()
         await old.close(timeout=CONNECT)
@@ -291,6 +308,8 @@ class Asker:
     async def close(self) -> None:
         if self._under_way:
             await asyncio.wait(self._under_way, timeout=CONNECT)
+        for one in self._attached:
+            await one.finish()
         await self.pool.close(timeout=CONNECT)
 
     async def ask(self, text: str, **words: Any) -> list[Row]:

@@ -10,8 +10,9 @@ times as much of the processor as the rest.
 from __future__ import annotations
 
 import asyncio
+import contextlib
 from collections import deque
-from collections.abc import Callable, Sequence
+from collections.abc import Callable, Iterable, Sequence
 from typing import TYPE_CHECKING, Optional
 
 from psycopg import errors, pq
@@ -88,6 +89,21 @@ class Wire:
 
         self.ask(text, words, then)
         return await future
+
+    async def rest(self) -> None:
+        """Wait until all that was asked so far is over."""
+        if not self._jobs:
+            return
+        future: asyncio.Future[None] = self._loop.create_future()
+        text, words, then = self._jobs[-1]
+
+        def last(rows: list[Values], fault: Exception | None) -> None:
+            then(rows, fault)
+            if not future.done():
+                future.set_result(None)
+
+        self._jobs[-1] = text, words, last
+        await future
 
     def close(self) -> None:
         """Ends it; of what was under way nobody knows."""
@@ -205,6 +221,22 @@ class Wire:
             then([], error)
 
 
+def array(texts: Iterable[str]) -> bytes:
+    """Return an array of texts, as a word of a statement. They have no zero bytes."""
+    told = [
+        text.replace("\\", "\\\\").replace('"', '\\"') if '"' in text or "\\" in text else text
+        for text in texts
+    ]
+    return ('{"' + '","'.join(told) + '"}').encode() if told else b"{}"
+
+
+def numbered(text: str, *names: str) -> str:
+    """Return the statement with $1 and so on in place of `%(NAME)s`."""
+    for place, name in enumerate(names, 1):
+        text = text.replace(f"%({name})s", f"${place}")
+    return text
+
+
 def read(result: PGresult) -> list[Values]:
     """Its rows."""
     count = result.ntuples
@@ -224,6 +256,11 @@ class Kept:
         self._wire: Wire | None = None
         self._making = asyncio.Lock()
         self._is_over = False
+
+    @property
+    def is_open(self) -> bool:
+        """Whether there is a connection now."""
+        return self._wire is not None and not self._wire.closed
 
     async def open(self) -> None:
         """Connects. Raises `StoreUnavailable`."""
@@ -261,6 +298,9 @@ class Kept:
                 link = await connections.connect(
                     self._url, f"{connections.REPEATED}; {connections.LIMITED}"
                 )
+                if self._is_over:  # meanwhile
+                    await link.close()
+                    raise errors.OperationalError("the connection is closed")
                 self._wire = Wire(
                     link, patience=connections.PATIENCE + 1
                 )  # the server gives up first
@@ -270,6 +310,15 @@ class Kept:
         """Ends it: the next one is made when it is wanted."""
         if self._wire:
             self._wire.close()
+
+    async def finish(self) -> None:
+        """End it for good, after what is under way, unless that takes long."""
+        self._is_over = True
+        if self._wire:
+            with contextlib.suppress(TimeoutError):
+                async with asyncio.timeout(connections.CONNECT):
+                    await self._wire.rest()
+        self.cut()
 
     def close(self) -> None:
         """Ends it, for good."""
