@@ -13,7 +13,11 @@ program=${SAGAS:-$(tests/program)} || exit 1
 room=$(mktemp -d)
 trap 'rm -rf "$room"' EXIT
 cd python || exit 1
-/usr/bin/python3 -m mypy --strict --cache-dir="$room/types" src || exit 1
-# (a test that hangs has its own limit; this one is for all)
-SAGAS_PROGRAM=$program PYTHONDONTWRITEBYTECODE=1 HYPOTHESIS_STORAGE_DIRECTORY="$room/hypothesis" \
-  timeout --kill-after=10 2700 /usr/bin/python3 -m pytest -q -p no:cacheprovider -n auto --dist load tests
+export MYPY_CACHE_DIR="$room/types"
+/usr/bin/python3 -m mypy --strict src || exit 1
+# Compiled modules are kept in a folder of this run: tests start the package some hundred times, and workers find what is collected here. The tests of a
+# file share their servers, and are one worker's. Many tests wait: there are two workers more than processors. A test that hangs has its own limit.
+export SAGAS_PROGRAM=$program PYTHONDONTWRITEBYTECODE='' PYTHONPYCACHEPREFIX="$room/compiled" HYPOTHESIS_STORAGE_DIRECTORY="$room/hypothesis"
+pytest=(/usr/bin/python3 -m pytest -q -p no:cacheprovider)
+"${pytest[@]}" --collect-only tests >"$room/collected" || { tail -n 50 "$room/collected"; exit 1; }
+timeout --kill-after=10 2700 "${pytest[@]}" -n $(($(nproc) + 2)) --dist loadfile tests

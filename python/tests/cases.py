@@ -4,11 +4,13 @@ from __future__ import annotations
 
 import asyncio
 import inspect
+import itertools
 import os
+import pathlib
 import select
 import signal
 import time
-from collections.abc import Callable, Coroutine
+from collections.abc import Callable, Coroutine, Sequence
 from typing import Any, TypeVar
 
 import sagas
@@ -17,6 +19,29 @@ T = TypeVar("T")
 Task = sagas.Task[Any]
 QUICK = sagas.Backoff(initial=0.01, maximum=0.02)
 HOUR = sagas.Backoff(initial=3600, maximum=3600)
+PLACES = ("sqlite", "postgresql")
+"""What the fixture `place` takes."""
+
+
+def pairs(*options: Sequence[Any]) -> list[tuple[Any, ...]]:
+    """Return few of all cases, in which each value of each option meets each value of each other
+    option at least once.
+    """
+    rows = [*itertools.product(*(range(len(values)) for values in options))]
+    met = {row: {*itertools.combinations(enumerate(row), 2)} for row in rows}
+    left, chosen = set().union(*met.values()), []
+    while left:
+        row = max(rows, key=lambda one: len(met[one] & left))
+        left -= met[row]
+        chosen.append(row)
+    return [tuple(values[at] for values, at in zip(options, row)) for row in sorted(chosen)]
+
+
+def types_in(folder: pathlib.Path) -> str:
+    """Return the cache of mypy: that of the whole run if `tests/python.sh` names one, else a test's
+    own.
+    """
+    return os.environ.get("MYPY_CACHE_DIR") or str(folder)
 
 
 def run(main: Coroutine[Any, Any, T]) -> T:

@@ -65,8 +65,7 @@ class ServerEye(Eye):
         query = text.replace("%", "%%").replace("?", "%s")
         while True:
             try:
-                with psycopg.connect(self.store, options="-csearch_path=sagas", connect_timeout=5) as link:
-                    return link.execute(query, words).fetchall()
+                return self._look(query, words)
             except psycopg.OperationalError:
                 time.sleep(0.1)
 

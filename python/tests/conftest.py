@@ -28,13 +28,24 @@ def url(postgresql: Server) -> Iterator[str]:
     postgresql.drop(url)
 
 
+@pytest.fixture(scope="session")
+def prepared(postgresql: Server) -> str:
+    """The name of a database from which others are copied. It has the tables, and a user who has
+    the least rights on them.
+    """
+    return postgresql.as_user(postgresql.create()).rpartition("/")[2]
+
+
 @pytest.fixture(params=["sqlite", "postgresql"])
-def place(request: pytest.FixtureRequest, tmp_path: pathlib.Path) -> str:
+def place(request: pytest.FixtureRequest, tmp_path: pathlib.Path) -> Iterator[str]:
     """Where a store is: over both kinds of database, one behind the other; of PostgreSQL as a user who has the least rights."""
     if request.param == "sqlite":
-        return str(tmp_path / "store.db")
+        yield str(tmp_path / "store.db")
+        return
     server: Server = request.getfixturevalue("postgresql")
-    return server.as_user(request.getfixturevalue("url"))
+    url = server.create(template=request.getfixturevalue("prepared"))
+    yield server.url(url.rpartition("/")[2], user="app")
+    server.drop(url)
 
 
 @pytest.fixture(scope="module", params=["sqlite", "postgresql"])

@@ -2,7 +2,9 @@
 
 from __future__ import annotations
 
+import atexit
 import contextlib
+import functools
 import glob
 import os
 import pathlib
@@ -40,6 +42,19 @@ def free_port() -> int:
         return int(one.getsockname()[1])
 
 
+@functools.cache
+def made() -> pathlib.Path:
+    """The files of a new server, made once by this process: each server has a copy of them."""
+    folder = pathlib.Path(tempfile.mkdtemp(prefix="sagas-pg-", dir="/tmp"))
+    atexit.register(shutil.rmtree, folder, ignore_errors=True)
+    folder.chmod(0o755)
+    server = Server(folder / "new")
+    server.own()
+    words = ["-U", "owner", "-A", "trust", "-E", "UTF8", "--no-locale", "--no-sync"]
+    server.run("initdb", "-D", str(server.folder / "data"), *words)
+    return server.folder / "data"
+
+
 class Server:
     """A server that can be stopped and started; each test has a database of its own on it."""
 
@@ -47,31 +62,33 @@ class Server:
         self.folder, self.port, self._started = folder, free_port(), False
         self._settings = {"fsync": "off", "max_connections": "200", "log_min_messages": "fatal"} | (settings or {})
 
-    def make(self) -> None:
-        """Makes its files."""
+    def own(self) -> None:
+        """Makes its folder, which is its user's."""
         self.folder.mkdir(parents=True, exist_ok=True)
         if os.geteuid() == 0:
             os.chown(self.folder, OTHER, OTHER)
-        words = ["-D", str(self.folder / "data"), "-U", "owner", "-A", "trust", "-E", "UTF8", "--no-locale", "--no-sync"]
-        self._run("initdb", *words)
+
+    def make(self) -> None:
+        """Makes its files."""
+        self.own()
+        subprocess.run(["cp", "-a", str(made()), str(self.folder / "data")], check=True)
 
     def copy(self, primary: Server) -> None:
         """Makes its files those of another server, as whose standby it will start."""
-        self.folder.mkdir(parents=True, exist_ok=True)
-        if os.geteuid() == 0:
-            os.chown(self.folder, OTHER, OTHER)
+        self.own()
         words = ["-D", str(self.folder / "data"), "-h", "127.0.0.1", "-p", str(primary.port), "-U", "owner", "-R", "-X", "stream", "-c", "fast", "--no-sync"]
-        self._run("pg_basebackup", *words)
+        self.run("pg_basebackup", *words)
 
     def promote(self) -> None:
         """A standby takes writes from now on."""
-        self._run("pg_ctl", "-D", str(self.folder / "data"), "-w", "-t", "60", "promote")
+        self.run("pg_ctl", "-D", str(self.folder / "data"), "-w", "-t", "60", "promote")
 
     def _as_other(self, name: str, *words: str) -> list[str]:
         first = ["setpriv", f"--reuid={OTHER}", f"--regid={OTHER}", "--clear-groups"] if os.geteuid() == 0 else []
         return [*first, str(folder_of_programs() / name), *words]
 
-    def _run(self, name: str, *words: str) -> None:
+    def run(self, name: str, *words: str) -> None:
+        """Runs one of PostgreSQL's programs, as the user of the server."""
         with open(self.folder.parent / f"{self.folder.name}.said", "w+", encoding="utf-8") as said:  # a file: the server keeps what it is given
             done = subprocess.run(self._as_other(name, *words), stdout=said, stderr=said, cwd="/", check=False)
             if done.returncode:
@@ -93,22 +110,24 @@ class Server:
     def _start(self) -> None:
         words = {"listen_addresses": "127.0.0.1", "port": str(self.port), "unix_socket_directories": str(self.folder)} | self._settings
         told = " ".join(f"-c {name}={value}" for name, value in words.items())
-        self._run("pg_ctl", "-D", str(self.folder / "data"), "-l", str(self.folder / "output"), "-o", told, "-w", "-t", "60", "start")
+        places = ["-D", str(self.folder / "data"), "-l", str(self.folder / "output")]
+        self.run("pg_ctl", *places, "-o", told, "-w", "-t", "60", "start")
 
     def stop(self, mode: str = "immediate") -> None:
         """Stops it: `fast`, or `immediate` as if its machine had failed."""
         if (self.folder / "data" / "postmaster.pid").exists():
-            self._run("pg_ctl", "-D", str(self.folder / "data"), "-m", mode, "-w", "-t", "60", "stop")
+            place = str(self.folder / "data")
+            self.run("pg_ctl", "-D", place, "-m", mode, "-w", "-t", "60", "stop")
 
     def url(self, database: str, user: str = "owner", port: int | None = None) -> str:
         """The address of a database."""
         return f"postgresql://{user}@127.0.0.1:{port or self.port}/{database}"
 
-    def create(self) -> str:
-        """A new database; gives its address."""
+    def create(self, template: str = "template1") -> str:
+        """A new database, a copy of another one to which nobody is connected; gives its address."""
         name = f"t{uuid.uuid4().hex}"
         with psycopg.connect(self.url("postgres"), autocommit=True) as link:
-            link.execute(f"CREATE DATABASE {name}")
+            link.execute(f"CREATE DATABASE {name} TEMPLATE {template}")
         return self.url(name)
 
     def as_user(self, url: str) -> str:

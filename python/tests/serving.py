@@ -2,6 +2,8 @@
 
 from __future__ import annotations
 
+import contextlib
+import io
 import itertools
 import os
 import pathlib
@@ -15,6 +17,8 @@ from typing import Any
 import contract
 import httpx
 from driving import program
+
+from sagas.__main__ import main
 
 HERE = pathlib.Path(__file__).resolve().parent
 LONG = 60.0  # seconds
@@ -149,6 +153,7 @@ class Served:
         """A client of it; it does not follow anybody's proxy."""
         headers = {"Authorization": f"Bearer {token}"} if token else {}
         hooks = {"response": [contract.check]}  # each answer is as the OpenAPI document has it
+        words = {"verify": False} | words  # it speaks no TLS, so no certificates need be read
         return httpx.Client(base_url=self.url, timeout=LONG, trust_env=False, headers=headers, event_hooks=hooks, **words)
 
     def told(self) -> str:
@@ -167,10 +172,22 @@ def served(folder: pathlib.Path, files: dict[str, str] = DEFINITIONS, *words: st
         one.kill()
 
 
+def command(*words: str) -> subprocess.CompletedProcess[str]:
+    """Run `sagas WORDS` in this process; return its status and what it prints."""
+    out, errors = io.StringIO(), io.StringIO()
+    with contextlib.redirect_stdout(out), contextlib.redirect_stderr(errors):
+        try:
+            status = main([*words])
+        except SystemExit as ended:  # as `argparse` refuses words
+            status = int(str(ended.code))
+    return subprocess.CompletedProcess(words, status, out.getvalue(), errors.getvalue())
+
+
 def token(folder: pathlib.Path, name: str, *roles: str) -> str:
     """A token of the file `folder/tokens.toml`."""
-    words = [sys.executable, "-m", "sagas", "token", str(folder / "tokens.toml"), name, *roles]
-    return subprocess.run(words, env=environment(), capture_output=True, text=True, check=True).stdout.strip()
+    done = command("token", str(folder / "tokens.toml"), name, *roles)
+    done.check_returncode()
+    return done.stdout.strip()
 
 
 def take(client: httpx.Client, *steps: str, wait: float = 30, lease: float = 600, most: int = 1) -> list[dict[str, Any]]:

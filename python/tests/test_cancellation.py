@@ -14,7 +14,7 @@ import threading
 from typing import Any
 
 import pytest
-from cases import QUICK, Task, run, simple, until
+from cases import PLACES, QUICK, Task, pairs, run, simple, until
 from driving import program
 from serving import report, served, start, take
 from test_command import Shell
@@ -45,8 +45,11 @@ async def hear(task: Task) -> None:
     raise sagas.Fail(await task.cancelled)
 
 
-@pytest.mark.parametrize("function", [hear, hear_plain])
-@pytest.mark.parametrize("why", ["aborted", "failed"])
+@pytest.mark.parametrize(
+    "place, function, why",
+    pairs(PLACES, (hear, hear_plain), ("aborted", "failed")),
+    indirect=["place"],
+)
 def test_a_function_hears_that_it_is_not_wanted(place: str, function: Any, why: str) -> None:
     """It decides itself how it ends; the saga is planned as soon as it has."""
     begun = asyncio.Event()
@@ -94,8 +97,11 @@ def test_a_function_that_hears_of_the_end_of_the_store_goes_on_later(place: str)
     assert keys == [keys[0]] * 2
 
 
-@pytest.mark.parametrize("timeout", [None, 60])
-@pytest.mark.parametrize("says", ["nothing", "fail", "result"])
+@pytest.mark.parametrize(
+    "place, says, timeout",
+    pairs(PLACES, ("nothing", "fail", "result"), (None, 60)),
+    indirect=["place"],
+)
 def test_a_function_that_is_cancelled_with_its_saga(place: str, says: str, timeout: float | None) -> None:
     """What it raises then counts. Where it says nothing, nobody knows: it is called again, and not cancelled again."""
     told: list[str] = []

@@ -1,5 +1,6 @@
-"""Strikes at random moments, over Redis and RabbitMQ, SQLite and PostgreSQL: all sagas come to their end, and the judge finds nothing.
+"""Strikes at random moments, over Redis and RabbitMQ, SQLite and PostgreSQL, in pairs.
 
+All sagas come to their end, and the judge finds nothing.
 `tests/celery_kills.py --rounds N` makes as many rounds as are wanted.
 """
 
@@ -16,6 +17,11 @@ from server import Server
 SAGAS = 24
 STRIKES = 3
 """In a round: each start of a worker takes its time."""
+SERVED = ("worker", "owner", "store", "all")
+"""Kinds that are struck over PostgreSQL if Redis is the broker, and over SQLite if RabbitMQ is. The
+others are struck the other way round. So each kind meets each broker and each database, and each
+broker meets each database.
+"""
 
 
 @pytest.fixture(scope="module")
@@ -25,24 +31,30 @@ def redis(tmp_path_factory: pytest.TempPathFactory) -> Iterator[Broker]:
         yield running
 
 
-@pytest.mark.parametrize("number", range(1))
-@pytest.mark.parametrize("kind", KINDS)
-def test_over_redis(redis: Broker, kind: str, number: int) -> None:
-    """Workers, broker, owner and store are struck; messages are doubled, and come late."""
-    one = play(kind, 1000 * number + KINDS.index(kind), redis, SAGAS, quiet=STRIKES)
-    assert not one.found, f"{one.folder}: {one.found[:5]}"
+def struck(
+    kind: str, number: int, broker: Broker, server: Server | None, strikes: int = STRIKES
+) -> None:
+    """A round in which nothing is found."""
+    seed = number + [*KINDS, NODES].index(kind)
+    one = play(kind, seed, broker, SAGAS, server=server, quiet=strikes)
+    assert not one.found, f"{kind}: {one.folder}: {one.found[:5]}"
 
 
-@pytest.mark.parametrize("kind", ["worker", "owner", "store", "all", NODES])
-def test_over_postgresql(redis: Broker, postgresql: Server, kind: str) -> None:
+@pytest.mark.parametrize("kind", [kind for kind in KINDS if kind not in SERVED])
+def test_over_redis(redis: Broker, kind: str) -> None:
+    """Workers, the broker and older workers are struck; messages are doubled, and come late."""
+    struck(kind, 1000, redis, None)
+
+
+@pytest.mark.parametrize("kind", [*SERVED, NODES])
+def test_over_redis_and_postgresql(redis: Broker, postgresql: Server, kind: str) -> None:
     """Reports by `NOTIFY`, and what is there when nobody was told; two nodes, of which one takes over what the other had sent out."""
-    one = play(kind, 3000 + [*KINDS, NODES].index(kind), redis, SAGAS, server=postgresql, quiet=STRIKES)
-    assert not one.found, f"{one.folder}: {one.found[:5]}"
+    struck(kind, 3000, redis, postgresql)
 
 
-def test_over_rabbitmq(tmp_path: pathlib.Path) -> None:
-    """The same over RabbitMQ, which starts once for all: it takes its time."""
+def test_over_rabbitmq(tmp_path: pathlib.Path, postgresql: Server) -> None:
+    """The same over RabbitMQ and the other database. RabbitMQ starts slowly, so it starts once."""
     with broker_at("rabbitmq", tmp_path) as running:
-        for number, kind in enumerate(KINDS):
-            one = play(kind, 2000 + number, running, SAGAS, quiet=1 if kind in ("broker", "all") else STRIKES)
-            assert not one.found, f"{kind}: {one.folder}: {one.found[:5]}"
+        for kind in KINDS:
+            server = None if kind in SERVED else postgresql
+            struck(kind, 2000, running, server, 1 if kind in ("broker", "all") else STRIKES)

@@ -14,7 +14,7 @@ from typing import Any
 
 import pytest
 import tomllib
-from cases import Task, ended, run
+from cases import Task, ended, run, types_in
 from driving import program
 
 import sagas
@@ -597,7 +597,7 @@ def test_types_are_seen(tmp_path: pathlib.Path) -> None:
     """`task.result_of(flight)` has the type of what `flight` returns, and mypy finds nothing to say of a program."""
     path = tmp_path / "typed.py"
     path.write_text(textwrap.dedent(TYPED))
-    words = ["mypy", "--strict", "--cache-dir", str(tmp_path), str(path)]
+    words = ["mypy", "--strict", "--cache-dir", types_in(tmp_path), str(path)]
     try:
         done = subprocess.run(words, capture_output=True, text=True, env={"MYPYPATH": str(HERE.parent / "src"), "PATH": "/usr/bin:/bin"}, check=False)
     except FileNotFoundError:

@@ -11,7 +11,7 @@ from collections.abc import Callable
 from typing import Any
 
 import pytest
-from cases import HOUR, QUICK, Task, ended, run, until
+from cases import HOUR, PLACES, QUICK, Task, ended, pairs, run, until
 
 import sagas
 import sagas.testing
@@ -104,8 +104,11 @@ def opened(
     return sagas.open(place, [kind], node="one", lease=2, on_event=hook)
 
 
-@pytest.mark.parametrize("answer", ["retry", "complete", "fail"])
-@pytest.mark.parametrize("strike", [1, 0])
+@pytest.mark.parametrize(
+    "place, answer, strike",
+    pairs(PLACES, ("retry", "complete", "fail"), (1, 0)),
+    indirect=["place"],
+)
 def test_a_refund_that_fails_asks(
     place: str, tmp_path: pathlib.Path, answer: str, strike: int
 ) -> None:

@@ -24,7 +24,7 @@ from typing import Any
 
 import pytest
 import records
-from cases import QUICK, Task, ended, in_child, run, simple, surely_ended, until
+from cases import PLACES, QUICK, Task, ended, in_child, pairs, run, simple, surely_ended, until
 from driving import program
 from kills import children
 from world import started
@@ -861,8 +861,12 @@ def test_a_function_blocks_the_loop(place: str) -> None:
     run(main())
 
 
-@pytest.mark.parametrize("in_thread", [False, True])
-@pytest.mark.parametrize("kind", [SystemExit, KeyboardInterrupt, GeneratorExit, asyncio.CancelledError, StopIteration])
+ODD = (SystemExit, KeyboardInterrupt, GeneratorExit, asyncio.CancelledError, StopIteration)
+
+
+@pytest.mark.parametrize(
+    "place, kind, in_thread", pairs(PLACES, ODD, (False, True)), indirect=["place"]
+)
 def test_a_function_raises_what_it_should_not(place: str, kind: type[BaseException], in_thread: bool) -> None:
     """The program goes on; the attempt is made again with its token, or fails where that was an exception as others are."""
     tokens: list[str] = []

@@ -11,7 +11,7 @@ from typing import Any
 
 import psycopg
 import pytest
-from cases import QUICK, Task, run, until
+from cases import QUICK, Task, pairs, run, until
 
 import sagas
 
@@ -172,9 +172,9 @@ async def busy(store: sagas.Store, saga: sagas.Saga) -> AsyncIterator[None]:
     await other
 
 
-@pytest.mark.parametrize("lost", [False, True], ids=["stored", "lost"])
-@pytest.mark.parametrize("where", ["store", "engine"])
-@pytest.mark.parametrize("step", ["print", "sign"])
+@pytest.mark.parametrize(
+    "step, where, lost", pairs(("print", "sign"), ("store", "engine"), (False, True))
+)
 def test_the_second_of_two_is_answered_once_the_first_is_stored(
     url: str, step: str, where: str, lost: bool
 ) -> None:

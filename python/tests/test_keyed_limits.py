@@ -18,7 +18,7 @@ from typing import Any
 
 import psycopg
 import pytest
-from cases import Task, run, until
+from cases import PLACES, Task, pairs, run, until
 from driving import program
 from witness import notes_of, witness_at
 
@@ -80,8 +80,11 @@ def bank(inside: Inside, in_thread: bool, **limits: Any) -> sagas.Saga:
     return saga
 
 
-@pytest.mark.parametrize("in_thread", [False, True])
-@pytest.mark.parametrize("limit", ["concurrency", "fleet_concurrency"])
+@pytest.mark.parametrize(
+    "place, limit, in_thread",
+    pairs(PLACES, ("concurrency", "fleet_concurrency"), (False, True)),
+    indirect=["place"],
+)
 def test_a_limit_holds_for_each_key_by_itself(place: str, limit: str, in_thread: bool) -> None:
     """Calls of one account go one behind the other, and those of others beside them; nothing of a key is kept behind it."""
     inside = Inside(3)

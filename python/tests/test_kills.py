@@ -10,7 +10,7 @@ from kills import KINDS, play
 
 AGAIN = 5
 """Stores, until one of them is struck: a quick program may be done before its first moment."""
-ROUNDS = 8
+ROUNDS = 3
 """Stores a kind. A store meets up to twelve strikes, and each is at a moment of its own."""
 
 

@@ -6,6 +6,8 @@ import pytest
 from kills_nodes import KINDS, play
 from server import Server
 
+SAGAS = 18
+"""Of each kind of saga three; two are aborted."""
 ROUNDS = 1
 """Databases a kind; each meets up to twelve strikes."""
 
@@ -14,6 +16,6 @@ ROUNDS = 1
 @pytest.mark.parametrize("kind", KINDS)
 def test_nothing_is_lost_and_nothing_is_done_twice(postgresql: Server, kind: str, number: int) -> None:
     """Witness, database and logs agree in the end."""
-    one = play(kind, 1000 * number + KINDS.index(kind), 30, postgresql)
+    one = play(kind, 1000 * number + KINDS.index(kind), SAGAS, postgresql)
     assert not one.found, f"{one.folder}: {one.found[:5]}"
     assert sum(one.kills.values()) > 0

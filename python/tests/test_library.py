@@ -68,7 +68,7 @@ def test_definitions_are_told_by_their_places(way: str) -> None:
     with pytest.raises(sagas.InvalidText, match="^sagas: definition 1: bad-format$"):
         sagas.audit("", DEFINITION, "")
     with pytest.raises(sagas.InvalidText, match="^sagas: too many definitions$"):
-        sagas.audit("", *[DEFINITION] * 65)
+        sagas.audit("", *[DEFINITION] * 1001)
 
 
 def test_any_buffer() -> None:

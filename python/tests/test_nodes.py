@@ -326,7 +326,7 @@ def test_what_no_node_drives_is_told(url: str, caplog: pytest.LogCaptureFixture)
             for number in range(3):
                 await store.start(old, f"old {number}")
             await until(lambda: len(calls) == 3)
-        async with sagas.open(url, [new], lease=3.0, on_event=told.append) as store:
+        async with sagas.open(url, [new], lease=6.0, on_event=told.append) as store:
             lease = store._inside.store.lease  # type: ignore[attr-defined]
             (log,) = lease.left
             with psycopg.connect(url) as stranger:

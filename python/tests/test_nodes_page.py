@@ -14,6 +14,7 @@ import time
 
 from driving import program
 from server import Server
+from serving import command
 
 import sagas
 
@@ -50,13 +51,17 @@ def test_two_nodes_and_a_client(url: str, postgresql: Server, tmp_path: pathlib.
         owner = None
         until = time.monotonic() + 120
         while owner is None and time.monotonic() < until:
-            said = subprocess.run([sys.executable, "-m", "sagas", "store", url, "nodes"], env=environment, capture_output=True, text=True, check=True).stdout
-            table, _, _ = said.partition("\n\n")  # a start that no node has taken yet stands below it
+            # a start that no node has taken yet stands below the table
+            table, _, _ = command("store", url, "nodes").stdout.partition("\n\n")
             owner = next((line.split()[0] for line in table.splitlines()[1:] if line.split()[-1] == "1"), None)
+            time.sleep(0.05)
         assert owner
         nodes[owner].send_signal(signal.SIGKILL)
         out, _ = client.communicate(timeout=200)
         assert out == re.search(r"prints:\n\n```text\n(.*?)```", PAGE, re.S)[1]  # type: ignore[index]
-        other = nodes["two" if owner == "one" else "one"]
-        other.send_signal(signal.SIGTERM)
-        assert other.wait(120) == 0
+        words = [sys.executable, "-m", "sagas", "store", url, "nodes"]
+        said = subprocess.check_output(words, env=environment, text=True)
+        other = "two" if owner == "one" else "one"
+        assert other in [line.split()[0] for line in said.splitlines()[1:] if line]
+        nodes[other].send_signal(signal.SIGTERM)
+        assert nodes[other].wait(120) == 0

@@ -16,7 +16,7 @@ from typing import Any
 
 import pytest
 import records
-from cases import HOUR, QUICK, Task, asked_of, ended, run, simple, until
+from cases import HOUR, PLACES, QUICK, Task, asked_of, ended, pairs, run, simple, until
 
 import sagas
 import sagas.testing
@@ -389,8 +389,11 @@ def test_takes_longer_than_its_time(place: str) -> None:
     assert run(main()).ok and len(tokens) == 2 and len(set(tokens)) == 1
 
 
-@pytest.mark.parametrize("most", [2, datetime.timedelta(seconds=0.05)])
-@pytest.mark.parametrize("done", [True, False])
+@pytest.mark.parametrize(
+    "place, most, done",
+    pairs(PLACES, (2, datetime.timedelta(seconds=0.05)), (True, False)),
+    indirect=["place"],
+)
 def test_unknown_for_too_long_waits_for_a_person(place: str, most: Any, done: bool) -> None:
     """`max_unknown` bounds it; then it stands in `store.unknown()`, and a person says done or failed, also after a restart."""
     calls: list[str] = []

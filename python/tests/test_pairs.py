@@ -212,7 +212,9 @@ def lots(cases: list[Case], most: int = 60) -> Iterator[list[Case]]:
         yield cases[at : at + most]
 
 
-@pytest.mark.parametrize("concurrency", [6, 32])
+@pytest.mark.parametrize(
+    "place, concurrency", [("sqlite", 6), ("postgresql", 32)], indirect=["place"]
+)
 def test_options_in_pairs(place: str, concurrency: int, tmp_path: Any) -> None:
     """Five sagas of each at once: three go well, one fails behind the step, one is aborted."""
     inside = place.startswith("postgresql")

@@ -8,7 +8,7 @@ from typing import Any
 
 import psycopg
 import pytest
-from cases import Task, run, until
+from cases import Task, pairs, run, until
 
 from sagas.core import outcomes
 import sagas
@@ -69,9 +69,9 @@ async def waits_for_a_person(url: str, store: sagas.Store, key: str) -> None:
     assert end.ok and end.results == {"sign": "by hand"} and not end.aborted
 
 
-@pytest.mark.parametrize("same", [True, False])
-@pytest.mark.parametrize("what", ["complete", "abort"])
-@pytest.mark.parametrize("by", ["client", "node"])
+@pytest.mark.parametrize(
+    "by, what, same", pairs(("client", "node"), ("complete", "abort"), (True, False))
+)
 def test_who_asked_is_gone_when_another_saga_has_the_key(
     url: str, link: psycopg.Connection[Any], kind: sagas.Saga, by: str, what: str, same: bool
 ) -> None:

@@ -15,7 +15,7 @@ from typing import Any
 
 import httpx
 import pytest
-from serving import DEFINITIONS, LONG, environment, served, start, token
+from serving import DEFINITIONS, LONG, command, environment, served, start, token
 from test_service_tokens import World
 from test_service_webhooks import Receiver, table, written
 
@@ -131,25 +131,28 @@ def test_who_may_look_and_post_again(world: World, receiver: Receiver) -> None:
     assert rows(page.get("/ui/webhooks?state=failed").text) == []
 
 
-def command(store: str, *words: str) -> subprocess.CompletedProcess[str]:
-    """`sagas store STORE deliveries ..`, beside the service that has the store."""
+def started(store: str, *words: str) -> str:
+    """What `sagas store STORE deliveries ..` prints as a program of its own, beside the service
+    that has the store."""
     told = [sys.executable, "-m", "sagas", "store", store, "deliveries", *words]
-    return subprocess.run(told, env=environment(), capture_output=True, text=True, check=False)
+    done = subprocess.run(told, env=environment(), capture_output=True, text=True, check=True)
+    return done.stdout
 
 
 def test_the_command(world: World, receiver: Receiver) -> None:
     """It lists them, as a table and as JSON, and has one posted again by the service."""
     store = str(world.service.store)
-    told = command(store, "--json").stdout
+    told = started(store, "--json")
     found = {one["key"]: one for one in json.loads(told)}
     assert {*found} == {"came", "<b>given-up"} and found["came"]["state"] == "delivered"
     assert "body" not in found["came"] and "whsec_" not in told
-    lines = command(store, "--state", "delivered", "--webhook", "one", "--limit", "1").stdout
+    words = ["--state", "delivered", "--webhook", "one", "--limit", "1"]
+    lines = command("store", store, "deliveries", *words).stdout
     head, line = lines.splitlines()
     assert head.split() == "ID WEBHOOK TYPE KEY AT STATE ATTEMPTS ANSWER".split()
     assert line.startswith("msg_") and line.split()[-3:] == ["delivered", "1", "204"]
     count, id = len(receiver.got), found["came"]["id"]
-    assert command(store, "redeliver", id).stdout == f"{id}: pending\n"
+    assert started(store, "redeliver", id) == f"{id}: pending\n"
     receiver.wait(count + 1)
     assert receiver.got[-1][0]["webhook-id"] == id
     settled(world["operator"], "came")
@@ -159,10 +162,10 @@ def test_the_command(world: World, receiver: Receiver) -> None:
         (("--limit", "0"), 2, "--limit: must be 1 or more"),
         (("--state", "lost"), 2, "invalid choice: 'lost'"),
     ):
-        done = command(store, *words)
+        done = command("store", store, "deliveries", *words)
         assert (done.returncode, done.stdout) == (status, "") and text in done.stderr, words
 
 
 def test_a_store_that_is_none(tmp_path: pathlib.Path) -> None:
-    done = command(str(tmp_path / "none.db"))
+    done = command("store", str(tmp_path / "none.db"), "deliveries")
     assert done.returncode == 4 and "the file does not exist" in done.stderr

@@ -70,22 +70,31 @@ HEADS = [
 ]
 
 
-@pytest.mark.parametrize("tokens", [False, True], ids=["without tokens", "with tokens"])
+@pytest.fixture(scope="module", params=[False, True], ids=["without tokens", "with tokens"])
+def limited(
+    request: pytest.FixtureRequest, tmp_path_factory: pytest.TempPathFactory
+) -> Iterator[Served]:
+    """A service that takes few connections."""
+    folder = tmp_path_factory.mktemp("limited")
+    words = ["--most-connections", str(MOST)]
+    if request.param:
+        token(folder, "a", "caller")
+        words += ["--token-file", str(folder / "tokens.toml")]
+    with served(folder, DEFINITIONS, *words) as service:
+        yield service
+
+
 @pytest.mark.parametrize(
     "head, part",
     HEADS,
     ids=["a length", "chunks", "the login", "an answer that has come", "a head alone"],
 )
-def test_bodies_that_trickle(tmp_path: pathlib.Path, head: str, part: bytes, tokens: bool) -> None:
+def test_bodies_that_trickle(limited: Served, head: str, part: bytes) -> None:
     """More of them than there may be connections: each question by somebody else is answered at
     once."""
-    words = ["--most-connections", str(MOST)]
-    if tokens:
-        token(tmp_path, "a", "caller")
-        words += ["--token-file", str(tmp_path / "tokens.toml")]
-    with served(tmp_path, DEFINITIONS, *words) as service, trickling(service, MOST + 1, head, part):
+    with trickling(limited, MOST + 1, head, part):
         for _ in range(25):
-            with service.client() as client:
+            with limited.client() as client:
                 assert client.get("/health/live").json() == {"alive": True}
             time.sleep(0.05)
 
@@ -217,7 +226,7 @@ class Browsing:
 
     def __init__(self, address: tuple[str, int], tokens: dict[str, str]) -> None:
         self.tokens = tokens
-        words: dict[str, Any] = {"trust_env": False, "timeout": LONG}
+        words: dict[str, Any] = {"trust_env": False, "verify": False, "timeout": LONG}
         words["base_url"] = f"http://{address[0]}:{address[1]}"
         self.clients = {
             name: httpx.AsyncClient(headers={"Authorization": f"Bearer {text}"}, **words)

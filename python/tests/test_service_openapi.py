@@ -17,6 +17,7 @@ import contract
 import httpx
 import jsonschema
 import pytest
+from cases import types_in
 from serving import (
     DEFINITIONS,
     LONG,
@@ -296,7 +297,7 @@ def test_a_generated_client_is_typed(tmp_path: pathlib.Path) -> None:
             "mypy",
             "--strict",
             "--cache-dir",
-            str(tmp_path / "types"),
+            types_in(tmp_path / "types"),
             str(file),
         ]
         done = subprocess.run(words, capture_output=True, text=True, check=False)

@@ -365,16 +365,22 @@ def test_those_that_ended_by_plan(browser: Browser) -> None:
 PATHS = ("/ui", "/ui?kind=undo_failed", "/ui/definitions", "/ui/definitions/trip", "/ui/sagas", "/ui/start", "/ui/sagas/failed-1", "/ui/sagas/fixed-1", "/ui/sagas/stuck-2", "/ui/sagas/work-1", "/ui/workers", "/ui/webhooks", "/ui/sagas/work-1/abort", "/ui/sagas/nobody")
 
 
-@pytest.mark.parametrize("width, dark", [(1280, False), (1280, True), (360, False), (360, True)])
-def test_each_page_can_be_read(browser: Browser, width: int, dark: bool) -> None:
+WIDTH = "return document.documentElement.scrollWidth"
+
+
+@pytest.mark.parametrize("width", [1280, 360])
+def test_each_page_can_be_read(browser: Browser, width: int) -> None:
     """Nothing is wider than the screen, and all text has enough contrast, light and dark."""
-    browser.size(width, dark)
     try:
         for path in PATHS:
+            browser.size(width)
             browser.go(path)
-            browser.shot(f"{path.strip('/').replace('/', '-')}-{width}{'-dark' if dark else ''}")
-            assert browser.driver.execute_script("return document.documentElement.scrollWidth") <= width, path
-            assert browser.driver.execute_script(CONTRAST) == [], path
+            for dark in (False, True):
+                browser.size(width, dark)
+                name = path.strip("/").replace("/", "-")
+                browser.shot(f"{name}-{width}{'-dark' if dark else ''}")
+                assert browser.driver.execute_script(WIDTH) <= width, path
+                assert browser.driver.execute_script(CONTRAST) == [], (path, dark)
     finally:
         browser.size(1280)
     logged = [entry for entry in browser.driver.get_log("browser") if "nobody" not in entry["message"]]

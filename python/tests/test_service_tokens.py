@@ -21,6 +21,7 @@ from serving import (
     DEFINITIONS,
     LONG,
     Served,
+    command,
     environment,
     report,
     served,
@@ -560,24 +561,11 @@ def test_other_faults_of_the_file(tmp_path: pathlib.Path) -> None:
 def test_the_command(tmp_path: pathlib.Path) -> None:
     """It writes what it is told, as it is read again; and says what it cannot write."""
     file = tmp_path / "tokens.toml"
-    words = [sys.executable, "-m", "sagas", "token", str(file)]
-
-    def run(*more: str) -> tuple[int, str]:
-        done = subprocess.run([*words, *more], env=environment(), capture_output=True, text=True)
-        return done.returncode, done.stderr
-
-    assert run(
-        "w",
-        "worker",
-        "--step",
-        "trip/car",
-        "--step",
-        "trip/car/undo",
-        "--definition",
-        "trip",
-        "--expires",
-        "2030-05-06T07:08:09Z",
-    ) == (0, "")
+    words = [sys.executable, "-m", "sagas", "token", str(file), "w", "worker"]
+    words += ["--step", "trip/car", "--step", "trip/car/undo", "--definition", "trip"]
+    words += ["--expires", "2030-05-06T07:08:09Z"]
+    done = subprocess.run(words, env=environment(), capture_output=True, text=True, check=True)
+    assert done.stderr == ""
     (found,) = auth.read(file).values()
     assert found.limits.steps == {"trip/car", "trip/car/undo"} and found.definitions == {"trip"}
     assert found.limits.expires == datetime.datetime(
@@ -589,6 +577,7 @@ def test_the_command(tmp_path: pathlib.Path) -> None:
         (("w", "caller", "--expires", "2030-05-06"), "expires must be a time with an offset"),
         (("w", "caller", "--definition", ""), "definitions must be a list of"),
     ):
-        status, told = run(*more)
-        assert status == 2 and told.startswith(f"sagas token: {says}"), told
+        refused = command("token", str(file), *more)
+        assert refused.returncode == 2
+        assert refused.stderr.startswith(f"sagas token: {says}"), refused.stderr
     assert len(auth.read(file)) == 1

@@ -11,6 +11,7 @@ import tomllib
 from typing import Any
 
 import pytest
+from cases import types_in
 from shaped import (
     Hotel,
     Order,
@@ -179,6 +180,7 @@ SECRET = "4111-1111"
         ({"when": lambda i: i["secret"].x}, {"secret": SECRET}, "when= raised AttributeError in"),
         ({"skip": lambda i: int(i)}, SECRET, "skip= raised ValueError in line"),
         ({"for_each": lambda i: [Parcel(SECRET)]}, {}, "the items are of type Parcel"),
+        ({"for_each": lambda i: [10**5000]}, {}, "an item: Exceeds the limit"),
     ],
 )
 def test_what_is_wrong_is_told_without_the_input(words: Any, input: Any, told: str) -> None:
@@ -511,7 +513,7 @@ def last(task: sagas.Task[Order]) -> None:
 def test_a_wrong_type_of_items_is_found(tmp_path: pathlib.Path) -> None:
     path, source = tmp_path / "typed.py", pathlib.Path(__file__).resolve().parents[1] / "src"
     path.write_text(TYPED)
-    words = [sys.executable, "-m", "mypy", "--strict", "--cache-dir", str(tmp_path), str(path)]
+    words = [sys.executable, "-m", "mypy", "--strict", "--cache-dir", types_in(tmp_path), str(path)]
     environment = os.environ | {"MYPYPATH": str(source)}
     done = subprocess.run(words, capture_output=True, text=True, env=environment, check=False)
     told = [line for line in done.stdout.splitlines() if line.startswith(str(path))]

@@ -658,12 +658,19 @@ def test_plans_for_small_tables_are_not_kept(url: str) -> None:
             ((count,),) = link.execute("SELECT sum(seq_scan) FROM pg_stat_user_tables WHERE schemaname = 'sagas' AND relname IN ('sagas', 'shards')").fetchall()
             return int(count)
 
+    def sessions() -> bool:
+        """Whether any is left: each adds what it counted at its end."""
+        with psycopg.connect(url, autocommit=True) as link:
+            text = "SELECT 1 FROM pg_stat_activity WHERE application_name = 'sagas'"
+            return bool(link.execute(f"{text} AND datname = current_database()").fetchall())
+
     async def main() -> None:
         async with sagas.open(url, [kind]) as store:
             for number in range(20):
                 await ended(store, kind, f"few {number}")
             with psycopg.connect(url, autocommit=True) as link:
                 link.execute("VACUUM ANALYZE sagas.sagas, sagas.shards, sagas.attempts, sagas.event_log")
+        await until(lambda: not sessions())
         async with sagas.open(url, [kind]) as store:
             for number in range(10):  # the server plans the first ones for themselves
                 await ended(store, kind, f"first {number}")

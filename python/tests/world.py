@@ -53,6 +53,8 @@ class Eye:
 
     def __init__(self, store: str) -> None:
         self.store = store
+        self._idle: list[psycopg.Connection[tuple[Any, ...]]] = []
+        """connections that nobody looks through at this moment"""
 
     def _ask(self, text: str, *words: Any) -> list[tuple[Any, ...]]:
         if self.store.startswith("postgresql:"):
@@ -68,12 +70,30 @@ class Eye:
         until = time.monotonic() + 120
         while True:
             try:
-                with psycopg.connect(self.store, options="-csearch_path=sagas", connect_timeout=10) as link:
-                    return link.execute(text, words or None).fetchall()
+                return self._look(text, words)
             except psycopg.OperationalError:
                 if time.monotonic() > until:
                     raise
                 time.sleep(0.05)
+
+    def _look(self, text: str, words: tuple[Any, ...]) -> list[tuple[Any, ...]]:
+        """Once, through a connection that is used again where that went well."""
+        try:
+            link = self._idle.pop()
+        except IndexError:
+            link = psycopg.connect(
+                self.store,
+                options="-csearch_path=sagas",
+                connect_timeout=10,
+                autocommit=True,
+            )
+        try:
+            rows = link.execute(text, words or None).fetchall()
+        except BaseException:
+            link.close()
+            raise
+        self._idle.append(link)
+        return rows
 
     def phase(self, key: str) -> tuple[bool, str | None]:
         """Whether a key is there, and its phase."""
